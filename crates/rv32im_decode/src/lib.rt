@@ -2,5 +2,7 @@
 #![tactic(auto)]
 
 mod instructions;
+mod operations;
 
 pub use instructions::{BranchKind, ImmKind, Instr, LoadKind, OpKind, StoreKind};
+pub use operations::{address, target, upper};
