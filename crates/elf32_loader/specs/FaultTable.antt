@@ -7,7 +7,7 @@ use Rattle.elf32_loader.specs.Segments.{highest_base, highest_end, memory_size, 
 abbrev pub IsFileBase : List ℕ → ℕ → Type 0
 IsFileBase file base =
     (lowest : ℕ) × (IsLoad file lowest × (base ≡ rounded_down (header_at file lowest).address)
-        × ((index : ℕ) → IsLoad file index → (header_at file lowest).address ≤ (header_at file index).address))
+    × ((index : ℕ) → IsLoad file index → (header_at file lowest).address ≤ (header_at file index).address))
 
 -- the file is shorter than an ELF header
 abbrev pub HasNoHeader : List ℕ → Type 0
@@ -61,7 +61,7 @@ HasHighBase file = (base : ℕ) × (IsFileBase file base × (highest_base < base
 abbrev pub HasOverlap : List ℕ → Type 0
 HasOverlap file =
     (a : ℕ) × ((b : ℕ) × ((a < b) × IsLoad file a × IsLoad file b
-        × ((address : ℕ) × (HoldsAddress (header_at file a) address × HoldsAddress (header_at file b) address))))
+    × ((address : ℕ) × (HoldsAddress (header_at file a) address × HoldsAddress (header_at file b) address))))
 
 -- the entry is no multiple of 4, or lies in no load
 abbrev pub HasEntryOutside : List ℕ → Type 0

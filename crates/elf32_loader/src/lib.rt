@@ -3,6 +3,7 @@
 
 mod fault;
 mod images;
+mod loading;
 mod segments;
 
 pub use fault::ElfFault;
