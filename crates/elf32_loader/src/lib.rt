@@ -1,0 +1,11 @@
+//! ELF32 program files of RV32IM (System V ABI, Executable and Linking Format, 32-bit): the image that is loaded from one.
+#![tactic(auto)]
+
+mod fault;
+mod images;
+mod loading;
+mod segments;
+
+pub use fault::ElfFault;
+pub use images::Image;
+pub use segments::Segment;
