@@ -1,0 +1,4 @@
+pub mod Signs
+pub mod Splits
+pub mod Tables
+pub mod Encodes
