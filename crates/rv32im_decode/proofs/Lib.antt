@@ -2,3 +2,4 @@ pub mod Signs
 pub mod Splits
 pub mod Tables
 pub mod Encodes
+pub mod Decodes
