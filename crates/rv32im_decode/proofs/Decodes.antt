@@ -120,8 +120,8 @@ op-imm-is word below o =
       (λ kind f. let is : IsImmediate kind (immediate_of kind word) × (encoded (OpImm kind (rd_of word) (rs1_of word) (immediate_of kind word)) ≡ word) = operand-is kind word below o f.0 f.1 in
         ((omega arith, omega arith, is.0), is.1))
 
-pub decoded-is : (word : ℕ) → word < 2 ^ 32 → IfSome (decoded word) (λ instr. InRange instr × (encoded instr ≡ word))
-decoded-is word below =
+pub decoded_is : (word : ℕ) → word < 2 ^ 32 → IfSome (decoded word) (λ instr. InRange instr × (encoded instr ≡ word))
+decoded_is word below =
     let Is : Option Instr → Type 0 = λ found. IfSome found (IsOf word) in
     let opcode : ℕ = opcode_of word in
     chosen Is (opcode == 55) (Some (Lui (rd_of word) (u_bits word))) _ (λ e. lui-is word below (eqb-true opcode 55 e))

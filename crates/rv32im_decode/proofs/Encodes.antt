@@ -124,16 +124,16 @@ op-imm-decodes word rd rs1 kind imm d a i e =
     by-op-imm word rd rs1 kind imm fields.opcode_is (ap (imm_kind (funct7_of word)) fields.funct3_is ∙ imm-found kind (funct7_of word) found.0)
       fields.rd_is fields.rs1_is found.1
 
-pub encoded-decodes : (instr : Instr) (word : ℕ) → InRange instr → word ≡ encoded instr → decoded word ≡ Some instr
-encoded-decodes (Lui rd imm) word (d, i) e = by-lui word rd imm (omega arith) (omega arith) (omega arith)
-encoded-decodes (Auipc rd imm) word (d, i) e = by-auipc word rd imm (omega arith) (omega arith) (omega arith)
-encoded-decodes (Jal rd offset) word (d, within, even) e = jal-decodes word rd offset d within even e
-encoded-decodes (Jalr rd rs1 imm) word (d, a, within) e = jalr-decodes word rd rs1 imm d a within e
-encoded-decodes (Branch kind rs1 rs2 offset) word (a, b, within, even) e = branch-decodes word rs1 rs2 kind offset a b within even e
-encoded-decodes (Load kind rd rs1 imm) word (d, a, within) e = load-decodes word rd rs1 kind imm d a within e
-encoded-decodes (Store kind rs1 rs2 imm) word (a, b, within) e = store-decodes word rs1 rs2 kind imm a b within e
-encoded-decodes (OpImm kind rd rs1 imm) word (d, a, i) e = op-imm-decodes word rd rs1 kind imm d a i e
-encoded-decodes (Op kind rd rs1 rs2) word (d, a, b) e = op-decodes word rd rs1 rs2 kind d a b e
-encoded-decodes (Fence rd rs1 imm) word (d, a, i) e = fence-decodes word rd rs1 imm d a e
-encoded-decodes Ecall word r e = rw e refl
-encoded-decodes Ebreak word r e = rw e refl
+pub encoded_decodes : (instr : Instr) (word : ℕ) → InRange instr → word ≡ encoded instr → decoded word ≡ Some instr
+encoded_decodes (Lui rd imm) word (d, i) e = by-lui word rd imm (omega arith) (omega arith) (omega arith)
+encoded_decodes (Auipc rd imm) word (d, i) e = by-auipc word rd imm (omega arith) (omega arith) (omega arith)
+encoded_decodes (Jal rd offset) word (d, within, even) e = jal-decodes word rd offset d within even e
+encoded_decodes (Jalr rd rs1 imm) word (d, a, within) e = jalr-decodes word rd rs1 imm d a within e
+encoded_decodes (Branch kind rs1 rs2 offset) word (a, b, within, even) e = branch-decodes word rs1 rs2 kind offset a b within even e
+encoded_decodes (Load kind rd rs1 imm) word (d, a, within) e = load-decodes word rd rs1 kind imm d a within e
+encoded_decodes (Store kind rs1 rs2 imm) word (a, b, within) e = store-decodes word rs1 rs2 kind imm a b within e
+encoded_decodes (OpImm kind rd rs1 imm) word (d, a, i) e = op-imm-decodes word rd rs1 kind imm d a i e
+encoded_decodes (Op kind rd rs1 rs2) word (d, a, b) e = op-decodes word rd rs1 rs2 kind d a b e
+encoded_decodes (Fence rd rs1 imm) word (d, a, i) e = fence-decodes word rd rs1 imm d a e
+encoded_decodes Ecall word r e = rw e refl
+encoded_decodes Ebreak word r e = rw e refl
