@@ -8,4 +8,5 @@ mod segments;
 
 pub use fault::ElfFault;
 pub use images::Image;
+pub use loading::load_image;
 pub use segments::Segment;
