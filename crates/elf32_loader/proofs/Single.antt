@@ -1,5 +1,5 @@
 -- The program file of an image of one segment.
-use Rattle.std.proofs.Common.{◌≡◌, ℕ, ◌+◌, ◌*◌, ◌/◌, ◌%◌, ◌<◌, ◌≤◌, ◌^◌, List, [], ◌∷◌, ◌++◌, length, take, drop, refl, subst, sym, ap, ◌∙◌, arith, IsTrue, lit<, lit≤}
+use Rattle.std.proofs.Common.{◌≡◌, ℕ, ◌+◌, ◌%◌, ◌<◌, ◌≤◌, ◌^◌, List, [], ◌∷◌, ◌++◌, length, take, drop, refl, subst, sym, ap, ◌∙◌, arith, IsTrue}
 use Rattle.std.proofs.lemmas.List.{append-nil, take-append-drop}
 use Rattle.std.proofs.lemmas.Grind.{common_steps}
 use Rattle.std.proofs.lemmas.Bool.Decides.{nat_tests}
@@ -50,7 +50,7 @@ is-single file bytes entry address rest same valid = record {
 }
 
 -- an image of one segment is that of its entry, address and bytes
-single-of : (base entry : ℕ) (segments : List Segment) → length segments ≡ 1
+pub single-of : (base entry : ℕ) (segments : List Segment) → length segments ≡ 1
     → IsTrue (is_valid (record { base = base; entry = entry; segments = segments }))
     → (segment : Segment) × (let picture : Picture = record { base = base; entry = entry; segments = segments } in picture ≡ single entry segment.address segment.bytes)
 single-of base entry [] count valid = absurd (omega arith)

@@ -2,7 +2,7 @@ ghost use Rattle.std.specs.Prelude.{◌≡◌, ◌-◌, ◌^◌, ◌<◌, ◌≤
 ghost use Rattle.elf32_loader.specs.Headers.{word_at};
 ghost use Rattle.elf32_loader.specs.Images.{picture_of};
 ghost use Rattle.elf32_loader.specs.Pictures.{Picture, is_valid};
-ghost use Rattle.elf32_loader.specs.Programs.{IsSingle, headers, single};
+ghost use Rattle.elf32_loader.specs.Programs.{IsImage, IsSingle, headers, single};
 
 use crate::{ElfFault, Image, Segment};
 use byteorder::{ByteOrder, LittleEndian};
@@ -110,6 +110,7 @@ fn read_single(file: &[u8]) -> Option<(u32, u32, &[u8])>
 pub fn load_image(alloc: Global, file: &[u8]) -> Result<Image, ElfFault>
     requires { length file.now < 2 ^ 32 }
     ensures written { IfOk result (λ image. IsSingle file.now (picture_of image)) }
+    ensures loaded { IfOk result (λ image. IsImage file.now (picture_of image)) }
     ensures unbuilt { result ≡ Err ElfFault.Unbuilt → (picture : Picture) → ¬ IsSingle file.now picture }
 {
     let Some((entry, address, bytes)) = read_single(file) else {

@@ -1,10 +1,10 @@
-use Rattle.std.proofs.Common.{◌≡◌, ◌-◌, ◌↔◌, IsTrue, length, take, drop, ℕ, List, true, false, sym, ◌∙◌, ap, subst, arith}
+use Rattle.std.proofs.Common.{◌≡◌, ◌-◌, IsTrue, length, take, drop, subst, arith}
 use Rattle.std.proofs.lemmas.Grind.{common_steps}
 use Rattle.std.proofs.lemmas.List.{take_rest}
 use Rattle.elf32_loader.specs.Headers.{word_at}
 use Rattle.elf32_loader.specs.Pictures.{Picture, is_valid}
-use Rattle.elf32_loader.specs.Programs.{IsSingle, headers, single}
-use Rattle.elf32_loader.proofs.Single.{HasFields, has-fields, is-single}
+use Rattle.elf32_loader.specs.Programs.{single}
+use Rattle.elf32_loader.proofs.Single.{has-fields, is-single}
 use Rattle.elf32_loader.proofs.loading.read_single.Goals as goal
 use Rattle.elf32_loader.proofs.loading.read_single.Goals.{then-not-has_headers-via-then-not-has_headers, then-not-has_headers-via-else-not-has_headers+then-not-is_loadable}
 
