@@ -6,8 +6,8 @@ use Rattle.elf32_loader.specs.Segments.{highest_base, highest_end, memory_size, 
 -- the base of a file: the lowest address of a load, rounded down
 abbrev pub IsFileBase : List ℕ → ℕ → Type 0
 IsFileBase file base =
-    (lowest : ℕ) × (IsLoad file lowest × (base ≡ rounded_down (header_at file lowest).address)
-    × ((index : ℕ) → IsLoad file index → (header_at file lowest).address ≤ (header_at file index).address))
+    (lowest : ℕ) × IsLoad file lowest × (base ≡ rounded_down (header_at file lowest).address)
+    × ((index : ℕ) → IsLoad file index → (header_at file lowest).address ≤ (header_at file index).address)
 
 -- the file is shorter than an ELF header
 abbrev pub HasNoHeader : List ℕ → Type 0
@@ -27,7 +27,7 @@ IsCompressed file = flags_of file % 2 ≡ 1
 
 -- its program headers are of another size, or none, or above 64 in number
 abbrev pub HasOtherTable : List ℕ → Type 0
-HasOtherTable file = (header_size file ≢ 32) ⊎ ((header_count file ≡ 0) ⊎ (64 < header_count file))
+HasOtherTable file = (header_size file ≢ 32) ⊎ (header_count file ≡ 0) ⊎ (64 < header_count file)
 
 -- it ends before its program headers do
 abbrev pub HasCutTable : List ℕ → Type 0
@@ -36,7 +36,7 @@ HasCutTable file = length file < table_offset file + 32 * header_count file
 -- it wants a dynamic linker: a header is PT_DYNAMIC or PT_INTERP
 abbrev pub IsDynamic : List ℕ → Type 0
 IsDynamic file =
-    (index : ℕ) × ((index < header_count file) × (((header_at file index).kind ≡ 2) ⊎ ((header_at file index).kind ≡ 3)))
+    (index : ℕ) × (index < header_count file) × (((header_at file index).kind ≡ 2) ⊎ ((header_at file index).kind ≡ 3))
 
 -- it has no load
 abbrev pub HasNoLoad : List ℕ → Type 0
@@ -45,28 +45,29 @@ HasNoLoad file = (index : ℕ) → ¬ IsLoad file index
 -- a header has more bytes than memory, or bytes beyond the file, or memory beyond the guest's
 abbrev pub IsOutOfRange : List ℕ → ℕ → Header → Type 0
 IsOutOfRange file base header =
-    (header.memory_size < header.file_size) ⊎ ((length file < header.offset + header.file_size)
-    ⊎ ((base + memory_size < header.address + header.memory_size) ⊎ (highest_end < header.address + header.memory_size)))
+    (header.memory_size < header.file_size) ⊎ (length file < header.offset + header.file_size)
+    ⊎ (base + memory_size < header.address + header.memory_size) ⊎ (highest_end < header.address + header.memory_size)
 
 -- a load is out of range
 abbrev pub HasRangeFault : List ℕ → Type 0
 HasRangeFault file =
-    (base : ℕ) × (IsFileBase file base × ((index : ℕ) × (IsLoad file index × IsOutOfRange file base (header_at file index))))
+    (base : ℕ) × (index : ℕ) × IsFileBase file base × IsLoad file index × IsOutOfRange file base (header_at file index)
 
 -- the base is too high
 abbrev pub HasHighBase : List ℕ → Type 0
-HasHighBase file = (base : ℕ) × (IsFileBase file base × (highest_base < base))
+HasHighBase file = (base : ℕ) × IsFileBase file base × (highest_base < base)
 
 -- two loads share an address
 abbrev pub HasOverlap : List ℕ → Type 0
 HasOverlap file =
-    (a : ℕ) × ((b : ℕ) × ((a < b) × IsLoad file a × IsLoad file b
-    × ((address : ℕ) × (HoldsAddress (header_at file a) address × HoldsAddress (header_at file b) address))))
+    (a : ℕ) × (b : ℕ) × (address : ℕ) × (a < b) × IsLoad file a × IsLoad file b
+    × HoldsAddress (header_at file a) address × HoldsAddress (header_at file b) address
 
 -- the entry is no multiple of 4, or lies in no load
 abbrev pub HasEntryOutside : List ℕ → Type 0
 HasEntryOutside file =
-    (entry_of file % 4 ≢ 0) ⊎ ((index : ℕ) → IsLoad file index → ¬ HoldsAddress (header_at file index) (entry_of file))
+    (entry_of file % 4 ≢ 0)
+    ⊎ ((index : ℕ) → IsLoad file index → ¬ HoldsAddress (header_at file index) (entry_of file))
 
 -- none of these faults
 pub record HasNoFault (file : List ℕ) : Type 0 where

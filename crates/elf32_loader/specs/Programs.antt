@@ -26,8 +26,8 @@ pub record IsImage (file : List ℕ) (picture : Picture) : Type 0 where
   pub base : IsFileBase file picture.base
   pub entry : picture.entry ≡ entry_of file
   pub ascends : IsTrue (is_ascending picture.segments)
-  pub each_is_load : All (λ segment. (index : ℕ) × (IsLoad file index × IsLoaded file (header_at file index) segment)) picture.segments
-  pub each_load_stands : (index : ℕ) → IsLoad file index → (segment : Segment) × (Contains picture.segments segment × IsLoaded file (header_at file index) segment)
+  pub each_is_load : All (λ segment. (index : ℕ) × IsLoad file index × IsLoaded file (header_at file index) segment) picture.segments
+  pub each_load_stands : (index : ℕ) → IsLoad file index → (segment : Segment) × Contains picture.segments segment × IsLoaded file (header_at file index) segment
 
 -- fields of two bytes, and of four
 abbrev pub halves : List ℕ → List ℕ
@@ -75,3 +75,7 @@ pub record IsSingle (file : List ℕ) (picture : Picture) : Type 0 where
   pub count : length picture.segments ≡ 1
   pub valid : IsTrue (is_valid picture)
   pub written : file ≡ written picture
+
+-- such a file gives that image
+abbrev pub SinglesAreImages : Type 0
+SinglesAreImages = (file : List ℕ) (picture : Picture) → IsSingle file picture → IsImage file picture

@@ -3,9 +3,15 @@
 
 mod fault;
 mod images;
+mod laws;
 mod loading;
 mod segments;
 
 pub use fault::ElfFault;
 pub use images::Image;
+pub use laws::files_of_one_segment_give_their_images;
+pub use loading::load_image;
 pub use segments::Segment;
+
+#[cfg(test)]
+mod tests;
