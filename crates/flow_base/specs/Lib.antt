@@ -6,3 +6,4 @@ pub mod Puts
 pub mod Memory
 pub mod Room
 pub mod Reading
+pub mod Writing

@@ -1,5 +1,5 @@
 -- Files held in memory.
-use Rattle.std.specs.Prelude.{ℕ, List, [], ◌∷◌, bytes_eq, Option, Some, None, Result, Ok, Err, if◌then◌else◌}
+use Rattle.std.specs.Prelude.{ℕ, List, [], ◌∷◌, bytes_eq, Option, Some, None, Result, Err, if◌then◌else◌}
 use Rattle.flow_base.specs.declared.memory_files.Held.{Held}
 use Rattle.flow_base.specs.declared.memory_files.MemoryFiles.{MemoryFiles}
 use Rattle.flow_base.specs.declared.loading.LoadFault.{LoadFault}

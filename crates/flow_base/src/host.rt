@@ -1,12 +1,13 @@
 ghost use Rattle.std.specs.Prelude.{◌≡◌, ◌+◌, ◌^◌, ◌<◌, ◌≤◌, IfSome};
 ghost use Rattle.flow_base.specs.Reading.{KeepsLimit, IsReadOf};
+ghost use Rattle.flow_base.specs.Writing.{Writes};
 
 use crate::lists::Bytes;
 use crate::loading::{Files, LoadFault};
 use crate::putting::{Sink, SinkFault};
 use std::alloc::Global;
-use std::fs;
-use std::io::Read;
+use std::io::{Read, Write};
+use std::{fs, io};
 
 /// The files of the machine that the program runs on, by path. It tells no bytes; each error of the system, and each
 /// name that is no readable file, is a fault.
@@ -79,25 +80,26 @@ impl Files for DiskFiles {
     }
 }
 
+/// Writes a piece to its end, or stops at the first error. To take nothing of a rest that is not empty is an error.
+fn write_whole<W: Write>(writer: &mut W, piece: &[u8]) -> Result<(), SinkFault>
+    ensures { Writes piece.now result (W.contents writer.old) (W.contents writer.new) }
+{
+    let mut done = 0;
+    while done < piece.len() {
+        match writer.write(&piece[done..]) {
+            Ok(0) | Err(_) => return Err(SinkFault::Failed),
+            Ok(count) => done += count,
+        }
+    }
+    Ok(())
+}
+
 impl StandardOut {
     /// The standard output, with no fault so far.
     pub fn new(rt: HostRuntime) -> StandardOut
         ensures { ⟦<StandardOut as Sink>⟧.faults result ≡ 0 }
     {
         StandardOut { rt, faults: 0 }
-    }
-
-    /// Writes a piece to its end, or stops at the first error.
-    fn write_whole(&self, bytes: &[u8]) -> Result<(), SinkFault> {
-        let mut rest = bytes;
-        while !rest.is_empty() {
-            match self.rt.write_some(rest) {
-                Ok(0) => return Err(SinkFault::Failed),
-                Ok(count) => rest = &rest[count..],
-                Err(_) => return Err(SinkFault::Failed),
-            }
-        }
-        Ok(())
     }
 }
 
@@ -110,7 +112,7 @@ impl Sink for StandardOut {
 
     /// As [`Sink::put`], onto the standard output.
     fn put(&mut self, bytes: &[u8]) -> Result<(), SinkFault> {
-        let answer = self.write_whole(bytes);
+        let answer = write_whole(&mut io::writer(&self.rt), bytes);
         if answer.is_err() {
             self.faults = self.faults.saturating_add(1);
         }

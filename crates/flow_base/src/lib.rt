@@ -11,6 +11,8 @@ mod outputs;
 mod points;
 mod putting;
 mod register_file;
+#[cfg(test)]
+mod tests;
 
 pub use host::{DiskFiles, StandardOut};
 pub use lists::{Bytes, List, NoMemory};
