@@ -1,0 +1,30 @@
+-- One round of the rows that go over bytes.
+use Rattle.std.proofs.Common.{◌≡◌, ℕ, zero, suc, ◌+◌, refl, sym, ap, subst}
+use Rattle.flow_base.specs.declared.points.Slot.TheVariants.{SecretIn, ByteOut}
+use Rattle.rv32im_machine.specs.declared.language.Place.TheVariants.{Register, Byte}
+use Rattle.rv32im_machine.specs.declared.language.Source.TheVariants.{At, Constant, Secret}
+use Rattle.rv32im_machine.specs.declared.language.Sources.TheVariants.{One}
+use Rattle.rv32im_machine.specs.declared.language.Shape.TheVariants.{Copied}
+use Rattle.rv32im_machine.specs.State.{Control, secret_taken, emitted}
+use Rattle.rv32im_machine.specs.Language.{Turn, Passes, Decides, Shaped}
+use Rattle.rv32im_machine.specs.Calls.{point, answered, secret_reads, writes}
+
+pub secret_reads-none : (n to answer : ℕ) (c : Control) → n ≡ 0 → secret_reads n to answer c ≡ answered answer c
+unfolding secret_reads
+secret_reads-none n to answer c e = rw e refl
+
+pub secret_reads-more : (n rest to answer : ℕ) (c : Control) → n ≡ suc rest →
+    secret_reads n to answer c
+    ≡ Passes (point c SecretIn) (Byte to) (Shaped Copied) (One (Secret c.secret_at)) (secret_reads rest (to + 1) answer (secret_taken c))
+unfolding secret_reads
+secret_reads-more n rest to answer c e = rw e refl
+
+pub writes-none : (n from answer : ℕ) (c : Control) → n ≡ 0 → writes n from answer c ≡ answered answer c
+unfolding writes
+writes-none n from answer c e = rw e refl
+
+pub writes-more : (n rest from answer : ℕ) (c : Control) → n ≡ suc rest →
+    writes n from answer c
+    ≡ Decides (point c ByteOut) (Shaped Copied) (One (At (Byte from))) (λ byte. writes rest (from + 1) answer (emitted byte c))
+unfolding writes
+writes-more n rest from answer c e = rw e refl

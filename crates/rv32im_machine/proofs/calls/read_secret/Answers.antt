@@ -1,0 +1,31 @@
+use Rattle.std.proofs.Common.{rules, arith, ◌≡◌, ℕ, suc, ◌+◌, ◌-◌, ◌<◌, ◌≤◌, refl, sym, ◌∙◌, ap, add-one}
+use Rattle.rv32im_machine.specs.Language.{walk, walked, none_held}
+use Rattle.rv32im_machine.specs.Calls.{secret_reads, answered, point}
+use Rattle.rv32im_machine.specs.State.{secret_taken}
+use Rattle.rv32im_machine.proofs.Rounds.{secret_reads-none, secret_reads-more}
+use Rattle.rv32im_machine.proofs.calls.read_secret.Goals as goal
+
+pub returns-in-Err : goal.returns-in-Err
+unfolding walked
+returns-in-Err g c =
+    let more = secret_reads-more (c.args.count - c.loop-i.i) (c.args.count - (c.loop-i.i + 1)) (c.args.to + c.loop-i.i) c.args.count c.loop-i.machine.control (omega arith) in
+    let goes = rw (c.point-point.ensures, c.secret_at.ensures, c.from.ensures, c.next_secret-byte.ensures) at c.in-Err.ensures.goes in
+    c.loop-i.invariant.rest _ (rw more (goes _))
+
+pub loop-i-preserved : goal.loop-i-preserved
+unfolding walked secret_taken
+loop-i-preserved g c =
+    let more = secret_reads-more (c.args.count - c.loop-i.i) (c.args.count - (c.loop-i.i + 1)) (c.args.to + c.loop-i.i) c.args.count c.loop-i.machine.control (omega arith) in
+    let goes = rw (c.point-point.ensures, c.secret_at.ensures, c.from.ensures, c.next_secret-byte.ensures) at c.in-Ok.ensures.goes in
+    let next : c.args.to + (c.loop-i.i + 1) ≡ c.args.to + c.loop-i.i + 1 = omega arith in
+    record {
+      setting = rw (c.set_byte.ensures, c.take_secret.ensures) c.loop-i.invariant.setting;
+      read = rw (c.set_byte.ensures, c.take_secret.ensures) (omega (arith, c.loop-i.invariant.read));
+      rest = λ out after. c.loop-i.invariant.rest out (rw more (goes _ out (rw (c.set_byte.ensures, c.take_secret.ensures, next) at after)));
+    }
+
+pub returns : goal.returns
+unfolding walked
+returns g c =
+    let none = secret_reads-none (c.args.count - c.loop-i.i) (c.args.to + c.loop-i.i) c.args.count c.loop-i.machine.control (omega arith) in
+    c.loop-i.invariant.rest _ (rw none c.answer.ensures)

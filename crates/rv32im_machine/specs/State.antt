@@ -1,0 +1,94 @@
+-- A state of the guest machine.
+use Rattle.std.specs.Prelude.{◌≡◌, ℕ, ◌+◌, ◌-◌, ◌*◌, ◌%◌, ◌^◌, ◌==◌, ◌&&◌, ◌||◌, nat_le, List, [], ◌∷◌, ◌++◌, length, slice_index, slice_set, Bool, if◌then◌else◌}
+use Rattle.rv32im_machine.specs.declared.stepping.Stepped.{Stepped}
+use Rattle.rv32im_machine.specs.declared.stepping.Stepped.TheVariants.{Ran, Exited, Stopped}
+use Rattle.rv32im_machine.specs.declared.stepping.Fault.{Fault}
+
+-- guest memory has 16 MiB
+abbrev pub memory_size : ℕ
+memory_size = 16777216
+
+-- what no step changes and both runs of a check share
+pub record Setting : Type 0 where
+  pub base : ℕ
+  pub public_input : List ℕ
+  pub secret_length : ℕ
+  pub output_limit : ℕ
+
+-- what decides how a run goes on: nothing here is a value of a register or of memory
+pub record Control : Type 0 where
+  pub pc : ℕ
+  pub public_at : ℕ
+  pub secret_at : ℕ
+  pub output : List ℕ
+  pub mode : Stepped
+  pub region : ℕ
+
+-- the values: 32 registers, the bytes of guest memory from the base on, and the registers at the last entry of a region
+pub record Store : Type 0 where
+  pub registers : List ℕ
+  pub memory : List ℕ
+  pub kept : List ℕ
+
+pub record State : Type 0 where
+  pub setting : Setting
+  pub secret : List ℕ
+  pub control : Control
+  pub store : Store
+
+-- each of the bytes from the address on is one of guest memory; no bytes are inside anywhere
+abbrev pub is_inside : ℕ → ℕ → ℕ → Bool
+is_inside base address count =
+    (count == 0) || (nat_le base address && nat_le (address + count) (base + memory_size))
+
+abbrev pub register_of : Store → ℕ → ℕ
+register_of store register = slice_index store.registers register
+
+abbrev pub byte_of : ℕ → Store → ℕ → ℕ
+byte_of base store address = slice_index store.memory (address - base)
+
+-- a number whose bytes are these, the lowest first
+abbrev pub joined : List ℕ → ℕ
+joined [] = 0
+joined (byte ∷ bytes) = byte + 256 * joined bytes
+
+abbrev pub word_at : ℕ → Store → ℕ → ℕ
+word_at base store address =
+    joined (byte_of base store address ∷ byte_of base store (address + 1)
+    ∷ byte_of base store (address + 2) ∷ byte_of base store (address + 3) ∷ [])
+
+-- ---- changes, a name for each
+
+-- a write to x0 is dropped
+unfoldable pub with_register : ℕ → ℕ → Store → Store
+with_register register value store =
+    record store { registers = if register == 0 then store.registers else slice_set store.registers register value }
+
+unfoldable pub with_byte : ℕ → ℕ → ℕ → Store → Store
+with_byte base address value store = record store { memory = slice_set store.memory (address - base) value }
+
+-- at the entry of a region every register is kept
+unfoldable pub saved : Store → Store
+saved store = record store { kept = store.registers }
+
+-- these registers get back the values that were kept
+unfoldable pub restored : List ℕ → Store → Store
+restored [] store = store
+restored (register ∷ registers) store =
+    restored registers (with_register register (slice_index store.kept register) store)
+
+unfoldable pub moved_to : ℕ → Control → Control
+moved_to pc control = record control { pc = pc }
+
+-- to the next instruction
+unfoldable pub onward : Control → Control
+onward control = record control { pc = (control.pc + 4) % 2 ^ 32 }
+
+unfoldable pub ended : Stepped → Control → Control
+ended mode control = record control { mode = mode }
+
+unfoldable pub secret_taken : Control → Control
+secret_taken control = record control { secret_at = control.secret_at + 1 }
+
+unfoldable pub emitted : ℕ → Control → Control
+emitted byte control = record control { output = control.output ++ byte ∷ [] }

@@ -1,0 +1,68 @@
+use rv32im_decode::{BranchKind, LoadKind, OpKind};
+
+/// Where a value of a turn stands: a register (0 to 31), a byte of guest memory at its address, or one of the two
+/// operands that have gone on in this turn.
+#[derive(Clone, Copy, Debug, PartialEq, Eq)]
+pub enum Place {
+    Register(u8),
+    Byte(u32),
+    First,
+    Second,
+}
+
+/// Where one value comes from: a place, a number that both inputs have no part in, or the secret byte of this index.
+#[derive(Clone, Copy, Debug, PartialEq, Eq)]
+pub enum Source {
+    At(Place),
+    Constant(u32),
+    Secret(u32),
+}
+
+/// Where the values of one passing come from; the last three are the bytes from an address on, the lowest address first.
+#[derive(Clone, Copy, Debug, PartialEq, Eq)]
+pub enum Sources {
+    One(Source),
+    Two(Source, Source),
+    Byte(u32),
+    Half(u32),
+    Word(u32),
+}
+
+/// A byte of a word, the lowest first.
+#[derive(Clone, Copy, Debug, PartialEq, Eq)]
+pub enum Part {
+    Byte0,
+    Byte1,
+    Byte2,
+    Byte3,
+}
+
+/// What only moves bits about: a copy, loaded bytes joined and extended to a word, or one byte of a word.
+#[derive(Clone, Copy, Debug, PartialEq, Eq)]
+pub enum Shape {
+    Copied,
+    Extended(LoadKind),
+    Part(Part),
+}
+
+/// What computes a value from two operands: a result, a branch's decision, or the target of JALR.
+#[derive(Clone, Copy, Debug, PartialEq, Eq)]
+pub enum Operation {
+    Result(OpKind),
+    Decision(BranchKind),
+    Target,
+}
+
+/// How the value of a passing is made; a computed one with the values of its two operands.
+#[derive(Clone, Copy, Debug, PartialEq, Eq)]
+pub enum Work {
+    Shaped(Shape),
+    Computed(Operation, u32, u32),
+}
+
+/// What a turn looks at without a passing: the fetched word at an address, or the base register of a region's range.
+#[derive(Clone, Copy, Debug, PartialEq, Eq)]
+pub enum Seen {
+    Word(u32),
+    Base(u8),
+}

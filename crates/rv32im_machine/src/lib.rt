@@ -1,0 +1,18 @@
+//! The guest machine of RV32IM: its states, the language of one turn, a row for each instruction, and one walker of
+//! turns that hands each value that passes to whoever is interested in it.
+#![tactic(auto)]
+
+mod calls;
+mod language;
+mod machines;
+mod passing;
+mod plain;
+mod starting;
+mod stepping;
+mod walker;
+
+pub use language::{Operation, Part, Place, Seen, Shape, Source, Sources, Work};
+pub use machines::Machine;
+pub use passing::Passer;
+pub use stepping::{CallPlan, Fault, Stepped};
+pub use walker::turn_by;

@@ -1,0 +1,261 @@
+#![tactic(auto, unfolding(crate::specs::State::with_register, crate::specs::State::with_byte, crate::specs::State::saved, crate::specs::State::moved_to, crate::specs::State::onward, crate::specs::State::ended, crate::specs::State::secret_taken, crate::specs::State::emitted))]
+
+ghost use Rattle.std.specs.Prelude.{◌≡◌, ℕ, ◌+◌, ◌-◌, ◌*◌, ◌/◌, ◌%◌, ◌^◌, ◌<◌, ◌≤◌, [], length, slice_index, vec_len, vec_capacity, IsTrue};
+ghost use Rattle.rv32im_machine.specs.State.{State, memory_size, is_inside, register_of, byte_of, word_at, with_register, with_byte, saved, moved_to, onward, ended, secret_taken, emitted};
+ghost use Rattle.rv32im_machine.specs.Language.{with_store, with_control};
+ghost use Rattle.rv32im_machine.specs.Calls.{point};
+ghost use Rattle.rv32im_machine.specs.Start.{start_on};
+ghost use Rattle.flow_base.specs.Points.{is_slot};
+
+use crate::stepping::Stepped;
+use flow_base::{Bytes, Point, Registers, Slot};
+use std::marker::Model;
+
+/// Guest memory has 16 MiB.
+pub const MEMORY_SIZE: u32 = 16_777_216;
+
+/// A guest with its memory, registers, inputs and output; contracts see it as a state.
+#[derive(Drop)]
+pub struct Machine {
+    base: u32,
+    memory: Vec<u8>,
+    registers: Registers,
+    kept: Registers,
+    pc: u32,
+    region: u16,
+    public: Bytes,
+    public_at: usize,
+    secret: Bytes,
+    secret_at: usize,
+    output: Vec<u8>,
+    output_limit: u32,
+    mode: Stepped,
+}
+
+impl Model for Machine {
+    ghost use Rattle.std.specs.Prelude.{◌≡◌, ℕ, ◌+◌, ◌<◌, ◌≤◌, ◌^◌, length, vec_len, vec_capacity};
+    ghost use Rattle.rv32im_machine.specs.State.{State, memory_size};
+
+    ghost Value = { State };
+
+    ghost view = { λ m. record {
+      setting = record { base = m.base; public_input = m.public; secret_length = length m.secret; output_limit = m.output_limit };
+      secret = m.secret;
+      control = record { pc = m.pc; public_at = m.public_at; secret_at = m.secret_at; output = m.output.items; mode = m.mode; region = m.region };
+      store = record { registers = m.registers; memory = m.memory.items; kept = m.kept };
+    } };
+
+    ghost invariant = { λ m. (vec_len m.memory ≡ memory_size) × (m.base + memory_size < 2 ^ 32)
+        × (m.secret_at ≤ length m.secret) × (length m.secret < 2 ^ 32)
+        × (vec_len m.output ≤ m.output_limit) × (m.output_limit ≤ vec_capacity m.output) };
+}
+
+impl Machine {
+    /// A guest at its entry, with this memory, both inputs unread and no output.
+    pub(crate) fn at_start(
+        base: u32,
+        entry: u32,
+        memory: Vec<u8>,
+        public: Bytes,
+        secret: Bytes,
+        output: Vec<u8>,
+        output_limit: u32,
+    ) -> Machine
+        requires size { vec_len memory ≡ memory_size }
+        requires base { base + memory_size < 2 ^ 32 }
+        requires secret { length secret < 2 ^ 32 }
+        requires output { output.items ≡ [] }
+        requires room { output_limit ≤ vec_capacity output }
+        ensures { result ≡ start_on memory.items base entry public secret output_limit }
+    {
+        let mut registers = Registers::new();
+        registers.set(2, base + MEMORY_SIZE - 64);
+        Machine {
+            base,
+            memory,
+            registers,
+            kept: Registers::new(),
+            pc: entry,
+            region: 0,
+            public,
+            public_at: 0,
+            secret,
+            secret_at: 0,
+            output,
+            output_limit,
+            mode: Stepped::Ran,
+        }
+    }
+
+    /// The program counter, an address.
+    pub fn pc(&self) -> u32
+        ensures { result ≡ self.now.control.pc }
+    {
+        self.pc
+    }
+
+    /// The lowest address of guest memory.
+    pub fn base(&self) -> u32
+        ensures { result ≡ self.now.setting.base }
+    {
+        self.base
+    }
+
+    /// The 32 registers.
+    pub fn registers(&self) -> &Registers
+        ensures { result.now ≡ self.now.store.registers }
+    {
+        &self.registers
+    }
+
+    /// The bytes that were written so far.
+    pub fn output(&self) -> &[u8]
+        ensures { result.now ≡ self.now.control.output }
+    {
+        self.output.as_slice()
+    }
+
+    /// Whether the machine has run on, has exited or is stopped.
+    pub fn mode(&self) -> Stepped
+        ensures { result ≡ self.now.control.mode }
+    {
+        self.mode
+    }
+
+    /// The point of a slot at the program counter, in the entered region (0 outside regions).
+    pub fn point(&self, slot: Slot) -> Point
+        requires { IsTrue (is_slot slot) }
+        ensures { result ≡ point self.now.control slot }
+    {
+        Point {
+            region: self.region,
+            address: self.pc,
+            slot,
+        }
+    }
+
+    /// The value of a register, 0 to 31.
+    pub fn register(&self, register: u8) -> u32
+        requires { register < 32 }
+        ensures { result ≡ register_of self.now.store register }
+    {
+        self.registers.get(register)
+    }
+
+    /// Whether each of `count` bytes from the address on is one of guest memory.
+    pub fn is_inside(&self, address: u32, count: u32) -> bool
+        ensures inside { result ≡ is_inside self.now.setting.base address count }
+        ensures below { IsTrue result → address + count ≤ 2 ^ 32 }
+    {
+        count == 0
+            || (self.base <= address
+                && u64::from(address) + u64::from(count)
+                    <= u64::from(self.base) + u64::from(MEMORY_SIZE))
+    }
+
+    /// The byte of guest memory at an address.
+    pub fn byte(&self, address: u32) -> u8
+        requires { IsTrue (is_inside self.now.setting.base address 1) }
+        ensures { result ≡ byte_of self.now.setting.base self.now.store address }
+    {
+        self.memory[(address - self.base) as usize]
+    }
+
+    /// The four bytes from an address on as a word, the lowest byte first.
+    pub fn word(&self, address: u32) -> u32
+        requires { IsTrue (is_inside self.now.setting.base address 4) }
+        ensures { result ≡ word_at self.now.setting.base self.now.store address }
+    {
+        let _ = &self.base;
+        let byte0 = self.byte(address);
+        let byte1 = self.byte(address + 1);
+        let byte2 = self.byte(address + 2);
+        let byte3 = self.byte(address + 3);
+        u32::from(byte0)
+            + 256 * (u32::from(byte1) + 256 * (u32::from(byte2) + 256 * u32::from(byte3)))
+    }
+
+    /// Sets a register, 0 to 31; a write to register 0 changes nothing.
+    pub fn set_register(&mut self, register: u8, value: u32)
+        requires { register < 32 }
+        ensures { self.new ≡ with_store (with_register register value self.old.store) self.old }
+    {
+        self.registers.set(register, value);
+    }
+
+    /// Sets the byte of guest memory at an address.
+    pub fn set_byte(&mut self, address: u32, value: u8)
+        requires { IsTrue (is_inside self.old.setting.base address 1) }
+        ensures { self.new ≡ with_store (with_byte self.old.setting.base address value self.old.store) self.old }
+    {
+        let index = (address - self.base) as usize;
+        self.memory[index] = value;
+    }
+
+    /// Sets the program counter, an address.
+    pub fn set_pc(&mut self, pc: u32)
+        ensures { self.new ≡ with_control (moved_to pc self.old.control) self.old }
+    {
+        self.pc = pc;
+    }
+
+    /// Goes on to the next instruction.
+    pub fn onward(&mut self)
+        ensures { self.new ≡ with_control (onward self.old.control) self.old }
+    {
+        self.pc = self.pc.wrapping_add(4);
+    }
+
+    /// Ends the run, or lets it go on.
+    pub fn end(&mut self, mode: Stepped)
+        ensures { self.new ≡ with_control (ended mode self.old.control) self.old }
+    {
+        self.mode = mode;
+    }
+
+    /// How many secret bytes are not yet read.
+    pub fn secret_left(&self) -> u32
+        ensures { result ≡ self.now.setting.secret_length - self.now.control.secret_at }
+    {
+        (self.secret.len() - self.secret_at) as u32
+    }
+
+    /// The index of the next secret byte.
+    pub fn secret_at(&self) -> u32
+        ensures { result ≡ self.now.control.secret_at }
+    {
+        self.secret_at as u32
+    }
+
+    /// The next secret byte, which stays unread.
+    pub fn next_secret(&self) -> u8
+        requires { self.now.control.secret_at < self.now.setting.secret_length }
+        ensures { result ≡ slice_index self.now.secret self.now.control.secret_at }
+    {
+        self.secret.as_slice()[self.secret_at]
+    }
+
+    /// Reads the next secret byte.
+    pub fn take_secret(&mut self)
+        requires { self.old.control.secret_at < self.old.setting.secret_length }
+        ensures { self.new ≡ with_control (secret_taken self.old.control) self.old }
+    {
+        self.secret_at += 1;
+    }
+
+    /// How many more bytes the output may have.
+    pub fn output_left(&self) -> u32
+        ensures left { result ≡ self.now.setting.output_limit - length self.now.control.output }
+        ensures within { length self.now.control.output ≤ self.now.setting.output_limit }
+    {
+        self.output_limit - self.output.len() as u32
+    }
+
+    /// Appends a byte to the output. It takes no memory.
+    pub fn emit(&mut self, byte: u8)
+        requires { length self.old.control.output < self.old.setting.output_limit }
+        ensures { self.new ≡ with_control (emitted byte self.old.control) self.old }
+    {
+        let _ = self.output.push(byte);
+    }
+}

@@ -1,0 +1,75 @@
+ghost use Rattle.std.specs.Prelude.{◌≡◌, ◌+◌, ◌-◌, ◌^◌, ◌<◌, ◌≤◌, IfOk, IsTrue, length, vec_len, vec_capacity, OnOk};
+ghost use Rattle.elf32_loader.specs.Images.{picture_of};
+ghost use Rattle.elf32_loader.specs.Segments.{are_inside};
+ghost use Rattle.rv32im_machine.specs.Start.{zeros, laid, laid_at, first_memory, start};
+
+use crate::machines::{MEMORY_SIZE, Machine};
+use elf32_loader::{Image, Segment};
+use flow_base::{Bytes, NoMemory, Registers};
+use std::alloc::{AllocError, Global};
+
+/// So many zeros.
+#[tactic(auto, unfolding(crate::specs::Start::zeros))]
+fn zeroed(alloc: Global, count: usize) -> Result<Vec<u8>, AllocError>
+    ensures zeros { IfOk result (λ memory. memory.items ≡ zeros count) }
+    ensures length { IfOk result (λ memory. vec_len memory ≡ count) }
+{
+    vec![in alloc; 0; count]
+}
+
+/// Lays a segment over memory.
+fn lay_segment(memory: &mut Vec<u8>, base: u32, segment: &Segment)
+    requires low { base ≤ segment.now.address }
+    requires high { segment.now.address + length segment.now.bytes ≤ base + vec_len memory.old }
+    ensures laid { memory.new.items ≡ laid_at (segment.now.address - base) segment.now.bytes memory.old.items }
+    ensures length { vec_len memory.new ≡ vec_len memory.old }
+{
+    let bytes = segment.bytes.as_slice();
+    let at = (segment.address - base) as usize;
+    memory[at..at + bytes.len()].copy_from_slice(bytes);
+}
+
+/// Lays segments over memory, one after another.
+fn lay_segments(memory: &mut Vec<u8>, base: u32, segments: &[Segment])
+    requires inside { IsTrue (are_inside base segments.now) }
+    requires size { vec_len memory.old ≡ 16777216 }
+    ensures laid { memory.new.items ≡ laid base segments.now memory.old.items }
+    ensures length { vec_len memory.new ≡ vec_len memory.old }
+{
+    let mut rest = segments;
+    while let [segment, more @ ..] = rest {
+        lay_segment(memory, base, segment);
+        rest = more;
+    }
+}
+
+impl Machine {
+    /// A guest at its start, with copies of both inputs, and with room for `output_limit` bytes of output: no later call
+    /// takes memory. `NoMemory` where there is not enough.
+    #[tactic(auto, unfolding(crate::specs::Start::first_memory))]
+    pub fn new(
+        alloc: Global,
+        image: &Image,
+        public: &Bytes,
+        secret: &Bytes,
+        output_limit: u32,
+    ) -> Result<Machine, NoMemory>
+        requires { length secret.now < 2 ^ 32 }
+        ensures { IfOk result (λ machine. machine ≡ start (picture_of image.now) public.now secret.now output_limit) }
+    {
+        let mut memory = zeroed(alloc, MEMORY_SIZE as usize)?;
+        lay_segments(&mut memory, image.base, image.segments.as_slice());
+        let public = Bytes::from_slice(alloc, public.as_slice())?;
+        let secret = Bytes::from_slice(alloc, secret.as_slice())?;
+        let output = Vec::with_capacity(alloc, output_limit as usize)?;
+        Ok(Machine::at_start(
+            image.base,
+            image.entry,
+            memory,
+            public,
+            secret,
+            output,
+            output_limit,
+        ))
+    }
+}
