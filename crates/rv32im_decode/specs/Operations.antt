@@ -1,15 +1,19 @@
 -- What each instruction of RV32IM computes, on words as numbers below 2^32. The sections named are those of the RISC-V
 -- Unprivileged ISA manual, chapters "RV32I Base Integer Instruction Set" and "M Extension".
-use Rattle.std.specs.Prelude.{ℕ, ℤ, ◌+◌, ◌-◌, ◌*◌, ◌/◌, ◌%◌, ◌^◌, ◌==◌, nat_lt, int_lt, int_div, int_rem, bit_and, bit_or, bit_xor, Bool, not, if◌then◌else◌}
+use Rattle.std.specs.Prelude.{ℕ, ℤ, ◌+◌, ◌-◌, ◌*◌, ◌/◌, ◌%◌, ◌^◌, ◌==◌, nat_lt, int_lt, int_div, int_rem, bit_and}
+use Rattle.std.specs.Prelude.{bit_or, bit_xor, Bool, not, if◌then◌else◌}
 use Rattle.std.specs.Int.{cast_signed, cast_unsigned, w32}
 use Rattle.rv32im_decode.specs.declared.instructions.BranchKind.{BranchKind}
 use Rattle.rv32im_decode.specs.declared.instructions.BranchKind.TheVariants.{Beq, Bne, Blt, Bge, Bltu, Bgeu}
 use Rattle.rv32im_decode.specs.declared.instructions.ImmKind.{ImmKind}
-use Rattle.rv32im_decode.specs.declared.instructions.ImmKind.TheVariants.{Addi, Slti, Sltiu, Xori, Ori, Andi, Slli, Srli, Srai}
+use Rattle.rv32im_decode.specs.declared.instructions.ImmKind.TheVariants.{Addi, Slti, Sltiu, Xori, Ori, Andi, Slli}
+use Rattle.rv32im_decode.specs.declared.instructions.ImmKind.TheVariants.{Srli, Srai}
 use Rattle.rv32im_decode.specs.declared.instructions.LoadKind.{LoadKind}
 use Rattle.rv32im_decode.specs.declared.instructions.LoadKind.TheVariants.{Lb, Lh, Lw, Lbu, Lhu}
 use Rattle.rv32im_decode.specs.declared.instructions.OpKind.{OpKind}
-use Rattle.rv32im_decode.specs.declared.instructions.OpKind.TheVariants.{Add, Sub, Sll, Slt, Sltu, Xor, Srl, Sra, Or, And, Mul, Mulh, Mulhsu, Mulhu, Div, Divu, Rem, Remu}
+use Rattle.rv32im_decode.specs.declared.instructions.OpKind.TheVariants.{Add, Sub, Sll, Slt, Sltu, Xor, Srl, Sra, Or}
+use Rattle.rv32im_decode.specs.declared.instructions.OpKind.TheVariants.{And, Mul, Mulh, Mulhsu, Mulhu, Div, Divu}
+use Rattle.rv32im_decode.specs.declared.instructions.OpKind.TheVariants.{Rem, Remu}
 use Rattle.rv32im_decode.specs.declared.instructions.StoreKind.{StoreKind}
 use Rattle.rv32im_decode.specs.declared.instructions.StoreKind.TheVariants.{Sb, Sh, Sw}
 

@@ -1,6 +1,9 @@
+//! What the operations, branches, loads and stores compute.
+
 ghost use Rattle.std.specs.Prelude.{◌≡◌, ◌<◌, ◌+◌, nat_lt, if◌then◌else◌};
 ghost use Rattle.rv32im_decode.specs.Operations.{word_of, operation_of, op_result, is_taken, address_of, target_of};
-ghost use Rattle.rv32im_decode.specs.Operations.{load_size, extended, store_size, upper_of, sign_widened, word_of_truth};
+ghost use Rattle.rv32im_decode.specs.Operations.{load_size, extended, store_size, upper_of, sign_widened};
+ghost use Rattle.rv32im_decode.specs.Operations.{word_of_truth};
 ghost use Rattle.rv32im_decode.specs.Operations.{shifted_with_sign, signed_quotient, signed_remainder};
 
 use crate::instructions::{BranchKind, ImmKind, LoadKind, OpKind, StoreKind};
@@ -133,8 +136,8 @@ pub fn address(first: u32, immediate: i32) -> u32
     first.wrapping_add_signed(immediate)
 }
 
-/// The target of JALR: the word of rs1 plus the immediate, modulo 2^32, with its lowest bit cleared (RISC-V Unprivileged
-/// ISA, "Unconditional Jumps").
+/// The target of JALR: the word of rs1 plus the immediate, modulo 2^32, with its lowest bit cleared (RISC-V
+/// Unprivileged ISA, "Unconditional Jumps").
 pub fn target(first: u32, immediate: i32) -> u32
     ensures { result ≡ target_of first (word_of immediate) }
 {

@@ -1,7 +1,6 @@
-use Rattle.std.proofs.Common.{rules, ◌≡◌, ◌<◌, ◌^◌, ◌∙◌, IfSome, ℕ, arith, sym}
+use Rattle.std.proofs.Common.{◌∙◌, arith, sym}
 use Rattle.std.proofs.lemmas.Option.{IfSome_then}
-use Rattle.rv32im_decode.specs.declared.instructions.Instr.{Instr as Instruction}
-use Rattle.rv32im_decode.specs.Encoding.{InRange, encoded, decoded}
+use Rattle.rv32im_decode.specs.Encoding.{decoded}
 use Rattle.rv32im_decode.proofs.Encodes.{encoded_decodes}
 use Rattle.rv32im_decode.proofs.Decodes.{decoded_is}
 use Rattle.rv32im_decode.proofs.decoding.decode.Goals as goal
