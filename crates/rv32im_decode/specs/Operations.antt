@@ -1,8 +1,8 @@
 -- What each instruction of RV32IM computes, on words as numbers below 2^32. The sections named are those of the RISC-V
 -- Unprivileged ISA manual, chapters "RV32I Base Integer Instruction Set" and "M Extension".
-use Rattle.std.specs.Prelude.{ℕ, ℤ, ◌+◌, ◌-◌, ◌*◌, ◌/◌, ◌%◌, ◌^◌, ◌==◌, nat_lt, int_lt, int_div, int_rem, bit_and}
+use Rattle.std.specs.Prelude.{ℕ, ℤ, pos, ◌*ℤ◌, ◌+◌, ◌-◌, ◌*◌, ◌/◌, ◌%◌, ◌^◌, ◌==◌, nat_lt, int_lt, int_div, int_rem, bit_and}
 use Rattle.std.specs.Prelude.{bit_or, bit_xor, Bool, not, if◌then◌else◌}
-use Rattle.std.specs.Int.{cast_signed, cast_unsigned, w32}
+use Rattle.std.specs.Int.{cast_signed, cast_unsigned, w32, w64}
 use Rattle.rv32im_decode.specs.declared.instructions.BranchKind.{BranchKind}
 use Rattle.rv32im_decode.specs.declared.instructions.BranchKind.TheVariants.{Beq, Bne, Blt, Bge, Bltu, Bgeu}
 use Rattle.rv32im_decode.specs.declared.instructions.ImmKind.{ImmKind}
@@ -25,9 +25,9 @@ word_of number = cast_unsigned w32 number
 abbrev pub signed : ℕ → ℤ
 signed word = cast_signed w32 word
 
--- a word as 64 bits with its sign repeated
-abbrev pub sign_widened : ℕ → ℕ
-sign_widened word = if nat_lt word 2147483648 then word else word + 18446744069414584320
+-- section "Multiplication Operations": the upper word of the 64 bits of a product
+abbrev pub upper_word : ℤ → ℕ
+upper_word product = cast_unsigned w64 product / 2 ^ 32
 
 -- section "Integer Register-Immediate Instructions": the operation that the immediate takes part in as second word
 abbrev pub operation_of : ImmKind → OpKind
@@ -74,8 +74,8 @@ op_result Sra first second = shifted_with_sign first (second % 32)
 op_result Or first second = bit_or first second
 op_result And first second = bit_and first second
 op_result Mul first second = first * second % 2 ^ 32
-op_result Mulh first second = sign_widened first * sign_widened second % 2 ^ 64 / 2 ^ 32
-op_result Mulhsu first second = sign_widened first * second % 2 ^ 64 / 2 ^ 32
+op_result Mulh first second = upper_word (signed first *ℤ signed second)
+op_result Mulhsu first second = upper_word (signed first *ℤ pos second)
 op_result Mulhu first second = first * second / 2 ^ 32
 op_result Div first second = signed_quotient first second
 op_result Divu first second = if second == 0 then 4294967295 else first / second
