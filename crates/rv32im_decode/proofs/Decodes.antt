@@ -152,6 +152,7 @@ op-imm-is word below o =
     ((omega arith, omega arith, is.0), is.1))
 
 pub decoded_is : (word : ℕ) → word < 2 ^ 32 → IfSome (decoded word) (λ instr. InRange instr × (encoded instr ≡ word))
+unfolding decoded
 decoded_is word below =
     let Is : Option Instr → Type 0 = λ found. IfSome found (IsOf word) in
     let opcode : ℕ = opcode_of word in

@@ -27,49 +27,68 @@ use Rattle.rv32im_decode.proofs.Tables.{op-found, op-below, imm-found, imm-below
 -- a word is decoded by its fields
 by-lui : (word rd imm : ℕ) → opcode_of word ≡ 55 → rd_of word ≡ rd → u_bits word ≡ imm →
     decoded word ≡ Some (Lui rd imm)
+unfolding decoded
 by-lui word rd imm o d i = rw (o, d, i) refl
 
 by-auipc : (word rd imm : ℕ) → opcode_of word ≡ 23 → rd_of word ≡ rd → u_bits word ≡ imm →
     decoded word ≡ Some (Auipc rd imm)
+unfolding decoded
 by-auipc word rd imm o d i = rw (o, d, i) refl
 
 by-jal : (word rd : ℕ) (offset : ℤ) → opcode_of word ≡ 111 → rd_of word ≡ rd →
     sign_extended (2 ^ 20) (j_bits word) ≡ offset → decoded word ≡ Some (Jal rd offset)
+unfolding decoded
 by-jal word rd offset o d i = rw (o, d, i) refl
 
 by-jalr : (word rd rs1 : ℕ) (imm : ℤ) → opcode_of word ≡ 103 → funct3_of word ≡ 0 → rd_of word ≡ rd →
     rs1_of word ≡ rs1 → sign_extended (2 ^ 11) (i_bits word) ≡ imm → decoded word ≡ Some (Jalr rd rs1 imm)
+unfolding decoded
 by-jalr word rd rs1 imm o f d a i = rw (o, f, d, a, i) refl
 
 by-branch : (word rs1 rs2 : ℕ) (kind : BranchKind) (offset : ℤ) → opcode_of word ≡ 99 →
     branch_kind (funct3_of word) ≡ Some kind → rs1_of word ≡ rs1 → rs2_of word ≡ rs2 →
     sign_extended (2 ^ 12) (b_bits word) ≡ offset → decoded word ≡ Some (Branch kind rs1 rs2 offset)
+unfolding decoded
 by-branch word rs1 rs2 kind offset o k a b i = rw (o, k, a, b, i) refl
 
 by-load : (word rd rs1 : ℕ) (kind : LoadKind) (imm : ℤ) → opcode_of word ≡ 3 →
     load_kind (funct3_of word) ≡ Some kind → rd_of word ≡ rd → rs1_of word ≡ rs1 →
     sign_extended (2 ^ 11) (i_bits word) ≡ imm → decoded word ≡ Some (Load kind rd rs1 imm)
+unfolding decoded
 by-load word rd rs1 kind imm o k d a i = rw (o, k, d, a, i) refl
 
 by-store : (word rs1 rs2 : ℕ) (kind : StoreKind) (imm : ℤ) → opcode_of word ≡ 35 →
     store_kind (funct3_of word) ≡ Some kind → rs1_of word ≡ rs1 → rs2_of word ≡ rs2 →
     sign_extended (2 ^ 11) (s_bits word) ≡ imm → decoded word ≡ Some (Store kind rs1 rs2 imm)
+unfolding decoded
 by-store word rs1 rs2 kind imm o k a b i = rw (o, k, a, b, i) refl
 
 by-op-imm : (word rd rs1 : ℕ) (kind : ImmKind) (imm : ℤ) → opcode_of word ≡ 19 →
     imm_kind (funct7_of word) (funct3_of word) ≡ Some kind → rd_of word ≡ rd → rs1_of word ≡ rs1 →
     immediate_of kind word ≡ imm → decoded word ≡ Some (OpImm kind rd rs1 imm)
+unfolding decoded
 by-op-imm word rd rs1 kind imm o k d a i = rw (o, k, d, a, i) refl
 
 by-op : (word rd rs1 rs2 : ℕ) (kind : OpKind) → opcode_of word ≡ 51 →
     op_kind (funct7_of word) (funct3_of word) ≡ Some kind → rd_of word ≡ rd → rs1_of word ≡ rs1 →
     rs2_of word ≡ rs2 → decoded word ≡ Some (Op kind rd rs1 rs2)
+unfolding decoded
 by-op word rd rs1 rs2 kind o k d a b = rw (o, k, d, a, b) refl
 
 by-fence : (word rd rs1 imm : ℕ) → opcode_of word ≡ 15 → funct3_of word ≡ 0 → rd_of word ≡ rd → rs1_of word ≡ rs1 →
     i_bits word ≡ imm → decoded word ≡ Some (Fence rd rs1 imm)
+unfolding decoded
 by-fence word rd rs1 imm o f d a i = rw (o, f, d, a, i) refl
 
+by-ecall : decoded 115 ≡ Some Ecall
+unfolding decoded
+by-ecall = refl
+
+by-ebreak : decoded 1048691 ≡ Some Ebreak
+unfolding decoded
+by-ebreak = refl
+
+-- the word of each format is decoded
 jal-decodes : (word rd : ℕ) (offset : ℤ) → rd < 32 → IsWithin (2 ^ 20) offset → IsEven offset →
     word ≡ encoded (Jal rd offset) → decoded word ≡ Some (Jal rd offset)
 jal-decodes word rd offset d within even e =
@@ -190,5 +209,5 @@ encoded_decodes (Store kind rs1 rs2 imm) word (a, b, within) e = store-decodes w
 encoded_decodes (OpImm kind rd rs1 imm) word (d, a, i) e = op-imm-decodes word rd rs1 kind imm d a i e
 encoded_decodes (Op kind rd rs1 rs2) word (d, a, b) e = op-decodes word rd rs1 rs2 kind d a b e
 encoded_decodes (Fence rd rs1 imm) word (d, a, i) e = fence-decodes word rd rs1 imm d a e
-encoded_decodes Ecall word r e = rw e refl
-encoded_decodes Ebreak word r e = rw e refl
+encoded_decodes Ecall word r e = rw e by-ecall
+encoded_decodes Ebreak word r e = rw e by-ebreak

@@ -109,7 +109,7 @@ abbrev pub decoded_system : ℕ → Option Instr
 decoded_system word = if word == ecall_word then Some Ecall else if word == ebreak_word then Some Ebreak else None
 
 -- chapter "RV32/64G Instruction Set Listings": the instruction of a word, or none; the opcode tells the row
-abbrev pub decoded : ℕ → Option Instr
+unfoldable pub decoded : ℕ → Option Instr
 decoded word =
     let opcode = opcode_of word in
     if opcode == lui_opcode then Some (Lui (rd_of word) (u_bits word)) else

@@ -27,6 +27,7 @@ pub fn decode(word: u32) -> Option<Instr>
     decode_by_opcode(word)
 }
 
+#[tactic(auto, unfolding(crate::specs::Encoding::decoded))]
 fn decode_by_opcode(word: u32) -> Option<Instr>
     ensures { result ≡ decoded word }
 {
