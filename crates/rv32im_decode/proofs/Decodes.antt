@@ -30,13 +30,16 @@ mapped (Some kind) P Q f h then_ = then_ kind h
 mapped None P Q f h then_ = tt
 
 lui-is : (word : ℕ) → word < 2 ^ 32 → opcode_of word ≡ 55 → IsOf word (Lui (rd_of word) (u_bits word))
+unfolding encoded
 lui-is word below o = ((omega arith, omega arith), omega arith)
 
 auipc-is : (word : ℕ) → word < 2 ^ 32 → opcode_of word ≡ 23 → IsOf word (Auipc (rd_of word) (u_bits word))
+unfolding encoded
 auipc-is word below o = ((omega arith, omega arith), omega arith)
 
 jal-is : (word : ℕ) → word < 2 ^ 32 → opcode_of word ≡ 111 →
     IsOf word (Jal (rd_of word) (sign_extended (2 ^ 20) (j_bits word)))
+unfolding encoded
 jal-is word below o =
     let bits : ℕ = j_bits word in
     let fits : bits < 2 ^ 21 = omega arith in (
@@ -55,6 +58,7 @@ i-is word funct3 opcode below o f =
     ∙ ap (i_word (i_bits word) (rs1_of word) (funct3_of word) (rd_of word)) (sym o) ∙ i-join word
 
 jalr-is : (word : ℕ) → word < 2 ^ 32 → opcode_of word ≡ 103 → IfSome (decoded_jalr word) (IsOf word)
+unfolding encoded
 jalr-is word below o =
     chosen (λ found. IfSome found (IsOf word)) (funct3_of word == 0) (Some (Jalr (rd_of word) (rs1_of word)
     (sign_extended (2 ^ 11) (i_bits word)))) None
@@ -64,6 +68,7 @@ jalr-is word below o =
     )) (λ _. tt)
 
 load-is : (word : ℕ) → word < 2 ^ 32 → opcode_of word ≡ 3 → IfSome (decoded_load word) (IsOf word)
+unfolding encoded
 load-is word below o =
     mapped (load_kind (funct3_of word)) _ (IsOf word) _ (load-has (funct3_of word))
     (λ kind f. (
@@ -72,6 +77,7 @@ load-is word below o =
     ))
 
 branch-is : (word : ℕ) → word < 2 ^ 32 → opcode_of word ≡ 99 → IfSome (decoded_branch word) (IsOf word)
+unfolding encoded
 branch-is word below o =
     let bits : ℕ = b_bits word in
     let fits : bits < 2 ^ 13 = omega arith in
@@ -84,6 +90,7 @@ branch-is word below o =
     ))
 
 store-is : (word : ℕ) → word < 2 ^ 32 → opcode_of word ≡ 35 → IfSome (decoded_store word) (IsOf word)
+unfolding encoded
 store-is word below o =
     let bits : ℕ = s_bits word in
     let fits : bits < 2 ^ 12 = omega arith in
@@ -96,6 +103,7 @@ store-is word below o =
     ))
 
 op-is : (word : ℕ) → word < 2 ^ 32 → opcode_of word ≡ 51 → IfSome (decoded_op word) (IsOf word)
+unfolding encoded
 op-is word below o =
     mapped (op_kind (funct7_of word) (funct3_of word)) _ (IsOf word) _ (op-has (funct7_of word) (funct3_of word))
     (λ kind f. (
@@ -107,6 +115,7 @@ op-is word below o =
     ))
 
 fence-is : (word : ℕ) → word < 2 ^ 32 → opcode_of word ≡ 15 → IfSome (decoded_fence word) (IsOf word)
+unfolding encoded
 fence-is word below o =
     chosen (λ found. IfSome found (IsOf word)) (funct3_of word == 0) (Some (Fence (rd_of word) (rs1_of word)
     (i_bits word))) None
@@ -116,6 +125,7 @@ fence-is word below o =
     )) (λ _. tt)
 
 system-is : (word : ℕ) → IfSome (decoded_system word) (IsOf word)
+unfolding encoded
 system-is word =
     let Is : Option Instr → Type 0 = λ found. IfSome found (IsOf word) in
     chosen Is (word == 115) (Some Ecall) _ (λ e. (tt, sym (eqb-true word 115 e)))
@@ -134,6 +144,7 @@ shift-is word funct7 funct3 o f s = ((omega (arith, ints), omega (arith, ints)),
 operand-is : (kind : ImmKind) (word : ℕ) → word < 2 ^ 32 → opcode_of word ≡ 19 → imm_funct3 kind ≡ funct3_of word →
     HasFunct7 kind (funct7_of word) → IsImmediate kind (immediate_of kind word) × (encoded (OpImm kind
     (rd_of word) (rs1_of word) (immediate_of kind word)) ≡ word)
+unfolding encoded
 operand-is Addi word below o f s = plain-is word 0 below o f
 operand-is Slti word below o f s = plain-is word 2 below o f
 operand-is Sltiu word below o f s = plain-is word 3 below o f
@@ -145,6 +156,7 @@ operand-is Srli word below o f s = shift-is word 0 5 o f s
 operand-is Srai word below o f s = shift-is word 32 5 o f s
 
 op-imm-is : (word : ℕ) → word < 2 ^ 32 → opcode_of word ≡ 19 → IfSome (decoded_op_imm word) (IsOf word)
+unfolding encoded
 op-imm-is word below o =
     mapped (imm_kind (funct7_of word) (funct3_of word)) _ (IsOf word) _ (imm-has (funct7_of word) (funct3_of word))
     (λ kind f. let is : IsImmediate kind (immediate_of kind word) × (encoded (OpImm kind (rd_of word)

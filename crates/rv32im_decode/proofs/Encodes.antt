@@ -91,6 +91,7 @@ by-ebreak = refl
 -- the word of each format is decoded
 jal-decodes : (word rd : ℕ) (offset : ℤ) → rd < 32 → IsWithin (2 ^ 20) offset → IsEven offset →
     word ≡ encoded (Jal rd offset) → decoded word ≡ Some (Jal rd offset)
+unfolding encoded
 jal-decodes word rd offset d within even e =
     let bits : ℕ = bits_of (2 ^ 20) offset in
     by-jal word rd offset (omega arith) (omega arith)
@@ -99,6 +100,7 @@ jal-decodes word rd offset d within even e =
 
 jalr-decodes : (word rd rs1 : ℕ) (imm : ℤ) → rd < 32 → rs1 < 32 → IsWithin (2 ^ 11) imm →
     word ≡ encoded (Jalr rd rs1 imm) → decoded word ≡ Some (Jalr rd rs1 imm)
+unfolding encoded
 jalr-decodes word rd rs1 imm d a within e =
     let bits : ℕ = bits_of (2 ^ 11) imm in
     let fields = i-fields word bits rs1 0 rd 103 (omega arith) d (omega arith) a e in
@@ -108,6 +110,7 @@ jalr-decodes word rd rs1 imm d a within e =
 
 load-decodes : (word rd rs1 : ℕ) (kind : LoadKind) (imm : ℤ) → rd < 32 → rs1 < 32 → IsWithin (2 ^ 11) imm →
     word ≡ encoded (Load kind rd rs1 imm) → decoded word ≡ Some (Load kind rd rs1 imm)
+unfolding encoded
 load-decodes word rd rs1 kind imm d a within e =
     let bits : ℕ = bits_of (2 ^ 11) imm in
     let fields = i-fields word bits rs1 (load_funct3 kind) rd 3 (omega arith) d (load-below kind) a e in
@@ -119,6 +122,7 @@ load-decodes word rd rs1 kind imm d a within e =
 branch-decodes : (word rs1 rs2 : ℕ) (kind : BranchKind) (offset : ℤ) → rs1 < 32 → rs2 < 32 →
     IsWithin (2 ^ 12) offset → IsEven offset → word ≡ encoded (Branch kind rs1 rs2 offset) →
     decoded word ≡ Some (Branch kind rs1 rs2 offset)
+unfolding encoded
 branch-decodes word rs1 rs2 kind offset a b within even e =
     let bits : ℕ = bits_of (2 ^ 12) offset in
     let fields = split-join word 99 (bits / 2 % 2 ^ 4 * 2 + bits / 2 ^ 11 % 2) (branch_funct3 kind) rs1 rs2
@@ -130,6 +134,7 @@ branch-decodes word rs1 rs2 kind offset a b within even e =
 
 store-decodes : (word rs1 rs2 : ℕ) (kind : StoreKind) (imm : ℤ) → rs1 < 32 → rs2 < 32 → IsWithin (2 ^ 11) imm →
     word ≡ encoded (Store kind rs1 rs2 imm) → decoded word ≡ Some (Store kind rs1 rs2 imm)
+unfolding encoded
 store-decodes word rs1 rs2 kind imm a b within e =
     let bits : ℕ = bits_of (2 ^ 11) imm in
     let fields = split-join word 35 (bits % 2 ^ 5) (store_funct3 kind) rs1 rs2 (bits / 2 ^ 5) (omega arith)
@@ -141,6 +146,7 @@ store-decodes word rs1 rs2 kind imm a b within e =
 
 op-decodes : (word rd rs1 rs2 : ℕ) (kind : OpKind) → rd < 32 → rs1 < 32 → rs2 < 32 →
     word ≡ encoded (Op kind rd rs1 rs2) → decoded word ≡ Some (Op kind rd rs1 rs2)
+unfolding encoded
 op-decodes word rd rs1 rs2 kind d a b e =
     let fields = split-join word 51 rd (op_funct3 kind) rs1 rs2 (op_funct7 kind) (omega arith) d
     (op-below kind) a b e in
@@ -150,6 +156,7 @@ op-decodes word rd rs1 rs2 kind d a b e =
 
 fence-decodes : (word rd rs1 imm : ℕ) → rd < 32 → rs1 < 32 → word ≡ encoded (Fence rd rs1 imm) →
     decoded word ≡ Some (Fence rd rs1 imm)
+unfolding encoded
 fence-decodes word rd rs1 imm d a e =
     let fields = i-fields word imm rs1 0 rd 15 (omega arith) d (omega arith) a e in
     by-fence word rd rs1 imm fields.opcode_is fields.funct3_is fields.rd_is fields.rs1_is
@@ -173,6 +180,7 @@ plain-operand imm word funct3 rd rs1 within d a f e =
 
 operand : (kind : ImmKind) (word rd rs1 : ℕ) (imm : ℤ) → rd < 32 → rs1 < 32 → IsImmediate kind imm →
     word ≡ encoded (OpImm kind rd rs1 imm) → HasFunct7 kind (funct7_of word) × (immediate_of kind word ≡ imm)
+unfolding encoded
 operand Addi word rd rs1 imm d a i e = (tt, plain-operand imm word 0 rd rs1 i d a (omega arith) e)
 operand Slti word rd rs1 imm d a i e = (tt, plain-operand imm word 2 rd rs1 i d a (omega arith) e)
 operand Sltiu word rd rs1 imm d a i e = (tt, plain-operand imm word 3 rd rs1 i d a (omega arith) e)
@@ -185,6 +193,7 @@ operand Srai word rd rs1 imm d a i e = shift-operand imm word 32 5 rd rs1 i.0 i.
 
 op-imm-decodes : (word rd rs1 : ℕ) (kind : ImmKind) (imm : ℤ) → rd < 32 → rs1 < 32 → IsImmediate kind imm →
     word ≡ encoded (OpImm kind rd rs1 imm) → decoded word ≡ Some (OpImm kind rd rs1 imm)
+unfolding encoded
 op-imm-decodes word rd rs1 kind imm d a i e =
     let fields = i-fields word (immediate_bits kind imm) rs1 (imm_funct3 kind) rd 19 (omega arith) d
     (imm-below kind) a e in
@@ -194,6 +203,7 @@ op-imm-decodes word rd rs1 kind imm d a i e =
     fields.rd_is fields.rs1_is found.1
 
 pub encoded_decodes : (instr : Instr) (word : ℕ) → InRange instr → word ≡ encoded instr → decoded word ≡ Some instr
+unfolding encoded
 encoded_decodes (Lui rd imm) word (d, i) e = by-lui word rd imm (omega arith) (omega arith) (omega arith)
 encoded_decodes (Auipc rd imm) word (d, i) e = by-auipc word rd imm (omega arith) (omega arith) (omega arith)
 encoded_decodes (Jal rd offset) word (d, within, even) e = jal-decodes word rd offset d within even e

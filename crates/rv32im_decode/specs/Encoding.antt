@@ -48,7 +48,7 @@ abbrev pub immediate_bits : ImmKind → ℤ → ℕ
 immediate_bits kind imm = if is_shift kind then shift_funct7 kind * 2 ^ 5 + word_of imm else bits_of (2 ^ 11) imm
 
 -- chapter "RV32/64G Instruction Set Listings": the word of an instruction
-abbrev pub encoded : Instr → ℕ
+unfoldable pub encoded : Instr → ℕ
 encoded (Lui rd imm) = u_word imm rd lui_opcode
 encoded (Auipc rd imm) = u_word imm rd auipc_opcode
 encoded (Jal rd offset) = j_word (bits_of (2 ^ 20) offset) rd jal_opcode

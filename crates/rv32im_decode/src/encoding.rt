@@ -73,6 +73,7 @@ pub fn encode(instr: &Instr) -> u32
     join_fields(instr)
 }
 
+#[tactic(auto, unfolding(crate::specs::Encoding::encoded))]
 fn join_fields(instr: &Instr) -> u32
     requires { InRange instr.now }
     ensures { result ≡ encoded instr.now }
