@@ -1,8 +1,7 @@
 -- Numbers in two's complement of 12, 13 and 21 bits, there and back.
-use Rattle.std.proofs.Common.{◌≡◌, ℕ, ◌<◌, ◌^◌, ◌%◌, arith, refl}
-use Rattle.std.specs.Prelude.{ℤ, pos, negsuc, ◌≤ℤ◌, ◌<ℤ◌}
+use Rattle.std.proofs.Common.{◌≡◌, ℕ, ◌<◌, ◌^◌, ◌%◌, arith}
+use Rattle.std.specs.Prelude.{ℤ, pos, negsuc}
 use Rattle.std.proofs.lemmas.Int.{ints}
-use Rattle.std.proofs.lemmas.Bool.Decides.{nat_tests}
 use Rattle.rv32im_decode.specs.Formats.{sign_extended, bits_of}
 use Rattle.rv32im_decode.specs.Encoding.{IsWithin, IsEven}
 

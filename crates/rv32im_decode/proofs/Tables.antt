@@ -5,17 +5,23 @@ use Rattle.std.proofs.lemmas.Option.{IfSome_then}
 use Rattle.rv32im_decode.specs.declared.instructions.BranchKind.{BranchKind}
 use Rattle.rv32im_decode.specs.declared.instructions.BranchKind.TheVariants.{Beq, Bne, Blt, Bge, Bltu, Bgeu}
 use Rattle.rv32im_decode.specs.declared.instructions.ImmKind.{ImmKind}
-use Rattle.rv32im_decode.specs.declared.instructions.ImmKind.TheVariants.{Addi, Slti, Sltiu, Xori, Ori, Andi, Slli, Srli, Srai}
+use Rattle.rv32im_decode.specs.declared.instructions.ImmKind.TheVariants.{Addi, Slti, Sltiu, Xori, Ori, Andi, Slli}
+use Rattle.rv32im_decode.specs.declared.instructions.ImmKind.TheVariants.{Srli, Srai}
 use Rattle.rv32im_decode.specs.declared.instructions.LoadKind.{LoadKind}
 use Rattle.rv32im_decode.specs.declared.instructions.LoadKind.TheVariants.{Lb, Lh, Lw, Lbu, Lhu}
 use Rattle.rv32im_decode.specs.declared.instructions.OpKind.{OpKind}
-use Rattle.rv32im_decode.specs.declared.instructions.OpKind.TheVariants.{Add, Sub, Sll, Slt, Sltu, Xor, Srl, Sra, Or, And, Mul, Mulh, Mulhsu, Mulhu, Div, Divu, Rem, Remu}
+use Rattle.rv32im_decode.specs.declared.instructions.OpKind.TheVariants.{Add, Sub, Sll, Slt, Sltu, Xor, Srl, Sra, Or}
+use Rattle.rv32im_decode.specs.declared.instructions.OpKind.TheVariants.{And, Mul, Mulh, Mulhsu, Mulhu, Div, Divu}
+use Rattle.rv32im_decode.specs.declared.instructions.OpKind.TheVariants.{Rem, Remu}
 use Rattle.rv32im_decode.specs.declared.instructions.StoreKind.{StoreKind}
 use Rattle.rv32im_decode.specs.declared.instructions.StoreKind.TheVariants.{Sb, Sh, Sw}
-use Rattle.rv32im_decode.specs.Listings.{branch_funct3, branch_kind, load_funct3, load_kind, store_funct3, store_kind, is_shift, imm_funct3, shift_funct7, imm_kind, left_shift, right_shift, op_funct3, op_funct7, op_kind, plain_op, other_op, multiply_op}
+use Rattle.rv32im_decode.specs.Listings.{branch_funct3, branch_kind, load_funct3, load_kind, store_funct3, store_kind}
+use Rattle.rv32im_decode.specs.Listings.{is_shift, imm_funct3, shift_funct7, imm_kind, left_shift, right_shift}
+use Rattle.rv32im_decode.specs.Listings.{op_funct3, op_funct7, op_kind, plain_op, other_op, multiply_op}
 
 -- a fact of a choice, from that fact of each side
-pub chosen : {T : Type 0} (P : T → Type 0) (test : Bool) (x y : T) → (test ≡ true → P x) → (test ≡ false → P y) → P (if test then x else y)
+pub chosen : {T : Type 0} (P : T → Type 0) (test : Bool) (x y : T) → (test ≡ true → P x) → (test ≡ false → P y) →
+    P (if test then x else y)
 chosen P true x y held other = held refl
 chosen P false x y held other = other refl
 
@@ -149,12 +155,17 @@ other-has funct3 = grind arith
 pub multiply-has : (funct3 : ℕ) → IfSome (multiply_op funct3) (λ kind. (op_funct7 kind ≡ 1) × (op_funct3 kind ≡ funct3))
 multiply-has funct3 = grind arith
 
-pub op-has : (funct7 funct3 : ℕ) → IfSome (op_kind funct7 funct3) (λ kind. (op_funct7 kind ≡ funct7) × (op_funct3 kind ≡ funct3))
+pub op-has : (funct7 funct3 : ℕ) → IfSome (op_kind funct7 funct3) (λ kind. (op_funct7 kind ≡ funct7) ×
+    (op_funct3 kind ≡ funct3))
 op-has funct7 funct3 =
-    let Has : Option OpKind → Type 0 = λ found. IfSome found (λ kind. (op_funct7 kind ≡ funct7) × (op_funct3 kind ≡ funct3)) in
-    chosen Has (funct7 == 0) (plain_op funct3) _ (λ e. let is : funct7 ≡ 0 = eqb-true funct7 0 e in IfSome_then (plain_op funct3) (plain-has funct3) (λ kind h. (h.0 ∙ sym is, h.1)))
-    (λ _. chosen Has (funct7 == 32) (other_op funct3) _ (λ e. let is : funct7 ≡ 32 = eqb-true funct7 32 e in IfSome_then (other_op funct3) (other-has funct3) (λ kind h. (h.0 ∙ sym is, h.1)))
-    (λ _. chosen Has (funct7 == 1) (multiply_op funct3) None (λ e. let is : funct7 ≡ 1 = eqb-true funct7 1 e in IfSome_then (multiply_op funct3) (multiply-has funct3) (λ kind h. (h.0 ∙ sym is, h.1)))
+    let Has : Option OpKind → Type 0 = λ found. IfSome found (λ kind. (op_funct7 kind ≡ funct7) ×
+    (op_funct3 kind ≡ funct3)) in
+    chosen Has (funct7 == 0) (plain_op funct3) _ (λ e. let is : funct7 ≡ 0 = eqb-true funct7 0 e in
+    IfSome_then (plain_op funct3) (plain-has funct3) (λ kind h. (h.0 ∙ sym is, h.1)))
+    (λ _. chosen Has (funct7 == 32) (other_op funct3) _ (λ e. let is : funct7 ≡ 32 = eqb-true funct7 32 e in
+    IfSome_then (other_op funct3) (other-has funct3) (λ kind h. (h.0 ∙ sym is, h.1)))
+    (λ _. chosen Has (funct7 == 1) (multiply_op funct3) None (λ e. let is : funct7 ≡ 1 = eqb-true funct7 1 e in
+    IfSome_then (multiply_op funct3) (multiply-has funct3) (λ kind h. (h.0 ∙ sym is, h.1)))
     (λ _. tt)))
 
 -- what funct7 must be for the kind
@@ -167,17 +178,21 @@ left-has funct7 = grind arith
 right-has : (funct7 : ℕ) → IfSome (right_shift funct7) (λ kind. (imm_funct3 kind ≡ 5) × HasFunct7 kind funct7)
 right-has funct7 = grind arith
 
-pub imm-has : (funct7 funct3 : ℕ) → IfSome (imm_kind funct7 funct3) (λ kind. (imm_funct3 kind ≡ funct3) × HasFunct7 kind funct7)
+pub imm-has : (funct7 funct3 : ℕ) → IfSome (imm_kind funct7 funct3) (λ kind.
+    (imm_funct3 kind ≡ funct3) × HasFunct7 kind funct7)
 imm-has funct7 funct3 =
-    let Has : Option ImmKind → Type 0 = λ found. IfSome found (λ kind. (imm_funct3 kind ≡ funct3) × HasFunct7 kind funct7) in
+    let Has : Option ImmKind → Type 0 = λ found. IfSome found (λ kind.
+    (imm_funct3 kind ≡ funct3) × HasFunct7 kind funct7) in
     chosen Has (funct3 == 0) (Some Addi) _ (λ e. (sym (eqb-true funct3 0 e), tt))
     (λ _. chosen Has (funct3 == 2) (Some Slti) _ (λ e. (sym (eqb-true funct3 2 e), tt))
     (λ _. chosen Has (funct3 == 3) (Some Sltiu) _ (λ e. (sym (eqb-true funct3 3 e), tt))
     (λ _. chosen Has (funct3 == 4) (Some Xori) _ (λ e. (sym (eqb-true funct3 4 e), tt))
     (λ _. chosen Has (funct3 == 6) (Some Ori) _ (λ e. (sym (eqb-true funct3 6 e), tt))
     (λ _. chosen Has (funct3 == 7) (Some Andi) _ (λ e. (sym (eqb-true funct3 7 e), tt))
-    (λ _. chosen Has (funct3 == 1) (left_shift funct7) _ (λ e. let is : funct3 ≡ 1 = eqb-true funct3 1 e in IfSome_then (left_shift funct7) (left-has funct7) (λ kind h. (h.0 ∙ sym is, h.1)))
-    (λ _. chosen Has (funct3 == 5) (right_shift funct7) None (λ e. let is : funct3 ≡ 5 = eqb-true funct3 5 e in IfSome_then (right_shift funct7) (right-has funct7) (λ kind h. (h.0 ∙ sym is, h.1)))
+    (λ _. chosen Has (funct3 == 1) (left_shift funct7) _ (λ e. let is : funct3 ≡ 1 = eqb-true funct3 1 e in
+    IfSome_then (left_shift funct7) (left-has funct7) (λ kind h. (h.0 ∙ sym is, h.1)))
+    (λ _. chosen Has (funct3 == 5) (right_shift funct7) None (λ e. let is : funct3 ≡ 5 = eqb-true funct3 5 e in
+    IfSome_then (right_shift funct7) (right-has funct7) (λ kind h. (h.0 ∙ sym is, h.1)))
     (λ _. tt))))))))
 
 pub imm-found : (kind : ImmKind) (funct7 : ℕ) → HasFunct7 kind funct7 → imm_kind funct7 (imm_funct3 kind) ≡ Some kind

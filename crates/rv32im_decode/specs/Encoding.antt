@@ -1,26 +1,34 @@
 -- Words and instructions, both ways: RISC-V Unprivileged ISA manual, chapters "RV32I Base Integer Instruction Set" and
 -- "RV32/64G Instruction Set Listings".
-use Rattle.std.specs.Prelude.{ℕ, ℤ, pos, neg_ℤ, ◌+◌, ◌*◌, ◌%◌, ◌^◌, ◌<◌, ◌≤ℤ◌, ◌<ℤ◌, ◌≡◌, ◌==◌, Bool, MatchBool, ⊤, Option, Some, None, option_map, if◌then◌else◌}
+use Rattle.std.specs.Prelude.{ℕ, ℤ, pos, neg_ℤ, ◌+◌, ◌*◌, ◌%◌, ◌^◌, ◌<◌, ◌≤ℤ◌, ◌<ℤ◌, ◌≡◌, ◌==◌, MatchBool, ⊤, Option}
+use Rattle.std.specs.Prelude.{Some, None, option_map, if◌then◌else◌}
 use Rattle.rv32im_decode.specs.declared.instructions.Instr.{Instr}
-use Rattle.rv32im_decode.specs.declared.instructions.Instr.TheVariants.{Lui, Auipc, Jal, Jalr, Branch, Load, Store, OpImm, Op, Fence, Ecall, Ebreak}
+use Rattle.rv32im_decode.specs.declared.instructions.Instr.TheVariants.{Lui, Auipc, Jal, Jalr, Branch, Load, Store}
+use Rattle.rv32im_decode.specs.declared.instructions.Instr.TheVariants.{OpImm, Op, Fence, Ecall, Ebreak}
 use Rattle.rv32im_decode.specs.declared.instructions.ImmKind.{ImmKind}
 use Rattle.rv32im_decode.specs.Operations.{word_of}
-use Rattle.rv32im_decode.specs.Formats.{opcode_of, rd_of, funct3_of, rs1_of, rs2_of, funct7_of, i_bits, s_bits, b_bits, u_bits, j_bits, sign_extended, bits_of, r_word, i_word, s_word, b_word, u_word, j_word}
-use Rattle.rv32im_decode.specs.Listings.{lui_opcode, auipc_opcode, jal_opcode, jalr_opcode, branch_opcode, load_opcode, store_opcode, op_imm_opcode, op_opcode, misc_mem_opcode, ecall_word, ebreak_word, branch_funct3, branch_kind, load_funct3, load_kind, store_funct3, store_kind, is_shift, imm_funct3, shift_funct7, imm_kind, op_funct3, op_funct7, op_kind}
+use Rattle.rv32im_decode.specs.Formats.{opcode_of, rd_of, funct3_of, rs1_of, rs2_of, funct7_of, i_bits, s_bits}
+use Rattle.rv32im_decode.specs.Formats.{b_bits, u_bits, j_bits, sign_extended, bits_of, r_word, i_word, s_word}
+use Rattle.rv32im_decode.specs.Formats.{b_word, u_word, j_word}
+use Rattle.rv32im_decode.specs.Listings.{lui_opcode, auipc_opcode, jal_opcode, jalr_opcode, branch_opcode}
+use Rattle.rv32im_decode.specs.Listings.{load_opcode, store_opcode, op_imm_opcode, op_opcode, misc_mem_opcode}
+use Rattle.rv32im_decode.specs.Listings.{ecall_word, ebreak_word, branch_funct3, branch_kind, load_funct3, load_kind}
+use Rattle.rv32im_decode.specs.Listings.{store_funct3, store_kind, is_shift, imm_funct3, shift_funct7, imm_kind}
+use Rattle.rv32im_decode.specs.Listings.{op_funct3, op_funct7, op_kind}
 
 -- the number is at least -bound and below bound
 abbrev pub IsWithin : ℕ → ℤ → Type 0
 IsWithin bound number = (neg_ℤ (pos bound) ≤ℤ number) × (number <ℤ pos bound)
 
--- an offset moves by an even number of bytes
+-- section "Immediate Encoding Variants": an offset of B-type or J-type is an even number of bytes
 abbrev pub IsEven : ℤ → Type 0
 IsEven number = word_of number % 2 ≡ 0
 
--- a shift goes by 0 to 31 places; other immediates have 12 bits
+-- section "Integer Register-Immediate Instructions": a shift goes by 0 to 31 places; other immediates have 12 bits
 abbrev pub IsImmediate : ImmKind → ℤ → Type 0
 IsImmediate kind imm = MatchBool (is_shift kind) ((pos 0 ≤ℤ imm) × (imm <ℤ pos 32)) (IsWithin (2 ^ 11) imm)
 
--- each field of the instruction fits its format
+-- section "Base Instruction Formats": each field of the instruction fits its format
 abbrev pub InRange : Instr → Type 0
 InRange (Lui rd imm) = (rd < 32) × (imm < 2 ^ 20)
 InRange (Auipc rd imm) = (rd < 32) × (imm < 2 ^ 20)
@@ -39,8 +47,8 @@ InRange Ebreak = ⊤
 abbrev pub immediate_bits : ImmKind → ℤ → ℕ
 immediate_bits kind imm = if is_shift kind then shift_funct7 kind * 2 ^ 5 + word_of imm else bits_of (2 ^ 11) imm
 
--- the word of an instruction
-abbrev pub encoded : Instr → ℕ
+-- chapter "RV32/64G Instruction Set Listings": the word of an instruction
+unfoldable pub encoded : Instr → ℕ
 encoded (Lui rd imm) = u_word imm rd lui_opcode
 encoded (Auipc rd imm) = u_word imm rd auipc_opcode
 encoded (Jal rd offset) = j_word (bits_of (2 ^ 20) offset) rd jal_opcode
@@ -58,33 +66,50 @@ encoded Ebreak = ebreak_word
 abbrev pub immediate_of : ImmKind → ℕ → ℤ
 immediate_of kind word = if is_shift kind then pos (rs2_of word) else sign_extended (2 ^ 11) (i_bits word)
 
--- the words of each opcode that has several instructions, or one with a fixed funct3
+-- opcode JALR: funct3 is 0
 abbrev pub decoded_jalr : ℕ → Option Instr
-decoded_jalr word = if funct3_of word == 0 then Some (Jalr (rd_of word) (rs1_of word) (sign_extended (2 ^ 11) (i_bits word))) else None
+decoded_jalr word =
+    if funct3_of word == 0 then Some (Jalr (rd_of word) (rs1_of word) (sign_extended (2 ^ 11) (i_bits word))) else None
 
+-- opcode BRANCH: funct3 tells the kind
 abbrev pub decoded_branch : ℕ → Option Instr
-decoded_branch word = option_map (λ kind. Branch kind (rs1_of word) (rs2_of word) (sign_extended (2 ^ 12) (b_bits word))) (branch_kind (funct3_of word))
+decoded_branch word =
+    option_map (λ kind. Branch kind (rs1_of word) (rs2_of word) (sign_extended (2 ^ 12) (b_bits word)))
+    (branch_kind (funct3_of word))
 
+-- opcode LOAD: funct3 tells the kind
 abbrev pub decoded_load : ℕ → Option Instr
-decoded_load word = option_map (λ kind. Load kind (rd_of word) (rs1_of word) (sign_extended (2 ^ 11) (i_bits word))) (load_kind (funct3_of word))
+decoded_load word =
+    option_map (λ kind. Load kind (rd_of word) (rs1_of word) (sign_extended (2 ^ 11) (i_bits word)))
+    (load_kind (funct3_of word))
 
+-- opcode STORE: funct3 tells the kind
 abbrev pub decoded_store : ℕ → Option Instr
-decoded_store word = option_map (λ kind. Store kind (rs1_of word) (rs2_of word) (sign_extended (2 ^ 11) (s_bits word))) (store_kind (funct3_of word))
+decoded_store word =
+    option_map (λ kind. Store kind (rs1_of word) (rs2_of word) (sign_extended (2 ^ 11) (s_bits word)))
+    (store_kind (funct3_of word))
 
+-- opcode OP-IMM: funct3 tells the kind, with funct7 for a shift
 abbrev pub decoded_op_imm : ℕ → Option Instr
-decoded_op_imm word = option_map (λ kind. OpImm kind (rd_of word) (rs1_of word) (immediate_of kind word)) (imm_kind (funct7_of word) (funct3_of word))
+decoded_op_imm word =
+    option_map (λ kind. OpImm kind (rd_of word) (rs1_of word) (immediate_of kind word))
+    (imm_kind (funct7_of word) (funct3_of word))
 
+-- opcode OP: funct7 and funct3 tell the kind
 abbrev pub decoded_op : ℕ → Option Instr
-decoded_op word = option_map (λ kind. Op kind (rd_of word) (rs1_of word) (rs2_of word)) (op_kind (funct7_of word) (funct3_of word))
+decoded_op word =
+    option_map (λ kind. Op kind (rd_of word) (rs1_of word) (rs2_of word)) (op_kind (funct7_of word) (funct3_of word))
 
+-- opcode MISC-MEM, section "Memory Ordering Instructions": FENCE whatever its other fields
 abbrev pub decoded_fence : ℕ → Option Instr
 decoded_fence word = if funct3_of word == 0 then Some (Fence (rd_of word) (rs1_of word) (i_bits word)) else None
 
+-- opcode SYSTEM, section "Environment Call and Breakpoints": these two words alone
 abbrev pub decoded_system : ℕ → Option Instr
 decoded_system word = if word == ecall_word then Some Ecall else if word == ebreak_word then Some Ebreak else None
 
--- the instruction of a word, or none
-abbrev pub decoded : ℕ → Option Instr
+-- chapter "RV32/64G Instruction Set Listings": the instruction of a word, or none; the opcode tells the row
+unfoldable pub decoded : ℕ → Option Instr
 decoded word =
     let opcode = opcode_of word in
     if opcode == lui_opcode then Some (Lui (rd_of word) (u_bits word)) else

@@ -1,5 +1,5 @@
--- The formats of instruction words: a word below 2^32 is split into fields, and fields are joined to a word. The sections
--- named are those of the RISC-V Unprivileged ISA manual, chapter "RV32I Base Integer Instruction Set".
+-- The formats of instruction words: a word below 2^32 is split into fields, and fields are joined to a word. The
+-- sections named are those of the RISC-V Unprivileged ISA manual, chapter "RV32I Base Integer Instruction Set".
 use Rattle.std.specs.Prelude.{ℕ, ℤ, pos, ◌+◌, ◌-ℤ◌, ◌*◌, ◌/◌, ◌%◌, ◌^◌, nat_lt, if◌then◌else◌}
 use Rattle.rv32im_decode.specs.Operations.{word_of}
 
@@ -37,7 +37,8 @@ s_bits word = funct7_of word * 2 ^ 5 + rd_of word
 
 -- section "Immediate Encoding Variants": bit 31, bit 7, bits 30 to 25, bits 11 to 8, then a zero
 abbrev pub b_bits : ℕ → ℕ
-b_bits word = word / 2 ^ 31 * 2 ^ 12 + word / 2 ^ 7 % 2 * 2 ^ 11 + word / 2 ^ 25 % 2 ^ 6 * 2 ^ 5 + word / 2 ^ 8 % 2 ^ 4 * 2
+b_bits word =
+    word / 2 ^ 31 * 2 ^ 12 + word / 2 ^ 7 % 2 * 2 ^ 11 + word / 2 ^ 25 % 2 ^ 6 * 2 ^ 5 + word / 2 ^ 8 % 2 ^ 4 * 2
 
 -- section "Immediate Encoding Variants": bits 31 to 12
 abbrev pub u_bits : ℕ → ℕ
@@ -45,7 +46,8 @@ u_bits word = word / 2 ^ 12
 
 -- section "Immediate Encoding Variants": bit 31, bits 19 to 12, bit 20, bits 30 to 21, then a zero
 abbrev pub j_bits : ℕ → ℕ
-j_bits word = word / 2 ^ 31 * 2 ^ 20 + word / 2 ^ 12 % 2 ^ 8 * 2 ^ 12 + word / 2 ^ 20 % 2 * 2 ^ 11 + word / 2 ^ 21 % 2 ^ 10 * 2
+j_bits word =
+    word / 2 ^ 31 * 2 ^ 20 + word / 2 ^ 12 % 2 ^ 8 * 2 ^ 12 + word / 2 ^ 20 % 2 * 2 ^ 11 + word / 2 ^ 21 % 2 ^ 10 * 2
 
 -- section "Immediate Encoding Variants": bits as a number in two's complement, whose highest bit weighs `sign`
 abbrev pub sign_extended : ℕ → ℕ → ℤ
@@ -72,7 +74,8 @@ s_word bits rs2 rs1 funct3 opcode = r_word (bits / 2 ^ 5) rs2 rs1 funct3 (bits %
 -- of rd
 abbrev pub b_word : ℕ → ℕ → ℕ → ℕ → ℕ → ℕ
 b_word bits rs2 rs1 funct3 opcode =
-    r_word (bits / 2 ^ 12 * 2 ^ 6 + bits / 2 ^ 5 % 2 ^ 6) rs2 rs1 funct3 (bits / 2 % 2 ^ 4 * 2 + bits / 2 ^ 11 % 2) opcode
+    r_word (bits / 2 ^ 12 * 2 ^ 6 + bits / 2 ^ 5 % 2 ^ 6) rs2 rs1 funct3
+    (bits / 2 % 2 ^ 4 * 2 + bits / 2 ^ 11 % 2) opcode
 
 -- section "Base Instruction Formats", U-type: the immediate stands in bits 31 to 12
 abbrev pub u_word : ℕ → ℕ → ℕ → ℕ
@@ -81,4 +84,6 @@ u_word bits rd opcode = bits * 2 ^ 12 + rd * 2 ^ 7 + opcode
 -- section "Immediate Encoding Variants", J-type: bits 20, 10 to 1, 11 and 19 to 12 in bits 31 to 12
 abbrev pub j_word : ℕ → ℕ → ℕ → ℕ
 j_word bits rd opcode =
-    u_word (bits / 2 ^ 20 * 2 ^ 19 + bits / 2 % 2 ^ 10 * 2 ^ 9 + bits / 2 ^ 11 % 2 * 2 ^ 8 + bits / 2 ^ 12 % 2 ^ 8) rd opcode
+    u_word
+    (bits / 2 ^ 20 * 2 ^ 19 + bits / 2 % 2 ^ 10 * 2 ^ 9 + bits / 2 ^ 11 % 2 * 2 ^ 8 + bits / 2 ^ 12 % 2 ^ 8)
+    rd opcode

@@ -4,49 +4,62 @@ use Rattle.std.specs.Prelude.{ℕ, ◌==◌, Bool, true, false, Option, Some, No
 use Rattle.rv32im_decode.specs.declared.instructions.BranchKind.{BranchKind}
 use Rattle.rv32im_decode.specs.declared.instructions.BranchKind.TheVariants.{Beq, Bne, Blt, Bge, Bltu, Bgeu}
 use Rattle.rv32im_decode.specs.declared.instructions.ImmKind.{ImmKind}
-use Rattle.rv32im_decode.specs.declared.instructions.ImmKind.TheVariants.{Addi, Slti, Sltiu, Xori, Ori, Andi, Slli, Srli, Srai}
+use Rattle.rv32im_decode.specs.declared.instructions.ImmKind.TheVariants.{Addi, Slti, Sltiu, Xori, Ori, Andi, Slli}
+use Rattle.rv32im_decode.specs.declared.instructions.ImmKind.TheVariants.{Srli, Srai}
 use Rattle.rv32im_decode.specs.declared.instructions.LoadKind.{LoadKind}
 use Rattle.rv32im_decode.specs.declared.instructions.LoadKind.TheVariants.{Lb, Lh, Lw, Lbu, Lhu}
 use Rattle.rv32im_decode.specs.declared.instructions.OpKind.{OpKind}
-use Rattle.rv32im_decode.specs.declared.instructions.OpKind.TheVariants.{Add, Sub, Sll, Slt, Sltu, Xor, Srl, Sra, Or, And, Mul, Mulh, Mulhsu, Mulhu, Div, Divu, Rem, Remu}
+use Rattle.rv32im_decode.specs.declared.instructions.OpKind.TheVariants.{Add, Sub, Sll, Slt, Sltu, Xor, Srl, Sra, Or}
+use Rattle.rv32im_decode.specs.declared.instructions.OpKind.TheVariants.{And, Mul, Mulh, Mulhsu, Mulhu, Div, Divu}
+use Rattle.rv32im_decode.specs.declared.instructions.OpKind.TheVariants.{Rem, Remu}
 use Rattle.rv32im_decode.specs.declared.instructions.StoreKind.{StoreKind}
 use Rattle.rv32im_decode.specs.declared.instructions.StoreKind.TheVariants.{Sb, Sh, Sw}
 
--- the opcodes, by the names of the base opcode map
+-- opcode LUI of the base opcode map
 abbrev pub lui_opcode : ℕ
 lui_opcode = 0b0110111
 
+-- opcode AUIPC
 abbrev pub auipc_opcode : ℕ
 auipc_opcode = 0b0010111
 
+-- opcode JAL
 abbrev pub jal_opcode : ℕ
 jal_opcode = 0b1101111
 
+-- opcode JALR
 abbrev pub jalr_opcode : ℕ
 jalr_opcode = 0b1100111
 
+-- opcode BRANCH
 abbrev pub branch_opcode : ℕ
 branch_opcode = 0b1100011
 
+-- opcode LOAD
 abbrev pub load_opcode : ℕ
 load_opcode = 0b0000011
 
+-- opcode STORE
 abbrev pub store_opcode : ℕ
 store_opcode = 0b0100011
 
+-- opcode OP-IMM
 abbrev pub op_imm_opcode : ℕ
 op_imm_opcode = 0b0010011
 
+-- opcode OP
 abbrev pub op_opcode : ℕ
 op_opcode = 0b0110011
 
+-- opcode MISC-MEM
 abbrev pub misc_mem_opcode : ℕ
 misc_mem_opcode = 0b0001111
 
--- the whole words of ECALL and EBREAK
+-- the whole word of ECALL
 abbrev pub ecall_word : ℕ
 ecall_word = 0x00000073
 
+-- the whole word of EBREAK
 abbrev pub ebreak_word : ℕ
 ebreak_word = 0x00100073
 
@@ -62,8 +75,10 @@ branch_funct3 Bgeu = 0b111
 -- the branch with this funct3
 abbrev pub branch_kind : ℕ → Option BranchKind
 branch_kind funct3 =
-    if funct3 == 0b000 then Some Beq else if funct3 == 0b001 then Some Bne else if funct3 == 0b100 then Some Blt else
-    if funct3 == 0b101 then Some Bge else if funct3 == 0b110 then Some Bltu else if funct3 == 0b111 then Some Bgeu else None
+    if funct3 == 0b000 then Some Beq else if funct3 == 0b001 then Some Bne else
+    if funct3 == 0b100 then Some Blt else if funct3 == 0b101 then Some Bge else
+    if funct3 == 0b110 then Some Bltu else if funct3 == 0b111 then Some Bgeu else
+    None
 
 -- funct3 of a load
 abbrev pub load_funct3 : LoadKind → ℕ
@@ -76,8 +91,9 @@ load_funct3 Lhu = 0b101
 -- the load with this funct3
 abbrev pub load_kind : ℕ → Option LoadKind
 load_kind funct3 =
-    if funct3 == 0b000 then Some Lb else if funct3 == 0b001 then Some Lh else if funct3 == 0b010 then Some Lw else
-    if funct3 == 0b100 then Some Lbu else if funct3 == 0b101 then Some Lhu else None
+    if funct3 == 0b000 then Some Lb else if funct3 == 0b001 then Some Lh else
+    if funct3 == 0b010 then Some Lw else if funct3 == 0b100 then Some Lbu else
+    if funct3 == 0b101 then Some Lhu else None
 
 -- funct3 of a store
 abbrev pub store_funct3 : StoreKind → ℕ
@@ -88,7 +104,8 @@ store_funct3 Sw = 0b010
 -- the store with this funct3
 abbrev pub store_kind : ℕ → Option StoreKind
 store_kind funct3 =
-    if funct3 == 0b000 then Some Sb else if funct3 == 0b001 then Some Sh else if funct3 == 0b010 then Some Sw else None
+    if funct3 == 0b000 then Some Sb else if funct3 == 0b001 then Some Sh else
+    if funct3 == 0b010 then Some Sw else None
 
 -- whether the immediate is a number of places to shift by
 abbrev pub is_shift : ImmKind → Bool
@@ -137,9 +154,11 @@ right_shift funct7 = if funct7 == 0b0000000 then Some Srli else if funct7 == 0b0
 -- the register-immediate operation with this funct3, and if it is a shift with this funct7
 abbrev pub imm_kind : ℕ → ℕ → Option ImmKind
 imm_kind funct7 funct3 =
-    if funct3 == 0b000 then Some Addi else if funct3 == 0b010 then Some Slti else if funct3 == 0b011 then Some Sltiu else
-    if funct3 == 0b100 then Some Xori else if funct3 == 0b110 then Some Ori else if funct3 == 0b111 then Some Andi else
-    if funct3 == 0b001 then left_shift funct7 else if funct3 == 0b101 then right_shift funct7 else None
+    if funct3 == 0b000 then Some Addi else if funct3 == 0b010 then Some Slti else
+    if funct3 == 0b011 then Some Sltiu else if funct3 == 0b100 then Some Xori else
+    if funct3 == 0b110 then Some Ori else if funct3 == 0b111 then Some Andi else
+    if funct3 == 0b001 then left_shift funct7 else if funct3 == 0b101 then right_shift funct7 else
+    None
 
 -- funct3 of a register-register operation
 abbrev pub op_funct3 : OpKind → ℕ
@@ -186,9 +205,11 @@ op_funct7 Remu = 0b0000001
 -- the operation with funct7 0000000 and this funct3
 abbrev pub plain_op : ℕ → Option OpKind
 plain_op funct3 =
-    if funct3 == 0b000 then Some Add else if funct3 == 0b001 then Some Sll else if funct3 == 0b010 then Some Slt else
-    if funct3 == 0b011 then Some Sltu else if funct3 == 0b100 then Some Xor else if funct3 == 0b101 then Some Srl else
-    if funct3 == 0b110 then Some Or else if funct3 == 0b111 then Some And else None
+    if funct3 == 0b000 then Some Add else if funct3 == 0b001 then Some Sll else
+    if funct3 == 0b010 then Some Slt else if funct3 == 0b011 then Some Sltu else
+    if funct3 == 0b100 then Some Xor else if funct3 == 0b101 then Some Srl else
+    if funct3 == 0b110 then Some Or else if funct3 == 0b111 then Some And else
+    None
 
 -- the operation with funct7 0100000 and this funct3
 abbrev pub other_op : ℕ → Option OpKind
@@ -197,9 +218,11 @@ other_op funct3 = if funct3 == 0b000 then Some Sub else if funct3 == 0b101 then 
 -- the operation of the "M" extension, funct7 0000001, with this funct3
 abbrev pub multiply_op : ℕ → Option OpKind
 multiply_op funct3 =
-    if funct3 == 0b000 then Some Mul else if funct3 == 0b001 then Some Mulh else if funct3 == 0b010 then Some Mulhsu else
-    if funct3 == 0b011 then Some Mulhu else if funct3 == 0b100 then Some Div else if funct3 == 0b101 then Some Divu else
-    if funct3 == 0b110 then Some Rem else if funct3 == 0b111 then Some Remu else None
+    if funct3 == 0b000 then Some Mul else if funct3 == 0b001 then Some Mulh else
+    if funct3 == 0b010 then Some Mulhsu else if funct3 == 0b011 then Some Mulhu else
+    if funct3 == 0b100 then Some Div else if funct3 == 0b101 then Some Divu else
+    if funct3 == 0b110 then Some Rem else if funct3 == 0b111 then Some Remu else
+    None
 
 -- the register-register operation with this funct7 and funct3
 abbrev pub op_kind : ℕ → ℕ → Option OpKind

@@ -1,15 +1,19 @@
 -- What each instruction of RV32IM computes, on words as numbers below 2^32. The sections named are those of the RISC-V
 -- Unprivileged ISA manual, chapters "RV32I Base Integer Instruction Set" and "M Extension".
-use Rattle.std.specs.Prelude.{ℕ, ℤ, ◌+◌, ◌-◌, ◌*◌, ◌/◌, ◌%◌, ◌^◌, ◌==◌, nat_lt, int_lt, int_div, int_rem, bit_and, bit_or, bit_xor, Bool, not, if◌then◌else◌}
-use Rattle.std.specs.Int.{cast_signed, cast_unsigned, w32}
+use Rattle.std.specs.Prelude.{ℕ, ℤ, pos, ◌*ℤ◌, ◌+◌, ◌-◌, ◌*◌, ◌/◌, ◌%◌, ◌^◌, ◌==◌, nat_lt}
+use Rattle.std.specs.Prelude.{int_lt, int_div, int_rem, bit_and, bit_or, bit_xor, Bool, not, if◌then◌else◌}
+use Rattle.std.specs.Int.{cast_signed, cast_unsigned, w32, w64}
 use Rattle.rv32im_decode.specs.declared.instructions.BranchKind.{BranchKind}
 use Rattle.rv32im_decode.specs.declared.instructions.BranchKind.TheVariants.{Beq, Bne, Blt, Bge, Bltu, Bgeu}
 use Rattle.rv32im_decode.specs.declared.instructions.ImmKind.{ImmKind}
-use Rattle.rv32im_decode.specs.declared.instructions.ImmKind.TheVariants.{Addi, Slti, Sltiu, Xori, Ori, Andi, Slli, Srli, Srai}
+use Rattle.rv32im_decode.specs.declared.instructions.ImmKind.TheVariants.{Addi, Slti, Sltiu, Xori, Ori, Andi, Slli}
+use Rattle.rv32im_decode.specs.declared.instructions.ImmKind.TheVariants.{Srli, Srai}
 use Rattle.rv32im_decode.specs.declared.instructions.LoadKind.{LoadKind}
 use Rattle.rv32im_decode.specs.declared.instructions.LoadKind.TheVariants.{Lb, Lh, Lw, Lbu, Lhu}
 use Rattle.rv32im_decode.specs.declared.instructions.OpKind.{OpKind}
-use Rattle.rv32im_decode.specs.declared.instructions.OpKind.TheVariants.{Add, Sub, Sll, Slt, Sltu, Xor, Srl, Sra, Or, And, Mul, Mulh, Mulhsu, Mulhu, Div, Divu, Rem, Remu}
+use Rattle.rv32im_decode.specs.declared.instructions.OpKind.TheVariants.{Add, Sub, Sll, Slt, Sltu, Xor, Srl, Sra, Or}
+use Rattle.rv32im_decode.specs.declared.instructions.OpKind.TheVariants.{And, Mul, Mulh, Mulhsu, Mulhu, Div, Divu}
+use Rattle.rv32im_decode.specs.declared.instructions.OpKind.TheVariants.{Rem, Remu}
 use Rattle.rv32im_decode.specs.declared.instructions.StoreKind.{StoreKind}
 use Rattle.rv32im_decode.specs.declared.instructions.StoreKind.TheVariants.{Sb, Sh, Sw}
 
@@ -21,9 +25,9 @@ word_of number = cast_unsigned w32 number
 abbrev pub signed : ℕ → ℤ
 signed word = cast_signed w32 word
 
--- a word as 64 bits with its sign repeated
-abbrev pub sign_widened : ℕ → ℕ
-sign_widened word = if nat_lt word 2147483648 then word else word + 18446744069414584320
+-- section "Multiplication Operations": the upper word of the 64 bits of a product
+abbrev pub upper_word : ℤ → ℕ
+upper_word product = cast_unsigned w64 product / 2 ^ 32
 
 -- section "Integer Register-Immediate Instructions": the operation that the immediate takes part in as second word
 abbrev pub operation_of : ImmKind → OpKind
@@ -70,8 +74,8 @@ op_result Sra first second = shifted_with_sign first (second % 32)
 op_result Or first second = bit_or first second
 op_result And first second = bit_and first second
 op_result Mul first second = first * second % 2 ^ 32
-op_result Mulh first second = sign_widened first * sign_widened second % 2 ^ 64 / 2 ^ 32
-op_result Mulhsu first second = sign_widened first * second % 2 ^ 64 / 2 ^ 32
+op_result Mulh first second = upper_word (signed first *ℤ signed second)
+op_result Mulhsu first second = upper_word (signed first *ℤ pos second)
 op_result Mulhu first second = first * second / 2 ^ 32
 op_result Div first second = signed_quotient first second
 op_result Divu first second = if second == 0 then 4294967295 else first / second

@@ -1,9 +1,13 @@
-use crate::instructions::{BranchKind, ImmKind, LoadKind, OpKind, StoreKind};
+//! The numbers by which words tell the kinds of one opcode apart (RISC-V Unprivileged ISA, "RV32/64G Instruction Set
+//! Listings").
 
 ghost use Rattle.std.specs.Prelude.{◌≡◌, ◌<◌};
-ghost use Rattle.rv32im_decode.specs.Listings.{branch_kind, load_kind, store_kind, imm_kind, op_kind, left_shift, right_shift};
+ghost use Rattle.rv32im_decode.specs.Listings.{branch_kind, load_kind, store_kind, imm_kind, op_kind, left_shift};
+ghost use Rattle.rv32im_decode.specs.Listings.{right_shift};
 ghost use Rattle.rv32im_decode.specs.Listings.{plain_op, other_op, multiply_op, is_shift, branch_funct3, load_funct3};
 ghost use Rattle.rv32im_decode.specs.Listings.{store_funct3, imm_funct3, shift_funct7, op_funct3, op_funct7};
+
+use crate::instructions::{BranchKind, ImmKind, LoadKind, OpKind, StoreKind};
 
 impl BranchKind {
     /// The number that tells the kinds apart.
@@ -122,6 +126,7 @@ impl OpKind {
     }
 }
 
+/// The branch with this funct3.
 pub fn find_branch(funct3: u32) -> Option<BranchKind>
     ensures { result ≡ branch_kind funct3 }
 {
@@ -136,6 +141,7 @@ pub fn find_branch(funct3: u32) -> Option<BranchKind>
     }
 }
 
+/// The load with this funct3.
 pub fn find_load(funct3: u32) -> Option<LoadKind>
     ensures { result ≡ load_kind funct3 }
 {
@@ -149,6 +155,7 @@ pub fn find_load(funct3: u32) -> Option<LoadKind>
     }
 }
 
+/// The store with this funct3.
 pub fn find_store(funct3: u32) -> Option<StoreKind>
     ensures { result ≡ store_kind funct3 }
 {
@@ -160,6 +167,7 @@ pub fn find_store(funct3: u32) -> Option<StoreKind>
     }
 }
 
+/// The register-immediate operation with this funct3 and, if it is a shift, this funct7.
 pub fn find_imm(funct7: u32, funct3: u32) -> Option<ImmKind>
     ensures { result ≡ imm_kind funct7 funct3 }
 {
@@ -179,7 +187,11 @@ pub fn find_imm(funct7: u32, funct3: u32) -> Option<ImmKind>
 fn find_left_shift(funct7: u32) -> Option<ImmKind>
     ensures { result ≡ left_shift funct7 }
 {
-    if funct7 == 0b0000000 { Some(ImmKind::Slli) } else { None }
+    if funct7 == 0b0000000 {
+        Some(ImmKind::Slli)
+    } else {
+        None
+    }
 }
 
 fn find_right_shift(funct7: u32) -> Option<ImmKind>
@@ -192,6 +204,7 @@ fn find_right_shift(funct7: u32) -> Option<ImmKind>
     }
 }
 
+/// The register-register operation with this funct7 and funct3.
 pub fn find_op(funct7: u32, funct3: u32) -> Option<OpKind>
     ensures { result ≡ op_kind funct7 funct3 }
 {

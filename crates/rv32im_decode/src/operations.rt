@@ -1,6 +1,9 @@
-ghost use Rattle.std.specs.Prelude.{◌≡◌, ◌<◌, ◌+◌, nat_lt, if◌then◌else◌};
+//! What the operations, branches, loads and stores compute.
+
+ghost use Rattle.std.specs.Prelude.{◌≡◌, ◌<◌, ◌+◌, nat_lt, if◌then◌else◌, pos, neg_ℤ, ◌≤ℤ◌, ◌*ℤ◌};
 ghost use Rattle.rv32im_decode.specs.Operations.{word_of, operation_of, op_result, is_taken, address_of, target_of};
-ghost use Rattle.rv32im_decode.specs.Operations.{load_size, extended, store_size, upper_of, sign_widened, word_of_truth};
+ghost use Rattle.rv32im_decode.specs.Operations.{load_size, extended, store_size, upper_of, upper_word};
+ghost use Rattle.rv32im_decode.specs.Operations.{word_of_truth};
 ghost use Rattle.rv32im_decode.specs.Operations.{shifted_with_sign, signed_quotient, signed_remainder};
 
 use crate::instructions::{BranchKind, ImmKind, LoadKind, OpKind, StoreKind};
@@ -43,8 +46,8 @@ impl OpKind {
             OpKind::Or => first | second,
             OpKind::And => first & second,
             OpKind::Mul => first.wrapping_mul(second),
-            OpKind::Mulh => (widen(first).wrapping_mul(widen(second)) >> 32) as u32,
-            OpKind::Mulhsu => (widen(first).wrapping_mul(u64::from(second)) >> 32) as u32,
+            OpKind::Mulh => multiply_upper(first.cast_signed(), i64::from(second.cast_signed())),
+            OpKind::Mulhsu => multiply_upper(first.cast_signed(), i64::from(second)),
             OpKind::Mulhu => (u64::from(first) * u64::from(second) >> 32) as u32,
             OpKind::Div => quotient(first, second),
             OpKind::Divu => if second == 0 {
@@ -75,14 +78,13 @@ fn shift_with_sign(word: u32, places: u32) -> u32
     }
 }
 
-fn widen(word: u32) -> u64
-    ensures { result ≡ sign_widened word }
+fn multiply_upper(first: i32, second: i64) -> u32
+    requires at_least { neg_ℤ (pos 4294967295) ≤ℤ second }
+    requires at_most { second ≤ℤ pos 4294967295 }
+    ensures { result ≡ upper_word (first *ℤ second) }
 {
-    if word < 0x8000_0000 {
-        u64::from(word)
-    } else {
-        u64::from(word) + 0xffff_ffff_0000_0000
-    }
+    let product = i64::from(first) * second;
+    (product.cast_unsigned() >> 32) as u32
 }
 
 fn quotient(first: u32, second: u32) -> u32
@@ -133,8 +135,8 @@ pub fn address(first: u32, immediate: i32) -> u32
     first.wrapping_add_signed(immediate)
 }
 
-/// The target of JALR: the word of rs1 plus the immediate, modulo 2^32, with its lowest bit cleared (RISC-V Unprivileged
-/// ISA, "Unconditional Jumps").
+/// The target of JALR: the word of rs1 plus the immediate, modulo 2^32, with its lowest bit cleared (RISC-V
+/// Unprivileged ISA, "Unconditional Jumps").
 pub fn target(first: u32, immediate: i32) -> u32
     ensures { result ≡ target_of first (word_of immediate) }
 {

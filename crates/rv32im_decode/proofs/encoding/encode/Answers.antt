@@ -1,4 +1,3 @@
-use Rattle.std.proofs.Common.{◌≡◌}
 use Rattle.rv32im_decode.proofs.Encodes.{encoded_decodes}
 use Rattle.rv32im_decode.proofs.encoding.encode.Goals as goal
 
