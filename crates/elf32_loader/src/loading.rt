@@ -9,6 +9,15 @@ use byteorder::{ByteOrder, LittleEndian};
 use flow_base::{Bytes, List, NoMemory};
 use std::alloc::Global;
 
+/// The number of bytes of guest memory.
+const MEMORY_SIZE: u64 = 16_777_216;
+
+/// The highest base of an image.
+const HIGHEST_BASE: u64 = 0xfeff_f000;
+
+/// The highest address at which a segment may end.
+const HIGHEST_END: u64 = 0xffff_f000;
+
 /// The headers of a program file with one segment: the ELF header and one program header, PT_LOAD.
 fn single_headers(entry: u32, address: u32, bytes: &[u8]) -> [u8; 84]
     requires { length bytes.now < 2 ^ 32 }
@@ -45,10 +54,9 @@ fn is_loadable(entry: u32, address: u32, bytes: &[u8]) -> bool
 {
     let base = u64::from(address / 4096 * 4096);
     let end = u64::from(address) + bytes.len() as u64;
-    !bytes.is_empty()
-        && base <= 0xfeff_f000
-        && end <= base + 0x0100_0000
-        && end <= 0xffff_f000
+    base <= HIGHEST_BASE
+        && end <= base + MEMORY_SIZE
+        && end <= HIGHEST_END
         && entry % 4 == 0
         && address <= entry
         && u64::from(entry) < end
