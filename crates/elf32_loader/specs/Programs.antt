@@ -4,7 +4,7 @@ use Rattle.byteorder.specs.Endian.{little_bytes}
 use Rattle.elf32_loader.specs.declared.segments.Segment.{Segment}
 use Rattle.elf32_loader.specs.FaultTable.{HasNoFault, IsFileBase}
 use Rattle.elf32_loader.specs.Headers.{Header, HoldsAddress, IsLoad, entry_of, header_at, identification}
-use Rattle.elf32_loader.specs.Pictures.{Picture, is_valid}
+use Rattle.elf32_loader.specs.Pictures.{Picture, is_valid, mem}
 use Rattle.elf32_loader.specs.Segments.{is_ascending, rounded_down}
 
 -- the byte that a load puts at an address: one of the file, or 0 past those
@@ -79,3 +79,15 @@ pub record IsSingle (file : List ℕ) (picture : Picture) : Type 0 where
 -- such a file gives that image
 abbrev pub SinglesAreImages : Type 0
 SinglesAreImages = (file : List ℕ) (picture : Picture) → IsSingle file picture → IsImage file picture
+
+-- the memory of a file's image has what the file's loads put there
+abbrev pub MemoryIsLoaded : Type 0
+MemoryIsLoaded =
+    (file : List ℕ) (picture : Picture) → IsImage file picture → (index : ℕ) → IsLoad file index
+    → (place : ℕ) → HoldsAddress (header_at file index) place → mem picture place ≡ loaded_byte file (header_at file index) place
+
+-- and 0 where no load stands
+abbrev pub RestIsZero : Type 0
+RestIsZero =
+    (file : List ℕ) (picture : Picture) → IsImage file picture
+    → (place : ℕ) → ((index : ℕ) → IsLoad file index → ¬ HoldsAddress (header_at file index) place) → mem picture place ≡ 0

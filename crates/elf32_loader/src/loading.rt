@@ -12,11 +12,8 @@ use std::alloc::Global;
 /// The number of bytes of guest memory.
 const MEMORY_SIZE: u64 = 16_777_216;
 
-/// The highest base of an image.
+/// The highest base of an image. Guest memory then ends at or below 0xfffff000, and with it each segment.
 const HIGHEST_BASE: u64 = 0xfeff_f000;
-
-/// The highest address at which a segment may end.
-const HIGHEST_END: u64 = 0xffff_f000;
 
 /// The headers of a program file with one segment: the ELF header and one program header, PT_LOAD.
 fn single_headers(entry: u32, address: u32, bytes: &[u8]) -> [u8; 84]
@@ -56,7 +53,6 @@ fn is_loadable(entry: u32, address: u32, bytes: &[u8]) -> bool
     let end = u64::from(address) + bytes.len() as u64;
     base <= HIGHEST_BASE
         && end <= base + MEMORY_SIZE
-        && end <= HIGHEST_END
         && entry % 4 == 0
         && address <= entry
         && u64::from(entry) < end
