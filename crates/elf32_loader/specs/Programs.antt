@@ -4,7 +4,7 @@ use Rattle.byteorder.specs.Endian.{little_bytes}
 use Rattle.elf32_loader.specs.declared.segments.Segment.{Segment}
 use Rattle.elf32_loader.specs.FaultTable.{HasNoFault, IsFileBase}
 use Rattle.elf32_loader.specs.Headers.{Header, HoldsAddress, IsLoad, entry_of, header_at, identification}
-use Rattle.elf32_loader.specs.Pictures.{Picture, is_valid}
+use Rattle.elf32_loader.specs.Pictures.{Picture, is_valid, mem}
 use Rattle.elf32_loader.specs.Segments.{is_ascending, rounded_down}
 
 -- the byte that a load puts at an address: one of the file, or 0 past those
@@ -18,7 +18,8 @@ loaded_byte file header address =
 pub record IsLoaded (file : List ℕ) (header : Header) (segment : Segment) : Type 0 where
   pub address : segment.address ≡ header.address
   pub size : length segment.bytes ≡ header.memory_size
-  pub bytes : (place : ℕ) → HoldsAddress header place → slice_index segment.bytes (place - header.address) ≡ loaded_byte file header place
+  pub bytes : (place : ℕ) → HoldsAddress header place
+      → slice_index segment.bytes (place - header.address) ≡ loaded_byte file header place
 
 -- the file has no fault, and the image has its base and entry and its loads in ascending order
 pub record IsImage (file : List ℕ) (picture : Picture) : Type 0 where
@@ -26,8 +27,10 @@ pub record IsImage (file : List ℕ) (picture : Picture) : Type 0 where
   pub base : IsFileBase file picture.base
   pub entry : picture.entry ≡ entry_of file
   pub ascends : IsTrue (is_ascending picture.segments)
-  pub each_is_load : All (λ segment. (index : ℕ) × IsLoad file index × IsLoaded file (header_at file index) segment) picture.segments
-  pub each_load_stands : (index : ℕ) → IsLoad file index → (segment : Segment) × Contains picture.segments segment × IsLoaded file (header_at file index) segment
+  pub each_is_load : All (λ segment. (index : ℕ) × IsLoad file index × IsLoaded file (header_at file index) segment)
+      picture.segments
+  pub each_load_stands : (index : ℕ) → IsLoad file index
+      → (segment : Segment) × Contains picture.segments segment × IsLoaded file (header_at file index) segment
 
 -- fields of two bytes, and of four
 abbrev pub halves : List ℕ → List ℕ
@@ -50,7 +53,8 @@ abbrev pub program_headers : ℕ → List Segment → List ℕ
 program_headers offset [] = []
 program_headers offset (segment ∷ segments) =
     let size = length segment.bytes in
-    words (1 ∷ offset ∷ segment.address ∷ segment.address ∷ size ∷ size ∷ 7 ∷ 1 ∷ []) ++ program_headers (offset + size) segments
+    words (1 ∷ offset ∷ segment.address ∷ segment.address ∷ size ∷ size ∷ 7 ∷ 1 ∷ [])
+    ++ program_headers (offset + size) segments
 
 -- all headers
 abbrev pub headers : Picture → List ℕ
@@ -79,3 +83,17 @@ pub record IsSingle (file : List ℕ) (picture : Picture) : Type 0 where
 -- such a file gives that image
 abbrev pub SinglesAreImages : Type 0
 SinglesAreImages = (file : List ℕ) (picture : Picture) → IsSingle file picture → IsImage file picture
+
+-- the memory of a file's image has what the file's loads put there
+abbrev pub MemoryIsLoaded : Type 0
+MemoryIsLoaded =
+    (file : List ℕ) (picture : Picture) → IsImage file picture
+    → (index : ℕ) → IsLoad file index → (place : ℕ) → HoldsAddress (header_at file index) place
+    → mem picture place ≡ loaded_byte file (header_at file index) place
+
+-- and 0 where no load stands
+abbrev pub RestIsZero : Type 0
+RestIsZero =
+    (file : List ℕ) (picture : Picture) → IsImage file picture
+    → (place : ℕ) → ((index : ℕ) → IsLoad file index → ¬ HoldsAddress (header_at file index) place)
+    → mem picture place ≡ 0

@@ -9,7 +9,7 @@ mod segments;
 
 pub use fault::ElfFault;
 pub use images::Image;
-pub use laws::files_of_one_segment_give_their_images;
+pub use laws::{files_of_one_segment_give_their_images, memory_is_what_is_loaded};
 pub use loading::load_image;
 pub use segments::Segment;
 

@@ -9,6 +9,12 @@ use byteorder::{ByteOrder, LittleEndian};
 use flow_base::{Bytes, List, NoMemory};
 use std::alloc::Global;
 
+/// The number of bytes of guest memory.
+const MEMORY_SIZE: u64 = 16_777_216;
+
+/// The highest base of an image. Guest memory then ends at or below 0xfffff000, and with it each segment.
+const HIGHEST_BASE: u64 = 0xfeff_f000;
+
 /// The headers of a program file with one segment: the ELF header and one program header, PT_LOAD.
 fn single_headers(entry: u32, address: u32, bytes: &[u8]) -> [u8; 84]
     requires { length bytes.now < 2 ^ 32 }
@@ -45,10 +51,8 @@ fn is_loadable(entry: u32, address: u32, bytes: &[u8]) -> bool
 {
     let base = u64::from(address / 4096 * 4096);
     let end = u64::from(address) + bytes.len() as u64;
-    !bytes.is_empty()
-        && base <= 0xfeff_f000
-        && end <= base + 0x0100_0000
-        && end <= 0xffff_f000
+    base <= HIGHEST_BASE
+        && end <= base + MEMORY_SIZE
         && entry % 4 == 0
         && address <= entry
         && u64::from(entry) < end
