@@ -1,12 +1,13 @@
 -- Bits under a mask: place by place, and at the width of a word.
 use Rattle.std.proofs.Common.{◌≡◌, ℕ, zero, suc, ◌+◌, ◌-◌, ◌*◌, ◌/◌, ◌%◌, ◌^◌, ◌≤◌, ◌<◌, ◌⊎◌, inl, inr, List, [], ◌∷◌, ◌++◌, length, refl, ap, sym, ◌∙◌, Bool, true, false, arith, append-nil, add-one, min, take, drop, get_or}
-use Rattle.std.specs.Prelude.{◌==◌, if◌then◌else◌}
+use Rattle.std.specs.Prelude.{◌==◌, bit_and, if◌then◌else◌}
 use Rattle.std.specs.Int.Count.{ones}
 use mir.Val.{bool_byte}
 use Rattle.std.proofs.lemmas.List.{take_rest, take_all}
 use Rattle.crossing_bits.specs.HexText.{number_of, byte_at, first_bytes}
+use Rattle.crossing_bits.specs.Returns.{ReturnLaw}
 use Rattle.crossing_bits.proofs.Feeding.{le_or_lt}
-use Rattle.std.proofs.lemmas.Nat.{ones_cat}
+use Rattle.std.proofs.lemmas.Nat.{ones_cat, and_block, and_le_r, and_mask}
 use Rattle.std.proofs.Math.Nat.{pow-suc}
 use Rattle.flow_base.specs.Words.{bits_below, bits_under, count_below, bit_count, number_of_bit, first_bit, later_bits, patched_below, patched}
 
@@ -140,7 +141,45 @@ put_back_below (suc p) v m rest h = elim (parity m) [
   | inr e ↦ rw (bits_odd p v m e) (patched_odd p v m ((v % 2 == 1) ∷ (bits_below p (v / 2) (m / 2) ++ rest)) e ∙ omega (arith, bit_number v, put_back_below p (v / 2) (m / 2) rest (half p v h)))
 ]
 
+and_half : (v m : ℕ) → bit_and v m ≡ bit_and (v / 2) (m / 2) * 2 + bit_and (v % 2) (m % 2)
+and_half v m =
+    let value : v / 2 * 2 ^ 1 + v % 2 ≡ v = omega arith in
+    let mask : m / 2 * 2 ^ 1 + m % 2 ≡ m = omega arith in
+    let block : bit_and (v / 2 * 2 ^ 1 + v % 2) (m / 2 * 2 ^ 1 + m % 2) ≡ bit_and (v / 2) (m / 2) * 2 ^ 1 + bit_and (v % 2) (m % 2) =
+    and_block 1 (v / 2) (m / 2) (v % 2) (m % 2) (omega arith) (omega arith) in
+    rw (value, mask) at block
+
+and_even : (v m : ℕ) → m % 2 ≡ 0 → bit_and v m ≡ 2 * bit_and (v / 2) (m / 2)
+and_even v m e =
+    let none : bit_and (v % 2) (m % 2) ≤ m % 2 = and_le_r (v % 2) (m % 2) in omega (arith, and_half v m, none)
+
+and_odd : (v m : ℕ) → m % 2 ≡ 1 → bit_and v m ≡ v % 2 + 2 * bit_and (v / 2) (m / 2)
+and_odd v m e =
+    let one : bit_and (v % 2) (m % 2) ≡ v % 2 % 2 = rw e (and_mask (v % 2) 1) in omega (arith, and_half v m, one)
+
+-- the bits of a value under a mask, alone in their places
+pub taken_back_below : (p v m : ℕ) (rest : List Bool) → m < 2 ^ p → patched_below p 0 m (bits_below p v m ++ rest) ≡ bit_and v m
+taken_back_below zero v m rest h =
+    let none : bit_and v m ≤ m = and_le_r v m in patched_none 0 m (bits_below zero v m ++ rest) ∙ omega arith
+taken_back_below (suc p) v m rest h = elim (parity m) [
+  | inl e ↦ rw (bits_even p v m e) (patched_even p 0 m (bits_below p (v / 2) (m / 2) ++ rest) e ∙ omega (arith, taken_back_below p (v / 2) (m / 2) rest (half p m h), and_even v m e))
+  | inr e ↦ rw (bits_odd p v m e) (patched_odd p 0 m ((v % 2 == 1) ∷ (bits_below p (v / 2) (m / 2) ++ rest)) e ∙ omega (arith, bit_number v, taken_back_below p (v / 2) (m / 2) rest (half p m h), and_odd v m e))
+]
+
+pub count_below_bound : (p m : ℕ) → count_below p m ≤ p
+count_below_bound zero m = rw (count_none m) (omega arith)
+count_below_bound (suc p) m = elim (parity m) [
+  | inl e ↦ omega (arith, count_even p m e, count_below_bound p (m / 2))
+  | inr e ↦ omega (arith, count_odd p m e, count_below_bound p (m / 2))
+]
+
 -- ---- words
+
+pub count_bound : (m : ℕ) → bit_count m ≤ 32
+count_bound m = count_below_bound 32 m
+
+pub return_law : ReturnLaw
+return_law v m rest k h = (taken_back_below 32 v m rest h, put_back_below 32 v m rest k)
 
 pub count_is_count_ones : (m : ℕ) → m < 2 ^ 32 → bit_count m ≡ ones m
 count_is_count_ones m h = count_is_ones 32 m h
