@@ -1,9 +1,9 @@
 -- What comes of feeding more bits, or one asker after another; the law of prefixes.
-use Rattle.std.proofs.Common.{◌≡◌, ℕ, ◌+◌, ◌-◌, ◌≤◌, ◌<◌, ◌⊎◌, inl, inr, List, [], ◌∷◌, ◌++◌, length, take, drop, refl, ap, sym, ◌∙◌, append_assoc, append-nil, length-append, take-append-drop, Bool, true, false, arith}
+use Rattle.std.proofs.Common.{◌≡◌, ℕ, ◌-◌, ◌≤◌, ◌<◌, ◌⊎◌, inl, inr, List, [], ◌++◌, length, take, drop, refl, ap, sym, ◌∙◌, append_assoc, append-nil, length-append, take-append-drop, Bool, true, false, arith}
 use Rattle.std.proofs.lemmas.Bool.{le-leb, lt-leb, leb-true, leb-false}
 use Rattle.std.proofs.lemmas.List.{take-append-le, drop-append-le}
 use Rattle.std.specs.Prelude.{nat_le}
-use Rattle.crossing_bits.specs.Askers.{Asker, Asks, Over, Fed, Fed', Short, feed, then_ask, Uses, IsPrefix, PrefixLaw}
+use Rattle.crossing_bits.specs.Askers.{Asker, Asks, Over, Fed', Short, feed, then_ask, Uses, PrefixLaw}
 
 pub le_or_lt : (n m : ℕ) → (n ≤ m) ⊎ (m < n)
 le_or_lt n m = elim (nat_le n m) as (λ b. nat_le n m ≡ b → (n ≤ m) ⊎ (m < n)) [

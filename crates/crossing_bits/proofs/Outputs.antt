@@ -1,7 +1,7 @@
 -- An asker that is fed at most k bits comes to at most 2 ^ k different values.
-use Rattle.std.proofs.Common.{◌≡◌, ℕ, ◌^◌, ◌≤◌, List, [], ◌∷◌, ◌++◌, length, refl, ap, suc, sym, ◌∙◌, Bool, arith}
+use Rattle.std.proofs.Common.{◌≡◌, ℕ, ◌≤◌, List, [], ◌∷◌, length, refl, ap, suc, sym, Bool}
 use Rattle.std.specs.List.{AllByRecursion}
-use Rattle.crossing_bits.specs.Askers.{Asker, Over, Fed', feed, then_ask, Uses, IsPrefix, AllDifferent, IsReached, OutputsLaw}
+use Rattle.crossing_bits.specs.Askers.{Asker, Over, then_ask, Uses, AllDifferent, IsReached, OutputsLaw}
 use Rattle.crossing_bits.specs.Weights.{Apart, IsPrefixFree, HaveAtMost, IsUsed, StringsLaw}
 use Rattle.crossing_bits.proofs.Feeding.{same_value, feed_then, prefix_law}
 use Rattle.crossing_bits.proofs.Weighing.{count}

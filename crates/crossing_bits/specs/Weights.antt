@@ -1,5 +1,5 @@
 -- Kraft's inequality in whole numbers: strings of which none is a prefix of another are few and long.
-use Rattle.std.specs.Prelude.{◌≡◌, ℕ, ◌+◌, ◌-◌, ◌^◌, ◌≤◌, List, [], ◌∷◌, length, Bool}
+use Rattle.std.specs.Prelude.{ℕ, ◌+◌, ◌-◌, ◌^◌, ◌≤◌, List, [], ◌∷◌, length, Bool}
 use Rattle.std.specs.List.{AllByRecursion}
 use Rattle.crossing_bits.specs.Askers.{Asker, Uses, IsPrefix, AllDifferent}
 

@@ -1,4 +1,4 @@
-use Rattle.std.proofs.Common.{◌≡◌, ℕ, ◌<◌, ◌^◌, ◌%◌, ◌/◌, ◌-◌, take, drop, get_or, length, false, sym, arith}
+use Rattle.std.proofs.Common.{◌-◌, take, drop, get_or, length, false, sym, arith}
 use Rattle.crossing_bits.proofs.Places.{patched_by_zero, half_bound, patched_step_even, patched_read, patched_empty, bool_bound}
 use Rattle.crossing_bits.proofs.masks.+patched.Goals as goal
 

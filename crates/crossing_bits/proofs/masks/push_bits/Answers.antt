@@ -1,5 +1,5 @@
-use Rattle.std.proofs.Common.{◌≡◌, ℕ, ◌+◌, ◌%◌, ◌/◌, ◌++◌, ◌<◌, ◌^◌, sym, append_assoc, append-nil, arith}
-use Rattle.flow_base.specs.Words.{bit_count, bits_under}
+use Rattle.std.proofs.Common.{◌≡◌, ◌<◌, ◌^◌, append_assoc, append-nil, arith}
+use Rattle.flow_base.specs.Words.{bit_count}
 use Rattle.crossing_bits.proofs.Places.{bits_step, count_step, bits_of_zero, count_of_zero}
 use Rattle.crossing_bits.proofs.masks.push_bits.Goals as goal
 
