@@ -39,6 +39,10 @@ feed_then (Asks n go) next a x rest h = elim (le_or_lt n (length a)) [
   | inr few ↦ let short : feed (Asks n go) a ≡ Short (n - length a) = feed_few n go a few in cc
 ]
 
+-- where the first uses its string up, what follows takes the next one
+pub feed_after : {A B : Type 0} (asker : Asker A) (next : A → Asker B) (a b : List Bool) (x : A) → Uses asker a x → feed (then_ask asker next) (a ++ b) ≡ feed (next x) b
+feed_after asker next a b x h = feed_then asker next (a ++ b) x b (feed_more asker a b x [] h)
+
 -- where bits are short for the first, they are as short for both
 pub feed_then_short : {A B : Type 0} (asker : Asker A) (next : A → Asker B) (a : List Bool) (m : ℕ) → feed asker a ≡ Short m → feed (then_ask asker next) a ≡ Short m
 feed_then_short (Over y) next a m h = cc

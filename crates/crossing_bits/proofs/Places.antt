@@ -1,11 +1,13 @@
 -- Bits under a mask: place by place, and at the width of a word.
 use Rattle.std.proofs.Common.{◌≡◌, ℕ, zero, suc, ◌+◌, ◌-◌, ◌*◌, ◌/◌, ◌%◌, ◌^◌, ◌≤◌, ◌<◌, ◌⊎◌, inl, inr, List, [], ◌∷◌, ◌++◌, length, refl, ap, sym, ◌∙◌, Bool, true, false, arith, append-nil, add-one, min, take, drop, get_or}
 use Rattle.std.specs.Prelude.{◌==◌, bit_and, if◌then◌else◌}
+use Rattle.std.specs.Int.{bit_at}
+use Rattle.std.proofs.lemmas.Nat.Bits.{bit_at_lowest, bit_at-suc}
 use Rattle.std.specs.Int.Count.{ones}
 use mir.Val.{bool_byte}
 use Rattle.std.proofs.lemmas.List.{take_rest, take_all}
 use Rattle.crossing_bits.specs.HexText.{number_of, byte_at, first_bytes}
-use Rattle.crossing_bits.specs.Returns.{ReturnLaw}
+use Rattle.crossing_bits.specs.Returns.{ReturnLaw, AgreeLaw}
 use Rattle.crossing_bits.proofs.Feeding.{le_or_lt}
 use Rattle.std.proofs.lemmas.Nat.{ones_cat, and_block, and_le_r, and_mask}
 use Rattle.std.proofs.Math.Nat.{pow-suc}
@@ -166,6 +168,25 @@ taken_back_below (suc p) v m rest h = elim (parity m) [
   | inr e ↦ rw (bits_odd p v m e) (patched_odd p 0 m ((v % 2 == 1) ∷ (bits_below p (v / 2) (m / 2) ++ rest)) e ∙ omega (arith, bit_number v, taken_back_below p (v / 2) (m / 2) rest (half p m h), and_odd v m e))
 ]
 
+-- outside the mask the value stays
+pub patched_below_agrees : (p v m : ℕ) (bs : List Bool) → v < 2 ^ p → (i : ℕ) → bit_at m i ≡ 0 → bit_at (patched_below p v m bs) i ≡ bit_at v i
+patched_below_agrees zero v m bs h i e =
+    let none : v ≡ 0 = omega arith in rw (none, patched_none 0 m bs) refl
+patched_below_agrees (suc p) v m bs h zero e =
+    let clear : m % 2 ≡ 0 = sym (bit_at_lowest m) ∙ e in
+    let low : patched_below (suc p) v m bs % 2 ≡ v % 2 = omega (arith, patched_even p v m bs clear) in
+    bit_at_lowest (patched_below (suc p) v m bs) ∙ (low ∙ sym (bit_at_lowest v))
+patched_below_agrees (suc p) v m bs h (suc i) e =
+    let above : bit_at (m / 2) i ≡ 0 = sym (bit_at-suc m i) ∙ e in
+    let same : bit_at (patched_below (suc p) v m bs / 2) i ≡ bit_at (v / 2) i = elim (parity m) [
+      inl o ↦
+        let shifted : patched_below (suc p) v m bs / 2 ≡ patched_below p (v / 2) (m / 2) bs = omega (arith, patched_even p v m bs o) in
+        rw shifted (patched_below_agrees p (v / 2) (m / 2) bs (half p v h) i above)
+    | inr o ↦
+        let shifted : patched_below (suc p) v m bs / 2 ≡ patched_below p (v / 2) (m / 2) (later_bits bs) = omega (arith, patched_odd p v m bs o, first_below bs) in
+        rw shifted (patched_below_agrees p (v / 2) (m / 2) (later_bits bs) (half p v h) i above) ] in
+    bit_at-suc (patched_below (suc p) v m bs) i ∙ (same ∙ sym (bit_at-suc v i))
+
 pub count_below_bound : (p m : ℕ) → count_below p m ≤ p
 count_below_bound zero m = rw (count_none m) (omega arith)
 count_below_bound (suc p) m = elim (parity m) [
@@ -177,6 +198,9 @@ count_below_bound (suc p) m = elim (parity m) [
 
 pub count_bound : (m : ℕ) → bit_count m ≤ 32
 count_bound m = count_below_bound 32 m
+
+pub agree_law : AgreeLaw
+agree_law v m bs h i e = patched_below_agrees 32 v m bs h i e
 
 pub return_law : ReturnLaw
 return_law v m rest k h = (taken_back_below 32 v m rest h, put_back_below 32 v m rest k)

@@ -1,6 +1,6 @@
 ghost use Rattle.std.specs.Prelude.{ℕ, List};
 ghost use Rattle.crossing_bits.specs.Askers.{PrefixLaw, OutputsLaw};
-ghost use Rattle.crossing_bits.specs.Returns.{ReturnLaw};
+ghost use Rattle.crossing_bits.specs.Returns.{ReturnLaw, AgreeLaw};
 ghost use Rattle.crossing_bits.specs.Weights.{KraftLaw, CountLaw, StringsLaw};
 
 /// A law, which does nothing when it is called: of two strings that one asker uses up, neither is a proper prefix of
@@ -32,4 +32,9 @@ pub fn outputs_are_few<T>()
 /// A law, which does nothing when it is called: what is pushed under a mask comes back when it is taken under that mask.
 pub fn pushed_bits_return()
     ensures { ReturnLaw }
+{}
+
+/// A law, which does nothing when it is called: a word that is patched under a mask stays as it is outside the mask.
+pub fn patched_words_agree()
+    ensures { AgreeLaw }
 {}

@@ -9,7 +9,7 @@ mod tests;
 mod texts;
 
 pub use laws::{
-    at_most_two_to_the_k, kraft_inequality, no_longer_string, outputs_are_few, pushed_bits_return,
+    at_most_two_to_the_k, kraft_inequality, no_longer_string, outputs_are_few, patched_words_agree, pushed_bits_return,
     used_strings_are_prefix_free,
 };
 pub use masks::bit_count;
