@@ -2,10 +2,24 @@
 //! outside: where files come from and where text goes.
 #![tactic(auto)]
 
+mod host;
 mod lists;
+mod loading;
+mod memory_files;
+mod memory_sink;
+mod outputs;
 mod points;
+mod putting;
 mod register_file;
+#[cfg(test)]
+mod tests;
 
+pub use host::{DiskFiles, StandardOut};
 pub use lists::{Bytes, List, NoMemory};
+pub use loading::{Files, LoadFault};
+pub use memory_files::{Held, MemoryFiles};
+pub use memory_sink::{MemorySink, SinkFail};
+pub use outputs::Output;
 pub use points::{Point, Slot, slot_number, slot_width};
+pub use putting::{Sink, SinkFault};
 pub use register_file::Registers;

@@ -97,6 +97,8 @@ impl From<AllocError> for NoMemory {
     ghost use Rattle.std.specs.Prelude.{◌≡◌};
     ghost use Rattle.flow_base.specs.declared.lists.NoMemory.{NoMemory as TheNoMemory};
 
+    ghost from_gives = { λ _ e. e ≡ record {} };
+
     fn from(_: AllocError) -> NoMemory {
         NoMemory
     }
