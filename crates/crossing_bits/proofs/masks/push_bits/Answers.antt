@@ -10,7 +10,8 @@ pub loop-mask-preserved : goal.loop-mask-preserved
 loop-mask-preserved c =
     let fits : c.loop-mask.mask < 2 ^ 32 = omega arith in
     record {
-      pushed = rw (c.push_lowest.ensures.pushed, append_assoc, ← bits_step c.loop-mask.value c.loop-mask.mask fits) c.loop-mask.invariant.pushed;
+      pushed =
+          rw (c.push_lowest.ensures.pushed, append_assoc, ← bits_step c.loop-mask.value c.loop-mask.mask fits) c.loop-mask.invariant.pushed;
       len = omega (arith, count_step c.loop-mask.mask fits);
       room = omega arith;
     }
