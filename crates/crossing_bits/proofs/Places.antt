@@ -1,12 +1,15 @@
 -- Bits under a mask: place by place, and at the width of a word.
 use Rattle.std.proofs.Common.{◌≡◌, ℕ, zero, suc, ◌+◌, ◌-◌, ◌*◌, ◌/◌, ◌%◌, ◌^◌, ◌≤◌, ◌<◌, ◌⊎◌, inl, inr, List, [], ◌∷◌, ◌++◌, length, refl, ap, sym, ◌∙◌, Bool, true, false, arith, append-nil, add-one, min, take, drop, get_or}
-use Rattle.std.specs.Prelude.{◌==◌, if◌then◌else◌}
+use Rattle.std.specs.Prelude.{◌==◌, bit_and, if◌then◌else◌}
+use Rattle.std.specs.Int.{bit_at}
+use Rattle.std.proofs.lemmas.Nat.Bits.{bit_at_lowest, bit_at-suc}
 use Rattle.std.specs.Int.Count.{ones}
 use mir.Val.{bool_byte}
 use Rattle.std.proofs.lemmas.List.{take_rest, take_all}
 use Rattle.crossing_bits.specs.HexText.{number_of, byte_at, first_bytes}
+use Rattle.crossing_bits.specs.Returns.{ReturnLaw, AgreeLaw}
 use Rattle.crossing_bits.proofs.Feeding.{le_or_lt}
-use Rattle.std.proofs.lemmas.Nat.{ones_cat}
+use Rattle.std.proofs.lemmas.Nat.{ones_cat, and_block, and_le_r, and_mask}
 use Rattle.std.proofs.Math.Nat.{pow-suc}
 use Rattle.flow_base.specs.Words.{bits_below, bits_under, count_below, bit_count, number_of_bit, first_bit, later_bits, patched_below, patched}
 
@@ -37,11 +40,15 @@ bits_even : (p v m : ℕ) → m % 2 ≡ 0 → bits_below (suc p) v m ≡ bits_be
 unfolding bits_below
 bits_even p v m e = rw e refl
 
-patched_odd : (p v m : ℕ) (bs : List Bool) → m % 2 ≡ 1 → patched_below (suc p) v m bs ≡ first_bit bs + 2 * patched_below p (v / 2) (m / 2) (later_bits bs)
+patched_odd :
+    (p v m : ℕ) (bs : List Bool) → m % 2 ≡ 1 →
+    patched_below (suc p) v m bs ≡ first_bit bs + 2 * patched_below p (v / 2) (m / 2) (later_bits bs)
 unfolding patched_below
 patched_odd p v m bs e = rw e refl
 
-patched_even : (p v m : ℕ) (bs : List Bool) → m % 2 ≡ 0 → patched_below (suc p) v m bs ≡ v % 2 + 2 * patched_below p (v / 2) (m / 2) bs
+patched_even :
+    (p v m : ℕ) (bs : List Bool) → m % 2 ≡ 0 →
+    patched_below (suc p) v m bs ≡ v % 2 + 2 * patched_below p (v / 2) (m / 2) bs
 unfolding patched_below
 patched_even p v m bs e = rw e refl
 
@@ -77,23 +84,29 @@ count_more : (p m : ℕ) → m < 2 ^ p → count_below (suc p) m ≡ count_below
 count_more zero m h = let e : m ≡ 0 = omega arith in rw e (count_zero 1 ∙ sym (count_zero 0))
 count_more (suc p) m h = elim (parity m) [
   | inl e ↦ count_even (suc p) m e ∙ (count_more p (m / 2) (half p m h) ∙ sym (count_even p m e))
-  | inr e ↦ count_odd (suc p) m e ∙ (ap (λ n. suc n) (count_more p (m / 2) (half p m h)) ∙ sym (count_odd p m e))
+  | inr e ↦ count_odd (suc p) m e ∙ (ap (λ n. suc n) (count_more p (m / 2) (half p m h)) ∙
+      sym (count_odd p m e))
 ]
 
 bits_more : (p v m : ℕ) → m < 2 ^ p → bits_below (suc p) v m ≡ bits_below p v m
 bits_more zero v m h = let e : m ≡ 0 = omega arith in rw e (bits_zero 1 v ∙ sym (bits_zero 0 v))
 bits_more (suc p) v m h = elim (parity m) [
   | inl e ↦ bits_even (suc p) v m e ∙ (bits_more p (v / 2) (m / 2) (half p m h) ∙ sym (bits_even p v m e))
-  | inr e ↦ bits_odd (suc p) v m e ∙ (ap (λ bs. (v % 2 == 1) ∷ bs) (bits_more p (v / 2) (m / 2) (half p m h)) ∙ sym (bits_odd p v m e))
+  | inr e ↦ bits_odd (suc p) v m e ∙ (ap (λ bs. (v % 2 == 1) ∷ bs) (bits_more p (v / 2) (m / 2) (half p m h)) ∙
+      sym (bits_odd p v m e))
 ]
 
-patched_more : (p v m : ℕ) (bs : List Bool) → v < 2 ^ p → m < 2 ^ p → patched_below (suc p) v m bs ≡ patched_below p v m bs
+patched_more :
+    (p v m : ℕ) (bs : List Bool) → v < 2 ^ p → m < 2 ^ p → patched_below (suc p) v m bs ≡ patched_below p v m bs
 patched_more zero v m bs k h =
     let e : m ≡ 0 = omega arith in let f : v ≡ 0 = omega arith in
     rw (e, f) (patched_zero 1 0 bs (omega arith) ∙ sym (patched_zero 0 0 bs (omega arith)))
 patched_more (suc p) v m bs k h = elim (parity m) [
-  | inl e ↦ patched_even (suc p) v m bs e ∙ (ap (λ n. v % 2 + 2 * n) (patched_more p (v / 2) (m / 2) bs (half p v k) (half p m h)) ∙ sym (patched_even p v m bs e))
-  | inr e ↦ patched_odd (suc p) v m bs e ∙ (ap (λ n. first_bit bs + 2 * n) (patched_more p (v / 2) (m / 2) (later_bits bs) (half p v k) (half p m h)) ∙ sym (patched_odd p v m bs e))
+  | inl e ↦ patched_even (suc p) v m bs e ∙
+      (ap (λ n. v % 2 + 2 * n) (patched_more p (v / 2) (m / 2) bs (half p v k) (half p m h)) ∙
+      sym (patched_even p v m bs e))
+  | inr e ↦ patched_odd (suc p) v m bs e ∙
+      (ap (λ n. first_bit bs + 2 * n) (patched_more p (v / 2) (m / 2) (later_bits bs) (half p v k) (half p m h)) ∙ sym (patched_odd p v m bs e))
 ]
 
 -- ---- laws
@@ -103,7 +116,8 @@ unfolding ones
 count_is_ones zero m h = let e : m ≡ 0 = omega arith in rw e (count_none 0)
 count_is_ones (suc p) m h =
     let whole : m / 2 * 2 ^ 1 + m % 2 ≡ m = omega arith in
-    let split : ones m ≡ ones (m / 2) + ones (m % 2) = ap (λ n. ones n) (sym whole) ∙ ones_cat 1 (m / 2) (m % 2) (omega arith) in
+    let split : ones m ≡ ones (m / 2) + ones (m % 2) = ap (λ n. ones n) (sym whole) ∙
+    ones_cat 1 (m / 2) (m % 2) (omega arith) in
     let below : count_below p (m / 2) ≡ ones (m / 2) = count_is_ones p (m / 2) (half p m h) in
     elim (parity m) [
       | inl e ↦ let none : ones (m % 2) ≡ 0 = rw e refl in omega (arith, count_even p m e, split, below, none)
@@ -133,14 +147,84 @@ bit_number : (v : ℕ) → number_of_bit (v % 2 == 1) ≡ v % 2
 bit_number v = elim (parity v) [ inl e ↦ rw e refl | inr e ↦ rw e refl ]
 
 -- the bits of a value under a mask, put back in their places, whatever follows them
-pub put_back_below : (p v m : ℕ) (rest : List Bool) → v < 2 ^ p → patched_below p v m (bits_below p v m ++ rest) ≡ v
+pub put_back_below :
+    (p v m : ℕ) (rest : List Bool) → v < 2 ^ p → patched_below p v m (bits_below p v m ++ rest) ≡ v
 put_back_below zero v m rest h = patched_none v m (bits_below zero v m ++ rest) ∙ omega arith
 put_back_below (suc p) v m rest h = elim (parity m) [
-  | inl e ↦ rw (bits_even p v m e) (patched_even p v m (bits_below p (v / 2) (m / 2) ++ rest) e ∙ omega (arith, put_back_below p (v / 2) (m / 2) rest (half p v h)))
+  | inl e ↦ rw (bits_even p v m e) (patched_even p v m (bits_below p (v / 2) (m / 2) ++ rest) e ∙
+      omega (arith, put_back_below p (v / 2) (m / 2) rest (half p v h)))
   | inr e ↦ rw (bits_odd p v m e) (patched_odd p v m ((v % 2 == 1) ∷ (bits_below p (v / 2) (m / 2) ++ rest)) e ∙ omega (arith, bit_number v, put_back_below p (v / 2) (m / 2) rest (half p v h)))
 ]
 
+and_half : (v m : ℕ) → bit_and v m ≡ bit_and (v / 2) (m / 2) * 2 + bit_and (v % 2) (m % 2)
+and_half v m =
+    let value : v / 2 * 2 ^ 1 + v % 2 ≡ v = omega arith in
+    let mask : m / 2 * 2 ^ 1 + m % 2 ≡ m = omega arith in
+    let block : bit_and (v / 2 * 2 ^ 1 + v % 2) (m / 2 * 2 ^ 1 + m % 2) ≡ bit_and (v / 2) (m / 2) * 2 ^ 1 + bit_and (v % 2) (m % 2) =
+    and_block 1 (v / 2) (m / 2) (v % 2) (m % 2) (omega arith) (omega arith) in
+    rw (value, mask) at block
+
+and_even : (v m : ℕ) → m % 2 ≡ 0 → bit_and v m ≡ 2 * bit_and (v / 2) (m / 2)
+and_even v m e =
+    let none : bit_and (v % 2) (m % 2) ≤ m % 2 = and_le_r (v % 2) (m % 2) in omega (arith, and_half v m, none)
+
+and_odd : (v m : ℕ) → m % 2 ≡ 1 → bit_and v m ≡ v % 2 + 2 * bit_and (v / 2) (m / 2)
+and_odd v m e =
+    let one : bit_and (v % 2) (m % 2) ≡ v % 2 % 2 = rw e (and_mask (v % 2) 1) in
+    omega (arith, and_half v m, one)
+
+-- the bits of a value under a mask, alone in their places
+pub taken_back_below :
+    (p v m : ℕ) (rest : List Bool) → m < 2 ^ p → patched_below p 0 m (bits_below p v m ++ rest) ≡ bit_and v m
+taken_back_below zero v m rest h =
+    let none : bit_and v m ≤ m = and_le_r v m in patched_none 0 m (bits_below zero v m ++ rest) ∙ omega arith
+taken_back_below (suc p) v m rest h = elim (parity m) [
+  | inl e ↦ rw (bits_even p v m e) (patched_even p 0 m (bits_below p (v / 2) (m / 2) ++ rest) e ∙
+      omega (arith, taken_back_below p (v / 2) (m / 2) rest (half p m h), and_even v m e))
+  | inr e ↦ rw (bits_odd p v m e) (patched_odd p 0 m ((v % 2 == 1) ∷ (bits_below p (v / 2) (m / 2) ++ rest)) e ∙ omega (arith, bit_number v, taken_back_below p (v / 2) (m / 2) rest (half p m h), and_odd v m e))
+]
+
+-- outside the mask the value stays
+pub patched_below_agrees :
+    (p v m : ℕ) (bs : List Bool) → v < 2 ^ p → (i : ℕ) → bit_at m i ≡ 0 →
+    bit_at (patched_below p v m bs) i ≡ bit_at v i
+patched_below_agrees zero v m bs h i e =
+    let none : v ≡ 0 = omega arith in rw (none, patched_none 0 m bs) refl
+patched_below_agrees (suc p) v m bs h zero e =
+    let clear : m % 2 ≡ 0 = sym (bit_at_lowest m) ∙ e in
+    let low : patched_below (suc p) v m bs % 2 ≡ v % 2 = omega (arith, patched_even p v m bs clear) in
+    bit_at_lowest (patched_below (suc p) v m bs) ∙ (low ∙ sym (bit_at_lowest v))
+patched_below_agrees (suc p) v m bs h (suc i) e =
+    let above : bit_at (m / 2) i ≡ 0 = sym (bit_at-suc m i) ∙ e in
+    let same : bit_at (patched_below (suc p) v m bs / 2) i ≡ bit_at (v / 2) i = elim (parity m) [
+      | inl o ↦
+          let shifted : patched_below (suc p) v m bs / 2 ≡ patched_below p (v / 2) (m / 2) bs =
+          omega (arith, patched_even p v m bs o) in
+          rw shifted (patched_below_agrees p (v / 2) (m / 2) bs (half p v h) i above)
+      | inr o ↦
+          let shifted : patched_below (suc p) v m bs / 2 ≡ patched_below p (v / 2) (m / 2) (later_bits bs) =
+          omega (arith, patched_odd p v m bs o, first_below bs) in
+          rw shifted (patched_below_agrees p (v / 2) (m / 2) (later_bits bs) (half p v h) i above)
+    ] in
+    bit_at-suc (patched_below (suc p) v m bs) i ∙ (same ∙ sym (bit_at-suc v i))
+
+pub count_below_bound : (p m : ℕ) → count_below p m ≤ p
+count_below_bound zero m = rw (count_none m) (omega arith)
+count_below_bound (suc p) m = elim (parity m) [
+  | inl e ↦ omega (arith, count_even p m e, count_below_bound p (m / 2))
+  | inr e ↦ omega (arith, count_odd p m e, count_below_bound p (m / 2))
+]
+
 -- ---- words
+
+pub count_bound : (m : ℕ) → bit_count m ≤ 32
+count_bound m = count_below_bound 32 m
+
+pub agree_law : AgreeLaw
+agree_law v m bs h i e = patched_below_agrees 32 v m bs h i e
+
+pub return_law : ReturnLaw
+return_law v m rest k h = (taken_back_below 32 v m rest h, put_back_below 32 v m rest k)
 
 pub count_is_count_ones : (m : ℕ) → m < 2 ^ 32 → bit_count m ≡ ones m
 count_is_count_ones m h = count_is_ones 32 m h
@@ -169,7 +253,8 @@ lowest v m = if m % 2 == 1 then (v % 2 == 1) ∷ [] else []
 
 pub bits_step : (v m : ℕ) → m < 2 ^ 32 → bits_under v m ≡ lowest v m ++ bits_under (v / 2) (m / 2)
 bits_step v m h =
-    let more : bits_below 32 (v / 2) (m / 2) ≡ bits_below 31 (v / 2) (m / 2) = bits_more 31 (v / 2) (m / 2) (half 31 m h) in
+    let more : bits_below 32 (v / 2) (m / 2) ≡ bits_below 31 (v / 2) (m / 2) =
+    bits_more 31 (v / 2) (m / 2) (half 31 m h) in
     elim (parity m) [ inl e ↦ rw (more, e) (bits_even 31 v m e) | inr e ↦ rw (more, e) (bits_odd 31 v m e) ]
 
 pub count_step : (m : ℕ) → m < 2 ^ 32 → bit_count m ≡ m % 2 + bit_count (m / 2)
@@ -177,14 +262,21 @@ count_step m h =
     let more : count_below 32 (m / 2) ≡ count_below 31 (m / 2) = count_more 31 (m / 2) (half 31 m h) in
     elim (parity m) [ inl e ↦ omega (arith, more, e, count_even 31 m e) | inr e ↦ omega (arith, more, e, count_odd 31 m e) ]
 
-pub patched_step_odd : (v m : ℕ) (bs : List Bool) → v < 2 ^ 32 → m < 2 ^ 32 → m % 2 ≡ 1 → patched v m bs ≡ first_bit bs + 2 * patched (v / 2) (m / 2) (later_bits bs)
-patched_step_odd v m bs k h e = rw (patched_more 31 (v / 2) (m / 2) (later_bits bs) (half 31 v k) (half 31 m h)) (patched_odd 31 v m bs e)
+pub patched_step_odd :
+    (v m : ℕ) (bs : List Bool) → v < 2 ^ 32 → m < 2 ^ 32 → m % 2 ≡ 1 →
+    patched v m bs ≡ first_bit bs + 2 * patched (v / 2) (m / 2) (later_bits bs)
+patched_step_odd v m bs k h e =
+    rw (patched_more 31 (v / 2) (m / 2) (later_bits bs) (half 31 v k) (half 31 m h)) (patched_odd 31 v m bs e)
 
-pub patched_step_even : (v m : ℕ) (bs : List Bool) → v < 2 ^ 32 → m < 2 ^ 32 → m % 2 ≡ 0 → patched v m bs ≡ v % 2 + 2 * patched (v / 2) (m / 2) bs
-patched_step_even v m bs k h e = rw (patched_more 31 (v / 2) (m / 2) bs (half 31 v k) (half 31 m h)) (patched_even 31 v m bs e)
+pub patched_step_even :
+    (v m : ℕ) (bs : List Bool) → v < 2 ^ 32 → m < 2 ^ 32 → m % 2 ≡ 0 →
+    patched v m bs ≡ v % 2 + 2 * patched (v / 2) (m / 2) bs
+patched_step_even v m bs k h e =
+    rw (patched_more 31 (v / 2) (m / 2) bs (half 31 v k) (half 31 m h)) (patched_even 31 v m bs e)
 
 pub half_bound : (v m : ℕ) (bs : List Bool) → v < 2 ^ 32 → m < 2 ^ 32 → patched (v / 2) (m / 2) bs < 2 ^ 31
-half_bound v m bs k h = rw (patched_more 31 (v / 2) (m / 2) bs (half 31 v k) (half 31 m h)) (patched_below_bound 31 (v / 2) (m / 2) bs)
+half_bound v m bs k h =
+    rw (patched_more 31 (v / 2) (m / 2) bs (half 31 v k) (half 31 m h)) (patched_below_bound 31 (v / 2) (m / 2) bs)
 
 -- ---- the code's reads of a slice
 
@@ -204,17 +296,23 @@ pub bool_bound : (b : Bool) → bool_byte b < 2
 bool_bound true = omega arith
 bool_bound false = omega arith
 
-pub patched_read : (v m : ℕ) (bs : List Bool) → v < 2 ^ 32 → m < 2 ^ 32 → (m % 2 ≡ 0 → ⊥) → 1 ≤ length bs → bool_byte (get_or bs 0 false) + 2 * patched (v / 2) (m / 2) (take (length bs - 1) (drop 1 bs)) ≡ patched v m bs
+pub patched_read :
+    (v m : ℕ) (bs : List Bool) → v < 2 ^ 32 → m < 2 ^ 32 → (m % 2 ≡ 0 → ⊥) → 1 ≤ length bs →
+    bool_byte (get_or bs 0 false) + 2 * patched (v / 2) (m / 2) (take (length bs - 1) (drop 1 bs)) ≡ patched v m bs
 patched_read v m bs k h o l =
     let odd : m % 2 ≡ 1 = omega arith in
     rw (first_read bs l, later_slice bs) (sym (patched_step_odd v m bs k h odd))
 
-pub patched_empty : (v m : ℕ) (bs : List Bool) → v < 2 ^ 32 → m < 2 ^ 32 → (m % 2 ≡ 0 → ⊥) → length bs < 1 → 2 * patched (v / 2) (m / 2) bs ≡ patched v m bs
+pub patched_empty :
+    (v m : ℕ) (bs : List Bool) → v < 2 ^ 32 → m < 2 ^ 32 → (m % 2 ≡ 0 → ⊥) → length bs < 1 →
+    2 * patched (v / 2) (m / 2) bs ≡ patched v m bs
 patched_empty v m [] k h o l =
     let odd : m % 2 ≡ 1 = omega arith in omega (arith, patched_step_odd v m [] k h odd)
 patched_empty v m (b ∷ bs) k h o l = absurd (omega arith)
 
-pub number_read : (bs : List Bool) → 1 ≤ length bs → bool_byte (get_or bs 0 false) + 2 * number_of (take (length bs - 1) (drop 1 bs)) ≡ number_of bs
+pub number_read :
+    (bs : List Bool) → 1 ≤ length bs →
+    bool_byte (get_or bs 0 false) + 2 * number_of (take (length bs - 1) (drop 1 bs)) ≡ number_of bs
 unfolding number_of
 number_read [] l = absurd (omega arith)
 number_read (b ∷ bs) l = rw (later_slice (b ∷ bs), first_read (b ∷ bs) l) refl
@@ -234,6 +332,7 @@ pub first_bytes_none : (bits : List Bool) → first_bytes 0 bits ≡ []
 unfolding first_bytes
 first_bytes_none bits = refl
 
-pub first_bytes_more : (n : ℕ) (bits : List Bool) → first_bytes (n + 1) bits ≡ first_bytes n bits ++ byte_at bits n ∷ []
+pub first_bytes_more :
+    (n : ℕ) (bits : List Bool) → first_bytes (n + 1) bits ≡ first_bytes n bits ++ byte_at bits n ∷ []
 unfolding first_bytes
 first_bytes_more n bits = rw add-one refl

@@ -1,5 +1,5 @@
 -- Kraft's inequality, by induction on k: the strings that begin with 0 and those that begin with 1.
-use Rattle.std.proofs.Common.{◌≡◌, ℕ, zero, suc, ◌+◌, ◌-◌, ◌^◌, ◌≤◌, ◌<◌, List, [], ◌∷◌, ◌++◌, length, refl, ap, sym, ◌∙◌, Bool, true, false, arith}
+use Rattle.std.proofs.Common.{◌≡◌, ℕ, zero, suc, ◌+◌, ◌-◌, ◌^◌, ◌≤◌, List, [], ◌∷◌, length, refl, ap, Bool, true, false, arith}
 use Rattle.std.proofs.lemmas.Nat.{pow_pos}
 use Rattle.std.proofs.Math.Nat.{pow-suc}
 use Rattle.std.specs.List.{AllByRecursion}
@@ -24,7 +24,9 @@ prefix_cons b s t (rest, e) = (rest, ap (λ u. b ∷ u) e)
 apart_tail : (b : Bool) (s t : List Bool) → Apart (b ∷ s) (b ∷ t) → Apart s t
 apart_tail b s t (p, q) = (λ h. p (prefix_cons b s t h), λ h. q (prefix_cons b t s h))
 
-after_apart : (b : Bool) (s : List Bool) (ss : List (List Bool)) → AllByRecursion (Apart (b ∷ s)) ss → AllByRecursion (Apart s) (after b ss)
+after_apart :
+    (b : Bool) (s : List Bool) (ss : List (List Bool)) → AllByRecursion (Apart (b ∷ s)) ss →
+    AllByRecursion (Apart s) (after b ss)
 after_apart true s [] h = tt
 after_apart false s [] h = tt
 after_apart true s ([] ∷ ss) (p, h) = after_apart true s ss h
@@ -57,7 +59,9 @@ after_short false k ((false ∷ t) ∷ ss) (p, h) = (omega (arith, p), after_sho
 one_less : (k : ℕ) (b : Bool) (s : List Bool) → 2 ^ (suc k - length (b ∷ s)) ≡ 2 ^ (k - length s)
 one_less k b s = let e : suc k - length (b ∷ s) ≡ k - length s = omega arith in ap (λ n. 2 ^ n) e
 
-halves : (k : ℕ) (ss : List (List Bool)) → AllByRecursion IsLong ss → weight (suc k) ss ≡ weight k (after false ss) + weight k (after true ss)
+halves :
+    (k : ℕ) (ss : List (List Bool)) → AllByRecursion IsLong ss →
+    weight (suc k) ss ≡ weight k (after false ss) + weight k (after true ss)
 halves k [] h = refl
 halves k ([] ∷ ss) (p, h) = absurd (p refl)
 halves k ((true ∷ t) ∷ ss) (p, h) = omega (arith, one_less k true t, halves k ss h)
@@ -69,7 +73,9 @@ alone [] h = refl
 alone (t ∷ ss) (p, h) = absurd (p.0 (t, refl))
 
 -- beside a string that is not empty there is no empty one
-all_long : (b : Bool) (s : List Bool) (ss : List (List Bool)) → AllByRecursion (Apart (b ∷ s)) ss → AllByRecursion IsLong ss
+all_long :
+    (b : Bool) (s : List Bool) (ss : List (List Bool)) → AllByRecursion (Apart (b ∷ s)) ss →
+    AllByRecursion IsLong ss
 all_long b s [] h = tt
 all_long b s ([] ∷ ss) (p, h) = absurd (p.1 ((b ∷ s), refl))
 all_long b s ((c ∷ t) ∷ ss) (p, h) = ((λ e. cc), all_long b s ss h)
@@ -85,8 +91,10 @@ kraft (suc k) ([] ∷ ss) h (p, f) = rw (alone ss p) (omega (arith, whole (suc k
 kraft zero ((b ∷ s) ∷ ss) (q, h) f = absurd (omega (arith, q))
 kraft (suc k) ((b ∷ s) ∷ ss) h (p, f) =
     let long : AllByRecursion IsLong ((b ∷ s) ∷ ss) = ((λ e. cc), all_long b s ss p) in
-    let zeros : weight k (after false ((b ∷ s) ∷ ss)) ≤ 2 ^ k = kraft k (after false ((b ∷ s) ∷ ss)) (after_short false k ((b ∷ s) ∷ ss) h) (after_free false ((b ∷ s) ∷ ss) (p, f)) in
-    let ones : weight k (after true ((b ∷ s) ∷ ss)) ≤ 2 ^ k = kraft k (after true ((b ∷ s) ∷ ss)) (after_short true k ((b ∷ s) ∷ ss) h) (after_free true ((b ∷ s) ∷ ss) (p, f)) in
+    let zeros : weight k (after false ((b ∷ s) ∷ ss)) ≤ 2 ^ k =
+    kraft k (after false ((b ∷ s) ∷ ss)) (after_short false k ((b ∷ s) ∷ ss) h) (after_free false ((b ∷ s) ∷ ss) (p, f)) in
+    let ones : weight k (after true ((b ∷ s) ∷ ss)) ≤ 2 ^ k =
+    kraft k (after true ((b ∷ s) ∷ ss)) (after_short true k ((b ∷ s) ∷ ss) h) (after_free true ((b ∷ s) ∷ ss) (p, f)) in
     rw (halves k ((b ∷ s) ∷ ss) long) (omega (arith, zeros, ones, pow-suc 2 k))
 
 count_weight : (k : ℕ) (ss : List (List Bool)) → length ss ≤ weight k ss

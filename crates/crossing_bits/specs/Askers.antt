@@ -33,7 +33,8 @@ IsPrefix a b = (rest : List Bool) × (a ++ rest ≡ b)
 
 -- The law of prefixes: of two strings that an asker uses up, one is a prefix of the other only where they are the same.
 abbrev pub PrefixLaw : Type 0 → Type 0
-PrefixLaw A = (asker : Asker A) (a b : List Bool) (x y : A) → Uses asker a x → Uses asker b y → IsPrefix a b → a ≡ b
+PrefixLaw A =
+    (asker : Asker A) (a b : List Bool) (x y : A) → Uses asker a x → Uses asker b y → IsPrefix a b → a ≡ b
 
 -- no value stands twice in the list
 abbrev pub AllDifferent : {A : Type 0} → List A → Type 0

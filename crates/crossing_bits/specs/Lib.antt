@@ -2,3 +2,4 @@ pub mod Askers
 pub mod Weights
 pub mod Streams
 pub mod HexText
+pub mod Returns

@@ -1,5 +1,5 @@
 -- Kraft's inequality in whole numbers: strings of which none is a prefix of another are few and long.
-use Rattle.std.specs.Prelude.{◌≡◌, ℕ, ◌+◌, ◌-◌, ◌^◌, ◌≤◌, List, [], ◌∷◌, length, Bool}
+use Rattle.std.specs.Prelude.{ℕ, ◌+◌, ◌-◌, ◌^◌, ◌≤◌, List, [], ◌∷◌, length, Bool}
 use Rattle.std.specs.List.{AllByRecursion}
 use Rattle.crossing_bits.specs.Askers.{Asker, Uses, IsPrefix, AllDifferent}
 
@@ -23,11 +23,13 @@ HaveAtMost k strings = AllByRecursion (λ string. length string ≤ k) strings
 
 -- Kraft's inequality: the strings of a prefix-free list weigh at most 2 ^ k together.
 abbrev pub KraftLaw : Type 0
-KraftLaw = (k : ℕ) (strings : List (List Bool)) → HaveAtMost k strings → IsPrefixFree strings → weight k strings ≤ 2 ^ k
+KraftLaw =
+    (k : ℕ) (strings : List (List Bool)) → HaveAtMost k strings → IsPrefixFree strings → weight k strings ≤ 2 ^ k
 
 -- Each string weighs at least 1, so there are at most 2 ^ k of them.
 abbrev pub CountLaw : Type 0
-CountLaw = (k : ℕ) (strings : List (List Bool)) → HaveAtMost k strings → IsPrefixFree strings → length strings ≤ 2 ^ k
+CountLaw =
+    (k : ℕ) (strings : List (List Bool)) → HaveAtMost k strings → IsPrefixFree strings → length strings ≤ 2 ^ k
 
 -- the asker uses the string up, and comes to some value
 abbrev pub IsUsed : {A : Type 0} → Asker A → List Bool → Type 0

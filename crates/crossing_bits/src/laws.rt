@@ -1,5 +1,6 @@
 ghost use Rattle.std.specs.Prelude.{ℕ, List};
 ghost use Rattle.crossing_bits.specs.Askers.{PrefixLaw, OutputsLaw};
+ghost use Rattle.crossing_bits.specs.Returns.{ReturnLaw, AgreeLaw};
 ghost use Rattle.crossing_bits.specs.Weights.{KraftLaw, CountLaw, StringsLaw};
 
 /// A law, which does nothing when it is called: of two strings that one asker uses up, neither is a proper prefix of
@@ -26,4 +27,14 @@ pub fn at_most_two_to_the_k()
 /// A law, which does nothing when it is called: with at most k bits an asker comes to at most 2^k different values.
 pub fn outputs_are_few<T>()
     ensures { OutputsLaw T }
+{}
+
+/// A law, which does nothing when it is called: what is pushed under a mask comes back when it is taken under that mask.
+pub fn pushed_bits_return()
+    ensures { ReturnLaw }
+{}
+
+/// A law, which does nothing when it is called: a word that is patched under a mask stays as it is outside the mask.
+pub fn patched_words_agree()
+    ensures { AgreeLaw }
 {}

@@ -5,9 +5,10 @@ ghost use Rattle.flow_base.specs.Words.{bit_count as count_of, bits_under, patch
 use flow_base::NoMemory;
 
 /// The number of bits that a mask has, 0 to 32.
-#[tactic(auto, using(crate::proofs::Places::count_is_count_ones))]
+#[tactic(auto, using(crate::proofs::Places::count_is_count_ones, crate::proofs::Places::count_bound))]
 pub fn bit_count(mask: u32) -> u32
-    ensures { result ≡ count_of mask }
+    ensures count { result ≡ count_of mask }
+    ensures few { result ≤ 32 }
 {
     mask.count_ones()
 }

@@ -29,11 +29,12 @@ impl Model for Bits {
 }
 
 impl Bits {
-    /// The empty string, with room for at least so many bits.
+    /// The empty string, with room for at least so many bits. For none it takes no memory, and cannot fail.
     pub fn with_room(alloc: Global, count: u32) -> Result<Bits, NoMemory>
         ensures empty { IfOk result (λ bits. bits.bits ≡ []) }
         ensures untaken { IfOk result (λ bits. bits.taken ≡ 0) }
         ensures room { IfOk result (λ bits. count ≤ bits.room) }
+        ensures fits { count ≡ 0 → IsOk result }
     {
         let items = Vec::with_capacity(alloc, count as usize)?;
         Ok(Bits { items, taken: 0 })

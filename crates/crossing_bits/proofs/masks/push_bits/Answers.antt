@@ -1,5 +1,5 @@
-use Rattle.std.proofs.Common.{◌≡◌, ℕ, ◌+◌, ◌%◌, ◌/◌, ◌++◌, ◌<◌, ◌^◌, sym, append_assoc, append-nil, arith}
-use Rattle.flow_base.specs.Words.{bit_count, bits_under}
+use Rattle.std.proofs.Common.{◌≡◌, ◌<◌, ◌^◌, append_assoc, append-nil, arith}
+use Rattle.flow_base.specs.Words.{bit_count}
 use Rattle.crossing_bits.proofs.Places.{bits_step, count_step, bits_of_zero, count_of_zero}
 use Rattle.crossing_bits.proofs.masks.push_bits.Goals as goal
 
@@ -10,7 +10,8 @@ pub loop-mask-preserved : goal.loop-mask-preserved
 loop-mask-preserved c =
     let fits : c.loop-mask.mask < 2 ^ 32 = omega arith in
     record {
-      pushed = rw (c.push_lowest.ensures.pushed, append_assoc, ← bits_step c.loop-mask.value c.loop-mask.mask fits) c.loop-mask.invariant.pushed;
+      pushed =
+          rw (c.push_lowest.ensures.pushed, append_assoc, ← bits_step c.loop-mask.value c.loop-mask.mask fits) c.loop-mask.invariant.pushed;
       len = omega (arith, count_step c.loop-mask.mask fits);
       room = omega arith;
     }
