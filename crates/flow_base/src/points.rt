@@ -1,7 +1,8 @@
 ghost use Rattle.std.specs.Prelude.{◌≡◌, IsTrue};
 ghost use Rattle.flow_base.specs.Points.{is_slot, number_of, width_of};
 
-/// A place within a turn at which a value passes. Slots are ordered by their number (see [`slot_number`]).
+/// A place within a turn at which a value passes. Slots are ordered by their number (see [`slot_number`]). The registers of
+/// `OutReg` are 1 to 31 and the ranges of `OutRange` 0 to 63; a call that needs this says so.
 #[derive(Clone, Copy, Debug, PartialEq, Eq, PartialOrd, Ord, Hash)]
 pub enum Slot {
     /// `u1`: the value of rs1
@@ -35,13 +36,12 @@ pub enum Slot {
 }
 
 /// A slot of a place of the program: region (0 outside regions), address of the instruction, slot.
-/// Points are ordered by region, address and slot number.
+/// Points are ordered by region, address and slot number. Its fields may hold any numbers; [`Slot`] says which are slots.
 #[derive(Clone, Copy, Debug, PartialEq, Eq, PartialOrd, Ord, Hash)]
 pub struct Point {
     pub region: u16,
     pub address: u32,
     pub slot: Slot,
-    ghost is_slot: { IsTrue (is_slot slot) },
 }
 
 /// The number by which slots are ordered, 1 to 107.

@@ -1,0 +1,4 @@
+pub mod Operations
+pub mod Formats
+pub mod Listings
+pub mod Encoding

@@ -1,0 +1,4 @@
+pub mod Feeding
+pub mod Weighing
+pub mod Outputs
+pub mod Places

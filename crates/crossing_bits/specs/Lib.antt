@@ -1,0 +1,4 @@
+pub mod Askers
+pub mod Weights
+pub mod Streams
+pub mod HexText

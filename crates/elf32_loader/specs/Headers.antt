@@ -1,0 +1,67 @@
+-- The fields of an ELF32 file as functions of its bytes (System V ABI, Object Files: ELF Header, Program Header). All are
+-- little-endian.
+use Rattle.std.specs.Prelude.{◌≡◌, ◌≢◌, ℕ, ◌+◌, ◌*◌, ◌<◌, ◌≤◌, List, [], ◌∷◌}
+use Rattle.byteorder.specs.Endian.{little_from}
+
+-- the field of two or four bytes at an offset
+abbrev pub half_at : List ℕ → ℕ → ℕ
+half_at file offset = little_from offset 2 file
+
+abbrev pub word_at : List ℕ → ℕ → ℕ
+word_at file offset = little_from offset 4 file
+
+-- the first bytes of e_ident: the magic number, 32 bits, little-endian, version 1
+abbrev pub identification : List ℕ
+identification = 0x7f ∷ 0x45 ∷ 0x4c ∷ 0x46 ∷ 1 ∷ 1 ∷ 1 ∷ []
+
+-- e_type, e_machine, e_entry, e_phoff, e_flags, e_phentsize and e_phnum
+abbrev pub file_type : List ℕ → ℕ
+file_type file = half_at file 16
+
+abbrev pub machine_type : List ℕ → ℕ
+machine_type file = half_at file 18
+
+abbrev pub entry_of : List ℕ → ℕ
+entry_of file = word_at file 24
+
+abbrev pub table_offset : List ℕ → ℕ
+table_offset file = word_at file 28
+
+abbrev pub flags_of : List ℕ → ℕ
+flags_of file = word_at file 36
+
+abbrev pub header_size : List ℕ → ℕ
+header_size file = half_at file 42
+
+abbrev pub header_count : List ℕ → ℕ
+header_count file = half_at file 44
+
+-- a program header: p_type, p_offset, p_vaddr, p_filesz and p_memsz
+pub record Header : Type 0 where
+  pub kind : ℕ
+  pub offset : ℕ
+  pub address : ℕ
+  pub file_size : ℕ
+  pub memory_size : ℕ
+
+abbrev pub header_from : List ℕ → ℕ → Header
+header_from file start = record {
+  kind = word_at file start;
+  offset = word_at file (start + 4);
+  address = word_at file (start + 8);
+  file_size = word_at file (start + 16);
+  memory_size = word_at file (start + 20);
+}
+
+-- the program header of an index, counted from 0
+abbrev pub header_at : List ℕ → ℕ → Header
+header_at file index = header_from file (table_offset file + 32 * index)
+
+-- a header is a load: it is PT_LOAD and takes memory
+abbrev pub IsLoad : List ℕ → ℕ → Type 0
+IsLoad file index =
+    (index < header_count file) × ((header_at file index).kind ≡ 1) × ((header_at file index).memory_size ≢ 0)
+
+-- an address lies in the memory of a header
+abbrev pub HoldsAddress : Header → ℕ → Type 0
+HoldsAddress header address = (header.address ≤ address) × (address < header.address + header.memory_size)

@@ -1,0 +1,6 @@
+pub mod Segments
+pub mod Pictures
+pub mod Images
+pub mod Headers
+pub mod FaultTable
+pub mod Programs

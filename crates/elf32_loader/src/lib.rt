@@ -1,0 +1,17 @@
+//! ELF32 program files of RV32IM (System V ABI, Executable and Linking Format, 32-bit): the image that is loaded from one.
+#![tactic(auto)]
+
+mod fault;
+mod images;
+mod laws;
+mod loading;
+mod segments;
+
+pub use fault::ElfFault;
+pub use images::Image;
+pub use laws::files_of_one_segment_give_their_images;
+pub use loading::load_image;
+pub use segments::Segment;
+
+#[cfg(test)]
+mod tests;

@@ -1,0 +1,5 @@
+pub mod Signs
+pub mod Splits
+pub mod Tables
+pub mod Encodes
+pub mod Decodes
