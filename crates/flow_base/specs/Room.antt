@@ -27,7 +27,7 @@ abbrev pub fail_of : List SinkFail → ℕ → Option ℕ
 fail_of [] call = None
 fail_of (fail ∷ rest) call = if fail.call == call then Some fail.taken else fail_of rest call
 
--- what a put adds to the bytes taken
+-- the sink after a put that takes these bytes
 abbrev pub with_bytes : SinkState → List ℕ → SinkState
 with_bytes s bytes = record s { taken = s.taken ++ bytes; room = s.room - length bytes; calls = counted s.calls }
 
@@ -35,17 +35,21 @@ with_bytes s bytes = record s { taken = s.taken ++ bytes; room = s.room - length
 abbrev pub with_fault : SinkState → List ℕ → ℕ → SinkState
 with_fault s piece count = record (with_bytes s (take (min count s.room) piece)) { faults = counted s.faults }
 
--- a put fails where its number is one that fails, or where its piece does not fit the room that is left
+-- the sink after a put whose number is to fail after a count of bytes, or is not listed: then it fails where its piece
+-- does not fit the room that is left
 abbrev pub after_fail : SinkState → List ℕ → Option ℕ → SinkState
 after_fail s piece (Some count) = with_fault s piece count
 after_fail s piece None = if nat_le (length piece) s.room then with_bytes s piece else with_fault s piece (length piece)
 
+-- the sink after a put of a piece
 abbrev pub sink_after : SinkState → List ℕ → SinkState
 sink_after s piece = after_fail s piece (fail_of s.fails (counted s.calls))
 
+-- the answer to the same put: it fails where its number is listed, or where its piece does not fit
 abbrev pub answer_of : SinkState → List ℕ → Option ℕ → Result (Unit {0}) SinkFault
 answer_of s piece (Some count) = Err Failed
 answer_of s piece None = if nat_le (length piece) s.room then Ok tt else Err Failed
 
+-- the answer to a put of a piece
 abbrev pub put_answer : SinkState → List ℕ → Result (Unit {0}) SinkFault
 put_answer s piece = answer_of s piece (fail_of s.fails (counted s.calls))

@@ -1,5 +1,5 @@
 ghost use Rattle.std.specs.Prelude.{◌≡◌, ◌+◌, ◌^◌, ◌<◌, ◌≤◌, option_map, option_copied, List as Seq};
-ghost use Rattle.flow_base.specs.Loads.{after_load, last_answer, next_answer, UnlessMemory, Answers, HasCause};
+ghost use Rattle.flow_base.specs.Loads.{after_load, last_answer, UnlessMemory, Answers, HasCause};
 ghost use Rattle.flow_base.specs.Memory.{held_under, told_of, files_after};
 
 use crate::lists::{Bytes, List};
@@ -74,7 +74,6 @@ impl Files for MemoryFiles {
         ensures answers { Answers (Some (told_of self.old)) name.now limit result }
         ensures cause { HasCause limit self.old.faults self.new.faults result }
         ensures faults { self.old.faults ≤ self.new.faults }
-        ensures answer { UnlessMemory result (next_answer (told_of self.old) name.now limit) }
         ensures after { self.new ≡ files_after self.old result }
     {
         self.loads = self.loads.saturating_add(1);
