@@ -1,0 +1,106 @@
+-- When a secret is accepted: a statement of two separate whole runs.
+use Rattle.std.specs.Prelude.{◌≡◌, ℕ, zero, suc, ◌≤◌, ◌^◌, List, [], ◌∷◌, length, Bool}
+use Rattle.std.specs.List.{AllByRecursion}
+use Rattle.flow_base.specs.declared.outputs.Output.{Output}
+use Rattle.elf32_loader.specs.Pictures.{Picture}
+use Rattle.crossing_bits.specs.Askers.{Uses, IsPrefix, AllDifferent}
+use Rattle.crossing_bits.specs.Weights.{IsPrefixFree, weight}
+use Rattle.rv32im_machine.specs.declared.stepping.Stepped.{Stepped}
+use Rattle.rv32im_machine.specs.declared.stepping.Stepped.TheVariants.{Ran, Exited, Stopped}
+use Rattle.rv32im_machine.specs.State.{State}
+use Rattle.rv32im_machine.specs.Start.{start, zeros}
+use Rattle.lockstep_replay.specs.Runs.{Place, Masks, fresh, real_after, Cross, Replay}
+
+-- the output has at most 1 MiB
+abbrev pub output_limit : ℕ
+output_limit = 1048576
+
+-- a program with its public input, started on a secret
+abbrev pub guest : Picture → List ℕ → List ℕ → Place
+guest picture public_input secret = fresh (start picture public_input secret output_limit)
+
+-- the replay knows the length of the secret alone: it starts on zeros
+abbrev pub replay_guest : Picture → List ℕ → ℕ → Place
+replay_guest picture public_input secret_length = guest picture public_input (zeros secret_length)
+
+-- a run has exited with an output, which is the bytes that were written and the status
+pub record HasExited (state : State) (output : Output) : Type 0 where
+  pub bytes : state.control.output ≡ output.bytes
+  pub status : state.control.mode ≡ Exited output.status
+
+-- both run on, or both have exited
+abbrev pub EndAlike : Stepped → Stepped → Type 0
+EndAlike Ran Ran = Unit {0}
+EndAlike Ran (Exited status) = ⊥
+EndAlike Ran (Stopped fault) = ⊥
+EndAlike (Exited status) Ran = ⊥
+EndAlike (Exited status) (Exited other) = Unit {0}
+EndAlike (Exited status) (Stopped fault) = ⊥
+EndAlike (Stopped fault) other = ⊥
+
+-- the marks of two runs are equal: the address, the number of output bytes, and whether it has exited
+pub record SameMark (real copy : State) : Type 0 where
+  pub address : real.control.pc ≡ copy.control.pc
+  pub written : length real.control.output ≡ length copy.control.output
+  pub ended : EndAlike real.control.mode copy.control.mode
+
+-- Done: the replay of a string exits with an output, and uses the string up exactly
+pub record Done (picture : Picture) (public_input : List ℕ) (masks : Masks) (secret_length turns : ℕ) (bits : List Bool) (output : Output) : Type 0 where
+  pub place : Place
+  pub uses : Uses (Replay masks turns (replay_guest picture public_input secret_length)) bits place
+  pub exited : HasExited place.state output
+
+-- after so many turns the replay of the real run's crossing bits so far has used them up, is not stopped, and has the real mark
+pub record Follows (picture : Picture) (public_input : List ℕ) (masks : Masks) (secret_length : ℕ) (secret : List ℕ) (turns : ℕ) : Type 0 where
+  pub place : Place
+  pub uses : Uses (Replay masks turns (replay_guest picture public_input secret_length)) (Cross masks turns (guest picture public_input secret)) place
+  pub mark : SameMark (real_after turns (guest picture public_input secret)).state place.state
+
+-- Accept: a secret is accepted within a budget of bits and a limit of turns, with this output
+pub record Accept (picture : Picture) (public_input : List ℕ) (masks : Masks) (secret_length budget turns : ℕ) (secret : List ℕ) (output : Output) : Type 0 where
+  pub has_length : length secret ≡ secret_length
+  pub exits : HasExited (real_after turns (guest picture public_input secret)).state output
+  pub within : length (Cross masks turns (guest picture public_input secret)) ≤ budget
+  pub follows : (j : ℕ) → j ≤ turns → Follows picture public_input masks secret_length secret j
+  pub replay : Done picture public_input masks secret_length turns (Cross masks turns (guest picture public_input secret)) output
+
+-- ---- the laws of the bound
+
+-- two strings on which the replay is done are equal, or neither is a prefix of the other
+abbrev pub PrefixesLaw : Type 0
+PrefixesLaw =
+    (picture : Picture) (public_input : List ℕ) (masks : Masks) (secret_length turns : ℕ) (first second : List Bool) (output other : Output) →
+    Done picture public_input masks secret_length turns first output →
+    Done picture public_input masks secret_length turns second other → IsPrefix first second → first ≡ second
+
+-- a string that is the crossing bits of some accepted secret
+abbrev pub IsCross : Picture → List ℕ → Masks → ℕ → ℕ → ℕ → List Bool → Type 0
+IsCross picture public_input masks secret_length budget turns bits =
+    (secret : List ℕ) × ((output : Output) × Accept picture public_input masks secret_length budget turns secret output
+    × (Cross masks turns (guest picture public_input secret) ≡ bits))
+
+-- an output of some accepted secret
+abbrev pub IsOutput : Picture → List ℕ → Masks → ℕ → ℕ → ℕ → Output → Type 0
+IsOutput picture public_input masks secret_length budget turns output =
+    (secret : List ℕ) × Accept picture public_input masks secret_length budget turns secret output
+
+-- different crossing strings of accepted secrets are prefix-free, and their weight is at most 2 to the budget
+abbrev pub CrossesLaw : Type 0
+CrossesLaw =
+    (picture : Picture) (public_input : List ℕ) (masks : Masks) (secret_length budget turns : ℕ) (strings : List (List Bool)) →
+    AllByRecursion (IsCross picture public_input masks secret_length budget turns) strings → AllDifferent strings →
+    IsPrefixFree strings × (weight budget strings ≤ 2 ^ budget)
+
+-- at most 2 to the budget different outputs arise of accepted secrets
+abbrev pub BoundLaw : Type 0
+BoundLaw =
+    (picture : Picture) (public_input : List ℕ) (masks : Masks) (secret_length budget turns : ℕ) (outputs : List Output) →
+    AllByRecursion (IsOutput picture public_input masks secret_length budget turns) outputs → AllDifferent outputs →
+    length outputs ≤ 2 ^ budget
+
+-- what is accepted within a limit of turns is accepted within every greater one
+abbrev pub MoreTurnsLaw : Type 0
+MoreTurnsLaw =
+    (picture : Picture) (public_input : List ℕ) (masks : Masks) (secret_length budget turns more : ℕ) (secret : List ℕ) (output : Output) →
+    turns ≤ more → Accept picture public_input masks secret_length budget turns secret output →
+    Accept picture public_input masks secret_length budget more secret output

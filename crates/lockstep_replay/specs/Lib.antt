@@ -1,0 +1,6 @@
+pub mod Cuts
+pub mod CutPictures
+pub mod Runs
+pub mod Acceptance
+pub mod Verdicts
+pub mod Judgements

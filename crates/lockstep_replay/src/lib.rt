@@ -1,0 +1,12 @@
+//! Two machines in lockstep: the real run on a secret beside a replay that never sees it, and the verdict on the secret.
+#![tactic(auto)]
+
+mod cut_fault;
+mod cuts;
+mod points;
+mod verdicts;
+
+pub use cut_fault::CutFault;
+pub use cuts::InCut;
+pub use points::InPoint;
+pub use verdicts::{Verdict, Why};
