@@ -4,3 +4,6 @@ pub mod Runs
 pub mod Acceptance
 pub mod Verdicts
 pub mod Judgements
+pub mod Tapes
+pub mod Sides
+pub mod Ends
