@@ -1,3 +1,4 @@
 pub mod Feeds
 pub mod Growth
 pub mod Stillness
+pub mod Bounds

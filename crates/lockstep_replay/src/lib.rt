@@ -3,10 +3,12 @@
 
 mod cut_fault;
 mod cuts;
+mod laws;
 mod points;
 mod verdicts;
 
 pub use cut_fault::CutFault;
 pub use cuts::InCut;
+pub use laws::accepted_runs_are_bounded;
 pub use points::InPoint;
 pub use verdicts::{Verdict, Why};
