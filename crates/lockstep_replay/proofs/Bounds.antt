@@ -109,10 +109,10 @@ bound_law picture public_input masks secret_length budget turns outputs h differ
 
 -- ---- more turns
 
-over_exited : (mode : Stepped) (status : ℕ) → mode ≡ Exited status → IsOver mode
+pub over_exited : (mode : Stepped) (status : ℕ) → mode ≡ Exited status → IsOver mode
 over_exited mode status e = subst (λ m. IsOver m) (sym e) tt
 
-over_alike : (real copy : Stepped) → EndAlike real copy → IsOver real → IsOver copy
+pub over_alike : (real copy : Stepped) → EndAlike real copy → IsOver real → IsOver copy
 over_alike Ran copy h over = absurd over
 over_alike (Exited status) Ran h over = absurd h
 over_alike (Exited status) (Exited other) h over = tt

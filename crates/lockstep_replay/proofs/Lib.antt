@@ -2,3 +2,5 @@ pub mod Feeds
 pub mod Growth
 pub mod Stillness
 pub mod Bounds
+pub mod Fine
+pub mod Accepting

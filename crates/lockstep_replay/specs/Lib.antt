@@ -4,3 +4,4 @@ pub mod Runs
 pub mod Acceptance
 pub mod Verdicts
 pub mod Judgements
+pub mod VerdictLaws

@@ -9,6 +9,6 @@ mod verdicts;
 
 pub use cut_fault::CutFault;
 pub use cuts::InCut;
-pub use laws::accepted_runs_are_bounded;
+pub use laws::{accepted_runs_are_bounded, verdicts_are_acceptance};
 pub use points::InPoint;
 pub use verdicts::{Verdict, Why};
