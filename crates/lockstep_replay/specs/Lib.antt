@@ -7,3 +7,4 @@ pub mod Judgements
 pub mod Tapes
 pub mod Sides
 pub mod Ends
+pub mod VerdictLaws

@@ -3,6 +3,7 @@
 
 mod cut_fault;
 mod cuts;
+mod laws;
 mod points;
 mod replaying;
 mod replays;
@@ -12,5 +13,6 @@ mod verdicts;
 
 pub use cut_fault::CutFault;
 pub use cuts::InCut;
+pub use laws::{accepted_runs_are_bounded, verdicts_are_acceptance};
 pub use points::InPoint;
 pub use verdicts::{Verdict, Why};
