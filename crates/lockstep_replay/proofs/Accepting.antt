@@ -46,15 +46,15 @@ found_sooner :
     (task : Task) (turns last : ℕ) (bits : List Bool) (output : Output) → why_after task (suc turns) ≡ None →
     Found task (suc turns) last bits output → Found task turns last bits output
 found_sooner task turns last bits output n found = record {
-    at = found.at;
-    above = omega (arith, found.above);
-    below = found.below;
-    exited = found.exited;
-    bits_are = found.bits_are;
-    fine = λ j low high. elim (le_or_lt j (suc turns)) [
-      | inl here ↦ fine_here task turns j n low here
-      | inr later ↦ found.fine j later high
-    ];
+  at = found.at;
+  above = omega (arith, found.above);
+  below = found.below;
+  exited = found.exited;
+  bits_are = found.bits_are;
+  fine = λ j low high. elim (le_or_lt j (suc turns)) [
+    | inl here ↦ fine_here task turns j n low here
+    | inr later ↦ found.fine j later high
+  ];
 }
 
 found_mode :
@@ -69,16 +69,16 @@ found_mode task turns last bits output later (Exited status) go below n m e =
     let both : Accepts (cross_at task (suc turns)) (exit_output (real_at task (suc turns)).state status) ≡ Accepts bits output = e in
     let same : exit_output (real_at task (suc turns)).state status ≡ output = cc in
     let crosses : bits ≡ cross_at task (suc turns) = cc in record {
-    at = suc turns;
-    above = omega arith;
-    below = below;
-    exited = record {
-      bytes = ap (λ (o : Output). o.bytes) same;
-      status = m ∙ ap (λ (o : Output). Exited o.status) same;
-    };
-    bits_are = crosses;
-    fine = λ j low high. fine_here task turns j n low high;
-}
+      at = suc turns;
+      above = omega arith;
+      below = below;
+      exited = record {
+        bytes = ap (λ (o : Output). o.bytes) same;
+        status = m ∙ ap (λ (o : Output). Exited o.status) same;
+      };
+      bits_are = crosses;
+      fine = λ j low high. fine_here task turns j n low high;
+    }
 
 found_why :
     (task : Task) (turns last : ℕ) (bits : List Bool) (output : Output) (later : Judgement) (why : Option Why) →
@@ -121,13 +121,13 @@ follows_fine :
     (picture : Picture) (public_input secret : List ℕ) (cut : CutPicture) (budget j : ℕ) → FineAt picture public_input secret cut budget j →
     Follows picture public_input (MaskAt cut.points) cut.secret_length secret j
 follows_fine picture public_input secret cut budget j fine = record {
-    place = fine.place;
-    uses = fine.uses;
-    mark = record {
-      address = fine.address;
-      written = ap (λ bytes. length bytes) fine.output;
-      ended = alike_same (real_after j (guest picture public_input secret)).state.control.mode fine.place.state.control.mode fine.mode;
-    };
+  place = fine.place;
+  uses = fine.uses;
+  mark = record {
+    address = fine.address;
+    written = ap (λ bytes. length bytes) fine.output;
+    ended = alike_same (real_after j (guest picture public_input secret)).state.control.mode fine.place.state.control.mode fine.mode;
+  };
 }
 
 follows_start :
@@ -135,9 +135,9 @@ follows_start :
     Follows picture public_input masks secret_length secret zero
 unfolding real_after Cross Replay
 follows_start picture public_input masks secret_length secret = record {
-    place = replay_guest picture public_input secret_length;
-    uses = refl;
-    mark = record { address = refl; written = refl; ended = tt };
+  place = replay_guest picture public_input secret_length;
+  uses = refl;
+  mark = record { address = refl; written = refl; ended = tt };
 }
 
 follows_found :
@@ -160,20 +160,20 @@ accept_found picture public_input secret cut budget turns bits output same found
     let last : found.at ≤ found.at = omega arith in
     let fine : FineAt picture public_input secret cut budget found.at =
     fine_at picture public_input secret cut budget turns found.at (found.fine found.at found.above last) in record {
-    has_length = same;
-    exits = found.exited;
-    within = fine.within;
-    follows = λ j below. follows_found picture public_input secret cut budget turns found.at found.fine j below;
-    replay = record {
-      place = fine.place;
-      uses = fine.uses;
-      exited = record {
-        bytes = sym fine.output ∙ found.exited.bytes;
-        status =
-          same_status (real_after found.at (guest picture public_input secret)).state.control.mode fine.place.state.control.mode output.status fine.mode found.exited.status;
+      has_length = same;
+      exits = found.exited;
+      within = fine.within;
+      follows = λ j below. follows_found picture public_input secret cut budget turns found.at found.fine j below;
+      replay = record {
+        place = fine.place;
+        uses = fine.uses;
+        exited = record {
+          bytes = sym fine.output ∙ found.exited.bytes;
+          status =
+              same_status (real_after found.at (guest picture public_input secret)).state.control.mode fine.place.state.control.mode output.status fine.mode found.exited.status;
+        };
       };
-    };
-}
+    }
 
 pub accepts_if :
     (test : Bool) (judgement : Judgement) (why : Why) (bits : List Bool) (output : Output) →
@@ -191,7 +191,7 @@ accepted_law picture public_input secret cut budget turns bits output e =
     found (task_of picture public_input secret cut budget turns) turns zero turns bits output sum judged.1 in
     let over : IsOver (real_after the.at (guest picture public_input secret)).state.control.mode =
     over_exited (real_after the.at (guest picture public_input secret)).state.control.mode output.status the.exited.status in (
-    more_turns_law picture public_input (MaskAt cut.points) cut.secret_length budget the.at turns secret output the.below
-    (accept_found picture public_input secret cut budget turns bits output ((Decides-eqb (length secret) cut.secret_length).0 judged.0) the),
-    the.bits_are ∙ sym (cross_later (MaskAt cut.points) (guest picture public_input secret) the.at turns the.below over),
-)
+      more_turns_law picture public_input (MaskAt cut.points) cut.secret_length budget the.at turns secret output the.below
+          (accept_found picture public_input secret cut budget turns bits output ((Decides-eqb (length secret) cut.secret_length).0 judged.0) the),
+      the.bits_are ∙ sym (cross_later (MaskAt cut.points) (guest picture public_input secret) the.at turns the.below over),
+    )

@@ -40,8 +40,8 @@ all_used :
     AllByRecursion (IsUsed (Replay masks turns (replay_guest picture public_input secret_length))) strings
 all_used picture public_input masks secret_length budget turns [] h = tt
 all_used picture public_input masks secret_length budget turns (bits ∷ strings) (h, hs) = (
-    used_of picture public_input masks secret_length budget turns bits h,
-    all_used picture public_input masks secret_length budget turns strings hs,
+  used_of picture public_input masks secret_length budget turns bits h,
+  all_used picture public_input masks secret_length budget turns strings hs,
 )
 
 all_short :
@@ -49,8 +49,8 @@ all_short :
     AllByRecursion (IsCross picture public_input masks secret_length budget turns) strings → HaveAtMost budget strings
 all_short picture public_input masks secret_length budget turns [] h = tt
 all_short picture public_input masks secret_length budget turns (bits ∷ strings) (h, hs) = (
-    short_of picture public_input masks secret_length budget turns bits h,
-    all_short picture public_input masks secret_length budget turns strings hs,
+  short_of picture public_input masks secret_length budget turns bits h,
+  all_short picture public_input masks secret_length budget turns strings hs,
 )
 
 pub crosses_law : CrossesLaw
@@ -98,8 +98,8 @@ all_reached :
     AllByRecursion (IsReached (output_asker picture public_input masks secret_length turns) budget) outputs
 all_reached picture public_input masks secret_length budget turns [] h = tt
 all_reached picture public_input masks secret_length budget turns (output ∷ outputs) (h, hs) = (
-    reached_of picture public_input masks secret_length budget turns output h,
-    all_reached picture public_input masks secret_length budget turns outputs hs,
+  reached_of picture public_input masks secret_length budget turns output h,
+  all_reached picture public_input masks secret_length budget turns outputs hs,
 )
 
 pub bound_law : BoundLaw
@@ -124,25 +124,25 @@ follows_later :
     IsOver (real_after turns (guest picture public_input secret)).state.control.mode →
     Follows picture public_input masks secret_length secret turns → Follows picture public_input masks secret_length secret more
 follows_later picture public_input masks secret_length secret turns more h over follows = record {
-    place = follows.place;
-    uses =
+  place = follows.place;
+  uses =
       replay_later masks (replay_guest picture public_input secret_length) turns more
       (Cross masks more (guest picture public_input secret)) follows.place [] h
       (over_alike (real_after turns (guest picture public_input secret)).state.control.mode follows.place.state.control.mode follows.mark.ended over)
       (subst (λ s. Uses (Replay masks turns (replay_guest picture public_input secret_length)) s follows.place)
       (sym (cross_later masks (guest picture public_input secret) turns more h over)) follows.uses);
-    mark = subst (λ (p : Place). SameMark p.state follows.place.state) (sym (real_later (guest picture public_input secret) turns more h over)) follows.mark;
+  mark = subst (λ (p : Place). SameMark p.state follows.place.state) (sym (real_later (guest picture public_input secret) turns more h over)) follows.mark;
 }
 
 done_later :
     (picture : Picture) (public_input : List ℕ) (masks : Masks) (secret_length turns more : ℕ) (bits : List Bool) (output : Output) → turns ≤ more →
     Done picture public_input masks secret_length turns bits output → Done picture public_input masks secret_length more bits output
 done_later picture public_input masks secret_length turns more bits output h done = record {
-    place = done.place;
-    uses =
+  place = done.place;
+  uses =
       replay_later masks (replay_guest picture public_input secret_length) turns more bits done.place [] h
       (over_exited done.place.state.control.mode output.status done.exited.status) done.uses;
-    exited = done.exited;
+  exited = done.exited;
 }
 
 pub more_turns_law : MoreTurnsLaw
@@ -151,17 +151,17 @@ more_turns_law picture public_input masks secret_length budget turns more secret
     over_exited (real_after turns (guest picture public_input secret)).state.control.mode output.status accept.exits.status in
     let crosses : Cross masks turns (guest picture public_input secret) ≡ Cross masks more (guest picture public_input secret) =
     sym (cross_later masks (guest picture public_input secret) turns more h over) in record {
-    has_length = accept.has_length;
-    exits = subst (λ (p : Place). HasExited p.state output) (sym (real_later (guest picture public_input secret) turns more h over)) accept.exits;
-    within = subst (λ s. length s ≤ budget) crosses accept.within;
-    follows = λ j below. elim (le_or_lt j turns) [
-      | inl early ↦ accept.follows j early
-      | inr late ↦
-          let after : turns ≤ j = omega (arith, late) in
-          let last : turns ≤ turns = omega arith in
-          follows_later picture public_input masks secret_length secret turns j after over (accept.follows turns last)
-    ];
-    replay =
-      subst (λ s. Done picture public_input masks secret_length more s output) crosses
-      (done_later picture public_input masks secret_length turns more (Cross masks turns (guest picture public_input secret)) output h accept.replay);
-}
+      has_length = accept.has_length;
+      exits = subst (λ (p : Place). HasExited p.state output) (sym (real_later (guest picture public_input secret) turns more h over)) accept.exits;
+      within = subst (λ s. length s ≤ budget) crosses accept.within;
+      follows = λ j below. elim (le_or_lt j turns) [
+        | inl early ↦ accept.follows j early
+        | inr late ↦
+            let after : turns ≤ j = omega (arith, late) in
+            let last : turns ≤ turns = omega arith in
+            follows_later picture public_input masks secret_length secret turns j after over (accept.follows turns last)
+      ];
+      replay =
+          subst (λ s. Done picture public_input masks secret_length more s output) crosses
+          (done_later picture public_input masks secret_length turns more (Cross masks turns (guest picture public_input secret)) output h accept.replay);
+    }

@@ -100,13 +100,13 @@ fine_of budget real cross fed e =
     let second : (is_same_mode real.control.mode equal.0.state.control.mode ≡ true)
     × (bytes_eq real.control.output equal.0.state.control.output ≡ true) =
     and_parts (is_same_mode real.control.mode equal.0.state.control.mode) (bytes_eq real.control.output equal.0.state.control.output) first.1 in record {
-    place = equal.0;
-    uses = equal.1.0;
-    within = ltb-false budget (length cross) parts.0;
-    address = (Decides-eqb real.control.pc equal.0.state.control.pc).0 first.0;
-    mode = second.0;
-    output = (bytes_eq-Decides real.control.output equal.0.state.control.output).0 second.1;
-}
+      place = equal.0;
+      uses = equal.1.0;
+      within = ltb-false budget (length cross) parts.0;
+      address = (Decides-eqb real.control.pc equal.0.state.control.pc).0 first.0;
+      mode = second.0;
+      output = (bytes_eq-Decides real.control.output equal.0.state.control.output).0 second.1;
+    }
 
 some_none :
     (mode copy : Stepped) (budget needed : ℕ) (equal : Bool) → is_same_mode mode copy ≡ true → nat_lt budget needed ≡ false →

@@ -31,20 +31,20 @@ crosses-more a b s t state (Halted stop) small h k = k
 
 -- the same string, seen from before
 pub replays-from : {Stop : Type 0} (before after : Stream) (fed : Fed Place) (out : Played Stop Stream) →
-    after.bits ≡ before.bits → Replays after fed out → Replays before fed out
-replays-from before after (Fed' place rest) (Finished reached end) same h = (h.0, h.1, h.2 ∙ same)
-replays-from before after (Fed' place rest) (Halted stop) same h = h
-replays-from before after (Short missing) (Finished reached end) same h = h
-replays-from before after (Short missing) (Halted stop) same h = tt
+    after.bits ≡ before.bits → after.room ≡ before.room → Replays after fed out → Replays before fed out
+replays-from before after (Fed' place rest) (Finished reached end) same room h = (h.0, h.1, h.2 ∙ same, h.3 ∙ room)
+replays-from before after (Fed' place rest) (Halted stop) same room h = h
+replays-from before after (Short missing) (Finished reached end) same room h = h
+replays-from before after (Short missing) (Halted stop) same room h = tt
 
 -- a passing takes its bits, and the rest goes on with what is left
 pub replays-more : {Stop : Type 0} (before after : Stream) (count : ℕ) (go : List Bool → Asker Place) (out : Played Stop Stream) →
-    count ≤ length (left_of before) → left_of after ≡ drop count (left_of before) → after.bits ≡ before.bits →
+    count ≤ length (left_of before) → left_of after ≡ drop count (left_of before) → after.bits ≡ before.bits → after.room ≡ before.room →
     Replays after (feed (go (take count (left_of before))) (left_of after)) out →
     Replays before (feed (Asks count go) (left_of before)) out
-replays-more before after count go out enough left same h =
+replays-more before after count go out enough left same room h =
     rw (feed_enough count go (left_of before) enough)
-    (replays-from before after (feed (go (take count (left_of before))) (drop count (left_of before))) out same (rw left at h))
+    (replays-from before after (feed (go (take count (left_of before))) (drop count (left_of before))) out same room (rw left at h))
 
 -- too few bits are left
 pub replays-short : {Stop : Type 0} (before : Stream) (count : ℕ) (go : List Bool → Asker Place) (stop : Stop) →

@@ -28,4 +28,4 @@ crosses-Ended Stop tally masks past state small = (refl, tallies-none tally smal
 pub replays-Ended : (Stop : Type 0) (stream : Stream) (masks : Masks) (past : List Point) (state : State) →
     Replays {Stop = Stop} stream (feed (replayed masks past (Ended state)) (left_of stream)) (Finished state stream)
 unfolding replayed
-replays-Ended Stop stream masks past state = (refl, refl, refl)
+replays-Ended Stop stream masks past state = (refl, refl, refl, refl)

@@ -7,4 +7,5 @@ pub mod Judgements
 pub mod Tapes
 pub mod Sides
 pub mod Ends
+pub mod Turning
 pub mod VerdictLaws

@@ -1,5 +1,5 @@
 -- What a turn of either side leaves of the string of bits.
-use Rattle.std.specs.Prelude.{◌≡◌, ℕ, ◌+◌, ◌≤◌, List, [], ◌∷◌, ◌++◌, length, Bool}
+use Rattle.std.specs.Prelude.{◌≡◌, ℕ, ◌+◌, ◌≤◌, List, [], ◌∷◌, ◌++◌, length, Bool, true, false}
 use Rattle.crossing_bits.specs.Askers.{Fed, Fed', Short}
 use Rattle.crossing_bits.specs.Streams.{Stream, left_of}
 use Rattle.rv32im_machine.specs.State.{State}
@@ -27,7 +27,12 @@ Crosses before bits state (Halted stop) = ⊥
 -- the replay's side: it takes bits from the front of what is left, and is halted where too few are left
 abbrev pub Replays : {Stop : Type 0} → Stream → Fed Place → Played Stop Stream → Type 0
 Replays before (Fed' place rest) (Finished reached after) =
-    (place.state ≡ reached) × (left_of after ≡ rest) × (after.bits ≡ before.bits)
+    (place.state ≡ reached) × (left_of after ≡ rest) × (after.bits ≡ before.bits) × (after.room ≡ before.room)
 Replays before (Fed' place rest) (Halted stop) = ⊥
 Replays before (Short missing) (Finished reached after) = ⊥
 Replays before (Short missing) (Halted stop) = Unit {0}
+
+-- the end of a turn of the replay, by whether there were enough bits
+abbrev pub played : Bool → State → Stream → Played (Unit {0}) Stream
+played true reached after = Finished reached after
+played false reached after = Halted tt

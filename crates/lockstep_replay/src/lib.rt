@@ -9,6 +9,7 @@ mod replaying;
 mod replays;
 mod tallies;
 mod tallying;
+mod turning;
 mod verdicts;
 
 pub use cut_fault::CutFault;
