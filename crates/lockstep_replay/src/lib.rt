@@ -3,10 +3,13 @@
 
 mod cut_fault;
 mod cuts;
+mod masks;
 mod points;
+mod reading;
 mod verdicts;
 
 pub use cut_fault::CutFault;
 pub use cuts::InCut;
 pub use points::InPoint;
+pub use reading::read_in_cut;
 pub use verdicts::{Verdict, Why};
