@@ -1,6 +1,6 @@
 -- A search by halves of ascending points finds the mask of an address.
-use Rattle.std.proofs.Common.{◌≡◌, ℕ, ◌<◌, ◌≤◌, ◌==◌, ◌&&◌, nat_lt, Bool, true, false, List, [], ◌∷◌, ◌++◌, if◌then◌else◌, refl, sym, ◌∙◌, ap, subst, arith}
-use Rattle.std.proofs.lemmas.Grind.{common_steps}
+use Rattle.std.proofs.Common.{◌≡◌, ℕ, ◌<◌, ◌≤◌, true, List, [], ◌∷◌, ◌++◌, ◌-◌, length, take, drop, get_or, refl, sym, ◌∙◌, ap, subst, arith}
+use Rattle.std.proofs.lemmas.List.{take_all, take-append-drop}
 use Rattle.lockstep_replay.specs.declared.points.InPoint.{InPoint}
 use Rattle.lockstep_replay.specs.Cuts.{is_ascending, rest_at}
 
@@ -70,3 +70,68 @@ pub rest-after : (left : List InPoint) (point : InPoint) (right : List InPoint) 
     rest_at (left ++ (point ∷ right)) address ≡ rest_at right address
 rest-after left point right address e high =
     rest-right left point right address e (omega arith) ∙ rest-past point right address high
+
+-- ---- one step of the search: the points left of the middle, the point there, and the points right of it
+
+pub record IsStep (part left : List InPoint) (others : List InPoint) (address mask : ℕ) : Type 0 where
+  pub ascends : is_ascending part ≡ true
+  pub same : rest_at part address ≡ mask
+  pub whole : part ≡ left ++ others
+  pub some : 1 ≤ length others
+
+abbrev pub first_of_rest : List InPoint → InPoint
+first_of_rest others = get_or others 0 (record { address = 0; rest = 0 })
+
+abbrev pub later_of_rest : List InPoint → List InPoint
+later_of_rest others = take (length others - 1) (drop 1 others)
+
+later-same : (point : InPoint) (points : List InPoint) → later_of_rest (point ∷ points) ≡ points
+later-same point points = take_all (length (point ∷ points) - 1) points (omega arith)
+
+too-few : 1 ≤ length {A = InPoint} [] → ⊥
+too-few few = omega arith
+
+pub step-here : (part left others : List InPoint) (address mask : ℕ) → IsStep part left others address mask →
+    (first_of_rest others).address ≡ address → (first_of_rest others).rest ≡ mask
+step-here part left [] address mask step here = absurd (too-few step.some)
+step-here part left (point ∷ points) address mask step here =
+    sym (rest-found left point points address (ap (λ (l : List InPoint). is_ascending l) (sym step.whole) ∙ step.ascends) here)
+    ∙ ap (λ (l : List InPoint). rest_at l address) (sym step.whole) ∙ step.same
+
+pub record IsPart (part : List InPoint) (address mask : ℕ) : Type 0 where
+  pub ascends : is_ascending part ≡ true
+  pub same : rest_at part address ≡ mask
+
+pub step-left : (part left others : List InPoint) (address mask : ℕ) → IsStep part left others address mask →
+    address < (first_of_rest others).address → IsPart left address mask
+step-left part left [] address mask step low = absurd (too-few step.some)
+step-left part left (point ∷ points) address mask step low =
+    let ascends : is_ascending (left ++ (point ∷ points)) ≡ true =
+        ap (λ (l : List InPoint). is_ascending l) (sym step.whole) ∙ step.ascends in
+    record {
+      ascends = ascends-left left (point ∷ points) ascends;
+      same = sym (rest-left left point points address ascends low)
+        ∙ ap (λ (l : List InPoint). rest_at l address) (sym step.whole) ∙ step.same;
+    }
+
+pub step-right : (part left others : List InPoint) (address mask : ℕ) → IsStep part left others address mask →
+    (first_of_rest others).address < address → IsPart (later_of_rest others) address mask
+step-right part left [] address mask step high = absurd (too-few step.some)
+step-right part left (point ∷ points) address mask step high =
+    let ascends : is_ascending (left ++ (point ∷ points)) ≡ true =
+        ap (λ (l : List InPoint). is_ascending l) (sym step.whole) ∙ step.ascends in
+    let same : rest_at points address ≡ mask = sym (rest-after left point points address ascends high)
+        ∙ ap (λ (l : List InPoint). rest_at l address) (sym step.whole) ∙ step.same in
+    subst (λ (l : List InPoint). IsPart l address mask) (sym (later-same point points)) (record {
+      ascends = ascends-tail point points (ascends-right left (point ∷ points) ascends);
+      same = same;
+    })
+
+pub step-of : (part left others : List InPoint) (middle address mask : ℕ) → IsPart part address mask → left ≡ take middle part →
+    others ≡ drop middle part → 1 ≤ length others → IsStep part left others address mask
+step-of part left others middle address mask known front back some = record {
+  ascends = known.ascends;
+  same = known.same;
+  whole = rw (front, back) (sym (take-append-drop middle part));
+  some = some;
+}

@@ -1,11 +1,10 @@
 -- A text is read as the cut whose text it is, and as no other.
-use Rattle.std.proofs.Common.{◌≡◌, ℕ, ◌+◌, ◌-◌, ◌*◌, ◌/◌, ◌%◌, ◌<◌, ◌≤◌, ◌^◌, ◌==◌, ◌&&◌, nat_le, nat_lt, Bool, true, false, IsTrue, cond, List, [], ◌∷◌, ◌++◌, codes, length, if◌then◌else◌, Option, Some, None, refl, sym, ◌∙◌, ap, subst, append_assoc, arith, slice_index}
-use Rattle.std.proofs.lemmas.Grind.{common_steps}
+use Rattle.std.proofs.Common.{◌≡◌, ℕ, ◌+◌, ◌*◌, ◌/◌, ◌%◌, ◌<◌, ◌≤◌, ◌&&◌, nat_le, nat_lt, Bool, true, false, IsTrue, List, [], ◌∷◌, ◌++◌, codes, length, if◌then◌else◌, Option, Some, None, refl, sym, ◌∙◌, ap, subst, append_assoc, arith, slice_index}
 use Rattle.std.proofs.lemmas.Fmt.{decimal_by_steps}
 use Rattle.std.specs.Fmt.{decimal}
 use Rattle.lockstep_replay.specs.declared.points.InPoint.{InPoint}
-use Rattle.lockstep_replay.specs.Cuts.{CutPicture, is_ascending, is_cut, hex_digit, hex_word, point_line, point_lines, cut_text, IsCutText}
-use Rattle.lockstep_replay.specs.Reading.{is_word_point, are_words, after_text, then_text, is_digit, digits_from, first_and, second_digits, bits_line, first_digits, head_numbers, head_text, digit_of, word_at, point_in, after_line, with_point, next_point, least_after}
+use Rattle.lockstep_replay.specs.Cuts.{CutPicture, is_ascending, hex_digit, hex_word, point_line, point_lines, cut_text, IsCutText}
+use Rattle.lockstep_replay.specs.Reading.{is_word_point, are_words, after_text, then_text, digits_from, first_and, bits_line, head_numbers, head_text, digit_of, word_at, point_in, after_line, with_point, next_point, least_after}
 
 -- ---- wanted texts
 

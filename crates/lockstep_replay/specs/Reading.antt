@@ -1,8 +1,8 @@
 -- How the text of a cut is read: its numbers and points are taken at their places, and then the text is compared.
-use Rattle.std.specs.Prelude.{ℕ, ◌+◌, ◌-◌, ◌*◌, ◌%◌, ◌==◌, ◌&&◌, nat_le, nat_lt, List, [], ◌∷◌, ◌++◌, codes, length, slice_index, Bool, true, false, Option, Some, None, if◌then◌else◌}
+use Rattle.std.specs.Prelude.{ℕ, ◌+◌, ◌-◌, ◌*◌, ◌%◌, ◌==◌, ◌&&◌, nat_le, nat_lt, List, [], ◌∷◌, ◌++◌, codes, length, slice_index, Bool, true, Option, Some, None, if◌then◌else◌}
 use Rattle.std.specs.Fmt.{decimal}
 use Rattle.lockstep_replay.specs.declared.points.InPoint.{InPoint}
-use Rattle.lockstep_replay.specs.Cuts.{hex_word, point_line}
+use Rattle.lockstep_replay.specs.Cuts.{hex_word}
 
 -- both numbers of a point are words of 32 bits
 abbrev pub is_word_point : InPoint → Bool

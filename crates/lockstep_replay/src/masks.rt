@@ -11,17 +11,15 @@ fn rest_in(points: &[InPoint], address: u32) -> u32
     ensures { result ≡ rest_at points.now address }
 {
     let mut part = points;
-    while !part.is_empty() {
-        let middle = part.len() / 2;
-        let point = part[middle];
+    while let [_, ..] = part {
+        let (left, others) = part.split_at(part.len() / 2);
+        let [point, right @ ..] = others else {
+            break;
+        };
         if point.address == address {
             return point.rest;
         }
-        if address < point.address {
-            part = &part[..middle];
-        } else {
-            part = &part[middle + 1..];
-        }
+        part = if address < point.address { left } else { right };
     }
     0
 }

@@ -204,3 +204,52 @@ pub fn read_in_cut(alloc: Global, file: &[u8]) -> Result<InCut, CutFault>
         points,
     })
 }
+
+#[cfg(test)]
+mod tests {
+    use super::read_in_cut;
+    use crate::cut_fault::CutFault;
+    use flow_base::{Point, Slot};
+    use std::alloc::Global;
+
+    fn is_refused(alloc: Global, file: &[u8]) -> bool {
+        matches!(read_in_cut(alloc, file), Err(CutFault::Unbuilt))
+    }
+
+    #[test]
+    fn a_cut_of_one_point(rt: HostRuntime) {
+        let file = b"flowcheck-cut 1\nsecret 1\nbits 8\npoint 0 0x00010010 in rest 0x000000ff\nend\n";
+        let Ok(cut) = read_in_cut(rt.alloc(), file) else {
+            panic!(rt; "not read");
+        };
+        assert!(rt; cut.secret_len == 1);
+        assert!(rt; cut.bits == 8);
+        assert!(rt; cut.points.len() == 1);
+        let named = Point { region: 0, address: 0x10010, slot: Slot::SecretIn };
+        assert!(rt; cut.mask(named) == 255);
+        assert!(rt; cut.mask(Point { address: 0x10011, ..named }) == 0);
+        assert!(rt; cut.mask(Point { slot: Slot::Result, ..named }) == 0);
+        assert!(rt; cut.mask(Point { region: 1, ..named }) == 0);
+    }
+
+    #[test]
+    fn texts_that_are_no_cuts(rt: HostRuntime) {
+        let alloc = rt.alloc();
+        assert!(rt; is_refused(alloc, b"flowcheck-cut 1\nsecret 01\nbits 8\nend\n"));
+        assert!(rt; is_refused(alloc, b"flowcheck-cut 1\nsecret 65537\nbits 8\nend\n"));
+        assert!(rt; is_refused(alloc, b"flowcheck-cut 1\nsecret 1\nbits 8\n"));
+        assert!(rt; is_refused(alloc, b"flowcheck-cut 1\nsecret 1\nbits 8\nend\n\n"));
+        assert!(rt; is_refused(alloc, b"flowcheck-cut 1\nsecret 1\nbits 8\nskip 1\nend\n"));
+        let head = "flowcheck-cut 1\nsecret 1\nbits 8\n";
+        let first = "point 0 0x00010010 in rest 0x000000ff\n";
+        let capital = format!(in alloc; "{head}point 0 0x00010010 in rest 0x000000FF\nend\n");
+        let twice = format!(in alloc; "{head}{first}{first}end\n");
+        let result = format!(in alloc; "{head}point 0 0x00010010 rs rest 0x000000ff\nend\n");
+        for text in [capital, twice, result] {
+            let Ok(text) = text else {
+                panic!(rt; "no memory");
+            };
+            assert!(rt; is_refused(alloc, text.as_bytes()));
+        }
+    }
+}

@@ -1,6 +1,6 @@
-use Rattle.std.proofs.Common.{◌≡◌, ℕ, Some, ap, sym, ◌∙◌, arith}
+use Rattle.std.proofs.Common.{arith}
 use Rattle.std.proofs.lemmas.Grind.{common_steps}
-use Rattle.lockstep_replay.specs.Reading.{point_in, after_line}
+use Rattle.lockstep_replay.specs.Reading.{point_in}
 use Rattle.lockstep_replay.proofs.CutTexts.{line-shorter}
 use Rattle.lockstep_replay.proofs.reading.next_point.Goals as goal
 

@@ -1,8 +1,7 @@
-use Rattle.std.proofs.Common.{◌≡◌, ℕ, ◌+◌, List, [], ◌∷◌, ◌++◌, codes, Some, None, subst, sym, ap, ◌∙◌, arith}
+use Rattle.std.proofs.Common.{◌≡◌, ℕ, [], ◌∷◌, ◌++◌, codes, Some, None, subst, sym, arith}
 use Rattle.std.proofs.lemmas.Grind.{common_steps}
-use Rattle.lockstep_replay.specs.declared.points.InPoint.{InPoint}
 use Rattle.lockstep_replay.specs.Reading.{next_point, least_after}
-use Rattle.lockstep_replay.proofs.CutTexts.{HasRead, read-push, no-other-points, is_so}
+use Rattle.lockstep_replay.proofs.CutTexts.{read-push, no-other-points, is_so}
 use Rattle.lockstep_replay.proofs.reading.points.Goals as goal
 
 pub loop-point-preserved : goal.loop-point-preserved

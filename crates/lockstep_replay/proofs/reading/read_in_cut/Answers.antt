@@ -1,9 +1,8 @@
-use Rattle.std.proofs.Common.{◌≡◌, ℕ, ◌++◌, codes, Some, None, true, subst, sym, ap, ◌∙◌, refl, Err, ◌<◌, ◌≤◌, arith}
+use Rattle.std.proofs.Common.{◌≡◌, Some, None, Err, arith}
 use Rattle.std.proofs.lemmas.Grind.{common_steps}
-use Rattle.lockstep_replay.specs.Cuts.{point_lines, is_ascending}
 use Rattle.lockstep_replay.specs.declared.cut_fault.CutFault.TheVariants.{Unbuilt}
 use Rattle.lockstep_replay.specs.Reading.{head_numbers, head_text, after_text}
-use Rattle.lockstep_replay.proofs.CutTexts.{numbers-of, rest-of, secret-of, is-cut-text, ascending-of, is_so, no-numbers, no-rest, same-rest}
+use Rattle.lockstep_replay.proofs.CutTexts.{secret-of, is-cut-text, ascending-of, no-numbers, no-rest, same-rest}
 use Rattle.lockstep_replay.proofs.reading.read_in_cut.Goals as goal
 
 pub returns-in_default-clause-unbuilt : goal.returns-in_default-clause-unbuilt
