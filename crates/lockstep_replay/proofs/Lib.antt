@@ -7,3 +7,5 @@ pub mod Stillness
 pub mod Bounds
 pub mod Fine
 pub mod Accepting
+pub mod CutTexts
+pub mod CutMasks

@@ -1,5 +1,6 @@
 pub mod Cuts
 pub mod CutPictures
+pub mod Reading
 pub mod Runs
 pub mod Acceptance
 pub mod Verdicts

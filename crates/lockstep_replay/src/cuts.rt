@@ -1,8 +1,9 @@
 ghost use Rattle.std.specs.Prelude.{◌≡◌, ◌≤◌, IsTrue};
-ghost use Rattle.lockstep_replay.specs.Cuts.{is_ascending, mask_of, rest_at};
+ghost use Rattle.lockstep_replay.specs.Cuts.{is_ascending, mask_of};
 
+use crate::masks::mask_in;
 use crate::points::InPoint;
-use flow_base::{List, Point, Slot};
+use flow_base::{List, Point};
 
 /// A cut whose points are reads of secret bytes. By its type the secret's length is at most 65,536 bytes and each point's
 /// address is above the one before.
@@ -19,27 +20,12 @@ pub struct InCut {
 }
 
 impl InCut {
-    /// The mask at a point, at every visit; 0 where the cut does not name the point.
+    /// The mask of the bits that cross at a point, at most 255: the mask that the cut has for the address where the point is
+    /// the read of a secret byte outside regions, within the byte; 0 elsewhere, and where no point of the cut has the address.
     pub fn mask(&self, point: Point) -> u32
-        ensures { result ≡ mask_of self.now.points point }
+        ensures mask { result ≡ mask_of self.now.points point }
+        ensures byte { result ≤ 255 }
     {
-        if point.region == 0 && point.slot == Slot::SecretIn {
-            rest_in(self.points.as_slice(), point.address) & 0xff
-        } else {
-            0
-        }
+        mask_in(self.points.as_slice(), point)
     }
-}
-
-fn rest_in(points: &[InPoint], address: u32) -> u32
-    ensures { result ≡ rest_at points.now address }
-{
-    let mut rest = points;
-    while let [point, more @ ..] = rest {
-        if point.address == address {
-            return point.rest;
-        }
-        rest = more;
-    }
-    0
 }

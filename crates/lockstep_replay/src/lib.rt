@@ -4,7 +4,9 @@
 mod cut_fault;
 mod cuts;
 mod laws;
+mod masks;
 mod points;
+mod reading;
 mod replaying;
 mod replays;
 mod tallies;
@@ -16,4 +18,5 @@ pub use cut_fault::CutFault;
 pub use cuts::InCut;
 pub use laws::{accepted_runs_are_bounded, verdicts_are_acceptance};
 pub use points::InPoint;
+pub use reading::read_in_cut;
 pub use verdicts::{Verdict, Why};
