@@ -109,7 +109,7 @@ FineAt picture public_input secret cut budget turns =
     (feed (Replay (MaskAt cut.points) turns (replay_guest picture public_input cut.secret_length))
     (Cross (MaskAt cut.points) turns (guest picture public_input secret)))
 
-fine_at :
+pub fine_at :
     (picture : Picture) (public_input secret : List ℕ) (cut : CutPicture) (budget turns j : ℕ) →
     why_after (task_of picture public_input secret cut budget turns) j ≡ None → FineAt picture public_input secret cut budget j
 fine_at picture public_input secret cut budget turns j n =
@@ -130,7 +130,7 @@ follows_fine picture public_input secret cut budget j fine = record {
     };
 }
 
-follows_start :
+pub follows_start :
     (picture : Picture) (public_input : List ℕ) (masks : Masks) (secret_length : ℕ) (secret : List ℕ) →
     Follows picture public_input masks secret_length secret zero
 unfolding real_after Cross Replay

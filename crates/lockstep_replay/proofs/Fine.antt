@@ -162,3 +162,9 @@ pub told_of :
     (budget : ℕ) (real : State) (cross : List Bool) (fed : Fed Place) (why : Why) → why_of budget real cross fed ≡ Some why →
     Told real.control.mode budget (length cross) (is_equal real fed) why
 told_of budget real cross fed why e = told_mode real.control.mode budget (length cross) (is_equal real fed) why e
+
+-- where no condition fails the real run is not stopped
+pub not_stopped : (real copy : Stepped) (fault : Fault) → is_same_mode real copy ≡ true → real ≡ Stopped fault → ⊥
+not_stopped Ran copy fault e h = cc
+not_stopped (Exited status) copy fault e h = cc
+not_stopped (Stopped other) copy fault e h = cc

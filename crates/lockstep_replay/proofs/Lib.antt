@@ -4,3 +4,6 @@ pub mod Stillness
 pub mod Bounds
 pub mod Fine
 pub mod Accepting
+pub mod Causes
+pub mod Runs
+pub mod Judging

@@ -16,5 +16,8 @@ pub fn accepted_runs_are_bounded()
 /// is these; what is rejected is accepted with no output; and the reason of a rejection holds of the two runs.
 pub fn verdicts_are_acceptance()
     ensures accepted { AcceptedLaw }
+    ensures accepts { AcceptsLaw }
+    ensures rejected { RejectedLaw }
+    ensures causes { CausesLaw }
 {
 }
