@@ -1,5 +1,5 @@
 -- A verdict that rejects: its reason holds of the two runs.
-use Rattle.std.proofs.Common.{◌≡◌, ℕ, zero, suc, ◌+◌, ◌==◌, ◌≤◌, ◌⊎◌, inl, inr, List, [], length, refl, ap, subst, sym, ◌∙◌, Bool, true, false, arith}
+use Rattle.std.proofs.Common.{◌≡◌, ℕ, zero, suc, ◌+◌, ◌==◌, ◌≤◌, ◌⊎◌, inl, inr, List, length, refl, ap, subst, sym, ◌∙◌, Bool, true, false, arith}
 use Rattle.std.proofs.lemmas.Bool.Decides.{Decides-eqb}
 use Rattle.std.specs.Prelude.{if◌then◌else◌, Option, Some, None}
 use Rattle.elf32_loader.specs.Pictures.{Picture}
@@ -33,7 +33,8 @@ cause_told picture public_input secret cut budget turns j (SecretLength wanted g
 cause_told picture public_input secret cut budget turns j Unequal below told = (j, (below, told))
 
 cause_mode :
-    (picture : Picture) (public_input secret : List ℕ) (cut : CutPicture) (budget turns j : ℕ) (why : Why) (later : Judgement) (mode : Stepped) →
+    (picture : Picture) (public_input secret : List ℕ) (cut : CutPicture) (budget turns j : ℕ) (why : Why)
+    (later : Judgement) (mode : Stepped) →
     ((real_after j (guest picture public_input secret)).state.control.mode ≡ Ran → later ≡ Rejects why →
     Cause picture public_input secret cut budget turns why) →
     why_after (task_of picture public_input secret cut budget turns) j ≡ None →
@@ -48,7 +49,8 @@ cause_mode picture public_input secret cut budget turns j why later (Stopped fau
     absurd (not_stopped (real_after j (guest picture public_input secret)).state.control.mode fine.place.state.control.mode fault fine.mode m)
 
 cause_why :
-    (picture : Picture) (public_input secret : List ℕ) (cut : CutPicture) (budget turns j : ℕ) (why : Why) (later : Judgement) (here : Option Why) → j ≤ turns →
+    (picture : Picture) (public_input secret : List ℕ) (cut : CutPicture) (budget turns j : ℕ) (why : Why)
+    (later : Judgement) (here : Option Why) → j ≤ turns →
     ((real_after j (guest picture public_input secret)).state.control.mode ≡ Ran → later ≡ Rejects why →
     Cause picture public_input secret cut budget turns why) →
     why_after (task_of picture public_input secret cut budget turns) j ≡ here →
@@ -61,12 +63,14 @@ cause_why picture public_input secret cut budget turns j why later None below go
 cause_why picture public_input secret cut budget turns j why later (Some other) below go n e =
     let same : other ≡ why = cc in
     cause_told picture public_input secret cut budget turns j why below
-    (told_of budget (real_after j (guest picture public_input secret)).state (Cross (MaskAt cut.points) j (guest picture public_input secret))
+    (told_of budget (real_after j (guest picture public_input secret)).state
+    (Cross (MaskAt cut.points) j (guest picture public_input secret))
     (feed (Replay (MaskAt cut.points) j (replay_guest picture public_input cut.secret_length))
     (Cross (MaskAt cut.points) j (guest picture public_input secret))) why (n ∙ ap (λ w. Some w) same))
 
 caused :
-    (left : ℕ) (picture : Picture) (public_input secret : List ℕ) (cut : CutPicture) (budget turns j : ℕ) (why : Why) → j + left ≡ turns →
+    (left : ℕ) (picture : Picture) (public_input secret : List ℕ) (cut : CutPicture) (budget turns j : ℕ) (why : Why) →
+    j + left ≡ turns →
     (real_after j (guest picture public_input secret)).state.control.mode ≡ Ran →
     judged_from (task_of picture public_input secret cut budget turns) left j ≡ Rejects why →
     Cause picture public_input secret cut budget turns why
@@ -86,12 +90,14 @@ caused (suc left) picture public_input secret cut budget turns j why s ran e =
     (λ mode later. caused left picture public_input secret cut budget turns (suc j) why sum mode later) refl e
 
 pub start_runs :
-    (picture : Picture) (public_input secret : List ℕ) → (real_after zero (guest picture public_input secret)).state.control.mode ≡ Ran
+    (picture : Picture) (public_input secret : List ℕ) → (real_after zero
+    (guest picture public_input secret)).state.control.mode ≡ Ran
 unfolding real_after
 start_runs picture public_input secret = refl
 
 rejects_if :
-    (test : Bool) (judgement : Judgement) (other why : Why) → (if test then judgement else Rejects other) ≡ Rejects why →
+    (test : Bool) (judgement : Judgement) (other why : Why) →
+    (if test then judgement else Rejects other) ≡ Rejects why →
     (judgement ≡ Rejects why) ⊎ ((test ≡ false) × (other ≡ why))
 rejects_if true judgement other why e = inl e
 rejects_if false judgement other why e = let same : other ≡ why = cc in inr (refl, same)
@@ -101,11 +107,13 @@ wrong_length cut got e h = let same : (got == cut) ≡ true = (Decides-eqb got c
 
 pub causes_law : CausesLaw
 causes_law picture public_input secret cut budget turns why e =
-    elim (rejects_if (length secret == cut.secret_length) (judged_from (task_of picture public_input secret cut budget turns) turns zero)
+    elim (rejects_if (length secret == cut.secret_length) (judged_from
+    (task_of picture public_input secret cut budget turns) turns zero)
     (SecretLength cut.secret_length (length secret)) why e) [
       | inl judged ↦
           let sum : zero + turns ≡ turns = omega arith in
-          caused turns picture public_input secret cut budget turns zero why sum (start_runs picture public_input secret) judged
+          caused turns picture public_input secret cut budget turns zero why sum
+          (start_runs picture public_input secret) judged
       | inr length_differs ↦
           subst (λ w. Cause picture public_input secret cut budget turns w) length_differs.1
           (refl, refl, wrong_length cut.secret_length (length secret) length_differs.0)

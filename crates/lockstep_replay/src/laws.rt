@@ -9,8 +9,7 @@ pub fn accepted_runs_are_bounded()
     ensures crosses { CrossesLaw }
     ensures bound { BoundLaw }
     ensures more_turns { MoreTurnsLaw }
-{
-}
+{}
 
 /// A verdict that accepts names the crossing bits and the output of an accepted secret; the verdict on an accepted secret
 /// is these; what is rejected is accepted with no output; and the reason of a rejection holds of the two runs.
@@ -19,5 +18,4 @@ pub fn verdicts_are_acceptance()
     ensures accepts { AcceptsLaw }
     ensures rejected { RejectedLaw }
     ensures causes { CausesLaw }
-{
-}
+{}
