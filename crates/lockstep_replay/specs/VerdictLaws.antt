@@ -29,7 +29,7 @@ AcceptsLaw =
     First picture public_input secret cut budget turns
     ≡ Accepts (Cross (MaskAt cut.points) turns (guest picture public_input secret)) output
 
--- a rejected secret is accepted with no output
+-- a rejected secret is not accepted, whatever the output
 abbrev pub RejectedLaw : Type 0
 RejectedLaw =
     (picture : Picture) (public_input secret : List ℕ) (cut : CutPicture) (budget turns : ℕ) (why : Why) →
