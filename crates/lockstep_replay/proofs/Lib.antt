@@ -1,3 +1,5 @@
+pub mod Tapes
+pub mod Widths
 pub mod Feeds
 pub mod Growth
 pub mod Stillness

@@ -4,4 +4,7 @@ pub mod Runs
 pub mod Acceptance
 pub mod Verdicts
 pub mod Judgements
+pub mod Tapes
+pub mod Sides
+pub mod Ends
 pub mod VerdictLaws

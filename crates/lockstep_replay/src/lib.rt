@@ -5,6 +5,10 @@ mod cut_fault;
 mod cuts;
 mod laws;
 mod points;
+mod replaying;
+mod replays;
+mod tallies;
+mod tallying;
 mod verdicts;
 
 pub use cut_fault::CutFault;

@@ -1,0 +1,4 @@
+pub mod CommandLines
+pub mod Loading
+pub mod Texts
+pub mod Replies

@@ -1,0 +1,80 @@
+-- The reply to a command line, given what the file source holds: words first, then loads, forms, and the run.
+use Rattle.std.specs.Prelude.{◌≡◌, ◌⊎◌, ℕ, ◌==◌, List, [], ◌∷◌, ◌++◌, map, length, codes, Bool, true, false, Option, Some, None, Result, Ok, Err, if◌then◌else◌}
+use Rattle.std.specs.Fmt.{decimal}
+use Rattle.flow_base.specs.Loads.{Told}
+use Rattle.elf32_loader.specs.Pictures.{Picture}
+use Rattle.elf32_loader.specs.Programs.{IsSingle}
+use Rattle.lockstep_replay.specs.Cuts.{CutPicture, IsCutText}
+use Rattle.lockstep_replay.specs.Verdicts.{Judgement, First}
+use Rattle.flowcheck.specs.CommandLines.{Check, IsCheck}
+use Rattle.flowcheck.specs.Loading.{LoadRefusal, CannotLoad, IsTooLarge, loaded_from, wants_of}
+use Rattle.flowcheck.specs.Texts.{check_text, accepted_count}
+
+-- a status and a whole text
+pub record Reply : Type 0 where
+  pub status : ℕ
+  pub text : List ℕ
+
+-- so far every run has at most 1,000,000 turns
+abbrev pub turn_limit : ℕ
+turn_limit = 1000000
+
+abbrev pub usage_reply : Reply
+usage_reply = record { status = 2; text = codes "refused 2 usage\n" }
+
+abbrev pub program_reply : Reply
+program_reply = record { status = 3; text = codes "refused 3 program unbuilt\n" }
+
+abbrev pub cut_reply : Reply
+cut_reply = record { status = 3; text = codes "refused 3 cut unbuilt\n" }
+
+abbrev pub load_reply : LoadRefusal → Reply
+load_reply (CannotLoad name) = record { status = 5; text = codes "refused 5 load " ++ (name ++ codes "\n") }
+load_reply (IsTooLarge name number) =
+    record { status = 6; text = codes "refused 6 too-large " ++ (name ++ (codes " " ++ (decimal number ++ codes "\n"))) }
+
+-- status 0 where every secret is accepted, else 1
+abbrev pub check_reply : List Judgement → ℕ → Reply
+check_reply judgements budget = record {
+  status = if accepted_count judgements == length judgements then 0 else 1;
+  text = check_text judgements budget;
+}
+
+-- each secret is judged from a fresh start
+abbrev pub judgements_of : Picture → List ℕ → CutPicture → ℕ → List (List ℕ) → List Judgement
+judgements_of picture public_input cut budget [] = []
+judgements_of picture public_input cut budget (secret ∷ secrets) =
+    First picture public_input secret cut budget turn_limit ∷ judgements_of picture public_input cut budget secrets
+
+-- the reply once the program is read: the cut has a form that is taken, or it has none
+abbrev pub RepliesToCut : Picture → List ℕ → List ℕ → ℕ → List (List ℕ) → Reply → Type 0
+RepliesToCut picture public_input cut_file budget secrets reply =
+    (((cut : CutPicture) → ¬ IsCutText cut_file cut) × (reply ≡ cut_reply))
+    ⊎ ((cut : CutPicture) × IsCutText cut_file cut
+    × (reply ≡ check_reply (judgements_of picture public_input cut budget secrets) budget))
+
+-- the reply once all files are loaded
+abbrev pub RepliesToFiles : ℕ → List ℕ → List ℕ → List ℕ → List (List ℕ) → Reply → Type 0
+RepliesToFiles budget program_file public_input cut_file secrets reply =
+    (((picture : Picture) → ¬ IsSingle program_file picture) × (reply ≡ program_reply))
+    ⊎ ((picture : Picture) × IsSingle program_file picture
+    × RepliesToCut picture public_input cut_file budget secrets reply)
+
+abbrev pub RepliesToLoads : ℕ → Result (List (List ℕ)) LoadRefusal → Reply → Type 0
+RepliesToLoads budget (Err refusal) reply = reply ≡ load_reply refusal
+RepliesToLoads budget (Ok []) reply = ⊥
+RepliesToLoads budget (Ok (program_file ∷ [])) reply = ⊥
+RepliesToLoads budget (Ok (program_file ∷ (public_input ∷ []))) reply = ⊥
+RepliesToLoads budget (Ok (program_file ∷ (public_input ∷ (cut_file ∷ secrets)))) reply =
+    RepliesToFiles budget program_file public_input cut_file secrets reply
+
+-- the reply to words, by what a source tells
+abbrev pub Replies : Told → List (List ℕ) → Reply → Type 0
+Replies told words reply =
+    (((check : Check) → ¬ IsCheck words check) × (reply ≡ usage_reply))
+    ⊎ ((check : Check) × IsCheck words check × RepliesToLoads check.budget (loaded_from told (wants_of check)) reply)
+
+-- a source that tells nothing leaves the reply open
+abbrev pub RepliesByTold : Option Told → List (List ℕ) → Reply → Type 0
+RepliesByTold None words reply = Unit {0}
+RepliesByTold (Some told) words reply = Replies told words reply

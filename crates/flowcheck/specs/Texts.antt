@@ -1,0 +1,51 @@
+-- The texts that are printed. Numbers are decimal; addresses and words are 0x and eight digits in lower case.
+use Rattle.std.specs.Prelude.{ℕ, ◌+◌, List, [], ◌∷◌, ◌++◌, length, codes, Bool, true, false}
+use Rattle.std.specs.Fmt.{decimal}
+use Rattle.flow_base.specs.declared.outputs.Output.{Output}
+use Rattle.crossing_bits.specs.HexText.{hex_of}
+use Rattle.rv32im_machine.specs.declared.stepping.Fault.{Fault}
+use Rattle.rv32im_machine.specs.declared.stepping.Fault.TheVariants.{FetchOutside, FetchUnaligned, LoadOutside, StoreOutside, Breakpoint, OutputLimit, Unbuilt}
+use Rattle.lockstep_replay.specs.declared.verdicts.Why.{Why}
+use Rattle.lockstep_replay.specs.declared.verdicts.Why.TheVariants.{RealFault, BudgetOverrun, TurnLimit, SecretLength, Unequal}
+use Rattle.lockstep_replay.specs.Cuts.{hex_word}
+use Rattle.lockstep_replay.specs.Verdicts.{Judgement, Accepts, Rejects}
+
+-- why a guest is stopped
+abbrev pub fault_text : Fault → List ℕ
+fault_text (FetchOutside pc) = codes "fetch-outside " ++ hex_word pc
+fault_text (FetchUnaligned pc) = codes "fetch-unaligned " ++ hex_word pc
+fault_text (LoadOutside pc address) = codes "load-outside " ++ (hex_word pc ++ (codes " address " ++ hex_word address))
+fault_text (StoreOutside pc address) = codes "store-outside " ++ (hex_word pc ++ (codes " address " ++ hex_word address))
+fault_text (Breakpoint pc) = codes "breakpoint " ++ hex_word pc
+fault_text (OutputLimit pc) = codes "output-limit " ++ hex_word pc
+fault_text (Unbuilt pc word) = codes "unbuilt " ++ (hex_word pc ++ (codes " word " ++ hex_word word))
+
+-- why a secret is rejected
+abbrev pub why_text : Why → List ℕ
+why_text (RealFault fault) = codes "guest " ++ fault_text fault
+why_text (BudgetOverrun budget needed) = codes "budget " ++ (decimal budget ++ (codes " needed " ++ decimal needed))
+why_text (TurnLimit limit) = codes "turns " ++ decimal limit
+why_text (SecretLength cut got) = codes "secret-length cut " ++ (decimal cut ++ (codes " got " ++ decimal got))
+why_text Unequal = codes "unequal"
+
+-- the line of the secret with this number
+abbrev pub verdict_line : ℕ → Judgement → List ℕ
+verdict_line number (Accepts bits output) =
+    codes "accepted " ++ (decimal number ++ (codes " bits " ++ (decimal (length bits) ++ (codes " crossing " ++ (hex_of bits
+    ++ (codes " output " ++ (decimal (length output.bytes) ++ (codes " status " ++ (decimal output.status ++ codes "\n")))))))))
+verdict_line number (Rejects why) = codes "rejected " ++ (decimal number ++ (codes " " ++ (why_text why ++ codes "\n")))
+
+abbrev pub verdict_lines : ℕ → List Judgement → List ℕ
+verdict_lines number [] = []
+verdict_lines number (judgement ∷ judgements) = verdict_line number judgement ++ verdict_lines (number + 1) judgements
+
+abbrev pub accepted_count : List Judgement → ℕ
+accepted_count [] = 0
+accepted_count (Accepts bits output ∷ judgements) = 1 + accepted_count judgements
+accepted_count (Rejects why ∷ judgements) = accepted_count judgements
+
+-- a line for each secret, counted from 1, and the line of counts
+abbrev pub check_text : List Judgement → ℕ → List ℕ
+check_text judgements budget =
+    verdict_lines 1 judgements ++ (codes "checked " ++ (decimal (length judgements) ++ (codes " accepted "
+    ++ (decimal (accepted_count judgements) ++ (codes " budget " ++ (decimal budget ++ codes "\n"))))))

@@ -1,0 +1,4 @@
+//! How many bits of its secret can a program's output have given away?
+#![tactic(auto)]
+
+fn main() {}
