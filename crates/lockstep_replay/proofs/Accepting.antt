@@ -1,19 +1,18 @@
 -- A verdict that accepts: each turn up to the exit is fine, and so the secret is accepted.
-use Rattle.std.proofs.Common.{◌≡◌, ℕ, zero, suc, ◌+◌, ◌==◌, ◌≤◌, ◌<◌, ◌⊎◌, inl, inr, List, [], ◌∷◌, ◌++◌, length, refl, ap, subst, sym, ◌∙◌, Bool, true, false, arith}
+use Rattle.std.proofs.Common.{◌≡◌, ℕ, zero, suc, ◌+◌, ◌==◌, ◌≤◌, ◌<◌, inl, inr, List, length, refl, ap, sym, ◌∙◌, Bool, true, false, arith}
 use Rattle.std.proofs.lemmas.Bool.Decides.{Decides-eqb}
 use Rattle.std.specs.Prelude.{if◌then◌else◌, Option, Some, None}
 use Rattle.flow_base.specs.declared.outputs.Output.{Output}
 use Rattle.elf32_loader.specs.Pictures.{Picture}
-use Rattle.crossing_bits.specs.Askers.{Fed', feed}
+use Rattle.crossing_bits.specs.Askers.{feed}
 use Rattle.crossing_bits.proofs.Feeding.{le_or_lt}
 use Rattle.rv32im_machine.specs.declared.stepping.Stepped.{Stepped}
 use Rattle.rv32im_machine.specs.declared.stepping.Stepped.TheVariants.{Ran, Exited, Stopped}
-use Rattle.rv32im_machine.specs.State.{State}
 use Rattle.lockstep_replay.specs.declared.verdicts.Why.{Why}
 use Rattle.lockstep_replay.specs.Cuts.{CutPicture, MaskAt}
 use Rattle.lockstep_replay.specs.Runs.{Place, Masks, fresh, real_after, Cross, Replay}
-use Rattle.lockstep_replay.specs.Acceptance.{guest, replay_guest, HasExited, Done, Follows, Accept}
-use Rattle.lockstep_replay.specs.Verdicts.{Judgement, Accepts, Rejects, Task, task_of, why_after, judged_mode, judged_after, judged_from, First}
+use Rattle.lockstep_replay.specs.Acceptance.{guest, replay_guest, HasExited, Follows, Accept}
+use Rattle.lockstep_replay.specs.Verdicts.{Judgement, Accepts, Rejects, Task, task_of, why_after, judged_mode, judged_after, judged_from}
 use Rattle.lockstep_replay.specs.VerdictLaws.{AcceptedLaw}
 use Rattle.lockstep_replay.proofs.Stillness.{IsOver, cross_later}
 use Rattle.lockstep_replay.proofs.Bounds.{over_exited, more_turns_law}
@@ -26,8 +25,9 @@ real_at task turns = real_after turns (fresh task.real)
 abbrev pub cross_at : Task → ℕ → List Bool
 cross_at task turns = Cross (MaskAt task.points) turns (fresh task.real)
 
-abbrev pub exit_output : State → ℕ → Output
-exit_output real status = record { bytes = real.control.output; status = status }
+-- the output of these bytes and this exit status
+abbrev pub exit_output : List ℕ → ℕ → Output
+exit_output bytes status = record { bytes = bytes; status = status }
 
 -- the run exits in a turn after so many, and no condition fails till then
 pub record Found (task : Task) (turns last : ℕ) (bits : List Bool) (output : Output) : Type 0 where
@@ -38,7 +38,8 @@ pub record Found (task : Task) (turns last : ℕ) (bits : List Bool) (output : O
   pub bits_are : bits ≡ cross_at task at
   pub fine : (j : ℕ) → turns < j → j ≤ at → why_after task j ≡ None
 
-fine_here : (task : Task) (turns j : ℕ) → why_after task (suc turns) ≡ None → turns < j → j ≤ suc turns → why_after task j ≡ None
+fine_here : (task : Task) (turns j : ℕ) → why_after task (suc turns) ≡ None → turns < j → j ≤ suc turns →
+    why_after task j ≡ None
 fine_here task turns j n low high =
     let same : j ≡ suc turns = omega (arith, low, high) in ap (λ i. why_after task i) same ∙ n
 
@@ -66,8 +67,9 @@ found_mode :
 found_mode task turns last bits output later Ran go below n m e = found_sooner task turns last bits output n (go e)
 found_mode task turns last bits output later (Stopped fault) go below n m e = found_sooner task turns last bits output n (go e)
 found_mode task turns last bits output later (Exited status) go below n m e =
-    let both : Accepts (cross_at task (suc turns)) (exit_output (real_at task (suc turns)).state status) ≡ Accepts bits output = e in
-    let same : exit_output (real_at task (suc turns)).state status ≡ output = cc in
+    let both : Accepts (cross_at task (suc turns)) (exit_output
+    (real_at task (suc turns)).state.control.output status) ≡ Accepts bits output = e in
+    let same : exit_output (real_at task (suc turns)).state.control.output status ≡ output = cc in
     let crosses : bits ≡ cross_at task (suc turns) = cc in record {
       at = suc turns;
       above = omega arith;
@@ -105,20 +107,24 @@ found task (suc left) turns last bits output s e =
 
 abbrev pub FineAt : Picture → List ℕ → List ℕ → CutPicture → ℕ → ℕ → Type 0
 FineAt picture public_input secret cut budget turns =
-    Fine budget (real_after turns (guest picture public_input secret)).state (Cross (MaskAt cut.points) turns (guest picture public_input secret))
+    Fine budget (real_after turns (guest picture public_input secret)).state
+    (Cross (MaskAt cut.points) turns (guest picture public_input secret))
     (feed (Replay (MaskAt cut.points) turns (replay_guest picture public_input cut.secret_length))
     (Cross (MaskAt cut.points) turns (guest picture public_input secret)))
 
-fine_at :
+pub fine_at :
     (picture : Picture) (public_input secret : List ℕ) (cut : CutPicture) (budget turns j : ℕ) →
-    why_after (task_of picture public_input secret cut budget turns) j ≡ None → FineAt picture public_input secret cut budget j
+    why_after (task_of picture public_input secret cut budget turns) j ≡ None →
+    FineAt picture public_input secret cut budget j
 fine_at picture public_input secret cut budget turns j n =
-    fine_of budget (real_after j (guest picture public_input secret)).state (Cross (MaskAt cut.points) j (guest picture public_input secret))
+    fine_of budget (real_after j (guest picture public_input secret)).state
+    (Cross (MaskAt cut.points) j (guest picture public_input secret))
     (feed (Replay (MaskAt cut.points) j (replay_guest picture public_input cut.secret_length))
     (Cross (MaskAt cut.points) j (guest picture public_input secret))) n
 
 follows_fine :
-    (picture : Picture) (public_input secret : List ℕ) (cut : CutPicture) (budget j : ℕ) → FineAt picture public_input secret cut budget j →
+    (picture : Picture) (public_input secret : List ℕ) (cut : CutPicture) (budget j : ℕ) →
+    FineAt picture public_input secret cut budget j →
     Follows picture public_input (MaskAt cut.points) cut.secret_length secret j
 follows_fine picture public_input secret cut budget j fine = record {
   place = fine.place;
@@ -130,7 +136,7 @@ follows_fine picture public_input secret cut budget j fine = record {
   };
 }
 
-follows_start :
+pub follows_start :
     (picture : Picture) (public_input : List ℕ) (masks : Masks) (secret_length : ℕ) (secret : List ℕ) →
     Follows picture public_input masks secret_length secret zero
 unfolding real_after Cross Replay
@@ -152,7 +158,8 @@ follows_found picture public_input secret cut budget turns at fine (suc j) below
     (fine_at picture public_input secret cut budget turns (suc j) (fine (suc j) positive below))
 
 accept_found :
-    (picture : Picture) (public_input secret : List ℕ) (cut : CutPicture) (budget turns : ℕ) (bits : List Bool) (output : Output) →
+    (picture : Picture) (public_input secret : List ℕ) (cut : CutPicture) (budget turns : ℕ) (bits : List Bool)
+    (output : Output) →
     length secret ≡ cut.secret_length →
     (found : Found (task_of picture public_input secret cut budget turns) zero turns bits output) →
     Accept picture public_input (MaskAt cut.points) cut.secret_length budget found.at secret output
@@ -185,13 +192,15 @@ pub accepted_law : AcceptedLaw
 accepted_law picture public_input secret cut budget turns bits output e =
     let judged : (length secret == cut.secret_length ≡ true)
     × (judged_from (task_of picture public_input secret cut budget turns) turns zero ≡ Accepts bits output) =
-    accepts_if (length secret == cut.secret_length) (judged_from (task_of picture public_input secret cut budget turns) turns zero) _ bits output e in
+    accepts_if (length secret == cut.secret_length) (judged_from
+    (task_of picture public_input secret cut budget turns) turns zero) _ bits output e in
     let sum : zero + turns ≡ turns = omega arith in
     let the : Found (task_of picture public_input secret cut budget turns) zero turns bits output =
     found (task_of picture public_input secret cut budget turns) turns zero turns bits output sum judged.1 in
     let over : IsOver (real_after the.at (guest picture public_input secret)).state.control.mode =
     over_exited (real_after the.at (guest picture public_input secret)).state.control.mode output.status the.exited.status in (
       more_turns_law picture public_input (MaskAt cut.points) cut.secret_length budget the.at turns secret output the.below
-          (accept_found picture public_input secret cut budget turns bits output ((Decides-eqb (length secret) cut.secret_length).0 judged.0) the),
+          (accept_found picture public_input secret cut budget turns bits output
+          ((Decides-eqb (length secret) cut.secret_length).0 judged.0) the),
       the.bits_are ∙ sym (cross_later (MaskAt cut.points) (guest picture public_input secret) the.at turns the.below over),
     )

@@ -1,18 +1,17 @@
 -- The laws of the bound: prefixes, crossing strings, outputs, and more turns.
-use Rattle.std.proofs.Common.{◌≡◌, ℕ, ◌≤◌, ◌^◌, ◌⊎◌, inl, inr, List, [], ◌∷◌, length, refl, ap, sym, subst, ◌∙◌, Bool, arith}
+use Rattle.std.proofs.Common.{◌≡◌, ℕ, ◌≤◌, inl, inr, List, [], ◌∷◌, length, ap, sym, subst, ◌∙◌, Bool, arith}
 use Rattle.std.specs.List.{AllByRecursion}
 use Rattle.flow_base.specs.declared.outputs.Output.{Output}
 use Rattle.elf32_loader.specs.Pictures.{Picture}
-use Rattle.crossing_bits.specs.Askers.{Asker, Over, then_ask, Uses, AllDifferent, IsReached}
-use Rattle.crossing_bits.specs.Weights.{IsUsed, HaveAtMost, IsPrefixFree, weight}
+use Rattle.crossing_bits.specs.Askers.{Asker, Over, then_ask, Uses, IsReached}
+use Rattle.crossing_bits.specs.Weights.{IsUsed, HaveAtMost, IsPrefixFree}
 use Rattle.crossing_bits.proofs.Feeding.{le_or_lt, prefix_law}
 use Rattle.crossing_bits.proofs.Outputs.{outputs_few, reached_through, strings_free}
 use Rattle.crossing_bits.proofs.Weighing.{kraft}
 use Rattle.rv32im_machine.specs.declared.stepping.Stepped.{Stepped}
 use Rattle.rv32im_machine.specs.declared.stepping.Stepped.TheVariants.{Ran, Exited, Stopped}
-use Rattle.rv32im_machine.specs.State.{State}
 use Rattle.lockstep_replay.specs.Runs.{Place, Masks, real_after, Cross, Replay}
-use Rattle.lockstep_replay.specs.Acceptance.{guest, replay_guest, HasExited, EndAlike, SameMark, Done, Follows, Accept, PrefixesLaw, IsCross, CrossesLaw, IsOutput, BoundLaw, MoreTurnsLaw}
+use Rattle.lockstep_replay.specs.Acceptance.{guest, replay_guest, HasExited, EndAlike, SameMark, Done, Follows, PrefixesLaw, IsCross, CrossesLaw, IsOutput, BoundLaw, MoreTurnsLaw}
 use Rattle.lockstep_replay.proofs.Stillness.{IsOver, real_later, cross_later, replay_later}
 
 pub prefixes_law : PrefixesLaw
@@ -35,7 +34,8 @@ short_of picture public_input masks secret_length budget turns bits (secret, (ou
     subst (λ s. length s ≤ budget) e h.within
 
 all_used :
-    (picture : Picture) (public_input : List ℕ) (masks : Masks) (secret_length budget turns : ℕ) (strings : List (List Bool)) →
+    (picture : Picture) (public_input : List ℕ) (masks : Masks) (secret_length budget turns : ℕ)
+    (strings : List (List Bool)) →
     AllByRecursion (IsCross picture public_input masks secret_length budget turns) strings →
     AllByRecursion (IsUsed (Replay masks turns (replay_guest picture public_input secret_length))) strings
 all_used picture public_input masks secret_length budget turns [] h = tt
@@ -45,7 +45,8 @@ all_used picture public_input masks secret_length budget turns (bits ∷ strings
 )
 
 all_short :
-    (picture : Picture) (public_input : List ℕ) (masks : Masks) (secret_length budget turns : ℕ) (strings : List (List Bool)) →
+    (picture : Picture) (public_input : List ℕ) (masks : Masks) (secret_length budget turns : ℕ)
+    (strings : List (List Bool)) →
     AllByRecursion (IsCross picture public_input masks secret_length budget turns) strings → HaveAtMost budget strings
 all_short picture public_input masks secret_length budget turns [] h = tt
 all_short picture public_input masks secret_length budget turns (bits ∷ strings) (h, hs) = (
@@ -93,7 +94,8 @@ reached_of picture public_input masks secret_length budget turns output (secret,
     (Cross masks turns (guest picture public_input secret)) h.replay.place h.within h.replay.uses)
 
 all_reached :
-    (picture : Picture) (public_input : List ℕ) (masks : Masks) (secret_length budget turns : ℕ) (outputs : List Output) →
+    (picture : Picture) (public_input : List ℕ) (masks : Masks) (secret_length budget turns : ℕ)
+    (outputs : List Output) →
     AllByRecursion (IsOutput picture public_input masks secret_length budget turns) outputs →
     AllByRecursion (IsReached (output_asker picture public_input masks secret_length turns) budget) outputs
 all_reached picture public_input masks secret_length budget turns [] h = tt
@@ -120,9 +122,11 @@ over_alike (Exited status) (Stopped fault) h over = absurd h
 over_alike (Stopped fault) copy h over = absurd h
 
 follows_later :
-    (picture : Picture) (public_input : List ℕ) (masks : Masks) (secret_length : ℕ) (secret : List ℕ) (turns more : ℕ) → turns ≤ more →
+    (picture : Picture) (public_input : List ℕ) (masks : Masks) (secret_length : ℕ) (secret : List ℕ)
+    (turns more : ℕ) → turns ≤ more →
     IsOver (real_after turns (guest picture public_input secret)).state.control.mode →
-    Follows picture public_input masks secret_length secret turns → Follows picture public_input masks secret_length secret more
+    Follows picture public_input masks secret_length secret turns →
+    Follows picture public_input masks secret_length secret more
 follows_later picture public_input masks secret_length secret turns more h over follows = record {
   place = follows.place;
   uses =
@@ -131,12 +135,15 @@ follows_later picture public_input masks secret_length secret turns more h over 
       (over_alike (real_after turns (guest picture public_input secret)).state.control.mode follows.place.state.control.mode follows.mark.ended over)
       (subst (λ s. Uses (Replay masks turns (replay_guest picture public_input secret_length)) s follows.place)
       (sym (cross_later masks (guest picture public_input secret) turns more h over)) follows.uses);
-  mark = subst (λ (p : Place). SameMark p.state follows.place.state) (sym (real_later (guest picture public_input secret) turns more h over)) follows.mark;
+  mark = subst (λ (p : Place). SameMark p.state follows.place.state)
+      (sym (real_later (guest picture public_input secret) turns more h over)) follows.mark;
 }
 
 done_later :
-    (picture : Picture) (public_input : List ℕ) (masks : Masks) (secret_length turns more : ℕ) (bits : List Bool) (output : Output) → turns ≤ more →
-    Done picture public_input masks secret_length turns bits output → Done picture public_input masks secret_length more bits output
+    (picture : Picture) (public_input : List ℕ) (masks : Masks) (secret_length turns more : ℕ) (bits : List Bool)
+    (output : Output) → turns ≤ more →
+    Done picture public_input masks secret_length turns bits output →
+    Done picture public_input masks secret_length more bits output
 done_later picture public_input masks secret_length turns more bits output h done = record {
   place = done.place;
   uses =
@@ -149,10 +156,12 @@ pub more_turns_law : MoreTurnsLaw
 more_turns_law picture public_input masks secret_length budget turns more secret output h accept =
     let over : IsOver (real_after turns (guest picture public_input secret)).state.control.mode =
     over_exited (real_after turns (guest picture public_input secret)).state.control.mode output.status accept.exits.status in
-    let crosses : Cross masks turns (guest picture public_input secret) ≡ Cross masks more (guest picture public_input secret) =
+    let crosses : Cross masks turns (guest picture public_input secret) ≡ Cross masks more
+    (guest picture public_input secret) =
     sym (cross_later masks (guest picture public_input secret) turns more h over) in record {
       has_length = accept.has_length;
-      exits = subst (λ (p : Place). HasExited p.state output) (sym (real_later (guest picture public_input secret) turns more h over)) accept.exits;
+      exits = subst (λ (p : Place). HasExited p.state output)
+          (sym (real_later (guest picture public_input secret) turns more h over)) accept.exits;
       within = subst (λ s. length s ≤ budget) crosses accept.within;
       follows = λ j below. elim (le_or_lt j turns) [
         | inl early ↦ accept.follows j early
@@ -163,5 +172,6 @@ more_turns_law picture public_input masks secret_length budget turns more secret
       ];
       replay =
           subst (λ s. Done picture public_input masks secret_length more s output) crosses
-          (done_later picture public_input masks secret_length turns more (Cross masks turns (guest picture public_input secret)) output h accept.replay);
+          (done_later picture public_input masks secret_length turns more
+          (Cross masks turns (guest picture public_input secret)) output h accept.replay);
     }

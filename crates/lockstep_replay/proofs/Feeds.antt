@@ -1,6 +1,6 @@
 -- What comes of an asker that was fed, taken apart.
-use Rattle.std.proofs.Common.{◌≡◌, ℕ, ◌-◌, ◌≤◌, ◌<◌, ◌⊎◌, inl, inr, List, [], ◌++◌, length, take, drop, refl, sym, ◌∙◌, Bool}
-use Rattle.crossing_bits.specs.Askers.{Asker, Asks, Over, Fed, Fed', Short, feed, then_ask}
+use Rattle.std.proofs.Common.{◌≡◌, ℕ, ◌-◌, inl, inr, List, length, take, drop, refl, sym, ◌∙◌, Bool}
+use Rattle.crossing_bits.specs.Askers.{Asker, Asks, Fed, Fed', Short, feed, then_ask}
 use Rattle.crossing_bits.proofs.Feeding.{le_or_lt, feed_enough, feed_few, feed_then, feed_then_short}
 
 -- an asker that is over after a string was given its first bits
@@ -13,7 +13,8 @@ feed_back n go bits x rest h = elim (le_or_lt n (length bits)) [
 ]
 
 -- where both are over, the first was, and what follows took what it left
-pub record Between {A B : Type 0} (asker : Asker A) (next : A → Asker B) (bits : List Bool) (y : B) (rest : List Bool) : Type 0 where
+pub record Between {A B : Type 0} (asker : Asker A) (next : A → Asker B) (bits : List Bool) (y : B)
+    (rest : List Bool) : Type 0 where
   pub value : A
   pub left : List Bool
   pub first : feed asker bits ≡ Fed' value left

@@ -1,9 +1,9 @@
 -- What holds after a turn in which no condition fails, and what the condition that fails says.
-use Rattle.std.proofs.Common.{◌≡◌, ℕ, ◌==◌, ◌≤◌, ◌<◌, List, [], ◌∷◌, length, refl, ap, subst, ◌∙◌, Bool, true, false, arith}
-use Rattle.std.proofs.lemmas.Bool.{lt-ltb, ltb-true, ltb-false, le-ltb}
+use Rattle.std.proofs.Common.{◌≡◌, ℕ, ◌==◌, ◌≤◌, ◌<◌, List, [], ◌∷◌, length, refl, ap, subst, ◌∙◌, Bool, true, false}
+use Rattle.std.proofs.lemmas.Bool.{ltb-true, ltb-false, le-ltb}
 use Rattle.std.proofs.lemmas.Bool.Decides.{Decides-eqb}
 use Rattle.std.proofs.lemmas.Slice.Eq.{bytes_eq-Decides}
-use Rattle.std.specs.Prelude.{◌&&◌, nat_lt, Option, Some, None}
+use Rattle.std.specs.Prelude.{◌&&◌, nat_lt, Some, None}
 use Rattle.std.specs.Str.{bytes_eq}
 use Rattle.crossing_bits.specs.Askers.{Fed, Fed', Short}
 use Rattle.rv32im_machine.specs.declared.stepping.Fault.{Fault}
@@ -13,7 +13,7 @@ use Rattle.rv32im_machine.specs.State.{State}
 use Rattle.lockstep_replay.specs.declared.verdicts.Why.{Why}
 use Rattle.lockstep_replay.specs.declared.verdicts.Why.TheVariants.{RealFault, BudgetOverrun, TurnLimit, SecretLength, Unequal}
 use Rattle.lockstep_replay.specs.Runs.{Place}
-use Rattle.lockstep_replay.specs.Acceptance.{EndAlike, SameMark}
+use Rattle.lockstep_replay.specs.Acceptance.{EndAlike}
 use Rattle.lockstep_replay.specs.Verdicts.{is_same_mode, is_same_run, is_equal, counted_bits, why_unequal, why_budget, why_mode, why_of}
 
 and_parts : (a b : Bool) → (a && b) ≡ true → (a ≡ true) × (b ≡ true)
@@ -88,7 +88,8 @@ none_mode Ran budget needed equal e = none_budget (nat_lt budget needed) budget 
 none_mode (Exited status) budget needed equal e = none_budget (nat_lt budget needed) budget needed equal e
 none_mode (Stopped fault) budget needed equal e = absurd (cc)
 
-pub fine_of : (budget : ℕ) (real : State) (cross : List Bool) (fed : Fed Place) → why_of budget real cross fed ≡ None → Fine budget real cross fed
+pub fine_of : (budget : ℕ) (real : State) (cross : List Bool) (fed : Fed Place) → why_of budget real cross fed ≡ None →
+    Fine budget real cross fed
 fine_of budget real cross fed e =
     let parts : (nat_lt budget (length cross) ≡ false) × (is_equal real fed ≡ true) =
     none_mode real.control.mode budget (length cross) (is_equal real fed) e in
@@ -99,7 +100,8 @@ fine_of budget real cross fed e =
     (is_same_mode real.control.mode equal.0.state.control.mode && bytes_eq real.control.output equal.0.state.control.output) equal.1.1 in
     let second : (is_same_mode real.control.mode equal.0.state.control.mode ≡ true)
     × (bytes_eq real.control.output equal.0.state.control.output ≡ true) =
-    and_parts (is_same_mode real.control.mode equal.0.state.control.mode) (bytes_eq real.control.output equal.0.state.control.output) first.1 in record {
+    and_parts (is_same_mode real.control.mode equal.0.state.control.mode)
+    (bytes_eq real.control.output equal.0.state.control.output) first.1 in record {
       place = equal.0;
       uses = equal.1.0;
       within = ltb-false budget (length cross) parts.0;
@@ -109,7 +111,8 @@ fine_of budget real cross fed e =
     }
 
 some_none :
-    (mode copy : Stepped) (budget needed : ℕ) (equal : Bool) → is_same_mode mode copy ≡ true → nat_lt budget needed ≡ false →
+    (mode copy : Stepped) (budget needed : ℕ) (equal : Bool) → is_same_mode mode copy ≡ true →
+    nat_lt budget needed ≡ false →
     equal ≡ true → why_mode mode budget needed equal ≡ None
 some_none Ran copy budget needed equal m e f =
     ap (λ test. why_budget test budget needed equal) e ∙ ap (λ b. why_unequal b) f
@@ -117,7 +120,8 @@ some_none (Exited status) copy budget needed equal m e f =
     ap (λ test. why_budget test budget needed equal) e ∙ ap (λ b. why_unequal b) f
 some_none (Stopped fault) copy budget needed equal m e f = absurd (cc)
 
-pub none_of : (budget : ℕ) (real : State) (cross : List Bool) (fed : Fed Place) → Fine budget real cross fed → why_of budget real cross fed ≡ None
+pub none_of : (budget : ℕ) (real : State) (cross : List Bool) (fed : Fed Place) → Fine budget real cross fed →
+    why_of budget real cross fed ≡ None
 none_of budget real cross fed fine =
     let same : is_same_run real fine.place.state ≡ true =
     and_both (real.control.pc == fine.place.state.control.pc)
@@ -159,6 +163,13 @@ told_mode (Stopped fault) budget needed equal why e =
     let same : RealFault fault ≡ why = cc in subst (λ w. Told (Stopped fault) budget needed equal w) same refl
 
 pub told_of :
-    (budget : ℕ) (real : State) (cross : List Bool) (fed : Fed Place) (why : Why) → why_of budget real cross fed ≡ Some why →
+    (budget : ℕ) (real : State) (cross : List Bool) (fed : Fed Place) (why : Why) →
+    why_of budget real cross fed ≡ Some why →
     Told real.control.mode budget (length cross) (is_equal real fed) why
 told_of budget real cross fed why e = told_mode real.control.mode budget (length cross) (is_equal real fed) why e
+
+-- where no condition fails the real run is not stopped
+pub not_stopped : (real copy : Stepped) (fault : Fault) → is_same_mode real copy ≡ true → real ≡ Stopped fault → ⊥
+not_stopped Ran copy fault e h = cc
+not_stopped (Exited status) copy fault e h = cc
+not_stopped (Stopped other) copy fault e h = cc

@@ -1,10 +1,9 @@
 -- The output of a run only grows: in a real turn, and in a replayed one.
-use Rattle.std.proofs.Common.{◌≡◌, ℕ, zero, suc, ◌+◌, ◌-◌, ◌%◌, ◌^◌, ◌==◌, ◌≤◌, min, List, [], ◌∷◌, ◌++◌, length, take, drop, refl, ap, sym, ◌∙◌, append_assoc, append-nil, Bool, true, false}
-use Rattle.std.specs.Prelude.{if◌then◌else◌, nat_le, Option, Some, None}
+use Rattle.std.proofs.Common.{◌≡◌, ℕ, zero, suc, ◌+◌, ◌%◌, ◌^◌, ◌==◌, List, [], ◌∷◌, ◌++◌, take, drop, ap, sym, ◌∙◌, append_assoc, append-nil, Bool, true, false}
+use Rattle.std.specs.Prelude.{if◌then◌else◌, Option, Some, None}
 use Rattle.flow_base.specs.declared.points.Point.{Point}
 use Rattle.flow_base.specs.Words.{bit_count, patched}
-use Rattle.crossing_bits.specs.Askers.{Asker, Asks, Over, Fed', Short, feed, then_ask}
-use Rattle.crossing_bits.proofs.Feeding.{feed_then}
+use Rattle.crossing_bits.specs.Askers.{Fed', feed}
 use Rattle.rv32im_decode.specs.declared.instructions.Instr.{Instr}
 use Rattle.rv32im_decode.specs.declared.instructions.Instr.TheVariants.{Lui, Auipc, Jal, Jalr, Branch, Load, Store as StoreInstr, OpImm, Op, Fence, Ecall, Ebreak}
 use Rattle.rv32im_decode.specs.declared.instructions.LoadKind.{LoadKind}
@@ -13,17 +12,17 @@ use Rattle.rv32im_decode.specs.declared.instructions.StoreKind.TheVariants.{Sb, 
 use Rattle.rv32im_decode.specs.Operations.{word_of, load_size, store_size}
 use Rattle.rv32im_decode.specs.Encoding.{decoded}
 use Rattle.rv32im_machine.specs.declared.stepping.Fault.{Fault}
-use Rattle.rv32im_machine.specs.declared.stepping.Fault.TheVariants.{FetchOutside, FetchUnaligned, LoadOutside, StoreOutside, Unbuilt, OutputLimit}
+use Rattle.rv32im_machine.specs.declared.stepping.Fault.TheVariants.{FetchOutside, FetchUnaligned, LoadOutside, StoreOutside, Unbuilt}
 use Rattle.rv32im_machine.specs.declared.stepping.Stepped.{Stepped}
 use Rattle.rv32im_machine.specs.declared.stepping.Stepped.TheVariants.{Ran, Exited, Stopped}
 use Rattle.rv32im_machine.specs.declared.stepping.CallPlan.{CallPlan}
 use Rattle.rv32im_machine.specs.declared.stepping.CallPlan.TheVariants.{Answer, SecretRead, Write, Stop}
 use Rattle.rv32im_machine.specs.State.{State, Setting, Control, Store, is_inside, onward, moved_to, ended, secret_taken, emitted, restored, saved}
-use Rattle.rv32im_machine.specs.Language.{Turn, Looks, Passes, Decides, Gives, Moves, Saves, Restores, Ends, Walk, Looked, Passed, Decided, Gave, Moved, Saved, Restored, Ended, Held, none_held, walked, made, values_of, shaped, value_of, put, hold, seen_value, at_place}
+use Rattle.rv32im_machine.specs.Language.{Turn, Looks, Passes, Decides, Gives, Moves, Saves, Restores, Ends, Walk, Looked, Passed, Decided, Gave, Moved, Saved, Restored, Ended, Held, none_held, walked, shaped, value_of, put, hold, seen_value}
 use Rattle.rv32im_machine.specs.Calls.{answered, secret_reads, writes, planned, with_arguments, exits, call_row, read_plan, write_plan, call_word}
-use Rattle.rv32im_machine.specs.Rows.{stops, load_at, load_checked, store_at, store_checked, jumps, links, branches, row, is_built, legal, fetched, running, turn_in, walk_of}
+use Rattle.rv32im_machine.specs.Rows.{stops, load_checked, store_at, store_checked, jumps, links, branches, row, is_built, legal, fetched, turn_in, walk_of}
 use Rattle.rv32im_machine.specs.Folds.{real_end, Step}
-use Rattle.lockstep_replay.specs.Runs.{Place, Masks, mask_at, real_turn, real_after, replayed, replay_turn, Replay}
+use Rattle.lockstep_replay.specs.Runs.{Place, Masks, mask_at, replayed}
 use Rattle.lockstep_replay.proofs.Feeds.{feed_back}
 
 -- the output begins with these bytes
@@ -62,11 +61,13 @@ Extends base (Restored registers walk back) = Extends base walk × Extends base 
 Extends base (Ended state) = Longer base state.control.output
 
 extends_walked :
-    (base : List ℕ) (setting : Setting) (secret : List ℕ) (turn : Turn) (store : Store) (held : Held) → Grows base turn →
+    (base : List ℕ) (setting : Setting) (secret : List ℕ) (turn : Turn) (store : Store) (held : Held) →
+    Grows base turn →
     Extends base (walked setting secret turn store held)
 unfolding walked
 extends_walked base setting secret (Looks seen go) store held h =
-    extends_walked base setting secret (go (seen_value setting.base store seen)) store held (h (seen_value setting.base store seen))
+    extends_walked base setting secret (go (seen_value setting.base store seen)) store held
+    (h (seen_value setting.base store seen))
 extends_walked base setting secret (Passes point place making sources turn) store held h =
     λ value. extends_walked base setting secret turn (put setting.base place value store) (hold place value held) h
 extends_walked base setting secret (Decides point making sources go) store held h =
@@ -79,8 +80,11 @@ extends_walked base setting secret (Moves place shape source turn) store held h 
     (hold place (shaped shape (value_of setting secret store held source ∷ [])) held) h
 extends_walked base setting secret (Saves turn) store held h =
     extends_walked base setting secret turn (saved store) held h
-extends_walked base setting secret (Restores registers turn) store held h =
-    (extends_walked base setting secret turn store held h, extends_walked base setting secret turn (restored registers store) held h)
+extends_walked base setting secret (Restores registers turn) store held h = (
+  extends_walked base setting secret turn store held h,
+  extends_walked base setting secret turn
+      (restored registers store) held h,
+)
 extends_walked base setting secret (Ends control) store held h = h
 
 -- ---- the rows
@@ -89,32 +93,38 @@ either : (base : List ℕ) (test : Bool) (t u : Turn) → Grows base t → Grows
 either base true t u p q = p
 either base false t u p q = q
 
-grows_stops : (base : List ℕ) (fault : Fault) (control : Control) → Longer base control.output → Grows base (stops fault control)
+grows_stops : (base : List ℕ) (fault : Fault) (control : Control) → Longer base control.output → Grows base
+    (stops fault control)
 unfolding ended
 grows_stops base fault control h = h
 
-grows_jumps : (base : List ℕ) (target : ℕ) (control : Control) → Longer base control.output → Grows base (jumps target control)
+grows_jumps : (base : List ℕ) (target : ℕ) (control : Control) → Longer base control.output → Grows base
+    (jumps target control)
 unfolding moved_to
 grows_jumps base target control h =
     either base (target % 4 == 0) _ _ h (grows_stops base (FetchUnaligned control.pc) control h)
 
-grows_links : (base : List ℕ) (rd target : ℕ) (control : Control) → Longer base control.output → Grows base (links rd target control)
+grows_links : (base : List ℕ) (rd target : ℕ) (control : Control) → Longer base control.output → Grows base
+    (links rd target control)
 unfolding moved_to
 grows_links base rd target control h =
     either base (target % 4 == 0) _ _ h (grows_stops base (FetchUnaligned control.pc) control h)
 
 grows_branches :
-    (base : List ℕ) (taken offset : ℕ) (control : Control) → Longer base control.output → Grows base (branches taken offset control)
+    (base : List ℕ) (taken offset : ℕ) (control : Control) → Longer base control.output → Grows base
+    (branches taken offset control)
 unfolding onward
 grows_branches base taken offset control h =
     either base (taken == 0) _ _ h (grows_jumps base ((control.pc + offset) % 2 ^ 32) control h)
 
 grows_load :
-    (base : List ℕ) (kind : LoadKind) (rd : ℕ) (setting : Setting) (control : Control) (address : ℕ) → Longer base control.output →
+    (base : List ℕ) (kind : LoadKind) (rd : ℕ) (setting : Setting) (control : Control) (address : ℕ) →
+    Longer base control.output →
     Grows base (load_checked kind rd setting control address)
 unfolding onward
 grows_load base kind rd setting control address h =
-    either base (is_inside setting.base address (load_size kind)) _ _ h (grows_stops base (LoadOutside control.pc address) control h)
+    either base (is_inside setting.base address (load_size kind)) _ _ h
+    (grows_stops base (LoadOutside control.pc address) control h)
 
 grows_store :
     (base : List ℕ) (kind : StoreKind) (address : ℕ) (control : Control) → Longer base control.output →
@@ -125,13 +135,15 @@ grows_store base Sh address control h = h
 grows_store base Sw address control h = h
 
 grows_store_checked :
-    (base : List ℕ) (kind : StoreKind) (setting : Setting) (control : Control) (address : ℕ) → Longer base control.output →
+    (base : List ℕ) (kind : StoreKind) (setting : Setting) (control : Control) (address : ℕ) →
+    Longer base control.output →
     Grows base (store_checked kind setting control address)
 grows_store_checked base kind setting control address h =
     either base (is_inside setting.base address (store_size kind)) _ _ (grows_store base kind address control h)
     (grows_stops base (StoreOutside control.pc address) control h)
 
-grows_answered : (base : List ℕ) (answer : ℕ) (control : Control) → Longer base control.output → Grows base (answered answer control)
+grows_answered : (base : List ℕ) (answer : ℕ) (control : Control) → Longer base control.output → Grows base
+    (answered answer control)
 unfolding onward
 grows_answered base answer control h = h
 
@@ -151,7 +163,8 @@ grows_writes (suc count) base from answer control h =
     λ byte. grows_writes count base (from + 1) answer (emitted byte control) (longer_byte base control.output byte h)
 
 grows_planned :
-    (base : List ℕ) (plan : CallPlan) (control : Control) → Longer base control.output → Grows base (planned plan control)
+    (base : List ℕ) (plan : CallPlan) (control : Control) → Longer base control.output → Grows base
+    (planned plan control)
 grows_planned base (Answer answer) control h = grows_answered base answer control h
 grows_planned base (SecretRead to count) control h = grows_reads count base to count control h
 grows_planned base (Write from count) control h = grows_writes count base from count control h
@@ -172,7 +185,8 @@ grows_call :
 grows_call base number setting control h =
     either base (number == 63) _ _ (grows_arguments base (read_plan setting control) control h)
     (either base (number == 64) _ _ (grows_arguments base (write_plan setting control) control h)
-    (either base (number == 93) _ _ (grows_exits base control h) (grows_stops base (Unbuilt control.pc call_word) control h)))
+    (either base (number == 93) _ _ (grows_exits base control h)
+    (grows_stops base (Unbuilt control.pc call_word) control h)))
 
 grows_row :
     (base : List ℕ) (instr : Instr) (setting : Setting) (control : Control) → Longer base control.output →
@@ -180,9 +194,11 @@ grows_row :
 unfolding onward ended
 grows_row base (Lui rd imm) setting control h = h
 grows_row base (Auipc rd imm) setting control h = h
-grows_row base (Jal rd offset) setting control h = grows_links base rd ((control.pc + word_of offset) % 2 ^ 32) control h
+grows_row base (Jal rd offset) setting control h = grows_links base rd
+    ((control.pc + word_of offset) % 2 ^ 32) control h
 grows_row base (Jalr rd rs1 imm) setting control h = λ target. grows_links base rd target control h
-grows_row base (Branch kind rs1 rs2 offset) setting control h = λ taken. grows_branches base taken (word_of offset) control h
+grows_row base (Branch kind rs1 rs2 offset) setting control h = λ taken. grows_branches base taken
+    (word_of offset) control h
 grows_row base (Load kind rd rs1 imm) setting control h = λ address. grows_load base kind rd setting control address h
 grows_row base (StoreInstr kind rs1 rs2 imm) setting control h =
     λ address. grows_store_checked base kind setting control address h
@@ -196,10 +212,12 @@ grows_legal :
     (base : List ℕ) (instr : Instr) (word : ℕ) (setting : Setting) (control : Control) → Longer base control.output →
     Grows base (legal instr word setting control)
 grows_legal base instr word setting control h =
-    either base (is_built instr) _ _ (grows_row base instr setting control h) (grows_stops base (Unbuilt control.pc word) control h)
+    either base (is_built instr) _ _ (grows_row base instr setting control h)
+    (grows_stops base (Unbuilt control.pc word) control h)
 
 grows_fetched :
-    (base : List ℕ) (instr : Option Instr) (word : ℕ) (setting : Setting) (control : Control) → Longer base control.output →
+    (base : List ℕ) (instr : Option Instr) (word : ℕ) (setting : Setting) (control : Control) →
+    Longer base control.output →
     Grows base (fetched instr word setting control)
 grows_fetched base None word setting control h = grows_stops base (Unbuilt control.pc word) control h
 grows_fetched base (Some instr) word setting control h = grows_legal base instr word setting control h
@@ -217,7 +235,8 @@ grows_turn base (Stopped fault) setting control h = h
 -- wherever a turn ends, the output begins with what it was
 pub walk_extends : (state : State) → Extends state.control.output (walk_of state)
 walk_extends state =
-    extends_walked state.control.output state.setting state.secret (turn_in state.control.mode state.setting state.control) state.store none_held
+    extends_walked state.control.output state.setting state.secret
+    (turn_in state.control.mode state.setting state.control) state.store none_held
     (grows_turn state.control.output state.control.mode state.setting state.control (longer_self state.control.output))
 
 -- ---- the real run
@@ -239,22 +258,29 @@ real_grows state = end_grows state.control.output (walk_of state) (walk_extends 
 -- ---- the replay
 
 fed_grows :
-    (base : List ℕ) (masks : Masks) (past : List Point) (walk : Walk) (bits : List Bool) (place : Place) (rest : List Bool) →
+    (base : List ℕ) (masks : Masks) (past : List Point) (walk : Walk) (bits : List Bool) (place : Place)
+    (rest : List Bool) →
     Extends base walk → feed (replayed masks past walk) bits ≡ Fed' place rest → Longer base place.state.control.output
 unfolding replayed
 fed_grows base masks past (Looked seen value walk) bits place rest h e = fed_grows base masks past walk bits place rest h e
 fed_grows base masks past (Passed point to work sources value go) bits place rest h e =
-    fed_grows base masks (point ∷ past) (go (patched value (mask_at masks past point) (take (bit_count (mask_at masks past point)) bits)))
+    fed_grows base masks (point ∷ past) (go (patched value (mask_at masks past point)
+    (take (bit_count (mask_at masks past point)) bits)))
     (drop (bit_count (mask_at masks past point)) bits) place rest (h _)
-    (feed_back (bit_count (mask_at masks past point)) (λ taken. replayed masks (point ∷ past) (go (patched value (mask_at masks past point) taken))) bits place rest e)
+    (feed_back (bit_count (mask_at masks past point)) (λ taken. replayed masks (point ∷ past)
+    (go (patched value (mask_at masks past point) taken))) bits place rest e)
 fed_grows base masks past (Decided point work sources value go) bits place rest h e =
-    fed_grows base masks (point ∷ past) (go (patched value (mask_at masks past point) (take (bit_count (mask_at masks past point)) bits)))
+    fed_grows base masks (point ∷ past) (go (patched value (mask_at masks past point)
+    (take (bit_count (mask_at masks past point)) bits)))
     (drop (bit_count (mask_at masks past point)) bits) place rest (h _)
-    (feed_back (bit_count (mask_at masks past point)) (λ taken. replayed masks (point ∷ past) (go (patched value (mask_at masks past point) taken))) bits place rest e)
+    (feed_back (bit_count (mask_at masks past point)) (λ taken. replayed masks (point ∷ past)
+    (go (patched value (mask_at masks past point) taken))) bits place rest e)
 fed_grows base masks past (Gave point to value go) bits place rest h e =
-    fed_grows base masks (point ∷ past) (go (patched value (mask_at masks past point) (take (bit_count (mask_at masks past point)) bits)))
+    fed_grows base masks (point ∷ past) (go (patched value (mask_at masks past point)
+    (take (bit_count (mask_at masks past point)) bits)))
     (drop (bit_count (mask_at masks past point)) bits) place rest (h _)
-    (feed_back (bit_count (mask_at masks past point)) (λ taken. replayed masks (point ∷ past) (go (patched value (mask_at masks past point) taken))) bits place rest e)
+    (feed_back (bit_count (mask_at masks past point)) (λ taken. replayed masks (point ∷ past)
+    (go (patched value (mask_at masks past point) taken))) bits place rest e)
 fed_grows base masks past (Moved to shape source value walk) bits place rest h e = fed_grows base masks past walk bits place rest h e
 fed_grows base masks past (Saved walk) bits place rest h e = fed_grows base masks past walk bits place rest h e
 fed_grows base masks past (Restored registers walk back) bits place rest h e = fed_grows base masks past back bits place rest h.1 e

@@ -9,3 +9,6 @@ pub mod Fine
 pub mod Accepting
 pub mod CutTexts
 pub mod CutMasks
+pub mod Causes
+pub mod Runs
+pub mod Judging

@@ -15,7 +15,8 @@ use Rattle.lockstep_replay.specs.Verdicts.{Accepts, Rejects, First, is_equal, co
 -- a verdict that accepts names an accepted secret's crossing bits and output
 abbrev pub AcceptedLaw : Type 0
 AcceptedLaw =
-    (picture : Picture) (public_input secret : List ℕ) (cut : CutPicture) (budget turns : ℕ) (bits : List Bool) (output : Output) →
+    (picture : Picture) (public_input secret : List ℕ) (cut : CutPicture) (budget turns : ℕ) (bits : List Bool)
+    (output : Output) →
     First picture public_input secret cut budget turns ≡ Accepts bits output →
     Accept picture public_input (MaskAt cut.points) cut.secret_length budget turns secret output
     × (bits ≡ Cross (MaskAt cut.points) turns (guest picture public_input secret))
@@ -28,12 +29,13 @@ AcceptsLaw =
     First picture public_input secret cut budget turns
     ≡ Accepts (Cross (MaskAt cut.points) turns (guest picture public_input secret)) output
 
--- a rejected secret is accepted with no output
+-- a rejected secret is not accepted, whatever the output
 abbrev pub RejectedLaw : Type 0
 RejectedLaw =
     (picture : Picture) (public_input secret : List ℕ) (cut : CutPicture) (budget turns : ℕ) (why : Why) →
     First picture public_input secret cut budget turns ≡ Rejects why →
-    (output : Output) → Accept picture public_input (MaskAt cut.points) cut.secret_length budget turns secret output → ⊥
+    (output : Output) →
+    Accept picture public_input (MaskAt cut.points) cut.secret_length budget turns secret output → ⊥
 
 -- ---- the reasons, each a fact of the real run from its start, of the replay from its own, and of the limits
 
@@ -44,12 +46,14 @@ IsRealFault real turns fault = (j : ℕ) × ((j ≤ turns) × ((real_after j rea
 -- the crossing bits exceed the budget within the limit of turns, by this count
 abbrev pub IsOverrun : Masks → Place → ℕ → ℕ → ℕ → Type 0
 IsOverrun masks real turns budget needed =
-    (j : ℕ) × ((j ≤ turns) × (budget < length (Cross masks j real)) × (needed ≡ counted_bits (length (Cross masks j real))))
+    (j : ℕ) × ((j ≤ turns) × (budget < length (Cross masks j real))
+    × (needed ≡ counted_bits (length (Cross masks j real))))
 
--- the replay of the crossing bits stands elsewhere than the real run after some turn within the limit
+-- after some turn within the limit the replay of the crossing bits does not stand as the real run does
 abbrev pub IsUnequal : Masks → Place → Place → ℕ → Type 0
 IsUnequal masks real copy turns =
-    (j : ℕ) × ((j ≤ turns) × (is_equal (real_after j real).state (feed (Replay masks j copy) (Cross masks j real)) ≡ false))
+    (j : ℕ) × ((j ≤ turns)
+    × (is_equal (real_after j real).state (feed (Replay masks j copy) (Cross masks j real)) ≡ false))
 
 -- what the reason of a rejection says
 abbrev pub Cause : Picture → List ℕ → List ℕ → CutPicture → ℕ → ℕ → Why → Type 0
@@ -62,7 +66,8 @@ Cause picture public_input secret cut budget turns (TurnLimit limit) =
 Cause picture public_input secret cut budget turns (SecretLength wanted got) =
     (wanted ≡ cut.secret_length) × (got ≡ length secret) × (wanted ≡ got → ⊥)
 Cause picture public_input secret cut budget turns Unequal =
-    IsUnequal (MaskAt cut.points) (guest picture public_input secret) (replay_guest picture public_input cut.secret_length) turns
+    IsUnequal (MaskAt cut.points) (guest picture public_input secret)
+    (replay_guest picture public_input cut.secret_length) turns
 
 -- the reason of a rejection holds
 abbrev pub CausesLaw : Type 0

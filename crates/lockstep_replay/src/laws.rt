@@ -12,7 +12,10 @@ pub fn accepted_runs_are_bounded()
 {}
 
 /// A verdict that accepts names the crossing bits and the output of an accepted secret; the verdict on an accepted secret
-/// is these; what is rejected is accepted with no output; and the reason of a rejection holds of the two runs.
+/// is these; what is rejected is not accepted, whatever the output; and the reason of a rejection holds of the two runs.
 pub fn verdicts_are_acceptance()
     ensures accepted { AcceptedLaw }
+    ensures accepts { AcceptsLaw }
+    ensures rejected { RejectedLaw }
+    ensures causes { CausesLaw }
 {}
