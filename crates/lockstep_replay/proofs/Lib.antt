@@ -1,4 +1,5 @@
 pub mod Tapes
+pub mod Rounds
 pub mod Turns
 pub mod Widths
 pub mod Feeds
