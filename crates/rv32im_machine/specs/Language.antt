@@ -1,9 +1,8 @@
 -- The language of one turn. A `Turn` is a row: which slots are passed, in which order, how each value is made and from
 -- what, and how the turn ends; it mentions no value of a register or of memory. A `Walk` is the same turn as it is walked
 -- from a state, with every value in it; what follows a passing is given the value that goes on from it.
-use Rattle.std.specs.Prelude.{◌≡◌, ℕ, ◌+◌, ◌-◌, ◌*◌, ◌/◌, ◌%◌, ◌^◌, ◌<◌, List, [], ◌∷◌, slice_index, Bool}
+use Rattle.std.specs.Prelude.{ℕ, ◌+◌, ◌/◌, ◌%◌, List, [], ◌∷◌, slice_index}
 use Rattle.flow_base.specs.declared.points.Point.{Point}
-use Rattle.rv32im_decode.specs.declared.instructions.LoadKind.{LoadKind}
 use Rattle.rv32im_decode.specs.Operations.{op_result, decision, target_of, extended}
 use Rattle.rv32im_machine.specs.declared.language.Place.{Place}
 use Rattle.rv32im_machine.specs.declared.language.Place.TheVariants.{Register, Byte, First, Second}

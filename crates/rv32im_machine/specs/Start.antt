@@ -3,7 +3,7 @@ use Rattle.std.specs.Prelude.{◌≡◌, ℕ, ◌+◌, ◌-◌, ◌<◌, ◌≤�
 use Rattle.elf32_loader.specs.declared.segments.Segment.{Segment}
 use Rattle.elf32_loader.specs.Pictures.{Picture, mem}
 use Rattle.rv32im_machine.specs.declared.stepping.Stepped.TheVariants.{Ran}
-use Rattle.rv32im_machine.specs.State.{State, Setting, Control, Store, memory_size, byte_of}
+use Rattle.rv32im_machine.specs.State.{State, memory_size, byte_of}
 
 -- zeros, as a list that is never written out
 unfoldable pub zeros : ℕ → List ℕ

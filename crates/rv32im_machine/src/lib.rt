@@ -4,6 +4,7 @@
 
 mod calls;
 mod language;
+mod laws;
 mod machines;
 mod passing;
 mod plain;
@@ -12,6 +13,7 @@ mod stepping;
 mod walker;
 
 pub use language::{Operation, Part, Place, Seen, Shape, Source, Sources, Work};
+pub use laws::{ended_machines_stand_still, next_ends_where_the_step_ends};
 pub use machines::Machine;
 pub use passing::Passer;
 pub use stepping::{CallPlan, Fault, Stepped};

@@ -115,6 +115,13 @@ impl Machine {
         self.output.as_slice()
     }
 
+    /// The bytes that were written, handed out. It takes no memory.
+    pub fn into_output(self) -> Bytes
+        ensures { result ≡ self.control.output }
+    {
+        Bytes::from_vec(self.output)
+    }
+
     /// Whether the machine has run on, has exited or is stopped.
     pub fn mode(&self) -> Stepped
         ensures { result ≡ self.now.control.mode }

@@ -1,7 +1,7 @@
 ghost use Rattle.std.specs.Prelude.{◌≡◌, ◌+◌, ◌-◌, ◌^◌, ◌<◌, ◌≤◌, IfOk, IsTrue, length, vec_len, vec_capacity, OnOk};
 ghost use Rattle.elf32_loader.specs.Images.{picture_of};
 ghost use Rattle.elf32_loader.specs.Segments.{are_inside};
-ghost use Rattle.rv32im_machine.specs.Start.{zeros, laid, laid_at, first_memory, start};
+ghost use Rattle.rv32im_machine.specs.Start.{HoldsImage, zeros, laid, laid_at, first_memory, start};
 
 use crate::machines::{MEMORY_SIZE, Machine};
 use elf32_loader::{Image, Segment};
@@ -55,7 +55,9 @@ impl Machine {
         output_limit: u32,
     ) -> Result<Machine, NoMemory>
         requires { length secret.now < 2 ^ 32 }
-        ensures { IfOk result (λ machine. machine ≡ start (picture_of image.now) public.now secret.now output_limit) }
+        ensures start { IfOk result (λ machine.
+            machine ≡ start (picture_of image.now) public.now secret.now output_limit) }
+        ensures memory { IfOk result (λ machine. HoldsImage (picture_of image.now) machine) }
     {
         let mut memory = zeroed(alloc, MEMORY_SIZE as usize)?;
         lay_segments(&mut memory, image.base, image.segments.as_slice());
