@@ -265,7 +265,7 @@ fn numbered_turn<P: Passer>(
 }
 
 /// ECALL.
-pub fn call_turn<P: Passer>(machine: &mut Machine, passer: &mut P) -> Result<(), P::Stop>
+pub(crate) fn call_turn<P: Passer>(machine: &mut Machine, passer: &mut P) -> Result<(), P::Stop>
     ensures { P.Plays passer.old (row_walk Instr.Ecall machine.old) (outcome result machine.new (P.tape passer.new)) }
 {
     let number = argument(machine, passer, Slot::Number, 17)?;

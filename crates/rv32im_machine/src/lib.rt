@@ -18,3 +18,6 @@ pub use machines::Machine;
 pub use passing::Passer;
 pub use stepping::{CallPlan, Fault, Stepped};
 pub use walker::turn_by;
+
+#[cfg(test)]
+mod tests;

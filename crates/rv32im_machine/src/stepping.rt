@@ -20,9 +20,11 @@ pub enum Fault {
 /// What a step answers, and the mode of a machine after it.
 #[derive(Clone, Copy, Debug, PartialEq, Eq)]
 pub enum Stepped {
+    /// The turn is made, and the run goes on.
     Ran,
     /// The guest has exited with this status.
     Exited(u8),
+    /// The guest is stopped for this reason.
     Stopped(Fault),
 }
 

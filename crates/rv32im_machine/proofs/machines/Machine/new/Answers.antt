@@ -11,10 +11,10 @@ pub returns-clause-memory : goal.returns-clause-memory
 unfolding first_memory
 returns-clause-memory c =
     let memory : c.at_start.result.store.memory ≡ first_memory (picture_of c.args.image.now) =
-        ap (λ (state : State). state.store.memory) c.at_start.ensures
-        ∙ c.lay_segments.ensures.laid
-        ∙ ap (λ (segments : List Segment). laid c.args.image.now.base segments c.in_ok-memory.memory.items) c.as_slice.ensures
-        ∙ ap (λ (bytes : List ℕ). laid c.args.image.now.base c.args.image.now.segments bytes) c.in_ok-memory.ensures.zeros in
+    ap (λ (state : State). state.store.memory) c.at_start.ensures
+    ∙ c.lay_segments.ensures.laid
+    ∙ ap (λ (segments : List Segment). laid c.args.image.now.base segments c.in_ok-memory.memory.items) c.as_slice.ensures
+    ∙ ap (λ (bytes : List ℕ). laid c.args.image.now.base c.args.image.now.segments bytes) c.in_ok-memory.ensures.zeros in
     let ascends : IsTrue (is_ascending c.args.image.now.segments) = search rules in
     let inside : IsTrue (are_inside c.args.image.now.base c.args.image.now.segments) = search rules in
     holds-image (picture_of c.args.image.now) c.at_start.result ascends inside memory
