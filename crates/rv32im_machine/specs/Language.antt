@@ -174,7 +174,11 @@ walked setting secret (Ends control) store held =
 abbrev pub walk : State → Turn → Store → Held → Walk
 walk state turn store held = walked state.setting state.secret turn store held
 
--- the same turn, walked after a change
+-- a turn from a state
+abbrev pub turn_walk : State → Turn → Walk
+turn_walk state turn = walk state turn state.store none_held
+
+-- a state after a change of its store, and of its control
 abbrev pub with_store : Store → State → State
 with_store store state = record state { store = store }
 

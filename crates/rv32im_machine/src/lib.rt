@@ -3,11 +3,15 @@
 #![tactic(auto)]
 
 mod calls;
+mod jumps;
 mod language;
 mod laws;
+mod loads_stores;
 mod machines;
+mod operands;
 mod passing;
 mod plain;
+mod results;
 mod starting;
 mod stepping;
 mod walker;

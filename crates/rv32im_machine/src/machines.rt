@@ -39,9 +39,21 @@ impl Model for Machine {
     ghost Value = { State };
 
     ghost view = { λ m. record {
-      setting = record { base = m.base; public_input = m.public; secret_length = length m.secret; output_limit = m.output_limit };
+      setting = record {
+        base = m.base;
+        public_input = m.public;
+        secret_length = length m.secret;
+        output_limit = m.output_limit;
+      };
       secret = m.secret;
-      control = record { pc = m.pc; public_at = m.public_at; secret_at = m.secret_at; output = m.output.items; mode = m.mode; region = m.region };
+      control = record {
+        pc = m.pc;
+        public_at = m.public_at;
+        secret_at = m.secret_at;
+        output = m.output.items;
+        mode = m.mode;
+        region = m.region;
+      };
       store = record { registers = m.registers; memory = m.memory.items; kept = m.kept };
     } };
 
