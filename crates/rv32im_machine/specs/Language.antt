@@ -147,7 +147,8 @@ hold Second value held = record { first = held.first; second = value }
 
 unfoldable pub walked : Setting → List ℕ → Turn → Store → Held → Walk
 walked setting secret (Looks seen go) store held =
-    Looked seen (seen_value setting.base store seen) (walked setting secret (go (seen_value setting.base store seen)) store held)
+    Looked seen (seen_value setting.base store seen)
+    (walked setting secret (go (seen_value setting.base store seen)) store held)
 walked setting secret (Passes point place making sources turn) store held =
     Passed point place (work_of making (values_of setting secret store held sources)) sources
     (made making (values_of setting secret store held sources))
@@ -166,7 +167,8 @@ walked setting secret (Moves place shape source turn) store held =
     (hold place (shaped shape (value_of setting secret store held source ∷ [])) held))
 walked setting secret (Saves turn) store held = Saved (walked setting secret turn (saved store) held)
 walked setting secret (Restores registers turn) store held =
-    Restored registers (walked setting secret turn store held) (walked setting secret turn (restored registers store) held)
+    Restored registers (walked setting secret turn store held)
+    (walked setting secret turn (restored registers store) held)
 walked setting secret (Ends control) store held =
     Ended (record { setting = setting; secret = secret; control = control; store = store })
 

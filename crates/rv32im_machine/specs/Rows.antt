@@ -56,7 +56,8 @@ loaded_from Lw address = BytesFour address
 
 abbrev pub load_at : LoadKind → ℕ → ℕ → Control → Turn
 load_at kind rd address control =
-    Passes (point control ResultSlot) (Register rd) (Shaped (Extended kind)) (loaded_from kind address) (Ends (onward control))
+    Passes (point control ResultSlot) (Register rd) (Shaped (Extended kind)) (loaded_from kind address)
+    (Ends (onward control))
 
 abbrev pub load_checked : LoadKind → ℕ → Setting → Control → ℕ → Turn
 load_checked kind rd setting control address =

@@ -29,7 +29,12 @@ first_registers base = slice_set (replicate 32 0) 2 (base + memory_size - 64)
 -- a guest starts at the entry, with both inputs unread and no output
 abbrev pub start_on : List ℕ → ℕ → ℕ → List ℕ → List ℕ → ℕ → State
 start_on memory base entry public_input secret output_limit = record {
-  setting = record { base = base; public_input = public_input; secret_length = length secret; output_limit = output_limit };
+  setting = record {
+    base = base;
+    public_input = public_input;
+    secret_length = length secret;
+    output_limit = output_limit;
+  };
   secret = secret;
   control = record { pc = entry; public_at = 0; secret_at = 0; output = []; mode = Ran; region = 0 };
   store = record { registers = first_registers base; memory = memory; kept = replicate 32 0 };

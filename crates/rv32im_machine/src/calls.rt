@@ -1,11 +1,11 @@
 #![tactic(auto, unfolding(crate::specs::Language::walked))]
 
-ghost use Rattle.std.specs.Prelude.{◌≡◌, ℕ, ◌+◌, ◌-◌, ◌*◌, ◌/◌, ◌%◌, ◌^◌, ◌<◌, ◌≤◌, length, IsTrue, min};
+ghost use Rattle.std.specs.Prelude.{◌≡◌, ℕ, ◌+◌, ◌-◌, ◌^◌, ◌<◌, ◌≤◌, length, IsTrue};
 ghost use Rattle.flow_base.specs.Points.{is_slot, width_of};
 ghost use Rattle.rv32im_machine.specs.State.{is_inside, register_of};
-ghost use Rattle.rv32im_machine.specs.Language.{turn_walk, Walk, Decided, walk, none_held};
+ghost use Rattle.rv32im_machine.specs.Language.{turn_walk, Walk, Decided};
 ghost use Rattle.rv32im_machine.specs.Rows.{row_walk};
-ghost use Rattle.rv32im_machine.specs.Calls.{point, secret_plan, read_plan, append_plan, write_plan, unbuilt_call, call_word, bad_address, answered, secret_reads, writes, planned, with_arguments, exits, call_row, MayPerform};
+ghost use Rattle.rv32im_machine.specs.Calls.{point, secret_plan, read_plan, append_plan, write_plan, unbuilt_call, answered, secret_reads, writes, planned, with_arguments, exits, call_row, MayPerform};
 ghost use Rattle.rv32im_machine.specs.Playing.{Goes, outcome};
 
 use crate::language::{Part, Place, Shape, Source, Sources, Work};
@@ -229,7 +229,8 @@ fn argument<P: Passer>(
 /// A read call (63).
 fn read_turn<P: Passer>(machine: &mut Machine, passer: &mut P) -> Result<(), P::Stop>
     ensures { P.Plays passer.old
-        (turn_walk machine.old (with_arguments (read_plan machine.old.setting machine.old.control) machine.old.control))
+        (turn_walk machine.old
+        (with_arguments (read_plan machine.old.setting machine.old.control) machine.old.control))
         (outcome result machine.new (P.tape passer.new)) }
 {
     let descriptor = argument(machine, passer, Slot::Arg0, 10)?;
@@ -242,7 +243,8 @@ fn read_turn<P: Passer>(machine: &mut Machine, passer: &mut P) -> Result<(), P::
 /// A write call (64).
 fn write_turn<P: Passer>(machine: &mut Machine, passer: &mut P) -> Result<(), P::Stop>
     ensures { P.Plays passer.old
-        (turn_walk machine.old (with_arguments (write_plan machine.old.setting machine.old.control) machine.old.control))
+        (turn_walk machine.old
+        (with_arguments (write_plan machine.old.setting machine.old.control) machine.old.control))
         (outcome result machine.new (P.tape passer.new)) }
 {
     let descriptor = argument(machine, passer, Slot::Arg0, 10)?;

@@ -1,6 +1,6 @@
 #![tactic(auto, unfolding(crate::specs::Language::walked))]
 
-ghost use Rattle.std.specs.Prelude.{◌≡◌, ◌+◌, ◌-◌, ◌*◌, ◌/◌, ◌%◌, ◌^◌, ◌<◌, ◌≤◌};
+ghost use Rattle.std.specs.Prelude.{◌<◌};
 ghost use Rattle.rv32im_decode.specs.Operations.{word_of};
 ghost use Rattle.rv32im_decode.specs.Encoding.{InRange};
 ghost use Rattle.rv32im_machine.specs.Language.{walk, Held};
@@ -85,7 +85,8 @@ fn branch_to<P: Passer>(
     offset: i32,
 ) -> Result<(), P::Stop>
     ensures { (held : Held) →
-        P.Plays passer.old (walk machine.old (branches taken (word_of offset) machine.old.control) machine.old.store held)
+        P.Plays passer.old
+        (walk machine.old (branches taken (word_of offset) machine.old.control) machine.old.store held)
         (outcome result machine.new (P.tape passer.new)) }
 {
     if taken == 0 {
@@ -124,20 +125,19 @@ fn link<P: Passer>(
         P.Plays passer.old (walk machine.old (links rd target machine.old.control) machine.old.store held)
         (outcome result machine.new (P.tape passer.new)) }
 {
-    if target % 4 == 0 {
-        let next = machine.pc().wrapping_add(4);
-        passer.move_to(
-            Place::Register(rd),
-            Shape::Copied,
-            Source::Constant(next),
-            next,
-        )?;
-        machine.set_register(rd, next);
-        machine.set_pc(target);
-        Ok(())
-    } else {
+    if target % 4 != 0 {
         let pc = machine.pc();
         machine.end(Stepped::Stopped(Fault::FetchUnaligned { pc }));
-        Ok(())
+        return Ok(());
     }
+    let next = machine.pc().wrapping_add(4);
+    passer.move_to(
+        Place::Register(rd),
+        Shape::Copied,
+        Source::Constant(next),
+        next,
+    )?;
+    machine.set_register(rd, next);
+    machine.set_pc(target);
+    Ok(())
 }

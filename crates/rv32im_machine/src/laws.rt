@@ -1,7 +1,7 @@
 ghost use Rattle.rv32im_machine.specs.Laws.{NextLaw, StandsLaw};
 
-/// Once the values that a turn passes have gone on as they are, what comes next is the end that the step reaches. It does
-/// nothing when it is called.
+/// Once the values that a turn passes have gone on as they are, what comes next is the end that the step reaches. It
+/// does nothing when it is called.
 pub fn next_ends_where_the_step_ends()
     ensures { NextLaw }
 {}

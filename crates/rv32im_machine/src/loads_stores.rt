@@ -1,6 +1,6 @@
 #![tactic(auto, unfolding(crate::specs::Language::walked))]
 
-ghost use Rattle.std.specs.Prelude.{◌≡◌, ◌+◌, ◌-◌, ◌*◌, ◌/◌, ◌%◌, ◌^◌, ◌<◌, ◌≤◌, IsTrue};
+ghost use Rattle.std.specs.Prelude.{◌≡◌, ◌+◌, ◌^◌, ◌<◌, ◌≤◌, IsTrue};
 ghost use Rattle.rv32im_decode.specs.Operations.{load_size, store_size};
 ghost use Rattle.rv32im_decode.specs.Encoding.{InRange};
 ghost use Rattle.rv32im_machine.specs.State.{is_inside, joined};

@@ -1,7 +1,7 @@
 #![tactic(auto, unfolding(crate::specs::State::with_register, crate::specs::State::with_byte, crate::specs::State::saved, crate::specs::State::moved_to, crate::specs::State::onward, crate::specs::State::ended, crate::specs::State::secret_taken, crate::specs::State::emitted))]
 
-ghost use Rattle.std.specs.Prelude.{◌≡◌, ℕ, ◌+◌, ◌-◌, ◌*◌, ◌/◌, ◌%◌, ◌^◌, ◌<◌, ◌≤◌, [], length, slice_index, vec_len, vec_capacity, IsTrue};
-ghost use Rattle.rv32im_machine.specs.State.{State, memory_size, is_inside, register_of, byte_of, word_at, with_register, with_byte, saved, moved_to, onward, ended, secret_taken, emitted};
+ghost use Rattle.std.specs.Prelude.{◌≡◌, ◌+◌, ◌-◌, ◌^◌, ◌<◌, ◌≤◌, [], length, slice_index, vec_len, vec_capacity, IsTrue};
+ghost use Rattle.rv32im_machine.specs.State.{State, memory_size, is_inside, register_of, byte_of, word_at, with_register, with_byte, moved_to, onward, ended, secret_taken, emitted};
 ghost use Rattle.rv32im_machine.specs.Language.{with_store, with_control};
 ghost use Rattle.rv32im_machine.specs.Calls.{point};
 ghost use Rattle.rv32im_machine.specs.Start.{start_on};

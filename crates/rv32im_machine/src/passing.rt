@@ -1,4 +1,4 @@
-ghost use Rattle.std.specs.Prelude.{◌≡◌, ℕ, ◌+◌, ◌<◌, ◌≤◌, ◌^◌, IfOk, IsTrue, All};
+ghost use Rattle.std.specs.Prelude.{ℕ, ◌<◌, ◌≤◌, IfOk, IsTrue, All};
 ghost use Rattle.flow_base.specs.Points.{is_slot, width_of};
 ghost use Rattle.rv32im_machine.specs.State.{State};
 ghost use Rattle.rv32im_machine.specs.Language.{Walk, Looked, Passed, Decided, Gave, Moved, Saved, Restored, Ended};
@@ -87,7 +87,8 @@ pub trait Passer {
     /// At a leave: whether these registers (below 32) are put back to what was kept at the entry.
     fn restore(&mut self, registers: &[u8]) -> Result<bool, Self::Stop>
         requires { All (λ register. register < 32) registers.now }
-        ensures goes { (real : Walk) (replayed : Walk) → Goes result (λ back. Plays self.new (restored_or back real replayed))
+        ensures goes { (real : Walk) (replayed : Walk) →
+            Goes result (λ back. Plays self.new (restored_or back real replayed))
             (Plays self.old (Restored registers.now real replayed)) };
 
     ghost at_end: { (p : Self) (state : State) → Plays p (Ended state) (Finished state (tape p)) };

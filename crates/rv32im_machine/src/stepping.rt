@@ -28,8 +28,8 @@ pub enum Stepped {
     Stopped(Fault),
 }
 
-/// What a call does, once its arguments have gone on: an answer that is put into a0, bytes to read from the secret input,
-/// bytes to write, or a stop. Addresses and counts are in bytes.
+/// What a call does, once its arguments have gone on: an answer that is put into a0, bytes to read from the secret
+/// input, bytes to write, or a stop. Addresses and counts are in bytes.
 #[derive(Clone, Copy, Debug, PartialEq, Eq)]
 pub enum CallPlan {
     Answer(u32),

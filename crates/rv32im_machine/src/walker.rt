@@ -1,9 +1,9 @@
 #![tactic(auto, unfolding(crate::specs::Language::walked))]
 
-ghost use Rattle.std.specs.Prelude.{◌≡◌, ◌+◌, ◌-◌, ◌*◌, ◌/◌, ◌%◌, ◌^◌, ◌<◌, ◌≤◌};
+ghost use Rattle.std.specs.Prelude.{◌≡◌};
 ghost use Rattle.rv32im_decode.specs.Encoding.{InRange, decoded};
 ghost use Rattle.rv32im_machine.specs.State.{onward};
-ghost use Rattle.rv32im_machine.specs.Language.{turn_walk, Ends, walk, none_held};
+ghost use Rattle.rv32im_machine.specs.Language.{turn_walk, Ends};
 ghost use Rattle.rv32im_machine.specs.Rows.{row_walk, stops, fetched, legal, running, walk_of, is_built};
 ghost use Rattle.rv32im_machine.specs.Playing.{outcome};
 
@@ -46,7 +46,8 @@ fn running_turn<P: Passer>(machine: &mut Machine, passer: &mut P) -> Result<(), 
 
 /// The turn of a fetched word.
 fn fetched_turn<P: Passer>(machine: &mut Machine, passer: &mut P, word: u32) -> Result<(), P::Stop>
-    ensures { P.Plays passer.old (turn_walk machine.old (fetched (decoded word) word machine.old.setting machine.old.control))
+    ensures { P.Plays passer.old
+        (turn_walk machine.old (fetched (decoded word) word machine.old.setting machine.old.control))
         (outcome result machine.new (P.tape passer.new)) }
 {
     match decode(word) {
