@@ -17,7 +17,7 @@ mod stepping;
 mod walker;
 
 pub use language::{Operation, Part, Place, Seen, Shape, Source, Sources, Work};
-pub use laws::{ended_machines_stand_still, next_ends_where_the_step_ends};
+pub use laws::{ended_machines_stand_still, next_follows_the_step};
 pub use machines::Machine;
 pub use passing::Passer;
 pub use stepping::{CallPlan, Fault, Stepped};
