@@ -39,7 +39,9 @@ fn digits<'a>(input: &'a [u8]) -> Option<(u32, &'a [u8])>
         if !byte.is_ascii_digit() {
             break;
         }
-        number = number.checked_mul(10)?.checked_add(u32::from(*byte - b'0'))?;
+        number = number
+            .checked_mul(10)?
+            .checked_add(u32::from(*byte - b'0'))?;
         rest = more;
     }
     Some((number, rest))
@@ -148,10 +150,8 @@ fn next_point<'a>(least: u64, input: &'a [u8]) -> Option<(InPoint, &'a [u8])>
 fn points(alloc: Global, input: &[u8]) -> Result<List<InPoint>, CutFault>
     ensures lines { IfOk result (λ found. input.now ≡ point_lines found ++ codes "end\n") }
     ensures ascend { IfOk result (λ found. IsTrue (is_ascending found)) }
-    ensures unbuilt {
-        result ≡ Err CutFault.Unbuilt → (found : Seq APoint) → IsTrue (are_words found) → IsTrue (is_ascending found)
-        → ¬ (input.now ≡ point_lines found ++ codes "end\n")
-    }
+    ensures unbuilt { result ≡ Err CutFault.Unbuilt → (found : Seq APoint) → IsTrue (are_words found) → IsTrue (is_ascending found)
+        → ¬ (input.now ≡ point_lines found ++ codes "end\n") }
 {
     let mut found: List<InPoint> = List::new(alloc);
     let mut rest = input;
@@ -183,9 +183,7 @@ fn head(alloc: Global, secret_len: u32, bits: u32) -> Result<String, NoMemory>
 /// the secret has above 65,536 bytes; `Memory` where memory is short.
 pub fn read_in_cut(alloc: Global, file: &[u8]) -> Result<InCut, CutFault>
     ensures text { IfOk result (λ cut. IsCutText file.now (cut_picture cut)) }
-    ensures unbuilt {
-        result ≡ Err CutFault.Unbuilt → (cut : CutPicture) → IsTrue (are_words cut.points) → ¬ IsCutText file.now cut
-    }
+    ensures unbuilt { result ≡ Err CutFault.Unbuilt → (cut : CutPicture) → IsTrue (are_words cut.points) → ¬ IsCutText file.now cut }
 {
     let Some((secret_len, bits)) = numbers(file) else {
         return Err(CutFault::Unbuilt);
@@ -218,17 +216,32 @@ mod tests {
 
     #[test]
     fn a_cut_of_one_point(rt: HostRuntime) {
-        let file = b"flowcheck-cut 1\nsecret 1\nbits 8\npoint 0 0x00010010 in rest 0x000000ff\nend\n";
+        let file =
+            b"flowcheck-cut 1\nsecret 1\nbits 8\npoint 0 0x00010010 in rest 0x000000ff\nend\n";
         let Ok(cut) = read_in_cut(rt.alloc(), file) else {
             panic!(rt; "not read");
         };
         assert!(rt; cut.secret_len == 1);
         assert!(rt; cut.bits == 8);
         assert!(rt; cut.points.len() == 1);
-        let named = Point { region: 0, address: 0x10010, slot: Slot::SecretIn };
+        let named = Point {
+            region: 0,
+            address: 0x10010,
+            slot: Slot::SecretIn,
+        };
         assert!(rt; cut.mask(named) == 255);
-        assert!(rt; cut.mask(Point { address: 0x10011, ..named }) == 0);
-        assert!(rt; cut.mask(Point { slot: Slot::Result, ..named }) == 0);
+        assert!(rt;
+            cut.mask(Point {
+                address: 0x10011,
+                ..named
+            }) == 0
+        );
+        assert!(rt;
+            cut.mask(Point {
+                slot: Slot::Result,
+                ..named
+            }) == 0
+        );
         assert!(rt; cut.mask(Point { region: 1, ..named }) == 0);
     }
 
