@@ -82,7 +82,7 @@ point_in bytes = record { address = word_at 10 bytes; rest = word_at 29 bytes }
 abbrev pub after_line : InPoint → List ℕ → Option (List ℕ)
 after_line point bytes =
     then_text (codes "\n") (then_text (hex_word point.rest) (then_text (codes " in rest ")
-        (then_text (hex_word point.address) (after_text (codes "point 0 ") bytes))))
+    (then_text (hex_word point.address) (after_text (codes "point 0 ") bytes))))
 
 abbrev pub with_point : InPoint → Option (List ℕ) → Option (InPoint × List ℕ)
 with_point point None = None

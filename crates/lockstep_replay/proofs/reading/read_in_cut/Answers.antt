@@ -26,7 +26,7 @@ pub returns-in_err-points-clause-unbuilt : goal.returns-in_err-points-clause-unb
 returns-in_err-points-clause-unbuilt c = λ unbuilt cut words known.
     let some : head_numbers c.args.file.now ≡ Some (c.in-Some.secret_len, c.in-Some.bits) = grind (arith, common_steps) in
     let rest : after_text (head_text c.in-Some.secret_len c.in-Some.bits) c.args.file.now ≡ Some c.in-Some-after.rest.now =
-        grind (arith, common_steps) in
+    grind (arith, common_steps) in
     let same = same-rest c.args.file.now cut c.in-Some.secret_len c.in-Some.bits c.in-Some-after.rest.now known some rest in
     let failed : c.points.result ≡ Err Unbuilt = grind (arith, common_steps) in
     c.points.ensures.unbuilt failed cut.points words (ascending-of c.args.file.now cut known) same
@@ -34,6 +34,6 @@ returns-in_err-points-clause-unbuilt c = λ unbuilt cut words known.
 pub returns-clause-text : goal.returns-clause-text
 returns-clause-text c =
     let rest : after_text (head_text c.in-Some.secret_len c.in-Some.bits) c.args.file.now ≡ Some c.in-Some-after.rest.now =
-        grind (arith, common_steps) in
+    grind (arith, common_steps) in
     is-cut-text c.in-Some.secret_len c.in-Some.bits c.in_ok-points.points c.args.file.now c.in-Some-after.rest.now rest
-        c.in_ok-points.ensures.lines (omega (arith, c.if-secret_len-gt65536.false)) c.in-Some.ensures.few c.in_ok-points.ensures.ascend
+    c.in_ok-points.ensures.lines (omega (arith, c.if-secret_len-gt65536.false)) c.in-Some.ensures.few c.in_ok-points.ensures.ascend
