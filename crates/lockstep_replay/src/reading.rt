@@ -1,14 +1,18 @@
-ghost use Rattle.std.specs.Prelude.{◌≡◌, ℕ, ◌<◌, ◌≤◌, ◌^◌, ◌+◌, ◌++◌, List as Seq, length, codes, option_map, IfOk, IfSome, IsTrue, string_bytes};
-ghost use Rattle.lockstep_replay.specs.declared.points.InPoint.{InPoint as APoint};
-ghost use Rattle.lockstep_replay.specs.Cuts.{CutPicture, IsCutText, hex_digit, hex_word, point_line, point_lines, is_ascending};
+ghost use Rattle.std.specs.Prelude.{◌≡◌, ◌<◌, ◌≤◌, ◌+◌, ◌++◌};
+ghost use Rattle.std.specs.Prelude.{length, codes, option_map, IfOk, IfSome, IsTrue, string_bytes};
+ghost use Rattle.lockstep_replay.specs.Cuts.{IsCutText, hex_digit, hex_word, point_lines, is_ascending};
 ghost use Rattle.lockstep_replay.specs.CutPictures.{cut_picture};
-ghost use Rattle.lockstep_replay.specs.Reading.{are_words, after_text, digits_from, head_numbers, head_text, digit_of, word_at, point_in, after_line as line_rest, next_point as next_in, least_after};
+ghost use Rattle.lockstep_replay.specs.Reading.{after_text, digits_from, head_numbers, head_text, digit_of, word_at};
+ghost use Rattle.lockstep_replay.specs.Reading.{after_line as line_rest, next_point as next_in, IsNoPointsText, IsNoCutText};
 
 use crate::cut_fault::CutFault;
 use crate::cuts::InCut;
 use crate::points::InPoint;
 use flow_base::{List, NoMemory};
 use std::alloc::Global;
+
+/// The length in bytes that a secret may have at most.
+const LONGEST_SECRET: u32 = 65_536;
 
 // The rest after a wanted text.
 fn after<'a>(wanted: &[u8], input: &'a [u8]) -> Option<&'a [u8]>
@@ -150,8 +154,7 @@ fn next_point<'a>(least: u64, input: &'a [u8]) -> Option<(InPoint, &'a [u8])>
 fn points(alloc: Global, input: &[u8]) -> Result<List<InPoint>, CutFault>
     ensures lines { IfOk result (λ found. input.now ≡ point_lines found ++ codes "end\n") }
     ensures ascend { IfOk result (λ found. IsTrue (is_ascending found)) }
-    ensures unbuilt { result ≡ Err CutFault.Unbuilt → (found : Seq APoint) → IsTrue (are_words found) → IsTrue (is_ascending found)
-        → ¬ (input.now ≡ point_lines found ++ codes "end\n") }
+    ensures unbuilt { result ≡ Err CutFault.Unbuilt → IsNoPointsText input.now }
 {
     let mut found: List<InPoint> = List::new(alloc);
     let mut rest = input;
@@ -183,12 +186,12 @@ fn head(alloc: Global, secret_len: u32, bits: u32) -> Result<String, NoMemory>
 /// the secret has above 65,536 bytes; `Memory` where memory is short.
 pub fn read_in_cut(alloc: Global, file: &[u8]) -> Result<InCut, CutFault>
     ensures text { IfOk result (λ cut. IsCutText file.now (cut_picture cut)) }
-    ensures unbuilt { result ≡ Err CutFault.Unbuilt → (cut : CutPicture) → IsTrue (are_words cut.points) → ¬ IsCutText file.now cut }
+    ensures unbuilt { result ≡ Err CutFault.Unbuilt → IsNoCutText file.now }
 {
     let Some((secret_len, bits)) = numbers(file) else {
         return Err(CutFault::Unbuilt);
     };
-    if secret_len > 65_536 {
+    if secret_len > LONGEST_SECRET {
         return Err(CutFault::Unbuilt);
     }
     let head = head(alloc, secret_len, bits)?;
