@@ -10,11 +10,11 @@ returns-in_default-clause-unbuilt c = λ _ cut words known.
     let none : head_numbers c.args.file.now ≡ None = grind (arith, common_steps) in
     no-numbers c.args.file.now cut known none
 
-pub returns-then-secret_len-gt65536-clause-unbuilt : goal.returns-then-secret_len-gt65536-clause-unbuilt
-returns-then-secret_len-gt65536-clause-unbuilt c = λ _ cut words known.
+pub returns-then-secret_len-gt-LONGEST_SECRET-clause-unbuilt : goal.returns-then-secret_len-gt-LONGEST_SECRET-clause-unbuilt
+returns-then-secret_len-gt-LONGEST_SECRET-clause-unbuilt c = λ _ cut words known.
     let some : head_numbers c.args.file.now ≡ Some (c.in-Some.secret_len, c.in-Some.bits) = grind (arith, common_steps) in
     let short = secret-of c.args.file.now cut c.in-Some.secret_len c.in-Some.bits known some in
-    omega (arith, c.if-secret_len-gt65536.true)
+    omega (arith, c.if-secret_len-gt-LONGEST_SECRET.true)
 
 pub returns-in_default-after-clause-unbuilt : goal.returns-in_default-after-clause-unbuilt
 returns-in_default-after-clause-unbuilt c = λ _ cut words known.
@@ -36,4 +36,4 @@ returns-clause-text c =
     let rest : after_text (head_text c.in-Some.secret_len c.in-Some.bits) c.args.file.now ≡ Some c.in-Some-after.rest.now =
     grind (arith, common_steps) in
     is-cut-text c.in-Some.secret_len c.in-Some.bits c.in_ok-points.points c.args.file.now c.in-Some-after.rest.now rest
-    c.in_ok-points.ensures.lines (omega (arith, c.if-secret_len-gt65536.false)) c.in-Some.ensures.few c.in_ok-points.ensures.ascend
+    c.in_ok-points.ensures.lines (omega (arith, c.if-secret_len-gt-LONGEST_SECRET.false)) c.in-Some.ensures.few c.in_ok-points.ensures.ascend
