@@ -2,3 +2,4 @@ pub mod CommandLines
 pub mod Loading
 pub mod Texts
 pub mod Replies
+pub mod Words

@@ -1,4 +1,6 @@
 //! How many bits of its secret can a program's output have given away?
 #![tactic(auto)]
 
+mod words;
+
 fn main() {}
