@@ -2,7 +2,8 @@ ghost use Rattle.std.specs.Prelude.{◌≡◌, ◌<◌, ◌++◌, ◌+◌, ◌^�
 ghost use Rattle.std.specs.Fmt.{decimal};
 ghost use Rattle.lockstep_replay.specs.Cuts.{hex_digit, hex_word as hex_word_of};
 ghost use Rattle.lockstep_replay.specs.Judgements.{judgement_of};
-ghost use Rattle.flowcheck.specs.Texts.{fault_text as fault_text_of, why_text as why_text_of, verdict_line as verdict_line_of};
+ghost use Rattle.lockstep_replay.specs.Verdicts.{Accepts, Rejects};
+ghost use Rattle.flowcheck.specs.Texts.{counts_line as counts_line_of, fault_text as fault_text_of, why_text as why_text_of, verdict_line as verdict_line_of};
 
 use crossing_bits::Bits;
 use flow_base::{Bytes, NoMemory, Output};
@@ -100,4 +101,50 @@ fn why_text(alloc: Global, why: Why) -> Result<Bytes, NoMemory>
         }
         Why::Unequal => Bytes::from_slice(alloc, b"unequal"),
     }
+}
+
+/// The line of a secret that is accepted.
+fn accepted_line(alloc: Global, number: u32, bits: &Bits, output: &Output) -> Result<Bytes, NoMemory>
+    ensures { IfOk result (λ text. text ≡ verdict_line_of number (Accepts bits.now.bits output.now)) }
+{
+    let hex = bits.hex_text(alloc)?;
+    let count = bits.count();
+    let written = output.bytes.len();
+    let status = output.status;
+    let head = format!(in alloc; "accepted {number} bits {count} crossing ")?;
+    let tail = format!(in alloc; " output {written} status {status}\n")?;
+    let mut text = head.into_bytes();
+    text.extend_from_slice(hex.as_slice())?;
+    text.extend_from_slice(tail.as_bytes())?;
+    Ok(Bytes::from_vec(text))
+}
+
+/// The line of a secret that is rejected.
+fn rejected_line(alloc: Global, number: u32, why: Why) -> Result<Bytes, NoMemory>
+    ensures { IfOk result (λ text. text ≡ verdict_line_of number (Rejects why)) }
+{
+    let why = why_text(alloc, why)?;
+    let head = format!(in alloc; "rejected {number} ")?;
+    let mut text = head.into_bytes();
+    text.extend_from_slice(why.as_slice())?;
+    text.extend_from_slice(b"\n")?;
+    Ok(Bytes::from_vec(text))
+}
+
+/// The line of the secret with a number, counted from 1.
+pub fn verdict_line(alloc: Global, number: u32, verdict: &Verdict) -> Result<Bytes, NoMemory>
+    ensures { IfOk result (λ text. text ≡ verdict_line_of number (judgement_of verdict.now)) }
+{
+    match verdict {
+        Verdict::Accepted { bits, output } => accepted_line(alloc, number, bits, output),
+        Verdict::Rejected(why) => rejected_line(alloc, number, *why),
+    }
+}
+
+/// The line of counts.
+pub fn counts_line(alloc: Global, checked: u32, accepted: u32, budget: u32) -> Result<Bytes, NoMemory>
+    ensures { IfOk result (λ text. text ≡ counts_line_of checked accepted budget) }
+{
+    let text = format!(in alloc; "checked {checked} accepted {accepted} budget {budget}\n")?;
+    Ok(Bytes::from_vec(text.into_bytes()))
 }
