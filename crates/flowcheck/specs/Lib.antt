@@ -3,3 +3,4 @@ pub mod Loading
 pub mod Texts
 pub mod Replies
 pub mod Words
+pub mod Stops

@@ -1,7 +1,6 @@
 -- The texts that are printed. Numbers are decimal; addresses and words are 0x and eight digits in lower case.
-use Rattle.std.specs.Prelude.{ℕ, ◌+◌, List, [], ◌∷◌, ◌++◌, length, codes, Bool, true, false}
+use Rattle.std.specs.Prelude.{ℕ, ◌+◌, List, [], ◌∷◌, ◌++◌, length, codes}
 use Rattle.std.specs.Fmt.{decimal}
-use Rattle.flow_base.specs.declared.outputs.Output.{Output}
 use Rattle.crossing_bits.specs.HexText.{hex_of}
 use Rattle.rv32im_machine.specs.declared.stepping.Fault.{Fault}
 use Rattle.rv32im_machine.specs.declared.stepping.Fault.TheVariants.{FetchOutside, FetchUnaligned, LoadOutside, StoreOutside, Breakpoint, OutputLimit, Unbuilt}

@@ -16,7 +16,11 @@ fn glyph(digit: u32) -> u8
     requires { digit < 16 }
     ensures { result ≡ hex_digit digit }
 {
-    if digit < 10 { 48 + digit as u8 } else { 87 + digit as u8 }
+    if digit < 10 {
+        48 + digit as u8
+    } else {
+        87 + digit as u8
+    }
 }
 
 /// `0x` and the eight digits of a word.
@@ -47,7 +51,13 @@ fn with_word(alloc: Global, head: &str, word: u32) -> Result<Bytes, NoMemory>
 }
 
 /// Two texts, and a word behind each.
-fn with_words(alloc: Global, head: &str, word: u32, middle: &str, other: u32) -> Result<Bytes, NoMemory>
+fn with_words(
+    alloc: Global,
+    head: &str,
+    word: u32,
+    middle: &str,
+    other: u32,
+) -> Result<Bytes, NoMemory>
     ensures { IfOk result (λ text. text ≡ head.now ++ (hex_word_of word ++ (middle.now ++ hex_word_of other))) }
 {
     let mut text = head.as_bytes().to_vec(alloc)?;
@@ -64,8 +74,20 @@ fn fault_text(alloc: Global, fault: Fault) -> Result<Bytes, NoMemory>
     match fault {
         Fault::FetchOutside { pc } => with_word(alloc, "fetch-outside ", pc),
         Fault::FetchUnaligned { pc } => with_word(alloc, "fetch-unaligned ", pc),
-        Fault::LoadOutside { pc, address } => with_words(alloc, "load-outside ", pc, " address ", address),
-        Fault::StoreOutside { pc, address } => with_words(alloc, "store-outside ", pc, " address ", address),
+        Fault::LoadOutside { pc, address } => with_words(
+            alloc,
+            "load-outside ",
+            pc,
+            " address ",
+            address,
+        ),
+        Fault::StoreOutside { pc, address } => with_words(
+            alloc,
+            "store-outside ",
+            pc,
+            " address ",
+            address,
+        ),
         Fault::Breakpoint { pc } => with_word(alloc, "breakpoint ", pc),
         Fault::OutputLimit { pc } => with_word(alloc, "output-limit ", pc),
         Fault::Unbuilt { pc, word } => with_words(alloc, "unbuilt ", pc, " word ", word),
@@ -104,7 +126,12 @@ fn why_text(alloc: Global, why: Why) -> Result<Bytes, NoMemory>
 }
 
 /// The line of a secret that is accepted.
-fn accepted_line(alloc: Global, number: u32, bits: &Bits, output: &Output) -> Result<Bytes, NoMemory>
+fn accepted_line(
+    alloc: Global,
+    number: u32,
+    bits: &Bits,
+    output: &Output,
+) -> Result<Bytes, NoMemory>
     ensures { IfOk result (λ text. text ≡ verdict_line_of number (Accepts bits.now.bits output.now)) }
 {
     let hex = bits.hex_text(alloc)?;
@@ -142,7 +169,12 @@ pub fn verdict_line(alloc: Global, number: u32, verdict: &Verdict) -> Result<Byt
 }
 
 /// The line of counts.
-pub fn counts_line(alloc: Global, checked: u32, accepted: u32, budget: u32) -> Result<Bytes, NoMemory>
+pub fn counts_line(
+    alloc: Global,
+    checked: u32,
+    accepted: u32,
+    budget: u32,
+) -> Result<Bytes, NoMemory>
     ensures { IfOk result (λ text. text ≡ counts_line_of checked accepted budget) }
 {
     let text = format!(in alloc; "checked {checked} accepted {accepted} budget {budget}\n")?;

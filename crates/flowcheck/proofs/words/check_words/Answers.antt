@@ -1,4 +1,4 @@
-use Rattle.std.proofs.Common.{◌≡◌, ℕ, ◌+◌, ◌-◌, ◌*◌, ◌<◌, ◌≤◌, arith, rules, string_bytes}
+use Rattle.std.proofs.Common.{arith, rules, string_bytes}
 use Rattle.std.proofs.lemmas.Grind.{common_steps}
 use Rattle.flowcheck.proofs.Five.{five-mapped}
 use Rattle.flowcheck.proofs.words.check_words.Goals as goal

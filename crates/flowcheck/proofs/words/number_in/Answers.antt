@@ -1,4 +1,4 @@
-use Rattle.std.proofs.Common.{◌≡◌, ℕ, ◌+◌, ◌-◌, ◌*◌, ◌<◌, ◌≤◌, ◌^◌, arith, Ok}
+use Rattle.std.proofs.Common.{◌≡◌, arith, Ok}
 use Rattle.std.proofs.lemmas.Grind.{common_steps}
 use Rattle.std.proofs.lemmas.Fmt.{parse-decimal}
 use Rattle.flowcheck.proofs.words.number_in.Goals as goal
