@@ -4,3 +4,4 @@ pub mod Texts
 pub mod Replies
 pub mod Words
 pub mod Stops
+pub mod Answering

@@ -8,6 +8,7 @@ use Rattle.flowcheck.specs.declared.loads.Loaded.{Loaded}
 use Rattle.flowcheck.specs.declared.loads.LoadStop.{LoadStop}
 use Rattle.flowcheck.specs.declared.loads.LoadStop.TheVariants.{Failed, TooLarge, Memory}
 use Rattle.flowcheck.specs.Loading.{Want, LoadRefusal, CannotLoad, IsTooLarge, loaded_from, after_loads, secret_limit}
+use Rattle.flowcheck.specs.Replies.{Reply, load_reply}
 
 abbrev pub stop_of : LoadRefusal → LoadStop
 stop_of (CannotLoad name) = Failed name
@@ -39,6 +40,12 @@ abbrev pub StopsBy : List ℕ → LoadFault → LoadStop → Type 0
 StopsBy name Failed' stop = stop ≢ Memory → stop ≡ Failed name
 StopsBy name (TooLarge' number) stop = stop ≢ Memory → stop ≡ TooLarge name number
 StopsBy name Memory' stop = stop ≡ Memory
+
+-- the reply to a load that stops; for want of memory there is none
+abbrev pub RepliesToStop : LoadStop → Reply → Type 0
+RepliesToStop (Failed name) reply = reply ≡ load_reply (CannotLoad name)
+RepliesToStop (TooLarge name number) reply = reply ≡ load_reply (IsTooLarge name number)
+RepliesToStop Memory reply = ⊥
 
 -- the files in order
 abbrev pub files_of : Loaded → List (List ℕ)

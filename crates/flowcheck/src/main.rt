@@ -2,6 +2,8 @@
 #![tactic(auto)]
 
 mod loads;
+mod refusals;
+mod replies;
 mod texts;
 mod words;
 

@@ -128,7 +128,7 @@ fn why_text(alloc: Global, why: Why) -> Result<Bytes, NoMemory>
 /// The line of a secret that is accepted.
 fn accepted_line(
     alloc: Global,
-    number: u32,
+    number: usize,
     bits: &Bits,
     output: &Output,
 ) -> Result<Bytes, NoMemory>
@@ -147,7 +147,7 @@ fn accepted_line(
 }
 
 /// The line of a secret that is rejected.
-fn rejected_line(alloc: Global, number: u32, why: Why) -> Result<Bytes, NoMemory>
+fn rejected_line(alloc: Global, number: usize, why: Why) -> Result<Bytes, NoMemory>
     ensures { IfOk result (λ text. text ≡ verdict_line_of number (Rejects why)) }
 {
     let why = why_text(alloc, why)?;
@@ -159,7 +159,7 @@ fn rejected_line(alloc: Global, number: u32, why: Why) -> Result<Bytes, NoMemory
 }
 
 /// The line of the secret with a number, counted from 1.
-pub fn verdict_line(alloc: Global, number: u32, verdict: &Verdict) -> Result<Bytes, NoMemory>
+pub fn verdict_line(alloc: Global, number: usize, verdict: &Verdict) -> Result<Bytes, NoMemory>
     ensures { IfOk result (λ text. text ≡ verdict_line_of number (judgement_of verdict.now)) }
 {
     match verdict {
@@ -171,8 +171,8 @@ pub fn verdict_line(alloc: Global, number: u32, verdict: &Verdict) -> Result<Byt
 /// The line of counts.
 pub fn counts_line(
     alloc: Global,
-    checked: u32,
-    accepted: u32,
+    checked: usize,
+    accepted: usize,
     budget: u32,
 ) -> Result<Bytes, NoMemory>
     ensures { IfOk result (λ text. text ≡ counts_line_of checked accepted budget) }
