@@ -1,2 +1,3 @@
 pub mod Five
 pub mod Secrets
+pub mod Judgements

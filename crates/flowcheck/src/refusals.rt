@@ -40,7 +40,10 @@ fn failed_reply(alloc: Global, name: &Bytes) -> Result<Reply, NoMemory>
     let mut text = b"refused 5 load ".to_vec(alloc)?;
     text.extend_from_slice(name.as_slice())?;
     text.extend_from_slice(b"\n")?;
-    Ok(Reply { status: 5, text: Bytes::from_vec(text) })
+    Ok(Reply {
+        status: 5,
+        text: Bytes::from_vec(text),
+    })
 }
 
 /// The reply to a file that has more bytes than it may have.
@@ -51,7 +54,10 @@ fn too_large_reply(alloc: Global, name: &Bytes, number: u32) -> Result<Reply, No
     let mut text = b"refused 6 too-large ".to_vec(alloc)?;
     text.extend_from_slice(name.as_slice())?;
     text.extend_from_slice(tail.as_bytes())?;
-    Ok(Reply { status: 6, text: Bytes::from_vec(text) })
+    Ok(Reply {
+        status: 6,
+        text: Bytes::from_vec(text),
+    })
 }
 
 /// The reply to the load that stops a check.
