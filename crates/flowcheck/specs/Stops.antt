@@ -25,7 +25,7 @@ LoadsAs (Some told) wants result = result ≢ Err Memory → result ≡ or_stop 
 
 -- and what it has then, unless memory is short
 abbrev pub Leaves : Option Told → List Want → Result (List (List ℕ)) LoadStop → Option Told → Type 0
-Leaves None wants result new = Unit {0}
+Leaves None wants result new = new ≡ None
 Leaves (Some told) wants result new = result ≢ Err Memory → new ≡ Some (after_loads told wants)
 
 -- a load that fails raised the count of faults

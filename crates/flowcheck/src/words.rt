@@ -7,6 +7,7 @@ use flow_base::NoMemory;
 use std::alloc::Global;
 
 /// The words of a check of secrets.
+#[derive(Clone, Copy)]
 pub struct CheckWords<'a> {
     pub program: &'a str,
     pub public_input: &'a str,
