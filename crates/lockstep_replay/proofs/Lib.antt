@@ -1,0 +1,15 @@
+pub mod Tapes
+pub mod Rounds
+pub mod Turns
+pub mod Widths
+pub mod Feeds
+pub mod Growth
+pub mod Stillness
+pub mod Bounds
+pub mod Fine
+pub mod Accepting
+pub mod CutTexts
+pub mod CutMasks
+pub mod Causes
+pub mod Runs
+pub mod Judging

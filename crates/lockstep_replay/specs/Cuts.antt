@@ -1,9 +1,8 @@
 -- A cut at reads of secret bytes: its one text, and its masks.
-use Rattle.std.specs.Prelude.{◌≡◌, ℕ, ◌+◌, ◌/◌, ◌%◌, ◌==◌, ◌&&◌, nat_le, nat_lt, List, [], ◌∷◌, ◌++◌, codes, Bool, true, false, bit_and, if◌then◌else◌}
+use Rattle.std.specs.Prelude.{◌≡◌, ℕ, ◌+◌, ◌/◌, ◌%◌, ◌==◌, ◌&&◌, nat_le, nat_lt, List, [], ◌∷◌, ◌++◌, codes, Bool, true, bit_and, if◌then◌else◌}
 use Rattle.std.specs.Fmt.{decimal}
 use Rattle.flow_base.specs.declared.points.Point.{Point}
 use Rattle.flow_base.specs.declared.points.Slot.{Slot}
-use Rattle.flow_base.specs.declared.points.Slot.TheVariants.{SecretIn}
 use Rattle.flow_base.specs.Points.{number_of, width_of}
 use Rattle.lockstep_replay.specs.declared.points.InPoint.{InPoint}
 

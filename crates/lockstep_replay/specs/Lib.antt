@@ -1,6 +1,12 @@
 pub mod Cuts
 pub mod CutPictures
+pub mod Reading
 pub mod Runs
 pub mod Acceptance
 pub mod Verdicts
 pub mod Judgements
+pub mod Tapes
+pub mod Sides
+pub mod Ends
+pub mod Turning
+pub mod VerdictLaws

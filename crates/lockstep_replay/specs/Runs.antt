@@ -1,5 +1,5 @@
 -- The crossing bits of a real run, and the replay of a string: both are read off the same turns, for any masks.
-use Rattle.std.specs.Prelude.{◌≡◌, ℕ, zero, suc, ◌+◌, ◌==◌, ◌&&◌, List, [], ◌∷◌, ◌++◌, Bool, true, false, if◌then◌else◌}
+use Rattle.std.specs.Prelude.{ℕ, zero, suc, ◌==◌, ◌&&◌, List, [], ◌∷◌, ◌++◌, Bool, if◌then◌else◌}
 use Rattle.flow_base.specs.declared.points.Point.{Point}
 use Rattle.flow_base.specs.Points.{number_of}
 use Rattle.flow_base.specs.Words.{bits_under, bit_count, patched}

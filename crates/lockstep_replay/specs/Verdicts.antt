@@ -1,10 +1,9 @@
 -- The verdict on a secret: accepted, or the first condition that fails, by turn and within a turn in a fixed order.
-use Rattle.std.specs.Prelude.{◌≡◌, ℕ, zero, suc, ◌+◌, ◌==◌, ◌&&◌, ◌≤◌, ◌<◌, min, nat_lt, List, [], ◌∷◌, length, Bool, true, false, Option, Some, None, if◌then◌else◌}
+use Rattle.std.specs.Prelude.{ℕ, zero, suc, ◌==◌, ◌&&◌, min, nat_lt, List, [], ◌∷◌, length, Bool, true, false, Option, Some, None, if◌then◌else◌}
 use Rattle.std.specs.Str.{bytes_eq}
 use Rattle.flow_base.specs.declared.outputs.Output.{Output}
 use Rattle.elf32_loader.specs.Pictures.{Picture}
 use Rattle.crossing_bits.specs.Askers.{Fed, Fed', Short, feed}
-use Rattle.rv32im_machine.specs.declared.stepping.Fault.{Fault}
 use Rattle.rv32im_machine.specs.declared.stepping.Stepped.{Stepped}
 use Rattle.rv32im_machine.specs.declared.stepping.Stepped.TheVariants.{Ran, Exited, Stopped}
 use Rattle.rv32im_machine.specs.State.{State}
@@ -13,7 +12,7 @@ use Rattle.lockstep_replay.specs.declared.points.InPoint.{InPoint}
 use Rattle.lockstep_replay.specs.declared.verdicts.Why.{Why}
 use Rattle.lockstep_replay.specs.declared.verdicts.Why.TheVariants.{RealFault, BudgetOverrun, TurnLimit, SecretLength, Unequal}
 use Rattle.lockstep_replay.specs.Cuts.{CutPicture, MaskAt}
-use Rattle.lockstep_replay.specs.Runs.{Place, Masks, fresh, real_after, Cross, Replay}
+use Rattle.lockstep_replay.specs.Runs.{Place, fresh, real_after, Cross, Replay}
 use Rattle.lockstep_replay.specs.Acceptance.{output_limit}
 
 -- accepted with these crossing bits and this output, or rejected

@@ -3,10 +3,23 @@
 
 mod cut_fault;
 mod cuts;
+mod laws;
+mod lockstep;
+mod masks;
 mod points;
+mod reading;
+mod replaying;
+mod replays;
+mod tallies;
+mod tasks;
+mod tallying;
+mod turning;
 mod verdicts;
 
 pub use cut_fault::CutFault;
 pub use cuts::InCut;
+pub use laws::{accepted_runs_are_bounded, verdicts_are_acceptance};
 pub use points::InPoint;
+pub use tasks::Lockstep;
+pub use reading::read_in_cut;
 pub use verdicts::{Verdict, Why};

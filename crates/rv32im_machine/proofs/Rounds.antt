@@ -1,12 +1,12 @@
 -- One round of the rows that go over bytes.
-use Rattle.std.proofs.Common.{◌≡◌, ℕ, zero, suc, ◌+◌, refl, sym, ap, subst}
+use Rattle.std.proofs.Common.{◌≡◌, ℕ, suc, ◌+◌, refl}
 use Rattle.flow_base.specs.declared.points.Slot.TheVariants.{SecretIn, ByteOut}
-use Rattle.rv32im_machine.specs.declared.language.Place.TheVariants.{Register, Byte}
-use Rattle.rv32im_machine.specs.declared.language.Source.TheVariants.{At, Constant, Secret}
+use Rattle.rv32im_machine.specs.declared.language.Place.TheVariants.{Byte}
+use Rattle.rv32im_machine.specs.declared.language.Source.TheVariants.{At, Secret}
 use Rattle.rv32im_machine.specs.declared.language.Sources.TheVariants.{One}
 use Rattle.rv32im_machine.specs.declared.language.Shape.TheVariants.{Copied}
 use Rattle.rv32im_machine.specs.State.{Control, secret_taken, emitted}
-use Rattle.rv32im_machine.specs.Language.{Turn, Passes, Decides, Shaped}
+use Rattle.rv32im_machine.specs.Language.{Passes, Decides, Shaped}
 use Rattle.rv32im_machine.specs.Calls.{point, answered, secret_reads, writes}
 
 pub secret_reads-none : (n to answer : ℕ) (c : Control) → n ≡ 0 → secret_reads n to answer c ≡ answered answer c

@@ -1,13 +1,10 @@
--- The guest's calls (Linux for RISC-V: read 63, write 64, exit 93; EFAULT is 14): what each does once its arguments have
--- gone on. In a plan no value of memory is named. So far read takes descriptor 3 alone, and write descriptor 1.
-use Rattle.std.specs.Prelude.{◌≡◌, ◌≤◌, IsTrue, ℕ, zero, suc, ◌+◌, ◌-◌, ◌^◌, ◌==◌, min, nat_le, length, Bool, true, false, if◌then◌else◌, refl}
+-- The guest's calls (Linux for RISC-V: read 63, write 64, exit 93; EFAULT is 14): what each does once its arguments
+-- have gone on. In a plan no value of memory is named. So far read takes descriptor 3 alone, and write descriptor 1.
+use Rattle.std.specs.Prelude.{◌≤◌, IsTrue, ℕ, zero, suc, ◌+◌, ◌-◌, ◌^◌, ◌==◌, min, nat_le, length, if◌then◌else◌}
 use Rattle.flow_base.specs.declared.points.Point.{Point}
 use Rattle.flow_base.specs.declared.points.Slot.{Slot}
-use Rattle.flow_base.specs.declared.points.Slot.TheVariants.{First, Number, Arg0, Arg1, Arg2, SecretIn, ByteOut, Status}
-use Rattle.flow_base.specs.Points.{is_slot}
-use Rattle.rv32im_machine.specs.declared.stepping.Fault.{Fault}
+use Rattle.flow_base.specs.declared.points.Slot.TheVariants.{Arg0, Arg1, Arg2, SecretIn, ByteOut, Status}
 use Rattle.rv32im_machine.specs.declared.stepping.Fault.TheVariants.{OutputLimit, Unbuilt}
-use Rattle.rv32im_machine.specs.declared.stepping.Stepped.{Stepped}
 use Rattle.rv32im_machine.specs.declared.stepping.Stepped.TheVariants.{Exited, Stopped}
 use Rattle.rv32im_machine.specs.declared.stepping.CallPlan.{CallPlan}
 use Rattle.rv32im_machine.specs.declared.stepping.CallPlan.TheVariants.{Answer, SecretRead, Write, Stop}
@@ -50,7 +47,8 @@ abbrev pub append_plan : Setting → Control → ℕ → ℕ → CallPlan
 append_plan setting control from count =
     if count == 0 then Answer 0
     else (if is_inside setting.base from count
-    then (if nat_le (length control.output + count) setting.output_limit then Write from count else Stop (OutputLimit control.pc))
+    then (if nat_le (length control.output + count) setting.output_limit then Write from count
+    else Stop (OutputLimit control.pc))
     else Answer bad_address)
 
 abbrev pub write_plan : Setting → Control → ℕ → ℕ → ℕ → CallPlan

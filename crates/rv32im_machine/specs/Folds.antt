@@ -1,9 +1,6 @@
 -- What is read off a turn: the next passing, the step, the visits; and the real run.
-use Rattle.std.specs.Prelude.{◌≡◌, ℕ, zero, suc, List, [], ◌∷◌, ◌++◌, refl}
+use Rattle.std.specs.Prelude.{◌≡◌, ℕ, zero, suc, List, [], ◌∷◌, refl}
 use Rattle.flow_base.specs.declared.points.Point.{Point}
-use Rattle.rv32im_machine.specs.declared.stepping.Fault.{Fault}
-use Rattle.rv32im_machine.specs.declared.stepping.Stepped.{Stepped}
-use Rattle.rv32im_machine.specs.declared.stepping.Stepped.TheVariants.{Ran, Exited, Stopped}
 use Rattle.rv32im_machine.specs.State.{State}
 use Rattle.rv32im_machine.specs.Language.{Walk, Looked, Passed, Decided, Gave, Moved, Saved, Restored, Ended}
 use Rattle.rv32im_machine.specs.Rows.{walk_of}

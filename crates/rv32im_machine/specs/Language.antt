@@ -1,9 +1,8 @@
 -- The language of one turn. A `Turn` is a row: which slots are passed, in which order, how each value is made and from
 -- what, and how the turn ends; it mentions no value of a register or of memory. A `Walk` is the same turn as it is walked
 -- from a state, with every value in it; what follows a passing is given the value that goes on from it.
-use Rattle.std.specs.Prelude.{◌≡◌, ℕ, ◌+◌, ◌-◌, ◌*◌, ◌/◌, ◌%◌, ◌^◌, ◌<◌, List, [], ◌∷◌, slice_index, Bool}
+use Rattle.std.specs.Prelude.{ℕ, ◌+◌, ◌/◌, ◌%◌, List, [], ◌∷◌, slice_index}
 use Rattle.flow_base.specs.declared.points.Point.{Point}
-use Rattle.rv32im_decode.specs.declared.instructions.LoadKind.{LoadKind}
 use Rattle.rv32im_decode.specs.Operations.{op_result, decision, target_of, extended}
 use Rattle.rv32im_machine.specs.declared.language.Place.{Place}
 use Rattle.rv32im_machine.specs.declared.language.Place.TheVariants.{Register, Byte, First, Second}
@@ -148,7 +147,8 @@ hold Second value held = record { first = held.first; second = value }
 
 unfoldable pub walked : Setting → List ℕ → Turn → Store → Held → Walk
 walked setting secret (Looks seen go) store held =
-    Looked seen (seen_value setting.base store seen) (walked setting secret (go (seen_value setting.base store seen)) store held)
+    Looked seen (seen_value setting.base store seen)
+    (walked setting secret (go (seen_value setting.base store seen)) store held)
 walked setting secret (Passes point place making sources turn) store held =
     Passed point place (work_of making (values_of setting secret store held sources)) sources
     (made making (values_of setting secret store held sources))
@@ -167,7 +167,8 @@ walked setting secret (Moves place shape source turn) store held =
     (hold place (shaped shape (value_of setting secret store held source ∷ [])) held))
 walked setting secret (Saves turn) store held = Saved (walked setting secret turn (saved store) held)
 walked setting secret (Restores registers turn) store held =
-    Restored registers (walked setting secret turn store held) (walked setting secret turn (restored registers store) held)
+    Restored registers (walked setting secret turn store held)
+    (walked setting secret turn (restored registers store) held)
 walked setting secret (Ends control) store held =
     Ended (record { setting = setting; secret = secret; control = control; store = store })
 
@@ -175,7 +176,11 @@ walked setting secret (Ends control) store held =
 abbrev pub walk : State → Turn → Store → Held → Walk
 walk state turn store held = walked state.setting state.secret turn store held
 
--- the same turn, walked after a change
+-- a turn from a state
+abbrev pub turn_walk : State → Turn → Walk
+turn_walk state turn = walk state turn state.store none_held
+
+-- a state after a change of its store, and of its control
 abbrev pub with_store : Store → State → State
 with_store store state = record state { store = store }
 

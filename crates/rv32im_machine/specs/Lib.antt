@@ -5,3 +5,4 @@ pub mod Rows
 pub mod Folds
 pub mod Playing
 pub mod Start
+pub mod Laws

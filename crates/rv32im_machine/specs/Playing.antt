@@ -1,5 +1,5 @@
 -- Whoever is handed the values of a turn that is walked.
-use Rattle.std.specs.Prelude.{◌≡◌, ℕ, ◌+◌, ◌<◌, ◌^◌, Bool, true, false, Result, Ok, Err}
+use Rattle.std.specs.Prelude.{◌+◌, ◌<◌, ◌^◌, Bool, true, false, Result, Ok, Err}
 use Rattle.rv32im_machine.specs.declared.language.Place.{Place}
 use Rattle.rv32im_machine.specs.declared.language.Place.TheVariants.{Register, Byte, First, Second}
 use Rattle.rv32im_machine.specs.declared.language.Source.{Source}
@@ -19,7 +19,8 @@ outcome (Ok done) state tape = Finished state tape
 outcome (Err stop) state tape = Halted stop
 
 -- what may be played after an answer may be played before it
-abbrev pub Goes : {A Stop Tape : Type 0} → Result A Stop → (A → Played Stop Tape → Type 0) → (Played Stop Tape → Type 0) → Type 0
+abbrev pub Goes : {A Stop Tape : Type 0} → Result A Stop → (A → Played Stop Tape → Type 0)
+    → (Played Stop Tape → Type 0) → Type 0
 Goes {Stop = Stop} {Tape = Tape} (Ok answer) after before = (out : Played Stop Tape) → after answer out → before out
 Goes (Err stop) after before = before (Halted stop)
 

@@ -1,5 +1,5 @@
 -- One row for each instruction (RISC-V Unprivileged ISA): the slots that it passes, in order, and how the turn ends.
-use Rattle.std.specs.Prelude.{ℕ, ◌+◌, ◌-◌, ◌%◌, ◌^◌, ◌==◌, Bool, true, false, if◌then◌else◌, Option, Some, None}
+use Rattle.std.specs.Prelude.{ℕ, ◌+◌, ◌%◌, ◌^◌, ◌==◌, Bool, true, false, if◌then◌else◌, Option, Some, None}
 use Rattle.flow_base.specs.declared.points.Slot.TheVariants.{First as FirstSlot, Second as SecondSlot, Address, Result as ResultSlot, Decision as DecisionSlot, Number}
 use Rattle.rv32im_decode.specs.declared.instructions.Instr.{Instr}
 use Rattle.rv32im_decode.specs.declared.instructions.Instr.TheVariants.{Lui, Auipc, Jal, Jalr, Branch, Load, Store as StoreInstr, OpImm, Op, Fence, Ecall, Ebreak}
@@ -27,7 +27,7 @@ use Rattle.rv32im_machine.specs.declared.language.Operation.TheVariants.{Result,
 use Rattle.rv32im_machine.specs.declared.language.Seen.TheVariants.{Word}
 use Rattle.rv32im_machine.specs.State.{Setting, Control, State, is_inside, onward, moved_to, ended}
 use Rattle.rv32im_machine.specs.Language.{Turn, Looks, Passes, Decides, Moves, Ends, Shaped, Computed, Walk, walk, none_held}
-use Rattle.rv32im_machine.specs.Calls.{point, call_row, call_word}
+use Rattle.rv32im_machine.specs.Calls.{point, call_row}
 
 abbrev pub stops : Fault → Control → Turn
 stops fault control = Ends (ended (Stopped fault) control)
@@ -56,7 +56,8 @@ loaded_from Lw address = BytesFour address
 
 abbrev pub load_at : LoadKind → ℕ → ℕ → Control → Turn
 load_at kind rd address control =
-    Passes (point control ResultSlot) (Register rd) (Shaped (Extended kind)) (loaded_from kind address) (Ends (onward control))
+    Passes (point control ResultSlot) (Register rd) (Shaped (Extended kind)) (loaded_from kind address)
+    (Ends (onward control))
 
 abbrev pub load_checked : LoadKind → ℕ → Setting → Control → ℕ → Turn
 load_checked kind rd setting control address =

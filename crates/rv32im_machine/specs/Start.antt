@@ -3,7 +3,7 @@ use Rattle.std.specs.Prelude.{◌≡◌, ℕ, ◌+◌, ◌-◌, ◌<◌, ◌≤�
 use Rattle.elf32_loader.specs.declared.segments.Segment.{Segment}
 use Rattle.elf32_loader.specs.Pictures.{Picture, mem}
 use Rattle.rv32im_machine.specs.declared.stepping.Stepped.TheVariants.{Ran}
-use Rattle.rv32im_machine.specs.State.{State, Setting, Control, Store, memory_size, byte_of}
+use Rattle.rv32im_machine.specs.State.{State, memory_size, byte_of}
 
 -- zeros, as a list that is never written out
 unfoldable pub zeros : ℕ → List ℕ
@@ -29,7 +29,12 @@ first_registers base = slice_set (replicate 32 0) 2 (base + memory_size - 64)
 -- a guest starts at the entry, with both inputs unread and no output
 abbrev pub start_on : List ℕ → ℕ → ℕ → List ℕ → List ℕ → ℕ → State
 start_on memory base entry public_input secret output_limit = record {
-  setting = record { base = base; public_input = public_input; secret_length = length secret; output_limit = output_limit };
+  setting = record {
+    base = base;
+    public_input = public_input;
+    secret_length = length secret;
+    output_limit = output_limit;
+  };
   secret = secret;
   control = record { pc = entry; public_at = 0; secret_at = 0; output = []; mode = Ran; region = 0 };
   store = record { registers = first_registers base; memory = memory; kept = replicate 32 0 };

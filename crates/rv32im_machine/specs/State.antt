@@ -1,8 +1,6 @@
 -- A state of the guest machine.
-use Rattle.std.specs.Prelude.{◌≡◌, ℕ, ◌+◌, ◌-◌, ◌*◌, ◌%◌, ◌^◌, ◌==◌, ◌&&◌, ◌||◌, nat_le, List, [], ◌∷◌, ◌++◌, length, slice_index, slice_set, Bool, if◌then◌else◌}
+use Rattle.std.specs.Prelude.{ℕ, ◌+◌, ◌-◌, ◌*◌, ◌%◌, ◌^◌, ◌==◌, ◌&&◌, ◌||◌, nat_le, List, [], ◌∷◌, ◌++◌, slice_index, slice_set, Bool, if◌then◌else◌}
 use Rattle.rv32im_machine.specs.declared.stepping.Stepped.{Stepped}
-use Rattle.rv32im_machine.specs.declared.stepping.Stepped.TheVariants.{Ran, Exited, Stopped}
-use Rattle.rv32im_machine.specs.declared.stepping.Fault.{Fault}
 
 -- guest memory has 16 MiB
 abbrev pub memory_size : ℕ

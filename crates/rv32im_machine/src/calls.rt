@@ -1,11 +1,11 @@
 #![tactic(auto, unfolding(crate::specs::Language::walked))]
 
-ghost use Rattle.std.specs.Prelude.{◌≡◌, ℕ, ◌+◌, ◌-◌, ◌*◌, ◌/◌, ◌%◌, ◌^◌, ◌<◌, ◌≤◌, length, IsTrue, min};
+ghost use Rattle.std.specs.Prelude.{◌≡◌, ℕ, ◌+◌, ◌-◌, ◌^◌, ◌<◌, ◌≤◌, length, IsTrue};
 ghost use Rattle.flow_base.specs.Points.{is_slot, width_of};
 ghost use Rattle.rv32im_machine.specs.State.{is_inside, register_of};
-ghost use Rattle.rv32im_machine.specs.Language.{Walk, Decided, walk, none_held};
+ghost use Rattle.rv32im_machine.specs.Language.{turn_walk, Walk, Decided};
 ghost use Rattle.rv32im_machine.specs.Rows.{row_walk};
-ghost use Rattle.rv32im_machine.specs.Calls.{point, secret_plan, read_plan, append_plan, write_plan, unbuilt_call, call_word, bad_address, answered, secret_reads, writes, planned, with_arguments, exits, call_row, MayPerform};
+ghost use Rattle.rv32im_machine.specs.Calls.{point, secret_plan, read_plan, append_plan, write_plan, unbuilt_call, answered, secret_reads, writes, planned, with_arguments, exits, call_row, MayPerform};
 ghost use Rattle.rv32im_machine.specs.Playing.{Goes, outcome};
 
 use crate::language::{Part, Place, Shape, Source, Sources, Work};
@@ -89,7 +89,8 @@ fn plan_write(machine: &Machine, descriptor: u32, from: u32, count: u32) -> Call
 
 /// The answer of a call is put into a0.
 fn answer<P: Passer>(machine: &mut Machine, passer: &mut P, value: u32) -> Result<(), P::Stop>
-    ensures { P.Plays passer.old (walk machine.old (answered value machine.old.control) machine.old.store none_held) (outcome result machine.new (P.tape passer.new)) }
+    ensures { P.Plays passer.old (turn_walk machine.old (answered value machine.old.control))
+        (outcome result machine.new (P.tape passer.new)) }
 {
     passer.move_to(
         Place::Register(10),
@@ -104,7 +105,8 @@ fn answer<P: Passer>(machine: &mut Machine, passer: &mut P, value: u32) -> Resul
 
 /// The exit: the low 8 bits of a0 are the status.
 fn exit<P: Passer>(machine: &mut Machine, passer: &mut P) -> Result<(), P::Stop>
-    ensures { P.Plays passer.old (walk machine.old (exits machine.old.control) machine.old.store none_held) (outcome result machine.new (P.tape passer.new)) }
+    ensures { P.Plays passer.old (turn_walk machine.old (exits machine.old.control))
+        (outcome result machine.new (P.tape passer.new)) }
 {
     let low = machine.register(10) & 0xff;
     let sources = Sources::One(Source::At(Place::Register(10)));
@@ -128,7 +130,8 @@ fn read_secret<P: Passer>(
     requires inside { IsTrue (is_inside machine.old.setting.base to count) }
     requires below { to + count ≤ 2 ^ 32 }
     requires left { machine.old.control.secret_at + count ≤ machine.old.setting.secret_length }
-    ensures { P.Plays passer.old (walk machine.old (secret_reads count to count machine.old.control) machine.old.store none_held) (outcome result machine.new (P.tape passer.new)) }
+    ensures { P.Plays passer.old (turn_walk machine.old (secret_reads count to count machine.old.control))
+        (outcome result machine.new (P.tape passer.new)) }
 {
     for i in 0..count {
         let address = to + i;
@@ -161,7 +164,8 @@ fn write_output<P: Passer>(
     requires inside { IsTrue (is_inside machine.old.setting.base from count) }
     requires below { from + count ≤ 2 ^ 32 }
     requires room { length machine.old.control.output + count ≤ machine.old.setting.output_limit }
-    ensures { P.Plays passer.old (walk machine.old (writes count from count machine.old.control) machine.old.store none_held) (outcome result machine.new (P.tape passer.new)) }
+    ensures { P.Plays passer.old (turn_walk machine.old (writes count from count machine.old.control))
+        (outcome result machine.new (P.tape passer.new)) }
 {
     for i in 0..count {
         let address = from + i;
@@ -185,7 +189,8 @@ fn write_output<P: Passer>(
 /// A plan is carried out.
 fn perform<P: Passer>(machine: &mut Machine, passer: &mut P, plan: CallPlan) -> Result<(), P::Stop>
     requires { MayPerform plan machine.old }
-    ensures { P.Plays passer.old (walk machine.old (planned plan machine.old.control) machine.old.store none_held) (outcome result machine.new (P.tape passer.new)) }
+    ensures { P.Plays passer.old (turn_walk machine.old (planned plan machine.old.control))
+        (outcome result machine.new (P.tape passer.new)) }
 {
     match plan {
         CallPlan::Answer(value) => answer(machine, passer, value),
@@ -208,7 +213,9 @@ fn argument<P: Passer>(
     requires slot { IsTrue (is_slot slot) }
     requires width { width_of slot ≡ 4294967295 }
     requires register { register < 32 }
-    ensures { (go : ℕ → Walk) → Goes result (λ other. P.Plays passer.new (go other)) (P.Plays passer.old (Decided (point machine.now.control slot) (Work.Shaped Shape.Copied) (Sources.One (Source.At (Place.Register register))) (register_of machine.now.store register) go)) }
+    ensures { (go : ℕ → Walk) → Goes result (λ other. P.Plays passer.new (go other))
+        (P.Plays passer.old (Decided (point machine.now.control slot) (Work.Shaped Shape.Copied)
+        (Sources.One (Source.At (Place.Register register))) (register_of machine.now.store register) go)) }
 {
     let sources = Sources::One(Source::At(Place::Register(register)));
     passer.decide(
@@ -221,7 +228,10 @@ fn argument<P: Passer>(
 
 /// A read call (63).
 fn read_turn<P: Passer>(machine: &mut Machine, passer: &mut P) -> Result<(), P::Stop>
-    ensures { P.Plays passer.old (walk machine.old (with_arguments (read_plan machine.old.setting machine.old.control) machine.old.control) machine.old.store none_held) (outcome result machine.new (P.tape passer.new)) }
+    ensures { P.Plays passer.old
+        (turn_walk machine.old
+        (with_arguments (read_plan machine.old.setting machine.old.control) machine.old.control))
+        (outcome result machine.new (P.tape passer.new)) }
 {
     let descriptor = argument(machine, passer, Slot::Arg0, 10)?;
     let to = argument(machine, passer, Slot::Arg1, 11)?;
@@ -232,7 +242,10 @@ fn read_turn<P: Passer>(machine: &mut Machine, passer: &mut P) -> Result<(), P::
 
 /// A write call (64).
 fn write_turn<P: Passer>(machine: &mut Machine, passer: &mut P) -> Result<(), P::Stop>
-    ensures { P.Plays passer.old (walk machine.old (with_arguments (write_plan machine.old.setting machine.old.control) machine.old.control) machine.old.store none_held) (outcome result machine.new (P.tape passer.new)) }
+    ensures { P.Plays passer.old
+        (turn_walk machine.old
+        (with_arguments (write_plan machine.old.setting machine.old.control) machine.old.control))
+        (outcome result machine.new (P.tape passer.new)) }
 {
     let descriptor = argument(machine, passer, Slot::Arg0, 10)?;
     let from = argument(machine, passer, Slot::Arg1, 11)?;
@@ -247,7 +260,8 @@ fn numbered_turn<P: Passer>(
     passer: &mut P,
     number: u32,
 ) -> Result<(), P::Stop>
-    ensures { P.Plays passer.old (walk machine.old (call_row number machine.old.setting machine.old.control) machine.old.store none_held) (outcome result machine.new (P.tape passer.new)) }
+    ensures { P.Plays passer.old (turn_walk machine.old (call_row number machine.old.setting machine.old.control))
+        (outcome result machine.new (P.tape passer.new)) }
 {
     match number {
         63 => read_turn(machine, passer),
@@ -265,8 +279,9 @@ fn numbered_turn<P: Passer>(
 }
 
 /// ECALL.
-pub fn call_turn<P: Passer>(machine: &mut Machine, passer: &mut P) -> Result<(), P::Stop>
-    ensures { P.Plays passer.old (row_walk Instr.Ecall machine.old) (outcome result machine.new (P.tape passer.new)) }
+pub(crate) fn call_turn<P: Passer>(machine: &mut Machine, passer: &mut P) -> Result<(), P::Stop>
+    ensures { P.Plays passer.old (row_walk Instr.Ecall machine.old)
+        (outcome result machine.new (P.tape passer.new)) }
 {
     let number = argument(machine, passer, Slot::Number, 17)?;
     numbered_turn(machine, passer, number)

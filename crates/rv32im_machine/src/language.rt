@@ -18,7 +18,8 @@ pub enum Source {
     Secret(u32),
 }
 
-/// Where the values of one passing come from; the last three are the bytes from an address on, the lowest address first.
+/// Where the values of one passing come from; the last three are the bytes from an address on, the lowest address
+/// first.
 #[derive(Clone, Copy, Debug, PartialEq, Eq)]
 pub enum Sources {
     One(Source),

@@ -3,16 +3,25 @@
 #![tactic(auto)]
 
 mod calls;
+mod jumps;
 mod language;
+mod laws;
+mod loads_stores;
 mod machines;
+mod operands;
 mod passing;
 mod plain;
+mod results;
 mod starting;
 mod stepping;
 mod walker;
 
 pub use language::{Operation, Part, Place, Seen, Shape, Source, Sources, Work};
+pub use laws::{ended_machines_stand_still, next_follows_the_step};
 pub use machines::Machine;
 pub use passing::Passer;
 pub use stepping::{CallPlan, Fault, Stepped};
 pub use walker::turn_by;
+
+#[cfg(test)]
+mod tests;

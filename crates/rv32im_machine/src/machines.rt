@@ -1,7 +1,7 @@
 #![tactic(auto, unfolding(crate::specs::State::with_register, crate::specs::State::with_byte, crate::specs::State::saved, crate::specs::State::moved_to, crate::specs::State::onward, crate::specs::State::ended, crate::specs::State::secret_taken, crate::specs::State::emitted))]
 
-ghost use Rattle.std.specs.Prelude.{◌≡◌, ℕ, ◌+◌, ◌-◌, ◌*◌, ◌/◌, ◌%◌, ◌^◌, ◌<◌, ◌≤◌, [], length, slice_index, vec_len, vec_capacity, IsTrue};
-ghost use Rattle.rv32im_machine.specs.State.{State, memory_size, is_inside, register_of, byte_of, word_at, with_register, with_byte, saved, moved_to, onward, ended, secret_taken, emitted};
+ghost use Rattle.std.specs.Prelude.{◌≡◌, ◌+◌, ◌-◌, ◌^◌, ◌<◌, ◌≤◌, [], length, slice_index, vec_len, vec_capacity, IsTrue};
+ghost use Rattle.rv32im_machine.specs.State.{State, memory_size, is_inside, register_of, byte_of, word_at, with_register, with_byte, moved_to, onward, ended, secret_taken, emitted};
 ghost use Rattle.rv32im_machine.specs.Language.{with_store, with_control};
 ghost use Rattle.rv32im_machine.specs.Calls.{point};
 ghost use Rattle.rv32im_machine.specs.Start.{start_on};
@@ -12,7 +12,7 @@ use flow_base::{Bytes, Point, Registers, Slot};
 use std::marker::Model;
 
 /// Guest memory has 16 MiB.
-pub const MEMORY_SIZE: u32 = 16_777_216;
+pub(crate) const MEMORY_SIZE: u32 = 16_777_216;
 
 /// A guest with its memory, registers, inputs and output; contracts see it as a state.
 #[derive(Drop)]
@@ -39,9 +39,21 @@ impl Model for Machine {
     ghost Value = { State };
 
     ghost view = { λ m. record {
-      setting = record { base = m.base; public_input = m.public; secret_length = length m.secret; output_limit = m.output_limit };
+      setting = record {
+        base = m.base;
+        public_input = m.public;
+        secret_length = length m.secret;
+        output_limit = m.output_limit;
+      };
       secret = m.secret;
-      control = record { pc = m.pc; public_at = m.public_at; secret_at = m.secret_at; output = m.output.items; mode = m.mode; region = m.region };
+      control = record {
+        pc = m.pc;
+        public_at = m.public_at;
+        secret_at = m.secret_at;
+        output = m.output.items;
+        mode = m.mode;
+        region = m.region;
+      };
       store = record { registers = m.registers; memory = m.memory.items; kept = m.kept };
     } };
 
@@ -115,6 +127,13 @@ impl Machine {
         self.output.as_slice()
     }
 
+    /// The bytes that were written, handed out. It takes no memory.
+    pub fn into_output(self) -> Bytes
+        ensures { result ≡ self.control.output }
+    {
+        Bytes::from_vec(self.output)
+    }
+
     /// Whether the machine has run on, has exited or is stopped.
     pub fn mode(&self) -> Stepped
         ensures { result ≡ self.now.control.mode }
@@ -123,7 +142,7 @@ impl Machine {
     }
 
     /// The point of a slot at the program counter, in the entered region (0 outside regions).
-    pub fn point(&self, slot: Slot) -> Point
+    pub(crate) fn point(&self, slot: Slot) -> Point
         requires { IsTrue (is_slot slot) }
         ensures { result ≡ point self.now.control slot }
     {
@@ -135,7 +154,7 @@ impl Machine {
     }
 
     /// The value of a register, 0 to 31.
-    pub fn register(&self, register: u8) -> u32
+    pub(crate) fn register(&self, register: u8) -> u32
         requires { register < 32 }
         ensures { result ≡ register_of self.now.store register }
     {
@@ -143,7 +162,7 @@ impl Machine {
     }
 
     /// Whether each of `count` bytes from the address on is one of guest memory.
-    pub fn is_inside(&self, address: u32, count: u32) -> bool
+    pub(crate) fn is_inside(&self, address: u32, count: u32) -> bool
         ensures inside { result ≡ is_inside self.now.setting.base address count }
         ensures below { IsTrue result → address + count ≤ 2 ^ 32 }
     {
@@ -162,7 +181,7 @@ impl Machine {
     }
 
     /// The four bytes from an address on as a word, the lowest byte first.
-    pub fn word(&self, address: u32) -> u32
+    pub(crate) fn word(&self, address: u32) -> u32
         requires { IsTrue (is_inside self.now.setting.base address 4) }
         ensures { result ≡ word_at self.now.setting.base self.now.store address }
     {
@@ -200,7 +219,7 @@ impl Machine {
     }
 
     /// Goes on to the next instruction.
-    pub fn onward(&mut self)
+    pub(crate) fn onward(&mut self)
         ensures { self.new ≡ with_control (onward self.old.control) self.old }
     {
         self.pc = self.pc.wrapping_add(4);
@@ -214,21 +233,21 @@ impl Machine {
     }
 
     /// How many secret bytes are not yet read.
-    pub fn secret_left(&self) -> u32
+    pub(crate) fn secret_left(&self) -> u32
         ensures { result ≡ self.now.setting.secret_length - self.now.control.secret_at }
     {
         (self.secret.len() - self.secret_at) as u32
     }
 
     /// The index of the next secret byte.
-    pub fn secret_at(&self) -> u32
+    pub(crate) fn secret_at(&self) -> u32
         ensures { result ≡ self.now.control.secret_at }
     {
         self.secret_at as u32
     }
 
     /// The next secret byte, which stays unread.
-    pub fn next_secret(&self) -> u8
+    pub(crate) fn next_secret(&self) -> u8
         requires { self.now.control.secret_at < self.now.setting.secret_length }
         ensures { result ≡ slice_index self.now.secret self.now.control.secret_at }
     {
@@ -236,15 +255,26 @@ impl Machine {
     }
 
     /// Reads the next secret byte.
-    pub fn take_secret(&mut self)
+    pub(crate) fn take_secret(&mut self)
         requires { self.old.control.secret_at < self.old.setting.secret_length }
         ensures { self.new ≡ with_control (secret_taken self.old.control) self.old }
     {
         self.secret_at += 1;
     }
 
+    /// The next secret byte, which is then read.
+    pub fn secret_byte(&mut self) -> u8
+        requires { self.old.control.secret_at < self.old.setting.secret_length }
+        ensures byte { result ≡ slice_index self.old.secret self.old.control.secret_at }
+        ensures taken { self.new ≡ with_control (secret_taken self.old.control) self.old }
+    {
+        let byte = self.next_secret();
+        self.take_secret();
+        byte
+    }
+
     /// How many more bytes the output may have.
-    pub fn output_left(&self) -> u32
+    pub(crate) fn output_left(&self) -> u32
         ensures left { result ≡ self.now.setting.output_limit - length self.now.control.output }
         ensures within { length self.now.control.output ≤ self.now.setting.output_limit }
     {

@@ -1,7 +1,7 @@
-ghost use Rattle.std.specs.Prelude.{◌≡◌, ◌+◌, ◌-◌, ◌^◌, ◌<◌, ◌≤◌, IfOk, IsTrue, length, vec_len, vec_capacity, OnOk};
+ghost use Rattle.std.specs.Prelude.{◌≡◌, ◌+◌, ◌-◌, ◌^◌, ◌<◌, ◌≤◌, IfOk, IsTrue, length, vec_len};
 ghost use Rattle.elf32_loader.specs.Images.{picture_of};
 ghost use Rattle.elf32_loader.specs.Segments.{are_inside};
-ghost use Rattle.rv32im_machine.specs.Start.{zeros, laid, laid_at, first_memory, start};
+ghost use Rattle.rv32im_machine.specs.Start.{HoldsImage, zeros, laid, laid_at, start};
 
 use crate::machines::{MEMORY_SIZE, Machine};
 use elf32_loader::{Image, Segment};
@@ -44,8 +44,11 @@ fn lay_segments(memory: &mut Vec<u8>, base: u32, segments: &[Segment])
 }
 
 impl Machine {
-    /// A guest at its start, with copies of both inputs, and with room for `output_limit` bytes of output: no later call
-    /// takes memory. `NoMemory` where there is not enough.
+    /// A guest at its start: its memory is what the image puts there, 0 where no segment stands, the program counter is
+    /// the entry, and the registers are 0 but x2, the stack pointer, which is the memory's end minus 64.
+    ///
+    /// It has copies of both inputs, and room for `output_limit` bytes of output, so no later call takes memory.
+    /// `NoMemory` comes where there is not enough.
     #[tactic(auto, unfolding(crate::specs::Start::first_memory))]
     pub fn new(
         alloc: Global,
@@ -55,7 +58,9 @@ impl Machine {
         output_limit: u32,
     ) -> Result<Machine, NoMemory>
         requires { length secret.now < 2 ^ 32 }
-        ensures { IfOk result (λ machine. machine ≡ start (picture_of image.now) public.now secret.now output_limit) }
+        ensures start { IfOk result (λ machine.
+            machine ≡ start (picture_of image.now) public.now secret.now output_limit) }
+        ensures memory { IfOk result (λ machine. HoldsImage (picture_of image.now) machine) }
     {
         let mut memory = zeroed(alloc, MEMORY_SIZE as usize)?;
         lay_segments(&mut memory, image.base, image.segments.as_slice());

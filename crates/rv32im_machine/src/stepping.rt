@@ -20,14 +20,16 @@ pub enum Fault {
 /// What a step answers, and the mode of a machine after it.
 #[derive(Clone, Copy, Debug, PartialEq, Eq)]
 pub enum Stepped {
+    /// The turn is made, and the run goes on.
     Ran,
     /// The guest has exited with this status.
     Exited(u8),
+    /// The guest is stopped for this reason.
     Stopped(Fault),
 }
 
-/// What a call does, once its arguments have gone on: an answer that is put into a0, bytes to read from the secret input,
-/// bytes to write, or a stop. Addresses and counts are in bytes.
+/// What a call does, once its arguments have gone on: an answer that is put into a0, bytes to read from the secret
+/// input, bytes to write, or a stop. Addresses and counts are in bytes.
 #[derive(Clone, Copy, Debug, PartialEq, Eq)]
 pub enum CallPlan {
     Answer(u32),

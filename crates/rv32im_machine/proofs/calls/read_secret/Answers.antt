@@ -1,6 +1,5 @@
-use Rattle.std.proofs.Common.{rules, arith, ◌≡◌, ℕ, suc, ◌+◌, ◌-◌, ◌<◌, ◌≤◌, refl, sym, ◌∙◌, ap, add-one}
-use Rattle.rv32im_machine.specs.Language.{walk, walked, none_held}
-use Rattle.rv32im_machine.specs.Calls.{secret_reads, answered, point}
+use Rattle.std.proofs.Common.{arith, ◌≡◌, ◌+◌, ◌-◌}
+use Rattle.rv32im_machine.specs.Language.{walked}
 use Rattle.rv32im_machine.specs.State.{secret_taken}
 use Rattle.rv32im_machine.proofs.Rounds.{secret_reads-none, secret_reads-more}
 use Rattle.rv32im_machine.proofs.calls.read_secret.Goals as goal

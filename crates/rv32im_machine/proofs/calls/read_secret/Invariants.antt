@@ -1,8 +1,7 @@
-use Rattle.std.proofs.Common.{◌≡◌, ℕ, ◌+◌, ◌-◌}
+use Rattle.std.proofs.Common.{◌≡◌, ◌+◌, ◌-◌}
 use Rattle.rv32im_machine.specs.Language.{walk, none_held}
 use Rattle.rv32im_machine.specs.Calls.{secret_reads}
 use Rattle.rv32im_machine.specs.Playing.{Played}
-use Rattle.rv32im_machine.specs.State.{Setting}
 use Rattle.rv32im_machine.proofs.calls.read_secret.Given as goal
 
 abbrev pub invariant-loop-i : goal.invariant-loop-i

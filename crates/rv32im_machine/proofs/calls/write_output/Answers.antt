@@ -1,4 +1,4 @@
-use Rattle.std.proofs.Common.{arith, ◌≡◌, ℕ, ◌+◌, ◌-◌, [], ◌∷◌, ◌++◌, length, length-append}
+use Rattle.std.proofs.Common.{arith, ◌≡◌, ◌+◌, ◌-◌, [], ◌∷◌, length-append}
 use Rattle.rv32im_machine.specs.Language.{walked}
 use Rattle.rv32im_machine.specs.State.{emitted}
 use Rattle.rv32im_machine.proofs.Rounds.{writes-none, writes-more}

@@ -1,4 +1,4 @@
-use Rattle.std.proofs.Common.{◌≡◌, rules, to_z, of_z, w32}
+use Rattle.std.proofs.Common.{rules, w32}
 use Rattle.std.proofs.lemmas.Int.{to_z-of_z}
 use mir.Val.{SFits}
 use Rattle.rv32im_machine.proofs.walker.instr_turn.Goals as goal

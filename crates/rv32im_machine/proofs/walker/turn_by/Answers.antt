@@ -1,4 +1,3 @@
-use Rattle.std.proofs.Common.{◌≡◌, sym}
 use Rattle.rv32im_machine.specs.Language.{walked}
 use Rattle.rv32im_machine.proofs.walker.turn_by.Goals as goal
 

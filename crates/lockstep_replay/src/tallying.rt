@@ -1,0 +1,128 @@
+ghost use Rattle.std.specs.Prelude.{◌≡◌, ℕ, ◌+◌, ◌≤◌, ◌<◌, ◌^◌, ◌++◌, length, IsTrue};
+ghost use Rattle.flow_base.specs.Words.{bits_under};
+ghost use Rattle.lockstep_replay.specs.Cuts.{mask_of};
+ghost use Rattle.lockstep_replay.specs.Verdicts.{counted_bits};
+ghost use Rattle.lockstep_replay.specs.Tapes.{Tally, Tallies};
+ghost use Rattle.lockstep_replay.specs.Sides.{tally_of};
+
+use crate::tallies::Tallying;
+use crossing_bits::{Bits, bit_count};
+use flow_base::Point;
+use rv32im_machine::{Passer, Place, Seen, Shape, Source, Sources, Work};
+use std::convert::Infallible;
+
+/// Counts the bits of a value under a mask, and keeps them as long as the budget holds; the answer is the number so far.
+#[tactic(auto, using(crossing_bits::proofs::Places::length_bits_under, crossing_bits::proofs::Places::count_bound))]
+fn keep(bits: &mut Bits, needed: u32, budget: u32, value: u32, mask: u32) -> u32
+    requires room { budget ≤ length bits.old.bits + bits.old.room }
+    requires kept { length bits.old.bits ≤ needed }
+    requires small { budget < 4294967295 }
+    ensures needed { result ≡ counted_bits (needed + length (bits_under value mask)) }
+    ensures pushed { needed + length (bits_under value mask) ≤ budget → bits.new.bits ≡ bits.old.bits ++ bits_under value mask }
+    ensures taken { bits.new.taken ≡ bits.old.taken }
+    ensures room { budget ≤ length bits.new.bits + bits.new.room }
+    ensures kept { length bits.new.bits ≤ result }
+{
+    let count = bit_count(mask);
+    let so_far = needed.saturating_add(count);
+    if so_far <= budget {
+        push_fitting(bits, value, mask);
+    }
+    so_far
+}
+
+/// Appends the bits of a value under a mask, for which there is room.
+#[tactic(auto, using(crossing_bits::proofs::Places::length_bits_under))]
+fn push_fitting(bits: &mut Bits, value: u32, mask: u32)
+    requires room { length (bits_under value mask) ≤ bits.old.room }
+    requires few { length bits.old.bits + length (bits_under value mask) < 2 ^ 32 }
+    ensures pushed { bits.new.bits ≡ bits.old.bits ++ bits_under value mask }
+    ensures taken { bits.new.taken ≡ bits.old.taken }
+    ensures room { bits.old.room ≤ bits.new.room + length (bits_under value mask) }
+{
+    let _ = bits.push_masked(value, mask);
+}
+
+impl Tallying<'_> {
+    /// The bits of a value under the mask of its point cross.
+    fn cross(&mut self, point: Point, value: u32)
+        ensures cut { self.new.cut ≡ self.old.cut }
+        ensures tally { Tallies (tally_of self.old) (bits_under value (mask_of self.old.cut.now.points point)) (tally_of self.new) }
+    {
+        let mask = self.cut.mask(point);
+        self.needed = keep(&mut self.bits, self.needed, self.budget, value, mask);
+    }
+}
+
+#[tactic(auto, unfolding(crate::specs::Runs::crossing, rv32im_machine::specs::Folds::real_end))]
+impl<'a> Passer for Tallying<'a> {
+    ghost use Rattle.std.specs.Prelude.{◌≡◌, ℕ, List};
+    ghost use Rattle.flow_base.specs.declared.points.Point.{Point as ThePoint};
+    ghost use Rattle.rv32im_machine.specs.Folds.{real_end};
+    ghost use Rattle.lockstep_replay.specs.Cuts.{MaskAt};
+    ghost use Rattle.lockstep_replay.specs.Runs.{crossing};
+    ghost use Rattle.lockstep_replay.specs.Tapes.{Tally, Crosses};
+    ghost use Rattle.lockstep_replay.specs.Sides.{tally_of};
+    ghost use Rattle.lockstep_replay.specs.Ends.{crosses-Ended};
+    ghost use Rattle.std.specs.declared.convert.Infallible.{Infallible as Never};
+
+    type Stop = Infallible;
+
+    ghost Tape = { Tally };
+
+    ghost tape = { λ side. tally_of side };
+
+    ghost Plays = { λ side walk out. (past : List ThePoint) → Crosses (tally_of side) (crossing (MaskAt side.cut.now.points) past walk) (real_end walk) out };
+
+    fn look(&mut self, _seen: Seen, _value: u32) -> Result<(), Infallible> {
+        Ok(())
+    }
+
+    fn pass(
+        &mut self,
+        point: Point,
+        _place: Place,
+        _work: Work,
+        _sources: Sources,
+        value: u32,
+    ) -> Result<u32, Infallible> {
+        self.cross(point, value);
+        Ok(value)
+    }
+
+    fn decide(
+        &mut self,
+        point: Point,
+        _work: Work,
+        _sources: Sources,
+        value: u32,
+    ) -> Result<u32, Infallible> {
+        self.cross(point, value);
+        Ok(value)
+    }
+
+    fn give(&mut self, point: Point, _place: Place, value: u32) -> Result<u32, Infallible> {
+        self.cross(point, value);
+        Ok(value)
+    }
+
+    fn move_to(
+        &mut self,
+        _place: Place,
+        _shape: Shape,
+        _source: Source,
+        _value: u32,
+    ) -> Result<(), Infallible> {
+        Ok(())
+    }
+
+    fn save(&mut self) -> Result<(), Infallible> {
+        Ok(())
+    }
+
+    fn restore(&mut self, _registers: &[u8]) -> Result<bool, Infallible> {
+        Ok(false)
+    }
+
+    ghost at_end = { λ side state past. crosses-Ended Never (tally_of side) (MaskAt side.cut.now.points) past state side.word };
+}

@@ -1,0 +1,44 @@
+-- The step, and what comes next, read off a walk.
+use Rattle.std.proofs.Common.{◌≡◌, ◌≢◌, ℕ, zero, suc, ◌<◌, arith, length, map, refl, take}
+use Rattle.std.specs.Prelude.{slice_index_or}
+use Rattle.rv32im_machine.specs.declared.stepping.Stepped.{Stepped}
+use Rattle.rv32im_machine.specs.declared.stepping.Stepped.TheVariants.{Ran, Exited, Stopped}
+use Rattle.rv32im_machine.specs.Folds.{Ending, Passing, Visit, coming, real_end, visits_in}
+use Rattle.rv32im_machine.specs.Language.{Walk, Looked, Passed, Decided, Gave, Moved, Saved, Restored, Ended, none_held, walk, walked}
+use Rattle.rv32im_machine.specs.Rows.{turn_in}
+use Rattle.rv32im_machine.specs.State.{State}
+
+-- the values that a walk passes lead to its end
+pub coming-end : (walk : Walk) → coming walk (map (λ visit. visit.value) (visits_in walk)) ≡ Ending (real_end walk)
+unfolding coming real_end visits_in
+coming-end (Looked seen value walk) = coming-end walk
+coming-end (Passed point place work sources value go) = coming-end (go value)
+coming-end (Decided point work sources value go) = coming-end (go value)
+coming-end (Gave point place value go) = coming-end (go value)
+coming-end (Moved place shape source value walk) = coming-end walk
+coming-end (Saved walk) = coming-end walk
+coming-end (Restored registers walk replayed) = coming-end walk
+coming-end (Ended state) = refl
+
+-- the values before a visit lead to it
+pub coming-visit : (walk : Walk) (count : ℕ) (other : Visit) → count < length (visits_in walk)
+    → coming walk (map (λ visit. visit.value) (take count (visits_in walk))) ≡ Passing (slice_index_or (visits_in walk) count other)
+unfolding coming visits_in
+coming-visit (Looked seen value walk) count other below = coming-visit walk count other below
+coming-visit (Passed point place work sources value go) zero other below = refl
+coming-visit (Passed point place work sources value go) (suc count) other below = coming-visit (go value) count other (omega arith)
+coming-visit (Decided point work sources value go) zero other below = refl
+coming-visit (Decided point work sources value go) (suc count) other below = coming-visit (go value) count other (omega arith)
+coming-visit (Gave point place value go) zero other below = refl
+coming-visit (Gave point place value go) (suc count) other below = coming-visit (go value) count other (omega arith)
+coming-visit (Moved place shape source value walk) count other below = coming-visit walk count other below
+coming-visit (Saved walk) count other below = coming-visit walk count other below
+coming-visit (Restored registers walk replayed) count other below = coming-visit walk count other below
+coming-visit (Ended state) count other below = absurd (omega arith)
+
+pub stands-in : (mode : Stepped) (state : State) → mode ≢ Ran
+    → real_end (walk state (turn_in mode state.setting state.control) state.store none_held) ≡ state
+unfolding real_end walked
+stands-in Ran state ended = absurd (ended refl)
+stands-in (Exited status) state ended = refl
+stands-in (Stopped fault) state ended = refl

@@ -1,0 +1,143 @@
+#![tactic(auto, unfolding(crate::specs::Language::walked))]
+
+ghost use Rattle.std.specs.Prelude.{◌<◌};
+ghost use Rattle.rv32im_decode.specs.Operations.{word_of};
+ghost use Rattle.rv32im_decode.specs.Encoding.{InRange};
+ghost use Rattle.rv32im_machine.specs.Language.{walk, Held};
+ghost use Rattle.rv32im_machine.specs.Rows.{row_walk, jumps, links, branches};
+ghost use Rattle.rv32im_machine.specs.Playing.{outcome};
+
+use crate::language::{Operation, Place, Shape, Source, Work};
+use crate::machines::Machine;
+use crate::operands::{compute, offset_sources, operand, operand_sources};
+use crate::passing::Passer;
+use crate::stepping::{Fault, Stepped};
+use flow_base::Slot;
+use rv32im_decode::{BranchKind, Instr};
+
+/// JAL.
+pub(crate) fn jump_turn<P: Passer>(
+    machine: &mut Machine,
+    passer: &mut P,
+    rd: u8,
+    offset: i32,
+) -> Result<(), P::Stop>
+    requires { InRange (Instr.Jal rd offset) }
+    ensures { P.Plays passer.old (row_walk (Instr.Jal rd offset) machine.old)
+        (outcome result machine.new (P.tape passer.new)) }
+{
+    let target = machine.pc().wrapping_add_signed(offset);
+    link(machine, passer, rd, target)
+}
+
+/// JALR.
+pub(crate) fn jump_register_turn<P: Passer>(
+    machine: &mut Machine,
+    passer: &mut P,
+    rd: u8,
+    rs1: u8,
+    imm: i32,
+) -> Result<(), P::Stop>
+    requires { InRange (Instr.Jalr rd rs1 imm) }
+    ensures { P.Plays passer.old (row_walk (Instr.Jalr rd rs1 imm) machine.old)
+        (outcome result machine.new (P.tape passer.new)) }
+{
+    let first = operand(machine, passer, Slot::First, Place::First, rs1)?;
+    let second = imm.cast_unsigned();
+    let made = compute(Operation::Target, first, second);
+    let work = Work::Computed(Operation::Target, first, second);
+    let target = passer.decide(
+        machine.point(Slot::Address),
+        work,
+        offset_sources(second),
+        made,
+    )?;
+    link(machine, passer, rd, target)
+}
+
+/// A branch.
+pub(crate) fn branch_turn<P: Passer>(
+    machine: &mut Machine,
+    passer: &mut P,
+    kind: BranchKind,
+    rs1: u8,
+    rs2: u8,
+    offset: i32,
+) -> Result<(), P::Stop>
+    requires { InRange (Instr.Branch kind rs1 rs2 offset) }
+    ensures { P.Plays passer.old (row_walk (Instr.Branch kind rs1 rs2 offset) machine.old)
+        (outcome result machine.new (P.tape passer.new)) }
+{
+    let first = operand(machine, passer, Slot::First, Place::First, rs1)?;
+    let second = operand(machine, passer, Slot::Second, Place::Second, rs2)?;
+    let operation = Operation::Decision(kind);
+    let made = compute(operation, first, second);
+    let work = Work::Computed(operation, first, second);
+    let taken = passer.decide(machine.point(Slot::Decision), work, operand_sources(), made)?;
+    branch_to(machine, passer, taken, offset)
+}
+
+/// The rest of a branch, once it is decided: 0 goes on to the next instruction.
+fn branch_to<P: Passer>(
+    machine: &mut Machine,
+    passer: &mut P,
+    taken: u32,
+    offset: i32,
+) -> Result<(), P::Stop>
+    ensures { (held : Held) →
+        P.Plays passer.old
+        (walk machine.old (branches taken (word_of offset) machine.old.control) machine.old.store held)
+        (outcome result machine.new (P.tape passer.new)) }
+{
+    if taken == 0 {
+        machine.onward();
+        Ok(())
+    } else {
+        let target = machine.pc().wrapping_add_signed(offset);
+        jump(machine, passer, target)
+    }
+}
+
+/// A jump to a target, where it is a multiple of 4.
+fn jump<P: Passer>(machine: &mut Machine, passer: &mut P, target: u32) -> Result<(), P::Stop>
+    ensures { (held : Held) →
+        P.Plays passer.old (walk machine.old (jumps target machine.old.control) machine.old.store held)
+        (outcome result machine.new (P.tape passer.new)) }
+{
+    if target % 4 == 0 {
+        machine.set_pc(target);
+    } else {
+        let pc = machine.pc();
+        machine.end(Stepped::Stopped(Fault::FetchUnaligned { pc }));
+    }
+    Ok(())
+}
+
+/// A jump that puts the address of the next instruction into a register.
+fn link<P: Passer>(
+    machine: &mut Machine,
+    passer: &mut P,
+    rd: u8,
+    target: u32,
+) -> Result<(), P::Stop>
+    requires { rd < 32 }
+    ensures { (held : Held) →
+        P.Plays passer.old (walk machine.old (links rd target machine.old.control) machine.old.store held)
+        (outcome result machine.new (P.tape passer.new)) }
+{
+    if target % 4 != 0 {
+        let pc = machine.pc();
+        machine.end(Stepped::Stopped(Fault::FetchUnaligned { pc }));
+        return Ok(());
+    }
+    let next = machine.pc().wrapping_add(4);
+    passer.move_to(
+        Place::Register(rd),
+        Shape::Copied,
+        Source::Constant(next),
+        next,
+    )?;
+    machine.set_register(rd, next);
+    machine.set_pc(target);
+    Ok(())
+}

@@ -1,0 +1,302 @@
+#![tactic(auto, unfolding(crate::specs::Language::walked))]
+
+ghost use Rattle.std.specs.Prelude.{◌≡◌, ◌+◌, ◌^◌, ◌<◌, ◌≤◌, IsTrue};
+ghost use Rattle.rv32im_decode.specs.Operations.{load_size, store_size};
+ghost use Rattle.rv32im_decode.specs.Encoding.{InRange};
+ghost use Rattle.rv32im_machine.specs.State.{is_inside, joined};
+ghost use Rattle.rv32im_machine.specs.Language.{shaped, part_of, walk, Held, bytes_at};
+ghost use Rattle.rv32im_machine.specs.Rows.{row_walk, load_checked, store_checked, load_at, store_at, loaded_from};
+ghost use Rattle.rv32im_machine.specs.Playing.{outcome};
+
+use crate::language::{Part, Place, Shape, Source, Sources, Work};
+use crate::machines::Machine;
+use crate::operands::{decided_address, operand};
+use crate::passing::Passer;
+use crate::stepping::{Fault, Stepped};
+use flow_base::Slot;
+use rv32im_decode::{Instr, LoadKind, StoreKind};
+
+/// A load.
+pub(crate) fn load_turn<P: Passer>(
+    machine: &mut Machine,
+    passer: &mut P,
+    kind: LoadKind,
+    rd: u8,
+    rs1: u8,
+    imm: i32,
+) -> Result<(), P::Stop>
+    requires { InRange (Instr.Load kind rd rs1 imm) }
+    ensures { P.Plays passer.old (row_walk (Instr.Load kind rd rs1 imm) machine.old)
+        (outcome result machine.new (P.tape passer.new)) }
+{
+    let first = operand(machine, passer, Slot::First, Place::First, rs1)?;
+    let address = decided_address(machine, passer, first, imm.cast_unsigned())?;
+    checked_load(machine, passer, kind, rd, address)
+}
+
+/// The rest of a load, once its address is decided.
+fn checked_load<P: Passer>(
+    machine: &mut Machine,
+    passer: &mut P,
+    kind: LoadKind,
+    rd: u8,
+    address: u32,
+) -> Result<(), P::Stop>
+    requires { rd < 32 }
+    ensures { (held : Held) →
+        P.Plays passer.old (walk machine.old (load_checked kind rd machine.old.setting machine.old.control address)
+        machine.old.store held)
+        (outcome result machine.new (P.tape passer.new)) }
+{
+    if machine.is_inside(address, kind.size()) {
+        load_from(machine, passer, kind, rd, address)
+    } else {
+        let pc = machine.pc();
+        machine.end(Stepped::Stopped(Fault::LoadOutside { pc, address }));
+        Ok(())
+    }
+}
+
+/// The rest of a load, once its address is inside guest memory.
+fn load_from<P: Passer>(
+    machine: &mut Machine,
+    passer: &mut P,
+    kind: LoadKind,
+    rd: u8,
+    address: u32,
+) -> Result<(), P::Stop>
+    requires rd { rd < 32 }
+    requires inside { IsTrue (is_inside machine.old.setting.base address (load_size kind)) }
+    requires below { address + load_size kind ≤ 2 ^ 32 }
+    ensures { (held : Held) →
+        P.Plays passer.old (walk machine.old (load_at kind rd address machine.old.control) machine.old.store held)
+        (outcome result machine.new (P.tape passer.new)) }
+{
+    let value = loaded(machine, kind, address);
+    let sources = load_sources(kind, address);
+    let value = passer.pass(
+        machine.point(Slot::Result),
+        Place::Register(rd),
+        Work::Shaped(Shape::Extended(kind)),
+        sources,
+        value,
+    )?;
+    machine.set_register(rd, value);
+    machine.onward();
+    Ok(())
+}
+
+/// The bytes that a load reads.
+fn load_sources(kind: LoadKind, address: u32) -> Sources
+    ensures { result ≡ loaded_from kind address }
+{
+    match kind {
+        LoadKind::Lb | LoadKind::Lbu => Sources::Byte(address),
+        LoadKind::Lh | LoadKind::Lhu => Sources::Half(address),
+        LoadKind::Lw => Sources::Word(address),
+    }
+}
+
+/// The loaded bytes of guest memory, extended to a word.
+fn loaded(machine: &Machine, kind: LoadKind, address: u32) -> u32
+    requires inside { IsTrue (is_inside machine.now.setting.base address (load_size kind)) }
+    requires below { address + load_size kind ≤ 2 ^ 32 }
+    ensures { result ≡ shaped (Shape.Extended kind) (bytes_at machine.now (loaded_from kind address)) }
+{
+    match kind {
+        LoadKind::Lb => kind.extend(u32::from(machine.byte(address))),
+        LoadKind::Lbu => kind.extend(u32::from(machine.byte(address))),
+        LoadKind::Lh => kind.extend(half(machine, address)),
+        LoadKind::Lhu => kind.extend(half(machine, address)),
+        LoadKind::Lw => kind.extend(machine.word(address)),
+    }
+}
+
+/// The two bytes from an address on, the lowest first.
+fn half(machine: &Machine, address: u32) -> u32
+    requires inside { IsTrue (is_inside machine.now.setting.base address 2) }
+    requires below { address + 2 ≤ 2 ^ 32 }
+    ensures { result ≡ joined (bytes_at machine.now (Sources.Half address)) }
+{
+    u32::from(machine.byte(address)) + 256 * u32::from(machine.byte(address + 1))
+}
+
+/// A store.
+pub(crate) fn store_turn<P: Passer>(
+    machine: &mut Machine,
+    passer: &mut P,
+    kind: StoreKind,
+    rs1: u8,
+    rs2: u8,
+    imm: i32,
+) -> Result<(), P::Stop>
+    requires { InRange (Instr.Store kind rs1 rs2 imm) }
+    ensures { P.Plays passer.old (row_walk (Instr.Store kind rs1 rs2 imm) machine.old)
+        (outcome result machine.new (P.tape passer.new)) }
+{
+    let first = operand(machine, passer, Slot::First, Place::First, rs1)?;
+    let word = operand(machine, passer, Slot::Second, Place::Second, rs2)?;
+    let address = decided_address(machine, passer, first, imm.cast_unsigned())?;
+    checked_store(machine, passer, kind, address, word)
+}
+
+/// The rest of a store, once its address is decided.
+fn checked_store<P: Passer>(
+    machine: &mut Machine,
+    passer: &mut P,
+    kind: StoreKind,
+    address: u32,
+    word: u32,
+) -> Result<(), P::Stop>
+    ensures { (held : Held) → held.second ≡ word →
+        P.Plays passer.old (walk machine.old (store_checked kind machine.old.setting machine.old.control address)
+        machine.old.store held)
+        (outcome result machine.new (P.tape passer.new)) }
+{
+    if machine.is_inside(address, kind.size()) {
+        store_to(machine, passer, kind, address, word)
+    } else {
+        let pc = machine.pc();
+        machine.end(Stepped::Stopped(Fault::StoreOutside { pc, address }));
+        Ok(())
+    }
+}
+
+/// The rest of a store, once its address is inside guest memory.
+fn store_to<P: Passer>(
+    machine: &mut Machine,
+    passer: &mut P,
+    kind: StoreKind,
+    address: u32,
+    word: u32,
+) -> Result<(), P::Stop>
+    requires inside { IsTrue (is_inside machine.old.setting.base address (store_size kind)) }
+    requires below { address + store_size kind ≤ 2 ^ 32 }
+    ensures { (held : Held) → held.second ≡ word →
+        P.Plays passer.old (walk machine.old (store_at kind address machine.old.control) machine.old.store held)
+        (outcome result machine.new (P.tape passer.new)) }
+{
+    match kind {
+        StoreKind::Sb => store_byte_to(machine, passer, address, word),
+        StoreKind::Sh => store_half_to(machine, passer, address, word),
+        StoreKind::Sw => store_word_to(machine, passer, address, word),
+    }
+}
+
+/// The rest of SB, once its address is inside guest memory.
+fn store_byte_to<P: Passer>(
+    machine: &mut Machine,
+    passer: &mut P,
+    address: u32,
+    word: u32,
+) -> Result<(), P::Stop>
+    requires inside { IsTrue (is_inside machine.old.setting.base address 1) }
+    ensures { (held : Held) → held.second ≡ word →
+        P.Plays passer.old (walk machine.old (store_at StoreKind.Sb address machine.old.control) machine.old.store held)
+        (outcome result machine.new (P.tape passer.new)) }
+{
+    let byte = byte_of_word(Part::Byte0, word);
+    passer.move_to(
+        Place::Byte(address),
+        Shape::Part(Part::Byte0),
+        Source::At(Place::Second),
+        u32::from(byte),
+    )?;
+    machine.set_byte(address, byte);
+    machine.onward();
+    Ok(())
+}
+
+/// The rest of SH, once its address is inside guest memory.
+fn store_half_to<P: Passer>(
+    machine: &mut Machine,
+    passer: &mut P,
+    address: u32,
+    word: u32,
+) -> Result<(), P::Stop>
+    requires inside { IsTrue (is_inside machine.old.setting.base address 2) }
+    requires below { address + 2 ≤ 2 ^ 32 }
+    ensures { (held : Held) → held.second ≡ word →
+        P.Plays passer.old (walk machine.old (store_at StoreKind.Sh address machine.old.control) machine.old.store held)
+        (outcome result machine.new (P.tape passer.new)) }
+{
+    let byte = byte_of_word(Part::Byte0, word);
+    passer.move_to(
+        Place::Byte(address),
+        Shape::Part(Part::Byte0),
+        Source::At(Place::Second),
+        u32::from(byte),
+    )?;
+    machine.set_byte(address, byte);
+    let byte = byte_of_word(Part::Byte1, word);
+    passer.move_to(
+        Place::Byte(address + 1),
+        Shape::Part(Part::Byte1),
+        Source::At(Place::Second),
+        u32::from(byte),
+    )?;
+    machine.set_byte(address + 1, byte);
+    machine.onward();
+    Ok(())
+}
+
+/// The rest of SW, once its address is inside guest memory.
+fn store_word_to<P: Passer>(
+    machine: &mut Machine,
+    passer: &mut P,
+    address: u32,
+    word: u32,
+) -> Result<(), P::Stop>
+    requires inside { IsTrue (is_inside machine.old.setting.base address 4) }
+    requires below { address + 4 ≤ 2 ^ 32 }
+    ensures { (held : Held) → held.second ≡ word →
+        P.Plays passer.old (walk machine.old (store_at StoreKind.Sw address machine.old.control) machine.old.store held)
+        (outcome result machine.new (P.tape passer.new)) }
+{
+    let byte = byte_of_word(Part::Byte0, word);
+    passer.move_to(
+        Place::Byte(address),
+        Shape::Part(Part::Byte0),
+        Source::At(Place::Second),
+        u32::from(byte),
+    )?;
+    machine.set_byte(address, byte);
+    let byte = byte_of_word(Part::Byte1, word);
+    passer.move_to(
+        Place::Byte(address + 1),
+        Shape::Part(Part::Byte1),
+        Source::At(Place::Second),
+        u32::from(byte),
+    )?;
+    machine.set_byte(address + 1, byte);
+    let byte = byte_of_word(Part::Byte2, word);
+    passer.move_to(
+        Place::Byte(address + 2),
+        Shape::Part(Part::Byte2),
+        Source::At(Place::Second),
+        u32::from(byte),
+    )?;
+    machine.set_byte(address + 2, byte);
+    let byte = byte_of_word(Part::Byte3, word);
+    passer.move_to(
+        Place::Byte(address + 3),
+        Shape::Part(Part::Byte3),
+        Source::At(Place::Second),
+        u32::from(byte),
+    )?;
+    machine.set_byte(address + 3, byte);
+    machine.onward();
+    Ok(())
+}
+
+/// A byte of a word.
+fn byte_of_word(part: Part, word: u32) -> u8
+    ensures { result ≡ part_of part word }
+{
+    match part {
+        Part::Byte0 => (word % 256) as u8,
+        Part::Byte1 => (word / 256 % 256) as u8,
+        Part::Byte2 => (word / 65_536 % 256) as u8,
+        Part::Byte3 => (word / 16_777_216 % 256) as u8,
+    }
+}

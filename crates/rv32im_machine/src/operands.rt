@@ -1,0 +1,98 @@
+#![tactic(auto, unfolding(crate::specs::Language::walked))]
+
+ghost use Rattle.std.specs.Prelude.{◌≡◌, ℕ, ◌<◌, IsTrue};
+ghost use Rattle.flow_base.specs.Points.{is_slot, width_of};
+ghost use Rattle.rv32im_machine.specs.State.{register_of};
+ghost use Rattle.rv32im_machine.specs.Calls.{point};
+ghost use Rattle.rv32im_machine.specs.Language.{Walk, Passed, Decided, computed};
+ghost use Rattle.rv32im_machine.specs.Playing.{Goes, IsPlace};
+
+use crate::language::{Operation, Place, Shape, Source, Sources, Work};
+use crate::machines::Machine;
+use crate::passing::Passer;
+use flow_base::Slot;
+use rv32im_decode::OpKind;
+
+/// What an operation computes from two words.
+pub(crate) fn compute(operation: Operation, first: u32, second: u32) -> u32
+    ensures { result ≡ computed operation first second }
+{
+    match operation {
+        Operation::Result(kind) => kind.result(first, second),
+        Operation::Decision(kind) => u32::from(kind.is_taken(first, second)),
+        Operation::Target => jump_target(first, second),
+    }
+}
+
+/// The sum of two words with bit 0 cleared.
+fn jump_target(first: u32, second: u32) -> u32
+    ensures { result ≡ computed Operation.Target first second }
+{
+    let sum = first.wrapping_add(second);
+    sum - sum % 2
+}
+
+/// The sum that is an address.
+const SUM: Operation = Operation::Result(OpKind::Add);
+
+/// The sources of an operation on the first operand and an immediate.
+pub(crate) fn offset_sources(immediate: u32) -> Sources
+    ensures { result ≡ Sources.Two (Source.At Place.First) (Source.Constant immediate) }
+{
+    Sources::Two(Source::At(Place::First), Source::Constant(immediate))
+}
+
+/// The sources of an operation on both operands.
+pub(crate) fn operand_sources() -> Sources
+    ensures { result ≡ Sources.Two (Source.At Place.First) (Source.At Place.Second) }
+{
+    Sources::Two(Source::At(Place::First), Source::At(Place::Second))
+}
+
+/// The value of a register passes an operand's slot and goes on.
+pub(crate) fn operand<P: Passer>(
+    machine: &Machine,
+    passer: &mut P,
+    slot: Slot,
+    place: Place,
+    register: u8,
+) -> Result<u32, P::Stop>
+    requires slot { IsTrue (is_slot slot) }
+    requires width { width_of slot ≡ 4294967295 }
+    requires place { IsPlace place }
+    requires register { register < 32 }
+    ensures { (go : ℕ → Walk) → Goes result (λ other. P.Plays passer.new (go other))
+        (P.Plays passer.old (Passed (point machine.now.control slot) place (Work.Shaped Shape.Copied)
+        (Sources.One (Source.At (Place.Register register))) (register_of machine.now.store register) go)) }
+{
+    let sources = Sources::One(Source::At(Place::Register(register)));
+    passer.pass(
+        machine.point(slot),
+        place,
+        Work::Shaped(Shape::Copied),
+        sources,
+        machine.register(register),
+    )
+}
+
+/// The sum of the first operand and the immediate passes as the address of a load or store.
+pub(crate) fn decided_address<P: Passer>(
+    machine: &Machine,
+    passer: &mut P,
+    first: u32,
+    immediate: u32,
+) -> Result<u32, P::Stop>
+    ensures { (go : ℕ → Walk) → Goes result (λ other. P.Plays passer.new (go other))
+        (P.Plays passer.old (Decided (point machine.now.control Slot.Address)
+        (Work.Computed (Operation.Result OpKind.Add) first immediate)
+        (Sources.Two (Source.At Place.First) (Source.Constant immediate))
+        (computed (Operation.Result OpKind.Add) first immediate) go)) }
+{
+    let made = compute(SUM, first, immediate);
+    passer.decide(
+        machine.point(Slot::Address),
+        Work::Computed(SUM, first, immediate),
+        offset_sources(immediate),
+        made,
+    )
+}

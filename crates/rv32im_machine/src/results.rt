@@ -1,0 +1,117 @@
+#![tactic(auto, unfolding(crate::specs::Language::walked))]
+
+ghost use Rattle.rv32im_decode.specs.Encoding.{InRange};
+ghost use Rattle.rv32im_machine.specs.Rows.{row_walk};
+ghost use Rattle.rv32im_machine.specs.Playing.{outcome};
+
+use crate::language::{Operation, Place, Shape, Source, Work};
+use crate::machines::Machine;
+use crate::operands::{compute, offset_sources, operand, operand_sources};
+use crate::passing::Passer;
+use flow_base::Slot;
+use rv32im_decode::{ImmKind, Instr, OpKind, upper};
+
+/// A register and a register make a result.
+pub(crate) fn register_turn<P: Passer>(
+    machine: &mut Machine,
+    passer: &mut P,
+    kind: OpKind,
+    rd: u8,
+    rs1: u8,
+    rs2: u8,
+) -> Result<(), P::Stop>
+    requires { InRange (Instr.Op kind rd rs1 rs2) }
+    ensures { P.Plays passer.old (row_walk (Instr.Op kind rd rs1 rs2) machine.old)
+        (outcome result machine.new (P.tape passer.new)) }
+{
+    let first = operand(machine, passer, Slot::First, Place::First, rs1)?;
+    let second = operand(machine, passer, Slot::Second, Place::Second, rs2)?;
+    let made = compute(Operation::Result(kind), first, second);
+    let work = Work::Computed(Operation::Result(kind), first, second);
+    let value = passer.pass(
+        machine.point(Slot::Result),
+        Place::Register(rd),
+        work,
+        operand_sources(),
+        made,
+    )?;
+    machine.set_register(rd, value);
+    machine.onward();
+    Ok(())
+}
+
+/// A register and an immediate make a result.
+pub(crate) fn immediate_turn<P: Passer>(
+    machine: &mut Machine,
+    passer: &mut P,
+    kind: ImmKind,
+    rd: u8,
+    rs1: u8,
+    imm: i32,
+) -> Result<(), P::Stop>
+    requires { InRange (Instr.OpImm kind rd rs1 imm) }
+    ensures { P.Plays passer.old (row_walk (Instr.OpImm kind rd rs1 imm) machine.old)
+        (outcome result machine.new (P.tape passer.new)) }
+{
+    let first = operand(machine, passer, Slot::First, Place::First, rs1)?;
+    let second = imm.cast_unsigned();
+    let operation = Operation::Result(kind.operation());
+    let made = compute(operation, first, second);
+    let work = Work::Computed(operation, first, second);
+    let value = passer.pass(
+        machine.point(Slot::Result),
+        Place::Register(rd),
+        work,
+        offset_sources(second),
+        made,
+    )?;
+    machine.set_register(rd, value);
+    machine.onward();
+    Ok(())
+}
+
+/// The upper 20 bits are put into a register.
+pub(crate) fn upper_turn<P: Passer>(
+    machine: &mut Machine,
+    passer: &mut P,
+    rd: u8,
+    imm: u32,
+) -> Result<(), P::Stop>
+    requires { InRange (Instr.Lui rd imm) }
+    ensures { P.Plays passer.old (row_walk (Instr.Lui rd imm) machine.old)
+        (outcome result machine.new (P.tape passer.new)) }
+{
+    let value = upper(imm);
+    passer.move_to(
+        Place::Register(rd),
+        Shape::Copied,
+        Source::Constant(value),
+        value,
+    )?;
+    machine.set_register(rd, value);
+    machine.onward();
+    Ok(())
+}
+
+/// AUIPC.
+pub(crate) fn upper_pc_turn<P: Passer>(
+    machine: &mut Machine,
+    passer: &mut P,
+    rd: u8,
+    imm: u32,
+) -> Result<(), P::Stop>
+    requires { InRange (Instr.Auipc rd imm) }
+    ensures { P.Plays passer.old (row_walk (Instr.Auipc rd imm) machine.old)
+        (outcome result machine.new (P.tape passer.new)) }
+{
+    let value = machine.pc().wrapping_add(upper(imm));
+    passer.move_to(
+        Place::Register(rd),
+        Shape::Copied,
+        Source::Constant(value),
+        value,
+    )?;
+    machine.set_register(rd, value);
+    machine.onward();
+    Ok(())
+}
