@@ -148,6 +148,7 @@ fn next_point<'a>(least: u64, input: &'a [u8]) -> Option<(InPoint, &'a [u8])>
 fn points(alloc: Global, input: &[u8]) -> Result<List<InPoint>, CutFault>
     ensures lines { IfOk result (λ found. input.now ≡ point_lines found ++ codes "end\n") }
     ensures ascend { IfOk result (λ found. IsTrue (is_ascending found)) }
+    ensures words { IfOk result (λ found. IsTrue (are_words found)) }
     ensures unbuilt {
         result ≡ Err CutFault.Unbuilt → (found : Seq APoint) → IsTrue (are_words found) → IsTrue (is_ascending found)
         → ¬ (input.now ≡ point_lines found ++ codes "end\n")
@@ -183,6 +184,7 @@ fn head(alloc: Global, secret_len: u32, bits: u32) -> Result<String, NoMemory>
 /// the secret has above 65,536 bytes; `Memory` where memory is short.
 pub fn read_in_cut(alloc: Global, file: &[u8]) -> Result<InCut, CutFault>
     ensures text { IfOk result (λ cut. IsCutText file.now (cut_picture cut)) }
+    ensures words { IfOk result (λ cut. IsTrue (are_words cut.points)) }
     ensures unbuilt {
         result ≡ Err CutFault.Unbuilt → (cut : CutPicture) → IsTrue (are_words cut.points) → ¬ IsCutText file.now cut
     }
