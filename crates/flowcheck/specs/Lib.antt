@@ -5,3 +5,4 @@ pub mod Replies
 pub mod Words
 pub mod Stops
 pub mod Answering
+pub mod Headline

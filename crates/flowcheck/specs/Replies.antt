@@ -1,11 +1,10 @@
 -- The reply to a command line, given what the file source holds: words first, then loads, forms, and the run.
-use Rattle.std.specs.Prelude.{◌≡◌, IsTrue, ◌⊎◌, ℕ, ◌==◌, List, [], ◌∷◌, ◌++◌, length, codes, Option, Some, None, Result, Ok, Err, if◌then◌else◌}
+use Rattle.std.specs.Prelude.{◌≡◌, ◌⊎◌, ℕ, ◌==◌, List, [], ◌∷◌, ◌++◌, length, codes, Option, Some, None, Result, Ok, Err, if◌then◌else◌}
 use Rattle.std.specs.Fmt.{decimal}
 use Rattle.flow_base.specs.Loads.{Told}
 use Rattle.elf32_loader.specs.Pictures.{Picture}
 use Rattle.elf32_loader.specs.Programs.{IsSingle}
 use Rattle.lockstep_replay.specs.Cuts.{CutPicture, IsCutText}
-use Rattle.lockstep_replay.specs.Reading.{are_words}
 use Rattle.lockstep_replay.specs.Verdicts.{Judgement, First}
 use Rattle.flowcheck.specs.CommandLines.{Check, IsCheck}
 use Rattle.flowcheck.specs.Loading.{LoadRefusal, CannotLoad, IsTooLarge, loaded_from, wants_of}
@@ -47,15 +46,11 @@ judgements_of picture public_input cut budget [] = []
 judgements_of picture public_input cut budget (secret ∷ secrets) =
     First picture public_input secret cut budget turn_limit ∷ judgements_of picture public_input cut budget secrets
 
--- the file is the text of this cut, whose points are words of 32 bits
-abbrev pub IsCutFile : List ℕ → CutPicture → Type 0
-IsCutFile file cut = IsTrue (are_words cut.points) × IsCutText file cut
-
 -- the reply once the program is read: the cut has a form that is taken, or it has none
 abbrev pub RepliesToCut : Picture → List ℕ → List ℕ → ℕ → List (List ℕ) → Reply → Type 0
 RepliesToCut picture public_input cut_file budget secrets reply =
-    (((cut : CutPicture) → ¬ IsCutFile cut_file cut) × (reply ≡ cut_reply))
-    ⊎ ((cut : CutPicture) × IsCutFile cut_file cut
+    (((cut : CutPicture) → ¬ IsCutText cut_file cut) × (reply ≡ cut_reply))
+    ⊎ ((cut : CutPicture) × IsCutText cut_file cut
     × (reply ≡ check_reply (judgements_of picture public_input cut budget secrets) budget))
 
 -- the reply once all files are loaded

@@ -6,7 +6,7 @@ ghost use Rattle.flow_base.specs.Counts.{Rose};
 ghost use Rattle.flowcheck.specs.Answering.{reply_of, is_one_of, IsNoCheck, LoadsByTold, CheckLoads, RepliesToCheck};
 ghost use Rattle.flowcheck.specs.CommandLines.{IsCheck, highest_budget};
 ghost use Rattle.flowcheck.specs.Loading.{program_limit, cut_limit};
-ghost use Rattle.flowcheck.specs.Replies.{IsCutFile, RepliesToCut, RepliesToFiles, RepliesByTold};
+ghost use Rattle.flowcheck.specs.Replies.{RepliesToCut, RepliesToFiles, RepliesByTold};
 ghost use Rattle.flowcheck.specs.Stops.{AreShort};
 ghost use Rattle.flowcheck.specs.Words.{check_of};
 
@@ -17,17 +17,8 @@ use crate::replies::Reply;
 use crate::words::{CheckWords, check_words};
 use elf32_loader::{ElfFault, Image, load_image};
 use flow_base::{Bytes, Files, NoMemory};
-use lockstep_replay::{CutFault, InCut, read_in_cut};
+use lockstep_replay::{CutFault, read_in_cut};
 use std::alloc::Global;
-
-/// The cut of a cut file.
-fn read_cut(alloc: Global, file: &[u8]) -> Result<InCut, CutFault>
-    requires { length file.now < 2 ^ 32 }
-    ensures text { IfOk result (λ cut. IsCutFile file.now (cut_picture cut)) }
-    ensures unbuilt { result ≡ Err CutFault.Unbuilt → (cut : CutPicture) → ¬ IsCutFile file.now cut }
-{
-    read_in_cut(alloc, file)
-}
 
 /// The reply once the program is read: to the cut file, and to the secrets by its cut.
 fn reply_to_cut(
@@ -42,7 +33,7 @@ fn reply_to_cut(
     ensures reply { IfOk result (λ reply. RepliesToCut (picture_of image.now) loaded.now.public_input loaded.now.cut budget loaded.now.secrets (reply_of reply)) }
     ensures status { IfOk result (λ reply. IsTrue (is_one_of (0 ∷ 1 ∷ 3 ∷ []) reply.status)) }
 {
-    match read_cut(alloc, loaded.cut.as_slice()) {
+    match read_in_cut(alloc, loaded.cut.as_slice()) {
         Ok(cut) => check_all(
             alloc,
             image,

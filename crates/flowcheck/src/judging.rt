@@ -14,7 +14,7 @@ use crate::replies::Reply;
 use crate::texts::{counts_line, verdict_line};
 use elf32_loader::Image;
 use flow_base::{Bytes, NoMemory};
-use lockstep_replay::{InCut, Verdict};
+use lockstep_replay::{InCut, Lockstep, Verdict};
 use std::alloc::Global;
 
 const TURN_LIMIT: u32 = 1_000_000;
@@ -32,7 +32,8 @@ fn judge(
     requires within { budget ≤ highest_budget }
     ensures { IfOk result (λ verdict. judgement_of verdict ≡ First (picture_of image.now) public_input.now secret.now (cut_picture cut.now) budget turn_limit) }
 {
-    Err(NoMemory)
+    let lockstep = Lockstep::new(alloc, image, public_input, secret, cut, budget, TURN_LIMIT)?;
+    Ok(lockstep.run())
 }
 
 /// 1 for a secret that is accepted, 0 for one that is rejected.

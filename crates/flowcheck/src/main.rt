@@ -12,18 +12,18 @@ mod texts;
 mod top;
 mod words;
 
-pub use top::flowcheck;
-
 use flow_base::{DiskFiles, Sink, StandardOut};
 use std::alloc::Global;
 use std::env;
 use std::io::ErrorKind;
 use std::process::ExitCode;
+pub use top::flowcheck;
 
 const HELP: &str = "flowcheck check PROG PUBLIC CUT BUDGET SECRET..\n\n\
     Judges by lockstep replay whether a run of PROG on each secret gives away no bits but those of the cut, at most\n\
     BUDGET of them. PROG is an ELF32 program of RV32IM, PUBLIC its public input, CUT a cut file, and each SECRET a file\n\
     with a secret input; BUDGET is 0 to 1048576, and there are 1 to 64 secrets.\n";
+
 const VERSION: &str = "flowcheck 0.1.0\n";
 
 /// The words after the program's name, or the status where they cannot be had: 8 for want of memory, else 9.
@@ -58,7 +58,11 @@ fn main(rt: HostRuntime) -> ExitCode {
         Err(status) => return ExitCode::from(status),
     };
     if let Some(text) = text_asked(words.as_slice()) {
-        let status = if out.put(text.as_bytes()).is_ok() { 0 } else { 7 };
+        let status = if out.put(text.as_bytes()).is_ok() {
+            0
+        } else {
+            7
+        };
         return ExitCode::from(status);
     }
     let mut files = DiskFiles::new(rt);

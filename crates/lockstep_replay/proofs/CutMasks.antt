@@ -107,11 +107,11 @@ pub step-left : (part left others : List InPoint) (address mask : ℕ) → IsSte
 step-left part left [] address mask step low = absurd (too-few step.some)
 step-left part left (point ∷ points) address mask step low =
     let ascends : is_ascending (left ++ (point ∷ points)) ≡ true =
-        ap (λ (l : List InPoint). is_ascending l) (sym step.whole) ∙ step.ascends in
+    ap (λ (l : List InPoint). is_ascending l) (sym step.whole) ∙ step.ascends in
     record {
       ascends = ascends-left left (point ∷ points) ascends;
       same = sym (rest-left left point points address ascends low)
-        ∙ ap (λ (l : List InPoint). rest_at l address) (sym step.whole) ∙ step.same;
+          ∙ ap (λ (l : List InPoint). rest_at l address) (sym step.whole) ∙ step.same;
     }
 
 pub step-right : (part left others : List InPoint) (address mask : ℕ) → IsStep part left others address mask →
@@ -119,9 +119,9 @@ pub step-right : (part left others : List InPoint) (address mask : ℕ) → IsSt
 step-right part left [] address mask step high = absurd (too-few step.some)
 step-right part left (point ∷ points) address mask step high =
     let ascends : is_ascending (left ++ (point ∷ points)) ≡ true =
-        ap (λ (l : List InPoint). is_ascending l) (sym step.whole) ∙ step.ascends in
+    ap (λ (l : List InPoint). is_ascending l) (sym step.whole) ∙ step.ascends in
     let same : rest_at points address ≡ mask = sym (rest-after left point points address ascends high)
-        ∙ ap (λ (l : List InPoint). rest_at l address) (sym step.whole) ∙ step.same in
+    ∙ ap (λ (l : List InPoint). rest_at l address) (sym step.whole) ∙ step.same in
     subst (λ (l : List InPoint). IsPart l address mask) (sym (later-same point points)) (record {
       ascends = ascends-tail point points (ascends-right left (point ∷ points) ascends);
       same = same;

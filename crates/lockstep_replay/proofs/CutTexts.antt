@@ -3,8 +3,8 @@ use Rattle.std.proofs.Common.{◌≡◌, ℕ, ◌+◌, ◌*◌, ◌/◌, ◌%◌
 use Rattle.std.proofs.lemmas.Fmt.{decimal_by_steps}
 use Rattle.std.specs.Fmt.{decimal}
 use Rattle.lockstep_replay.specs.declared.points.InPoint.{InPoint}
-use Rattle.lockstep_replay.specs.Cuts.{CutPicture, is_ascending, hex_digit, hex_word, point_line, point_lines, cut_text, IsCutText}
-use Rattle.lockstep_replay.specs.Reading.{is_word_point, are_words, after_text, then_text, digits_from, first_and, bits_line, head_numbers, head_text, digit_of, word_at, point_in, after_line, with_point, next_point, least_after}
+use Rattle.lockstep_replay.specs.Cuts.{is_word_point, are_words, CutPicture, is_ascending, hex_digit, hex_word, point_line, point_lines, cut_text, IsCutText}
+use Rattle.lockstep_replay.specs.Reading.{after_text, then_text, digits_from, first_and, bits_line, head_numbers, head_text, digit_of, word_at, point_in, after_line, with_point, next_point, least_after}
 
 -- ---- wanted texts
 
@@ -32,7 +32,7 @@ line-found point bytes rest e =
 pub line-own : (point : InPoint) (rest : List ℕ) → after_line point (point_line point ++ rest) ≡ Some rest
 line-own point rest =
     ap (λ (o : Option (List ℕ)). then_text (codes "\n") (then_text (hex_word point.rest) (then_text (codes " in rest ") o)))
-        (after-own (hex_word point.address) (codes " in rest " ++ (hex_word point.rest ++ (codes "\n" ++ rest))))
+    (after-own (hex_word point.address) (codes " in rest " ++ (hex_word point.rest ++ (codes "\n" ++ rest))))
     ∙ ap (λ (o : Option (List ℕ)). then_text (codes "\n") o) (after-own (hex_word point.rest) (codes "\n" ++ rest))
 
 -- ---- words
@@ -58,8 +58,8 @@ digits-sum word small =
     let g : word / 16777216 ≡ 16 * (word / 268435456) + word / 16777216 % 16 = omega arith in
     let h : word / 268435456 % 16 ≡ word / 268435456 = omega arith in
     linear word (word / 16) (word / 256) (word / 4096) (word / 65536) (word / 1048576) (word / 16777216) (word / 268435456)
-        (word % 16) (word / 16 % 16) (word / 256 % 16) (word / 4096 % 16) (word / 65536 % 16) (word / 1048576 % 16)
-        (word / 16777216 % 16) (word / 268435456 % 16) a b c d e f g h
+    (word % 16) (word / 16 % 16) (word / 256 % 16) (word / 4096 % 16) (word / 65536 % 16) (word / 1048576 % 16)
+    (word / 16777216 % 16) (word / 268435456 % 16) a b c d e f g h
 
 pub word-own : (word : ℕ) → word < 4294967296 →
     digit_of (hex_digit (word / 268435456 % 16)) * 268435456 + digit_of (hex_digit (word / 16777216 % 16)) * 16777216
@@ -68,9 +68,16 @@ pub word-own : (word : ℕ) → word < 4294967296 →
     + digit_of (hex_digit (word / 16 % 16)) * 16 + digit_of (hex_digit (word % 16)) ≡ word
 word-own word small =
     let below : (quotient : ℕ) → quotient % 16 < 16 = λ quotient. omega arith in
-    rw (digit-own _ (below (word / 268435456)), digit-own _ (below (word / 16777216)), digit-own _ (below (word / 1048576)),
-        digit-own _ (below (word / 65536)), digit-own _ (below (word / 4096)), digit-own _ (below (word / 256)),
-        digit-own _ (below (word / 16)), digit-own _ (below word))
+    rw (
+      digit-own _ (below (word / 268435456)),
+      digit-own _ (below (word / 16777216)),
+      digit-own _ (below (word / 1048576)),
+      digit-own _ (below (word / 65536)),
+      digit-own _ (below (word / 4096)),
+      digit-own _ (below (word / 256)),
+      digit-own _ (below (word / 16)),
+      digit-own _ (below word),
+    )
     (digits-sum word small)
 
 same-point : (address mask : ℕ) (point : InPoint) → address ≡ point.address → mask ≡ point.rest →
@@ -111,8 +118,8 @@ pub head-append : (secret_length bits : ℕ) (rest : List ℕ) →
 head-append secret_length bits rest =
     let inner : (decimal bits ++ codes "\n") ++ rest ≡ decimal bits ++ (codes "\n" ++ rest) = append_assoc (decimal bits) (codes "\n") rest in
     let outer : (decimal secret_length ++ (codes "\nbits " ++ (decimal bits ++ codes "\n"))) ++ rest
-        ≡ decimal secret_length ++ (codes "\nbits " ++ (decimal bits ++ (codes "\n" ++ rest))) =
-        append_assoc (decimal secret_length) (codes "\nbits " ++ (decimal bits ++ codes "\n")) rest ∙ ap (λ (l : List ℕ). decimal secret_length ++ (codes "\nbits " ++ l)) inner in
+    ≡ decimal secret_length ++ (codes "\nbits " ++ (decimal bits ++ (codes "\n" ++ rest))) =
+    append_assoc (decimal secret_length) (codes "\nbits " ++ (decimal bits ++ codes "\n")) rest ∙ ap (λ (l : List ℕ). decimal secret_length ++ (codes "\nbits " ++ l)) inner in
     ap (λ (l : List ℕ). codes "flowcheck-cut 1\nsecret " ++ l) outer
 
 pub head-own : (secret_length bits : ℕ) (rest : List ℕ) → secret_length < 4294967296 → bits < 4294967296 →
@@ -222,7 +229,7 @@ next-found least bytes point rest e =
     let gate = gate-open (nat_lt (length bytes) 38) (nat_le least (word_at 10 bytes)) (with_point (point_in bytes) (after_line (point_in bytes) bytes)) (point, rest) e in
     let found = with-found (point_in bytes) point (after_line (point_in bytes) bytes) rest gate.1 in
     let word : is_word_point (point_in bytes) ≡ true =
-        both-below (word_at 10 bytes) (word_at 29 bytes) (word-small 10 bytes) (word-small 29 bytes) in
+    both-below (word_at 10 bytes) (word_at 29 bytes) (word-small 10 bytes) (word-small 29 bytes) in
     let above : least ≤ word_at 10 bytes = at_least least (word_at 10 bytes) gate.0 in
     record {
       line = subst (λ (p : InPoint). bytes ≡ point_line p ++ rest) found.0 (line-found (point_in bytes) bytes rest found.1);
@@ -236,9 +243,9 @@ next-from least bytes point rest long own after above =
     let after_own : after_line (point_in bytes) bytes ≡ Some rest = ap (λ (p : InPoint). after_line p bytes) own ∙ after in
     let above_own : least ≤ word_at 10 bytes = subst (λ (p : InPoint). least ≤ p.address) (sym own) above in
     let answer : with_point (point_in bytes) (after_line (point_in bytes) bytes) ≡ Some (point, rest) =
-        ap (with_point (point_in bytes)) after_own ∙ ap (λ (p : InPoint). some_pair p rest) own in
+    ap (with_point (point_in bytes)) after_own ∙ ap (λ (p : InPoint). some_pair p rest) own in
     gate-opens (nat_lt (length bytes) 38) (nat_le least (word_at 10 bytes)) _ (point, rest)
-        (not_short (length bytes) long) (is_least least (word_at 10 bytes) above_own) answer
+    (not_short (length bytes) long) (is_least least (word_at 10 bytes) above_own) answer
 
 pub next-own : (least : ℕ) (point : InPoint) (rest : List ℕ) → is_word_point point ≡ true → least ≤ point.address →
     next_point least (point_line point ++ rest) ≡ Some (point, rest)
@@ -255,7 +262,7 @@ pub line-injective : (first second : InPoint) (left right : List ℕ) → is_wor
     point_line first ++ left ≡ point_line second ++ right → (first ≡ second) × (left ≡ right)
 line-injective first second left right word other e =
     some-parts first second left right
-        (sym (next-own 0 first left word (omega arith)) ∙ ap (next_point 0) e ∙ next-own 0 second right other (omega arith))
+    (sym (next-own 0 first left word (omega arith)) ∙ ap (next_point 0) e ∙ next-own 0 second right other (omega arith))
 
 -- where the points that were found begin a text of points, the other points are the rest
 pub record IsContinued (found points : List InPoint) (rest : List ℕ) : Type 0 where
@@ -272,7 +279,7 @@ lines-same (first ∷ found) (point ∷ points) rest known words e =
     let split : (is_word_point first ≡ true) × (are_words found ≡ true) = and-parts _ _ known in
     let parts : (is_word_point point ≡ true) × (are_words points ≡ true) = and-parts _ _ words in
     let same = line-injective first point (point_lines found ++ rest) (point_lines points ++ codes "end\n") split.0 parts.0
-        (sym (append_assoc (point_line first) (point_lines found) rest) ∙ e ∙ append_assoc (point_line point) (point_lines points) (codes "end\n")) in
+    (sym (append_assoc (point_line first) (point_lines found) rest) ∙ e ∙ append_assoc (point_line point) (point_lines points) (codes "end\n")) in
     let tail = lines-same found points rest split.1 parts.1 same.1 in
     record {
       more = tail.more;
@@ -291,8 +298,8 @@ other-points found (point ∷ more) rest words ascends left none other =
     let parts : (is_word_point point ≡ true) × (are_words more ≡ true) = and-parts _ _ words in
     let tail = left ∙ append_assoc (point_line point) (point_lines more) (codes "end\n") in
     none-some _ _ none
-        (ap (next_point (least_after found)) tail
-        ∙ next-own (least_after found) point (point_lines more ++ codes "end\n") parts.0 (above-least found more point ascends))
+    (ap (next_point (least_after found)) tail
+    ∙ next-own (least_after found) point (point_lines more ++ codes "end\n") parts.0 (above-least found more point ascends))
 
 pub no-other-points : (found points : List InPoint) (bytes rest : List ℕ) → bytes ≡ point_lines found ++ rest → are_words found ≡ true →
     next_point (least_after found) rest ≡ None → ¬ (rest ≡ codes "end\n") → are_words points ≡ true → is_ascending points ≡ true →
@@ -300,7 +307,7 @@ pub no-other-points : (found points : List InPoint) (bytes rest : List ℕ) → 
 no-other-points found points bytes rest read known none other words ascends e =
     let go_on = lines-same found points rest known words (sym read ∙ e) in
     other-points found go_on.more rest go_on.words (subst (λ (l : List InPoint). is_ascending l ≡ true) go_on.whole ascends)
-        go_on.left none other
+    go_on.left none other
 
 -- what the loop keeps of the points that it has read
 pub record HasRead (bytes : List ℕ) (found : List InPoint) (rest : List ℕ) (least : ℕ) : Type 0 where
@@ -347,7 +354,7 @@ pub numbers-of : (file : List ℕ) (cut : CutPicture) → IsCutText file cut →
 numbers-of file cut known =
     ap head_numbers (known.text ∙ cut-head cut)
     ∙ head-own cut.secret_length cut.bits (point_lines cut.points ++ codes "end\n")
-        (short-word cut.secret_length (is_ascending cut.points) known.valid) (few-word cut.bits known.bits)
+    (short-word cut.secret_length (is_ascending cut.points) known.valid) (few-word cut.bits known.bits)
 
 some-numbers : (a b c d : ℕ) → ◌≡◌ {A = Option (ℕ × ℕ)} (Some (a, b)) (Some (c, d)) → (a ≡ c) × (b ≡ d)
 some-numbers a b c d e = (grind arith, grind arith)
@@ -407,10 +414,11 @@ few-bits a few = grind arith
 
 pub is-cut-text : (secret_length bits : ℕ) (points : List InPoint) (file rest : List ℕ) →
     after_text (head_text secret_length bits) file ≡ Some rest → rest ≡ point_lines points ++ codes "end\n" →
-    secret_length ≤ 65536 → bits < 4294967296 → is_ascending points ≡ true →
+    secret_length ≤ 65536 → bits < 4294967296 → is_ascending points ≡ true → are_words points ≡ true →
     IsCutText file (record { secret_length = secret_length; bits = bits; points = points })
-is-cut-text secret_length bits points file rest e lines short few ascends = record {
+is-cut-text secret_length bits points file rest e lines short few ascends words = record {
   valid = both-valid secret_length (is_ascending points) short ascends;
+  words = words;
   bits = few-bits bits few;
   text = text-of secret_length bits points file rest e lines;
 }

@@ -11,8 +11,8 @@ mod reading;
 mod replaying;
 mod replays;
 mod tallies;
-mod tasks;
 mod tallying;
+mod tasks;
 mod turning;
 mod verdicts;
 
@@ -20,6 +20,6 @@ pub use cut_fault::CutFault;
 pub use cuts::InCut;
 pub use laws::{accepted_runs_are_bounded, verdicts_are_acceptance};
 pub use points::InPoint;
-pub use tasks::Lockstep;
 pub use reading::read_in_cut;
+pub use tasks::Lockstep;
 pub use verdicts::{Verdict, Why};

@@ -1,14 +1,18 @@
-ghost use Rattle.std.specs.Prelude.{◌≡◌, ℕ, ◌<◌, ◌≤◌, ◌^◌, ◌+◌, ◌++◌, List as Seq, length, codes, option_map, IfOk, IfSome, IsTrue, string_bytes};
-ghost use Rattle.lockstep_replay.specs.declared.points.InPoint.{InPoint as APoint};
-ghost use Rattle.lockstep_replay.specs.Cuts.{CutPicture, IsCutText, hex_digit, hex_word, point_line, point_lines, is_ascending};
+ghost use Rattle.std.specs.Prelude.{◌≡◌, ◌<◌, ◌≤◌, ◌+◌, ◌++◌};
+ghost use Rattle.std.specs.Prelude.{length, codes, option_map, IfOk, IfSome, IsTrue, string_bytes};
+ghost use Rattle.lockstep_replay.specs.Cuts.{are_words, IsCutText, hex_digit, hex_word, point_lines, is_ascending};
 ghost use Rattle.lockstep_replay.specs.CutPictures.{cut_picture};
-ghost use Rattle.lockstep_replay.specs.Reading.{are_words, after_text, digits_from, head_numbers, head_text, digit_of, word_at, point_in, after_line as line_rest, next_point as next_in, least_after};
+ghost use Rattle.lockstep_replay.specs.Reading.{after_text, digits_from, head_numbers, head_text, digit_of, word_at};
+ghost use Rattle.lockstep_replay.specs.Reading.{after_line as line_rest, next_point as next_in, IsNoPointsText, IsNoCutText};
 
 use crate::cut_fault::CutFault;
 use crate::cuts::InCut;
 use crate::points::InPoint;
 use flow_base::{List, NoMemory};
 use std::alloc::Global;
+
+/// The length in bytes that a secret may have at most.
+const LONGEST_SECRET: u32 = 65_536;
 
 // The rest after a wanted text.
 fn after<'a>(wanted: &[u8], input: &'a [u8]) -> Option<&'a [u8]>
@@ -39,7 +43,9 @@ fn digits<'a>(input: &'a [u8]) -> Option<(u32, &'a [u8])>
         if !byte.is_ascii_digit() {
             break;
         }
-        number = number.checked_mul(10)?.checked_add(u32::from(*byte - b'0'))?;
+        number = number
+            .checked_mul(10)?
+            .checked_add(u32::from(*byte - b'0'))?;
         rest = more;
     }
     Some((number, rest))
@@ -149,10 +155,7 @@ fn points(alloc: Global, input: &[u8]) -> Result<List<InPoint>, CutFault>
     ensures lines { IfOk result (λ found. input.now ≡ point_lines found ++ codes "end\n") }
     ensures ascend { IfOk result (λ found. IsTrue (is_ascending found)) }
     ensures words { IfOk result (λ found. IsTrue (are_words found)) }
-    ensures unbuilt {
-        result ≡ Err CutFault.Unbuilt → (found : Seq APoint) → IsTrue (are_words found) → IsTrue (is_ascending found)
-        → ¬ (input.now ≡ point_lines found ++ codes "end\n")
-    }
+    ensures unbuilt { result ≡ Err CutFault.Unbuilt → IsNoPointsText input.now }
 {
     let mut found: List<InPoint> = List::new(alloc);
     let mut rest = input;
@@ -184,15 +187,12 @@ fn head(alloc: Global, secret_len: u32, bits: u32) -> Result<String, NoMemory>
 /// the secret has above 65,536 bytes; `Memory` where memory is short.
 pub fn read_in_cut(alloc: Global, file: &[u8]) -> Result<InCut, CutFault>
     ensures text { IfOk result (λ cut. IsCutText file.now (cut_picture cut)) }
-    ensures words { IfOk result (λ cut. IsTrue (are_words cut.points)) }
-    ensures unbuilt {
-        result ≡ Err CutFault.Unbuilt → (cut : CutPicture) → IsTrue (are_words cut.points) → ¬ IsCutText file.now cut
-    }
+    ensures unbuilt { result ≡ Err CutFault.Unbuilt → IsNoCutText file.now }
 {
     let Some((secret_len, bits)) = numbers(file) else {
         return Err(CutFault::Unbuilt);
     };
-    if secret_len > 65_536 {
+    if secret_len > LONGEST_SECRET {
         return Err(CutFault::Unbuilt);
     }
     let head = head(alloc, secret_len, bits)?;
@@ -212,46 +212,46 @@ mod tests {
     use super::read_in_cut;
     use crate::cut_fault::CutFault;
     use flow_base::{Point, Slot};
-    use std::alloc::Global;
-
-    fn is_refused(alloc: Global, file: &[u8]) -> bool {
-        matches!(read_in_cut(alloc, file), Err(CutFault::Unbuilt))
-    }
 
     #[test]
     fn a_cut_of_one_point(rt: HostRuntime) {
-        let file = b"flowcheck-cut 1\nsecret 1\nbits 8\npoint 0 0x00010010 in rest 0x000000ff\nend\n";
+        let file =
+            b"flowcheck-cut 1\nsecret 1\nbits 8\npoint 0 0x00010010 in rest 0x000000ff\nend\n";
         let Ok(cut) = read_in_cut(rt.alloc(), file) else {
-            panic!(rt; "not read");
+            panic!(rt; "the cut is not read");
         };
-        assert!(rt; cut.secret_len == 1);
-        assert!(rt; cut.bits == 8);
-        assert!(rt; cut.points.len() == 1);
-        let named = Point { region: 0, address: 0x10010, slot: Slot::SecretIn };
-        assert!(rt; cut.mask(named) == 255);
-        assert!(rt; cut.mask(Point { address: 0x10011, ..named }) == 0);
-        assert!(rt; cut.mask(Point { slot: Slot::Result, ..named }) == 0);
-        assert!(rt; cut.mask(Point { region: 1, ..named }) == 0);
+        assert_eq!(rt; (cut.secret_len, cut.bits, cut.points.len()), (1, 8, 1));
+        for (region, address, slot, mask) in [
+            (0, 0x10010, Slot::SecretIn, 0xff),
+            (0, 0x10011, Slot::SecretIn, 0),
+            (0, 0x10010, Slot::Result, 0),
+            (1, 0x10010, Slot::SecretIn, 0),
+        ] {
+            let point = Point {
+                region,
+                address,
+                slot,
+            };
+            assert_eq!(rt; cut.mask(point), mask);
+        }
     }
 
     #[test]
     fn texts_that_are_no_cuts(rt: HostRuntime) {
-        let alloc = rt.alloc();
-        assert!(rt; is_refused(alloc, b"flowcheck-cut 1\nsecret 01\nbits 8\nend\n"));
-        assert!(rt; is_refused(alloc, b"flowcheck-cut 1\nsecret 65537\nbits 8\nend\n"));
-        assert!(rt; is_refused(alloc, b"flowcheck-cut 1\nsecret 1\nbits 8\n"));
-        assert!(rt; is_refused(alloc, b"flowcheck-cut 1\nsecret 1\nbits 8\nend\n\n"));
-        assert!(rt; is_refused(alloc, b"flowcheck-cut 1\nsecret 1\nbits 8\nskip 1\nend\n"));
-        let head = "flowcheck-cut 1\nsecret 1\nbits 8\n";
-        let first = "point 0 0x00010010 in rest 0x000000ff\n";
-        let capital = format!(in alloc; "{head}point 0 0x00010010 in rest 0x000000FF\nend\n");
-        let twice = format!(in alloc; "{head}{first}{first}end\n");
-        let result = format!(in alloc; "{head}point 0 0x00010010 rs rest 0x000000ff\nend\n");
-        for text in [capital, twice, result] {
-            let Ok(text) = text else {
-                panic!(rt; "no memory");
-            };
-            assert!(rt; is_refused(alloc, text.as_bytes()));
+        for text in [
+            "flowcheck-cut 1\nsecret 01\nbits 8\nend\n",
+            "flowcheck-cut 1\nsecret 65537\nbits 8\nend\n",
+            "flowcheck-cut 1\nsecret 1\nbits 4294967296\nend\n",
+            "flowcheck-cut 1\nsecret 1\nbits 8\n",
+            "flowcheck-cut 1\nsecret 1\nbits 8\nend\n\n",
+            "flowcheck-cut 1\nsecret 1\nbits 8\nskip 1\nend\n",
+            "flowcheck-cut 1\nsecret 1\nbits 8\npoint 0 0x00010010 in rest 0x000000FF\nend\n",
+            "flowcheck-cut 1\nsecret 1\nbits 8\npoint 0 0x00010010 rs rest 0x000000ff\nend\n",
+            "flowcheck-cut 1\nsecret 1\nbits 8\npoint 0 0x00010010 in rest 0x00000001\n\
+             point 0 0x00010010 in rest 0x000000ff\nend\n",
+        ] {
+            let answer = read_in_cut(rt.alloc(), text.as_bytes());
+            assert!(rt; matches!(&answer, Err(CutFault::Unbuilt)), "{text}");
         }
     }
 }

@@ -1,11 +1,9 @@
 ghost use Rattle.std.specs.Prelude.{◌≡◌};
 
-use std::marker::Model;
-
+use crate::cuts::InCut;
 use crossing_bits::Bits;
 use rv32im_machine::Machine;
-
-use crate::cuts::InCut;
+use std::marker::Model;
 
 /// Two machines at their start, the real one on a secret and the replay's on zeros of the cut's length, with all the memory
 /// that a check of the secret takes; contracts see it as a task.
