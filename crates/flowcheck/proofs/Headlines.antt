@@ -1,28 +1,24 @@
 -- The headline follows from the reply.
-use Rattle.std.proofs.Common.{◌≡◌, ◌⊎◌, inl, inr, ℕ, ◌≤◌, ◌<◌, ◌^◌, ◌==◌, List, [], ◌∷◌, length, Bool, true, false, Option, Some, None, Result, Ok, Err, refl, sym, ◌∙◌, ap, subst, arith, ◌+◌, nat_le, if◌then◌else◌}
+use Rattle.std.proofs.Common.{◌≡◌, inl, inr, ℕ, ◌≤◌, ◌<◌, ◌==◌, List, [], ◌∷◌, length, Bool, true, false, Option, Some, None, Result, Ok, Err, refl, ap, subst, arith, ◌+◌, nat_le, if◌then◌else◌}
 use Rattle.std.specs.List.{AllByRecursion, list_any}
 use Rattle.flow_base.specs.declared.outputs.Output.{Output}
 use Rattle.flow_base.specs.declared.loading.LoadFault.{LoadFault}
 use Rattle.flow_base.specs.declared.loading.LoadFault.TheVariants.{Failed, TooLarge, Memory}
-use Rattle.flow_base.specs.Loads.{Told, after_load, next_answer, held_answer, within_limit}
+use Rattle.flow_base.specs.Loads.{Told, after_load, next_answer, held_answer}
 use Rattle.elf32_loader.specs.Pictures.{Picture}
-use Rattle.elf32_loader.specs.Programs.{IsImage, IsSingle}
+use Rattle.elf32_loader.specs.Programs.{IsSingle}
 use Rattle.elf32_loader.proofs.Programs.{image_of_single}
-use Rattle.crossing_bits.specs.Askers.{AllDifferent}
-use Rattle.lockstep_replay.specs.declared.verdicts.Why.{Why}
-use Rattle.lockstep_replay.specs.Cuts.{CutPicture, IsCutText, MaskAt}
-use Rattle.lockstep_replay.specs.Runs.{real_after, Cross}
-use Rattle.lockstep_replay.specs.Acceptance.{Accept, Done, HasExited, IsOutput, guest}
+use Rattle.lockstep_replay.specs.Cuts.{CutPicture, MaskAt}
+use Rattle.lockstep_replay.specs.Acceptance.{Accept, IsOutput}
 use Rattle.lockstep_replay.specs.Verdicts.{Judgement, Accepts, Rejects, First}
 use Rattle.lockstep_replay.proofs.Bounds.{bound_law}
 use Rattle.lockstep_replay.proofs.Accepting.{accepted_law}
 use Rattle.lockstep_replay.proofs.Judging.{rejected_law}
 use Rattle.lockstep_replay.proofs.Causes.{causes_law}
 use Rattle.flowcheck.specs.CommandLines.{Check, IsCheck}
-use Rattle.flowcheck.specs.Loading.{Want, want, LoadRefusal, CannotLoad, IsTooLarge, and_file, and_load, loaded_from, wants_of, secret_wants, program_limit, public_limit, cut_limit, secret_limit}
-use Rattle.flowcheck.specs.Texts.{check_text, accepted_count}
-use Rattle.flowcheck.specs.Replies.{Reply, turn_limit, Replies, RepliesToLoads, RepliesToFiles, RepliesToCut, check_reply, judgements_of, usage_reply, program_reply, cut_reply, load_reply}
-use Rattle.flowcheck.specs.Headline.{AreHeld, IsAccepted, IsRejected, Says, AllSay, IsAmong, AreFew, Headline}
+use Rattle.flowcheck.specs.Loading.{Want, LoadRefusal, CannotLoad, IsTooLarge, and_load, loaded_from, wants_of, secret_wants}
+use Rattle.flowcheck.specs.Replies.{Reply, turn_limit, Replies, RepliesToLoads, RepliesToFiles, RepliesToCut, judgements_of, load_reply}
+use Rattle.flowcheck.specs.Headline.{AreHeld, Says, AllSay, IsAmong, AreFew, Headline}
 
 -- ---- each judgement says what it means
 
@@ -31,15 +27,15 @@ says : (picture : Picture) (public_input : List ℕ) (cut : CutPicture) (budget 
 says picture public_input cut budget secret (Accepts bits output) e =
     let law = accepted_law picture public_input secret cut budget turn_limit bits output e in
     record {
-        accept = law.0;
-        few = rw law.1 law.0.within;
-        replay = rw law.1 law.0.replay;
-        real = law.0.exits;
-        }
-says picture public_input cut budget secret (Rejects why) e = record {
-    refused = rejected_law picture public_input secret cut budget turn_limit why e;
-    cause = causes_law picture public_input secret cut budget turn_limit why e;
+      accept = law.0;
+      few = rw law.1 law.0.within;
+      replay = rw law.1 law.0.replay;
+      real = law.0.exits;
     }
+says picture public_input cut budget secret (Rejects why) e = record {
+  refused = rejected_law picture public_input secret cut budget turn_limit why e;
+  cause = causes_law picture public_input secret cut budget turn_limit why e;
+}
 
 all-say : (picture : Picture) (public_input : List ℕ) (cut : CutPicture) (budget : ℕ) (secrets : List (List ℕ)) →
     AllSay picture public_input cut budget secrets (judgements_of picture public_input cut budget secrets)
@@ -66,15 +62,16 @@ all-outputs : (picture : Picture) (public_input : List ℕ) (cut : CutPicture) (
     AllSay picture public_input cut budget secrets judgements → AllByRecursion (IsAmong judgements) outputs →
     AllByRecursion (IsOutput picture public_input (MaskAt cut.points) cut.secret_length budget turn_limit) outputs
 all-outputs picture public_input cut budget secrets judgements [] say among = tt
-all-outputs picture public_input cut budget secrets judgements (output ∷ outputs) say among =
-    (among-output picture public_input cut budget secrets judgements output say among.0,
-    all-outputs picture public_input cut budget secrets judgements outputs say among.1)
+all-outputs picture public_input cut budget secrets judgements (output ∷ outputs) say among = (
+  among-output picture public_input cut budget secrets judgements output say among.0,
+  all-outputs picture public_input cut budget secrets judgements outputs say among.1,
+)
 
 are-few : (picture : Picture) (public_input : List ℕ) (cut : CutPicture) (budget : ℕ) (secrets : List (List ℕ)) (judgements : List Judgement) →
     AllSay picture public_input cut budget secrets judgements → AreFew judgements budget
 are-few picture public_input cut budget secrets judgements say outputs different among =
     bound_law picture public_input (MaskAt cut.points) cut.secret_length budget turn_limit outputs
-        (all-outputs picture public_input cut budget secrets judgements outputs say among) different
+    (all-outputs picture public_input cut budget secrets judgements outputs say among) different
 
 -- ---- what is loaded is held
 
@@ -135,7 +132,7 @@ all-held : (told : Told) (wants : List Want) (files : List (List ℕ)) → loade
 all-held told [] files e = subst (λ all. AreHeld told [] all) (let same : [] ≡ files = cc in same) tt
 all-held told (w ∷ wants) files e =
     held-step told w (names_of wants) (next_answer told w.name w.limit) (loaded_from (after_load told) wants) files refl
-        (λ rest h. same-held told (names_of wants) rest (all-held (after_load told) wants rest h)) e
+    (λ rest h. same-held told (names_of wants) rest (all-held (after_load told) wants rest h)) e
 
 secret-names : (names : List (List ℕ)) → names_of (secret_wants names) ≡ names
 secret-names [] = refl
@@ -160,12 +157,23 @@ from-cut told words check picture program_file public_input cut_file secrets rep
     let judgements : List Judgement = judgements_of picture public_input cut check.budget secrets in
     let say = all-say picture public_input cut check.budget secrets in
     record {
-        check = check; is_check = is; program_file = program_file; public_input = public_input; cut_file = cut_file; secrets = secrets;
-        held = held; picture = picture; is_image = image_of_single program_file picture single; cut = cut; is_cut = text;
-        judgements = judgements; lines = ap (λ r. r.text) e; say = say;
-        bound = are-few picture public_input cut check.budget secrets judgements say;
-        status_is = ap (λ r. r.status) e;
-        }
+      check = check;
+      is_check = is;
+      program_file = program_file;
+      public_input = public_input;
+      cut_file = cut_file;
+      secrets = secrets;
+      held = held;
+      picture = picture;
+      is_image = image_of_single program_file picture single;
+      cut = cut;
+      is_cut = text;
+      judgements = judgements;
+      lines = ap (λ r. r.text) e;
+      say = say;
+      bound = are-few picture public_input cut check.budget secrets judgements say;
+      status_is = ap (λ r. r.status) e;
+    }
 
 from-files : (told : Told) (words : List (List ℕ)) (check : Check) (program_file public_input cut_file : List ℕ) (secrets : List (List ℕ)) (reply : Reply) →
     IsCheck words check →
@@ -186,9 +194,9 @@ from-loads told words check (Ok (program_file ∷ [])) reply is e low h = absurd
 from-loads told words check (Ok (program_file ∷ (public_input ∷ []))) reply is e low h = absurd h
 from-loads told words check (Ok (program_file ∷ (public_input ∷ (cut_file ∷ secrets)))) reply is e low h =
     from-files told words check program_file public_input cut_file secrets reply is
-        (subst (λ names. AreHeld told (check.program ∷ check.public_input ∷ check.cut ∷ names) (program_file ∷ public_input ∷ cut_file ∷ secrets))
-            (secret-names check.secrets) (all-held told (wants_of check) (program_file ∷ public_input ∷ cut_file ∷ secrets) e))
-        low h
+    (subst (λ names. AreHeld told (check.program ∷ check.public_input ∷ check.cut ∷ names) (program_file ∷ public_input ∷ cut_file ∷ secrets))
+    (secret-names check.secrets) (all-held told (wants_of check) (program_file ∷ public_input ∷ cut_file ∷ secrets) e))
+    low h
 
 -- a reply with status 0 or 1 carries the headline
 pub headline_of : (told : Told) (words : List (List ℕ)) (reply : Reply) → Replies told words reply → reply.status ≤ 1 →

@@ -1,1 +1,4 @@
+pub mod Five
+pub mod Secrets
+pub mod Judgements
 pub mod Headlines
