@@ -3,7 +3,7 @@ use Rattle.std.specs.Prelude.{ℕ, ◌+◌, List, [], ◌∷◌, ◌++◌, lengt
 use Rattle.std.specs.Fmt.{decimal}
 use Rattle.crossing_bits.specs.HexText.{hex_of}
 use Rattle.rv32im_machine.specs.declared.stepping.Fault.{Fault}
-use Rattle.rv32im_machine.specs.declared.stepping.Fault.TheVariants.{FetchOutside, FetchUnaligned, LoadOutside, StoreOutside, Breakpoint, OutputLimit, Unbuilt}
+use Rattle.rv32im_machine.specs.declared.stepping.Fault.TheVariants.{Illegal, FetchOutside, FetchUnaligned, LoadOutside, StoreOutside, Breakpoint, OutputLimit, Unbuilt}
 use Rattle.lockstep_replay.specs.declared.verdicts.Why.{Why}
 use Rattle.lockstep_replay.specs.declared.verdicts.Why.TheVariants.{RealFault, BudgetOverrun, TurnLimit, SecretLength, Unequal}
 use Rattle.lockstep_replay.specs.Cuts.{hex_word}
@@ -11,6 +11,7 @@ use Rattle.lockstep_replay.specs.Verdicts.{Judgement, Accepts, Rejects}
 
 -- why a guest is stopped
 abbrev pub fault_text : Fault → List ℕ
+fault_text (Illegal pc word) = codes "illegal " ++ (hex_word pc ++ (codes " word " ++ hex_word word))
 fault_text (FetchOutside pc) = codes "fetch-outside " ++ hex_word pc
 fault_text (FetchUnaligned pc) = codes "fetch-unaligned " ++ hex_word pc
 fault_text (LoadOutside pc address) = codes "load-outside " ++ (hex_word pc ++ (codes " address " ++ hex_word address))

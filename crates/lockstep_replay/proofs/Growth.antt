@@ -12,7 +12,7 @@ use Rattle.rv32im_decode.specs.declared.instructions.StoreKind.TheVariants.{Sb, 
 use Rattle.rv32im_decode.specs.Operations.{word_of, load_size, store_size}
 use Rattle.rv32im_decode.specs.Encoding.{decoded}
 use Rattle.rv32im_machine.specs.declared.stepping.Fault.{Fault}
-use Rattle.rv32im_machine.specs.declared.stepping.Fault.TheVariants.{FetchOutside, FetchUnaligned, LoadOutside, StoreOutside, Unbuilt}
+use Rattle.rv32im_machine.specs.declared.stepping.Fault.TheVariants.{Illegal, FetchOutside, FetchUnaligned, LoadOutside, StoreOutside, Unbuilt}
 use Rattle.rv32im_machine.specs.declared.stepping.Stepped.{Stepped}
 use Rattle.rv32im_machine.specs.declared.stepping.Stepped.TheVariants.{Ran, Exited, Stopped}
 use Rattle.rv32im_machine.specs.declared.stepping.CallPlan.{CallPlan}
@@ -20,7 +20,7 @@ use Rattle.rv32im_machine.specs.declared.stepping.CallPlan.TheVariants.{Answer, 
 use Rattle.rv32im_machine.specs.State.{State, Setting, Control, Store, is_inside, onward, moved_to, ended, secret_taken, emitted, restored, saved}
 use Rattle.rv32im_machine.specs.Language.{Turn, Looks, Passes, Decides, Gives, Moves, Saves, Restores, Ends, Walk, Looked, Passed, Decided, Gave, Moved, Saved, Restored, Ended, Held, none_held, walked, shaped, value_of, put, hold, seen_value}
 use Rattle.rv32im_machine.specs.Calls.{answered, secret_reads, writes, planned, with_arguments, exits, call_row, read_plan, write_plan, call_word}
-use Rattle.rv32im_machine.specs.Rows.{stops, load_checked, store_at, store_checked, jumps, links, branches, row, is_built, legal, fetched, turn_in, walk_of}
+use Rattle.rv32im_machine.specs.Rows.{stops, load_checked, store_at, store_checked, jumps, links, branches, row, fetched, turn_in, walk_of}
 use Rattle.rv32im_machine.specs.Folds.{real_end, Step}
 use Rattle.lockstep_replay.specs.Runs.{Place, Masks, mask_at, replayed}
 use Rattle.lockstep_replay.proofs.Feeds.{feed_back}
@@ -208,19 +208,12 @@ grows_row base (Fence rd rs1 imm) setting control h = h
 grows_row base Ecall setting control h = λ number. grows_call base number setting control h
 grows_row base Ebreak setting control h = h
 
-grows_legal :
-    (base : List ℕ) (instr : Instr) (word : ℕ) (setting : Setting) (control : Control) → Longer base control.output →
-    Grows base (legal instr word setting control)
-grows_legal base instr word setting control h =
-    either base (is_built instr) _ _ (grows_row base instr setting control h)
-    (grows_stops base (Unbuilt control.pc word) control h)
-
 grows_fetched :
     (base : List ℕ) (instr : Option Instr) (word : ℕ) (setting : Setting) (control : Control) →
     Longer base control.output →
     Grows base (fetched instr word setting control)
-grows_fetched base None word setting control h = grows_stops base (Unbuilt control.pc word) control h
-grows_fetched base (Some instr) word setting control h = grows_legal base instr word setting control h
+grows_fetched base None word setting control h = grows_stops base (Illegal control.pc word) control h
+grows_fetched base (Some instr) word setting control h = grows_row base instr setting control h
 
 grows_turn :
     (base : List ℕ) (mode : Stepped) (setting : Setting) (control : Control) → Longer base control.output →

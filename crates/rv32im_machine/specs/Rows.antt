@@ -1,5 +1,5 @@
 -- One row for each instruction (RISC-V Unprivileged ISA): the slots that it passes, in order, and how the turn ends.
-use Rattle.std.specs.Prelude.{ℕ, ◌+◌, ◌%◌, ◌^◌, ◌==◌, Bool, true, false, if◌then◌else◌, Option, Some, None}
+use Rattle.std.specs.Prelude.{ℕ, ◌+◌, ◌%◌, ◌^◌, ◌==◌, if◌then◌else◌, Option, Some, None}
 use Rattle.flow_base.specs.declared.points.Slot.TheVariants.{First as FirstSlot, Second as SecondSlot, Address, Result as ResultSlot, Decision as DecisionSlot, Number}
 use Rattle.rv32im_decode.specs.declared.instructions.Instr.{Instr}
 use Rattle.rv32im_decode.specs.declared.instructions.Instr.TheVariants.{Lui, Auipc, Jal, Jalr, Branch, Load, Store as StoreInstr, OpImm, Op, Fence, Ecall, Ebreak}
@@ -7,14 +7,11 @@ use Rattle.rv32im_decode.specs.declared.instructions.LoadKind.{LoadKind}
 use Rattle.rv32im_decode.specs.declared.instructions.LoadKind.TheVariants.{Lb, Lh, Lw, Lbu, Lhu}
 use Rattle.rv32im_decode.specs.declared.instructions.StoreKind.{StoreKind}
 use Rattle.rv32im_decode.specs.declared.instructions.StoreKind.TheVariants.{Sb, Sh, Sw}
-use Rattle.rv32im_decode.specs.declared.instructions.ImmKind.{ImmKind}
-use Rattle.rv32im_decode.specs.declared.instructions.ImmKind.TheVariants.{Addi, Slti, Sltiu, Xori, Ori, Andi, Slli, Srli, Srai}
-use Rattle.rv32im_decode.specs.declared.instructions.OpKind.{OpKind}
-use Rattle.rv32im_decode.specs.declared.instructions.OpKind.TheVariants.{Add, Sub, Sll, Slt, Sltu, Xor, Srl, Sra, Or, And, Mul, Mulh, Mulhsu, Mulhu, Div, Divu, Rem, Remu}
+use Rattle.rv32im_decode.specs.declared.instructions.OpKind.TheVariants.{Add}
 use Rattle.rv32im_decode.specs.Operations.{word_of, operation_of, upper_of, load_size, store_size}
 use Rattle.rv32im_decode.specs.Encoding.{decoded}
 use Rattle.rv32im_machine.specs.declared.stepping.Fault.{Fault}
-use Rattle.rv32im_machine.specs.declared.stepping.Fault.TheVariants.{FetchOutside, FetchUnaligned, LoadOutside, StoreOutside, Breakpoint, Unbuilt}
+use Rattle.rv32im_machine.specs.declared.stepping.Fault.TheVariants.{Illegal, FetchOutside, FetchUnaligned, LoadOutside, StoreOutside, Breakpoint}
 use Rattle.rv32im_machine.specs.declared.stepping.Stepped.{Stepped}
 use Rattle.rv32im_machine.specs.declared.stepping.Stepped.TheVariants.{Ran, Exited, Stopped}
 use Rattle.rv32im_machine.specs.declared.language.Place.TheVariants.{Register, Byte, First, Second}
@@ -129,72 +126,10 @@ row Ecall setting control =
     Decides (point control Number) (Shaped Copied) (One (At (Register 17))) (λ number. call_row number setting control)
 row Ebreak setting control = stops (Breakpoint control.pc) control
 
--- the instructions that are carried out so far
-abbrev pub is_built_immediate : ImmKind → Bool
-is_built_immediate Addi = true
-is_built_immediate Slti = false
-is_built_immediate Sltiu = false
-is_built_immediate Xori = false
-is_built_immediate Ori = false
-is_built_immediate Andi = true
-is_built_immediate Slli = false
-is_built_immediate Srli = false
-is_built_immediate Srai = false
-
-abbrev pub is_add : OpKind → Bool
-is_add Add = true
-is_add Sub = false
-is_add Sll = false
-is_add Slt = false
-is_add Sltu = false
-is_add Xor = false
-is_add Srl = false
-is_add Sra = false
-is_add Or = false
-is_add And = false
-is_add Mul = false
-is_add Mulh = false
-is_add Mulhsu = false
-is_add Mulhu = false
-is_add Div = false
-is_add Divu = false
-is_add Rem = false
-is_add Remu = false
-
-abbrev pub is_built_load : LoadKind → Bool
-is_built_load Lb = false
-is_built_load Lh = false
-is_built_load Lw = false
-is_built_load Lbu = true
-is_built_load Lhu = false
-
-abbrev pub is_built_store : StoreKind → Bool
-is_built_store Sb = true
-is_built_store Sh = false
-is_built_store Sw = false
-
-abbrev pub is_built : Instr → Bool
-is_built (Lui rd imm) = true
-is_built (Auipc rd imm) = false
-is_built (Jal rd offset) = false
-is_built (Jalr rd rs1 imm) = false
-is_built (Branch kind rs1 rs2 offset) = false
-is_built (Load kind rd rs1 imm) = is_built_load kind
-is_built (StoreInstr kind rs1 rs2 imm) = is_built_store kind
-is_built (OpImm kind rd rs1 imm) = is_built_immediate kind
-is_built (Op kind rd rs1 rs2) = is_add kind
-is_built (Fence rd rs1 imm) = false
-is_built Ecall = true
-is_built Ebreak = false
-
-abbrev pub legal : Instr → ℕ → Setting → Control → Turn
-legal instr word setting control =
-    if is_built instr then row instr setting control else stops (Unbuilt control.pc word) control
-
 -- the turn of a fetched word
 abbrev pub fetched : Option Instr → ℕ → Setting → Control → Turn
-fetched None word setting control = stops (Unbuilt control.pc word) control
-fetched (Some instr) word setting control = legal instr word setting control
+fetched None word setting control = stops (Illegal control.pc word) control
+fetched (Some instr) word setting control = row instr setting control
 
 abbrev pub running : Setting → Control → Turn
 running setting control =

@@ -1,6 +1,8 @@
 /// Why a guest is stopped, with the program counter (`pc`) of the instruction that stopped it. Addresses are in bytes.
 #[derive(Clone, Copy, Debug, PartialEq, Eq)]
 pub enum Fault {
+    /// The word at `pc` is no instruction.
+    Illegal { pc: u32, word: u32 },
     /// The four bytes at `pc` are not inside guest memory.
     FetchOutside { pc: u32 },
     /// The jump or the taken branch at `pc` has a target that is no multiple of 4.
@@ -13,7 +15,7 @@ pub enum Fault {
     Breakpoint { pc: u32 },
     /// A write call would give more output bytes than the limit.
     OutputLimit { pc: u32 },
-    /// The word at `pc` is no instruction that is carried out so far, or is an ECALL with such a call or descriptor.
+    /// The word at `pc` is an ECALL with a call or descriptor that is not carried out so far.
     Unbuilt { pc: u32, word: u32 },
 }
 

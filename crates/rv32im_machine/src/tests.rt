@@ -74,14 +74,9 @@ fn the_lowest_bit_is_written(rt: HostRuntime) -> Result<(), Fail> {
 fn guests_are_stopped(rt: HostRuntime) -> Result<(), Fail> {
     let pc = 0x1_0000;
     for (word, fault) in [
-        (
-            0x0010_0073,
-            Fault::Unbuilt {
-                pc,
-                word: 0x0010_0073,
-            },
-        ), // ebreak
-        (0, Fault::Unbuilt { pc, word: 0 }),
+        (0x0010_0073, Fault::Breakpoint { pc }), // ebreak
+        (0, Fault::Illegal { pc, word: 0 }),
+        (0x0020_006f, Fault::FetchUnaligned { pc }), // jal x0,2
         (0x0000_0023, Fault::StoreOutside { pc, address: 0 }), // sb x0,0(x0)
         (0x0000_4283, Fault::LoadOutside { pc, address: 0 }), // lbu t0,0(x0)
     ] {

@@ -4,7 +4,7 @@ ghost use Rattle.std.specs.Prelude.{◌≡◌};
 ghost use Rattle.rv32im_decode.specs.Encoding.{InRange, decoded};
 ghost use Rattle.rv32im_machine.specs.State.{onward};
 ghost use Rattle.rv32im_machine.specs.Language.{turn_walk, Ends};
-ghost use Rattle.rv32im_machine.specs.Rows.{row_walk, stops, fetched, legal, running, walk_of, is_built};
+ghost use Rattle.rv32im_machine.specs.Rows.{row_walk, stops, fetched, running, walk_of};
 ghost use Rattle.rv32im_machine.specs.Playing.{outcome};
 
 use crate::calls::call_turn;
@@ -15,7 +15,7 @@ use crate::machines::Machine;
 use crate::passing::Passer;
 use crate::results::{immediate_turn, register_turn, upper_pc_turn, upper_turn};
 use crate::stepping::{Fault, Stepped};
-use rv32im_decode::{ImmKind, Instr, LoadKind, OpKind, StoreKind, decode};
+use rv32im_decode::{Instr, decode};
 
 /// One turn of a machine, each of its values handed to a passer; a machine that has exited or is stopped stands still.
 /// Where the passer stops the turn, the machine is left in the middle of it.
@@ -51,44 +51,11 @@ fn fetched_turn<P: Passer>(machine: &mut Machine, passer: &mut P, word: u32) -> 
         (outcome result machine.new (P.tape passer.new)) }
 {
     match decode(word) {
-        Some(instr) => legal_turn(machine, passer, instr, word),
+        Some(instr) => instr_turn(machine, passer, instr),
         None => {
             let pc = machine.pc();
-            stop(machine, passer, Fault::Unbuilt { pc, word })
+            stop(machine, passer, Fault::Illegal { pc, word })
         }
-    }
-}
-
-/// The turn of an instruction, where it is carried out so far.
-fn legal_turn<P: Passer>(
-    machine: &mut Machine,
-    passer: &mut P,
-    instr: Instr,
-    word: u32,
-) -> Result<(), P::Stop>
-    requires { InRange instr }
-    ensures { P.Plays passer.old (turn_walk machine.old (legal instr word machine.old.setting machine.old.control))
-        (outcome result machine.new (P.tape passer.new)) }
-{
-    if is_built_so_far(instr) {
-        instr_turn(machine, passer, instr)
-    } else {
-        let pc = machine.pc();
-        stop(machine, passer, Fault::Unbuilt { pc, word })
-    }
-}
-
-/// Whether an instruction is carried out so far.
-fn is_built_so_far(instr: Instr) -> bool
-    ensures { result ≡ is_built instr }
-{
-    match instr {
-        Instr::Lui { .. } | Instr::Ecall => true,
-        Instr::Load { kind, .. } => kind == LoadKind::Lbu,
-        Instr::Store { kind, .. } => kind == StoreKind::Sb,
-        Instr::OpImm { kind, .. } => kind == ImmKind::Addi || kind == ImmKind::Andi,
-        Instr::Op { kind, .. } => kind == OpKind::Add,
-        _ => false,
     }
 }
 
