@@ -17,7 +17,7 @@ use Rattle.lockstep_replay.proofs.Judging.{rejected_law}
 use Rattle.lockstep_replay.proofs.Causes.{causes_law}
 use Rattle.flowcheck.specs.CommandLines.{Check, IsCheck}
 use Rattle.flowcheck.specs.Loading.{Want, LoadRefusal, CannotLoad, IsTooLarge, and_load, loaded_from, wants_of, secret_wants}
-use Rattle.flowcheck.specs.Replies.{Reply, turn_limit, Replies, RepliesToLoads, RepliesToFiles, RepliesToCut, judgements_of, load_reply}
+use Rattle.flowcheck.specs.Replies.{Reply, RepliesByTold, turn_limit, Replies, RepliesToLoads, RepliesToFiles, RepliesToCut, judgements_of, load_reply}
 use Rattle.flowcheck.specs.Headline.{AreHeld, Says, AllSay, IsAmong, AreFew, Headline}
 
 -- ---- each judgement says what it means
@@ -204,3 +204,8 @@ pub headline_of : (told : Told) (words : List (List ℕ)) (reply : Reply) → Re
 headline_of told words reply (inl (none, e)) low = absurd (low-status reply.status 2 (ap (λ r. r.status) e) low (omega arith))
 headline_of told words reply (inr (check, is, h)) low =
     from-loads told words check (loaded_from told (wants_of check)) reply is refl low h
+
+pub headline_by_told : (told : Option Told) (words : List (List ℕ)) (status : ℕ) (text : List ℕ) →
+    RepliesByTold told words (record { status = status; text = text }) → status ≤ 1 → HeadlineByTold told words status text
+headline_by_told None words status text h low = tt
+headline_by_told (Some told) words status text h low = headline_of told words (record { status = status; text = text }) h low

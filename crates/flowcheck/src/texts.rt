@@ -72,6 +72,7 @@ fn fault_text(alloc: Global, fault: Fault) -> Result<Bytes, NoMemory>
     ensures { IfOk result (λ text. text ≡ fault_text_of fault) }
 {
     match fault {
+        Fault::Illegal { pc, word } => with_words(alloc, "illegal ", pc, " word ", word),
         Fault::FetchOutside { pc } => with_word(alloc, "fetch-outside ", pc),
         Fault::FetchUnaligned { pc } => with_word(alloc, "fetch-unaligned ", pc),
         Fault::LoadOutside { pc, address } => with_words(

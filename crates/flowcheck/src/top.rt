@@ -2,6 +2,7 @@ ghost use Rattle.std.specs.Prelude.{◌≡◌, ◌≢◌, ◌≤◌, ℕ, List a
 ghost use Rattle.flow_base.specs.Counts.{Rose};
 ghost use Rattle.flow_base.specs.Puts.{after_put};
 ghost use Rattle.flowcheck.specs.Answering.{is_one_of, IsNoCheck, LoadsByTold};
+ghost use Rattle.flowcheck.specs.Headline.{HeadlineByTold};
 ghost use Rattle.flowcheck.specs.Replies.{Reply, RepliesByTold};
 
 use crate::answering::reply_to;
@@ -14,6 +15,7 @@ use std::alloc::Global;
 /// The answer is a status: 0 where all secrets are accepted, 1 where some secret is rejected, 2 where the words are no
 /// command line, 3 where the program or the cut has no form that is read so far, 5 where a load failed, 6 where a file
 /// has more bytes than its limit, 7 where the put failed, and 8 for want of memory; then nothing is put.
+#[tactic(auto, using(crate::proofs::Headlines::headline_by_told))]
 pub fn flowcheck<F: Files, K: Sink>(
     alloc: Global,
     words: Vec<String>,
@@ -29,6 +31,9 @@ pub fn flowcheck<F: Files, K: Sink>(
     ensures loads { result ≢ 8 → LoadsByTold (F.told files.old) (map string_bytes words.items) (F.told files.new) }
     ensures reply { result ≢ 7 → result ≢ 8 →
         (text : Seq ℕ) × RepliesByTold (F.told files.old) (map string_bytes words.items) (record { status = result; text = text })
+        × (K.told out.new ≡ option_map (after_put text) (K.told out.old)) }
+    ensures headline { result ≤ 1 →
+        (text : Seq ℕ) × HeadlineByTold (F.told files.old) (map string_bytes words.items) result text
         × (K.told out.new ≡ option_map (after_put text) (K.told out.old)) }
     ensures failed_put { result ≡ 7 →
         (reply : Reply) × (count : ℕ) × RepliesByTold (F.told files.old) (map string_bytes words.items) reply
