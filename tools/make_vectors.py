@@ -69,7 +69,7 @@ def register_cases():
         for x5 in EDGES:
             for x6 in EDGES:
                 case(f"{op} x7,x5,x6", x5, x6)
-        for registers in ["x7,x5,x5", "x0,x5,x6", "x5,x5,x6", "x6,x5,x6", "x5,x5,x5", "x7,x0,x6", "x7,x5,x0", "x7,x6,x5"]:
+        for registers in "x7,x5,x5 x0,x5,x6 x5,x5,x6 x6,x5,x6 x5,x5,x5 x7,x0,x6 x7,x5,x0 x7,x6,x5".split():
             for x5, x6 in [(0x80000000, 3), (0x89ABCDEF, 0xFFFFFFF6)]:
                 case(f"{op} {registers}", x5, x6)
     for op in SHIFTS:
@@ -247,8 +247,8 @@ def run():
         subprocess.run(["riscv64-unknown-elf-as", "-march=rv32im", "-mabi=ilp32", "-o", made, source], check=True)
         starts = [f"--section-start={name}={address:#x}" for name, address in [
             (".low", BASE), (".arena", ARENA), (".top", END - 0x2000), (".text", HARNESS)]]
-        subprocess.run(["riscv64-unknown-elf-ld", "-m", "elf32lriscv", "--no-relax", "--no-warn-rwx-segments", "-Tdata=0x02100000", "-Tbss=0x02200000",
-                        *starts, "-o", linked, made], check=True)
+        subprocess.run(["riscv64-unknown-elf-ld", "-m", "elf32lriscv", "--no-relax", "--no-warn-rwx-segments",
+                        "-Tdata=0x02100000", "-Tbss=0x02200000", *starts, "-o", linked, made], check=True)
         return subprocess.run(["qemu-riscv32", linked], check=True, stdout=subprocess.PIPE).stdout
 
 
@@ -266,7 +266,8 @@ def main():
         wanted = " ".join(f"{number:x}" for number in [onward, after5, after6, after7])
         print(f"{given} {before:x} -> {wanted} {high << 32 | low:x}")
     mnemonics = {text.split()[0] for text in code.values() if not text.startswith(("pad", "hop", "jalr x0,%"))}
-    print(f"{len(cases)} cases, {len(mnemonics)} mnemonics (FENCE as .word): {' '.join(sorted(mnemonics))}", file=sys.stderr)
+    names = " ".join(sorted(mnemonics))
+    print(f"{len(cases)} cases, {len(mnemonics)} mnemonics (FENCE as .word): {names}", file=sys.stderr)
 
 
 if __name__ == "__main__":
