@@ -1,0 +1,4 @@
+pub mod Five
+pub mod Secrets
+pub mod Judgements
+pub mod Headlines

@@ -1,7 +1,6 @@
 -- The texts that are printed. Numbers are decimal; addresses and words are 0x and eight digits in lower case.
-use Rattle.std.specs.Prelude.{ℕ, ◌+◌, List, [], ◌∷◌, ◌++◌, length, codes, Bool, true, false}
+use Rattle.std.specs.Prelude.{ℕ, ◌+◌, List, [], ◌∷◌, ◌++◌, length, codes}
 use Rattle.std.specs.Fmt.{decimal}
-use Rattle.flow_base.specs.declared.outputs.Output.{Output}
 use Rattle.crossing_bits.specs.HexText.{hex_of}
 use Rattle.rv32im_machine.specs.declared.stepping.Fault.{Fault}
 use Rattle.rv32im_machine.specs.declared.stepping.Fault.TheVariants.{Illegal, FetchOutside, FetchUnaligned, LoadOutside, StoreOutside, Breakpoint, OutputLimit, Unbuilt}
@@ -45,8 +44,13 @@ accepted_count [] = 0
 accepted_count (Accepts bits output ∷ judgements) = 1 + accepted_count judgements
 accepted_count (Rejects why ∷ judgements) = accepted_count judgements
 
+-- the line of counts
+abbrev pub counts_line : ℕ → ℕ → ℕ → List ℕ
+counts_line checked accepted budget =
+    codes "checked " ++ (decimal checked ++ (codes " accepted " ++ (decimal accepted ++ (codes " budget "
+    ++ (decimal budget ++ codes "\n")))))
+
 -- a line for each secret, counted from 1, and the line of counts
 abbrev pub check_text : List Judgement → ℕ → List ℕ
 check_text judgements budget =
-    verdict_lines 1 judgements ++ (codes "checked " ++ (decimal (length judgements) ++ (codes " accepted "
-    ++ (decimal (accepted_count judgements) ++ (codes " budget " ++ (decimal budget ++ codes "\n"))))))
+    verdict_lines 1 judgements ++ counts_line (length judgements) (accepted_count judgements) budget

@@ -1,4 +1,70 @@
 //! How many bits of its secret can a program's output have given away?
 #![tactic(auto)]
 
-fn main() {}
+mod answering;
+mod judging;
+mod loads;
+mod refusals;
+mod replies;
+#[cfg(test)]
+mod tests;
+mod texts;
+mod top;
+mod words;
+
+use flow_base::{DiskFiles, Sink, StandardOut};
+use std::alloc::Global;
+use std::env;
+use std::io::ErrorKind;
+use std::process::ExitCode;
+pub use top::flowcheck;
+
+const HELP: &str = "flowcheck check PROG PUBLIC CUT BUDGET SECRET..\n\n\
+    Judges by lockstep replay whether a run of PROG on each secret gives away no bits but those of the cut, at most\n\
+    BUDGET of them. PROG is an ELF32 program of RV32IM, PUBLIC its public input, CUT a cut file, and each SECRET a file\n\
+    with a secret input; BUDGET is 0 to 1048576, and there are 1 to 64 secrets.\n";
+
+const VERSION: &str = "flowcheck 0.1.0\n";
+
+/// The words after the program's name, or the status where they cannot be had: 8 for want of memory, else 9.
+fn words_of(rt: &HostRuntime, alloc: Global) -> Result<Vec<String>, u8> {
+    let mut words = Vec::new(alloc);
+    let args = match env::args(rt) {
+        Ok(args) => args,
+        Err(error) if error.kind() == ErrorKind::OutOfMemory => return Err(8),
+        Err(_) => return Err(9),
+    };
+    for word in args.skip(1) {
+        if words.push(word).is_err() {
+            return Err(8);
+        }
+    }
+    Ok(words)
+}
+
+/// The text that a lone word `--help` or `--version` asks for.
+fn text_asked<'a>(words: &[String]) -> Option<&'a str> {
+    match words {
+        [word] if word.as_str() == "--help" => Some(HELP),
+        [word] if word.as_str() == "--version" => Some(VERSION),
+        _ => None,
+    }
+}
+
+fn main(rt: HostRuntime) -> ExitCode {
+    let mut out = StandardOut::new(rt);
+    let words = match words_of(&rt, rt.alloc()) {
+        Ok(words) => words,
+        Err(status) => return ExitCode::from(status),
+    };
+    if let Some(text) = text_asked(words.as_slice()) {
+        let status = if out.put(text.as_bytes()).is_ok() {
+            0
+        } else {
+            7
+        };
+        return ExitCode::from(status);
+    }
+    let mut files = DiskFiles::new(rt);
+    ExitCode::from(flowcheck(rt.alloc(), words, &mut files, &mut out))
+}

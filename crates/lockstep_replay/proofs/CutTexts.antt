@@ -3,8 +3,8 @@ use Rattle.std.proofs.Common.{◌≡◌, ℕ, ◌+◌, ◌*◌, ◌/◌, ◌%◌
 use Rattle.std.proofs.lemmas.Fmt.{decimal_by_steps}
 use Rattle.std.specs.Fmt.{decimal}
 use Rattle.lockstep_replay.specs.declared.points.InPoint.{InPoint}
-use Rattle.lockstep_replay.specs.Cuts.{CutPicture, is_ascending, hex_digit, hex_word, point_line, point_lines, cut_text, IsCutText}
-use Rattle.lockstep_replay.specs.Reading.{is_word_point, are_words, after_text, then_text, digits_from, first_and, bits_line, head_numbers, head_text, digit_of, word_at, point_in, after_line, with_point, next_point, least_after}
+use Rattle.lockstep_replay.specs.Cuts.{is_word_point, are_words, CutPicture, is_ascending, hex_digit, hex_word, point_line, point_lines, cut_text, IsCutText}
+use Rattle.lockstep_replay.specs.Reading.{after_text, then_text, digits_from, first_and, bits_line, head_numbers, head_text, digit_of, word_at, point_in, after_line, with_point, next_point, least_after}
 
 -- ---- wanted texts
 
@@ -414,10 +414,11 @@ few-bits a few = grind arith
 
 pub is-cut-text : (secret_length bits : ℕ) (points : List InPoint) (file rest : List ℕ) →
     after_text (head_text secret_length bits) file ≡ Some rest → rest ≡ point_lines points ++ codes "end\n" →
-    secret_length ≤ 65536 → bits < 4294967296 → is_ascending points ≡ true →
+    secret_length ≤ 65536 → bits < 4294967296 → is_ascending points ≡ true → are_words points ≡ true →
     IsCutText file (record { secret_length = secret_length; bits = bits; points = points })
-is-cut-text secret_length bits points file rest e lines short few ascends = record {
+is-cut-text secret_length bits points file rest e lines short few ascends words = record {
   valid = both-valid secret_length (is_ascending points) short ascends;
+  words = words;
   bits = few-bits bits few;
   text = text-of secret_length bits points file rest e lines;
 }

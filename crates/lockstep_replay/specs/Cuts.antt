@@ -18,6 +18,15 @@ is_ascending [] = true
 is_ascending (point ∷ []) = true
 is_ascending (point ∷ (next ∷ points)) = nat_lt point.address next.address && is_ascending (next ∷ points)
 
+-- both numbers of a point are words of 32 bits
+abbrev pub is_word_point : InPoint → Bool
+is_word_point point = nat_lt point.address 4294967296 && nat_lt point.rest 4294967296
+
+-- each number of each point is a word
+abbrev pub are_words : List InPoint → Bool
+are_words [] = true
+are_words (point ∷ points) = is_word_point point && are_words points
+
 abbrev pub is_cut : CutPicture → Bool
 is_cut cut = nat_le cut.secret_length 65536 && is_ascending cut.points
 
@@ -50,6 +59,7 @@ cut_text cut =
 -- the file is the text of this cut
 pub record IsCutText (file : List ℕ) (cut : CutPicture) : Type 0 where
   pub valid : is_cut cut ≡ true
+  pub words : are_words cut.points ≡ true
   pub bits : nat_lt cut.bits 4294967296 ≡ true
   pub text : file ≡ cut_text cut
 

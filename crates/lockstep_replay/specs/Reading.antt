@@ -2,16 +2,7 @@
 use Rattle.std.specs.Prelude.{◌≡◌, IsTrue, ℕ, ◌+◌, ◌-◌, ◌*◌, ◌%◌, ◌==◌, ◌&&◌, nat_le, nat_lt, List, [], ◌∷◌, ◌++◌, codes, length, slice_index, Bool, true, Option, Some, None, if◌then◌else◌}
 use Rattle.std.specs.Fmt.{decimal}
 use Rattle.lockstep_replay.specs.declared.points.InPoint.{InPoint}
-use Rattle.lockstep_replay.specs.Cuts.{CutPicture, IsCutText, is_ascending, hex_word, point_lines}
-
--- both numbers of a point are words of 32 bits
-abbrev pub is_word_point : InPoint → Bool
-is_word_point point = nat_lt point.address 4294967296 && nat_lt point.rest 4294967296
-
--- each number of each point is a word
-abbrev pub are_words : List InPoint → Bool
-are_words [] = true
-are_words (point ∷ points) = is_word_point point && are_words points
+use Rattle.lockstep_replay.specs.Cuts.{CutPicture, IsCutText, are_words, is_ascending, hex_word, point_lines}
 
 -- the rest after a wanted text
 abbrev pub after_text : List ℕ → List ℕ → Option (List ℕ)
@@ -115,6 +106,6 @@ IsNoPointsText bytes =
     (points : List InPoint) → IsTrue (are_words points) → IsTrue (is_ascending points)
     → ¬ (bytes ≡ point_lines points ++ codes "end\n")
 
--- the file is the text of no cut of words
+-- the file is the text of no cut
 abbrev pub IsNoCutText : List ℕ → Type 0
-IsNoCutText file = (cut : CutPicture) → IsTrue (are_words cut.points) → ¬ IsCutText file cut
+IsNoCutText file = (cut : CutPicture) → ¬ IsCutText file cut

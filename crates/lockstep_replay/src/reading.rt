@@ -1,6 +1,6 @@
 ghost use Rattle.std.specs.Prelude.{◌≡◌, ◌<◌, ◌≤◌, ◌+◌, ◌++◌};
 ghost use Rattle.std.specs.Prelude.{length, codes, option_map, IfOk, IfSome, IsTrue, string_bytes};
-ghost use Rattle.lockstep_replay.specs.Cuts.{IsCutText, hex_digit, hex_word, point_lines, is_ascending};
+ghost use Rattle.lockstep_replay.specs.Cuts.{are_words, IsCutText, hex_digit, hex_word, point_lines, is_ascending};
 ghost use Rattle.lockstep_replay.specs.CutPictures.{cut_picture};
 ghost use Rattle.lockstep_replay.specs.Reading.{after_text, digits_from, head_numbers, head_text, digit_of, word_at};
 ghost use Rattle.lockstep_replay.specs.Reading.{after_line as line_rest, next_point as next_in, IsNoPointsText, IsNoCutText};
@@ -154,6 +154,7 @@ fn next_point<'a>(least: u64, input: &'a [u8]) -> Option<(InPoint, &'a [u8])>
 fn points(alloc: Global, input: &[u8]) -> Result<List<InPoint>, CutFault>
     ensures lines { IfOk result (λ found. input.now ≡ point_lines found ++ codes "end\n") }
     ensures ascend { IfOk result (λ found. IsTrue (is_ascending found)) }
+    ensures words { IfOk result (λ found. IsTrue (are_words found)) }
     ensures unbuilt { result ≡ Err CutFault.Unbuilt → IsNoPointsText input.now }
 {
     let mut found: List<InPoint> = List::new(alloc);

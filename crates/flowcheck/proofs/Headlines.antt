@@ -1,0 +1,206 @@
+-- The headline follows from the reply.
+use Rattle.std.proofs.Common.{◌≡◌, inl, inr, ℕ, ◌≤◌, ◌<◌, ◌==◌, List, [], ◌∷◌, length, Bool, true, false, Option, Some, None, Result, Ok, Err, refl, ap, subst, arith, ◌+◌, nat_le, if◌then◌else◌}
+use Rattle.std.specs.List.{AllByRecursion, list_any}
+use Rattle.flow_base.specs.declared.outputs.Output.{Output}
+use Rattle.flow_base.specs.declared.loading.LoadFault.{LoadFault}
+use Rattle.flow_base.specs.declared.loading.LoadFault.TheVariants.{Failed, TooLarge, Memory}
+use Rattle.flow_base.specs.Loads.{Told, after_load, next_answer, held_answer}
+use Rattle.elf32_loader.specs.Pictures.{Picture}
+use Rattle.elf32_loader.specs.Programs.{IsSingle}
+use Rattle.elf32_loader.proofs.Programs.{image_of_single}
+use Rattle.lockstep_replay.specs.Cuts.{CutPicture, MaskAt}
+use Rattle.lockstep_replay.specs.Acceptance.{Accept, IsOutput}
+use Rattle.lockstep_replay.specs.Verdicts.{Judgement, Accepts, Rejects, First}
+use Rattle.lockstep_replay.proofs.Bounds.{bound_law}
+use Rattle.lockstep_replay.proofs.Accepting.{accepted_law}
+use Rattle.lockstep_replay.proofs.Judging.{rejected_law}
+use Rattle.lockstep_replay.proofs.Causes.{causes_law}
+use Rattle.flowcheck.specs.CommandLines.{Check, IsCheck}
+use Rattle.flowcheck.specs.Loading.{Want, LoadRefusal, CannotLoad, IsTooLarge, and_load, loaded_from, wants_of, secret_wants}
+use Rattle.flowcheck.specs.Replies.{Reply, turn_limit, Replies, RepliesToLoads, RepliesToFiles, RepliesToCut, judgements_of, load_reply}
+use Rattle.flowcheck.specs.Headline.{AreHeld, Says, AllSay, IsAmong, AreFew, Headline}
+
+-- ---- each judgement says what it means
+
+says : (picture : Picture) (public_input : List ℕ) (cut : CutPicture) (budget : ℕ) (secret : List ℕ) (judgement : Judgement) →
+    First picture public_input secret cut budget turn_limit ≡ judgement → Says picture public_input cut budget secret judgement
+says picture public_input cut budget secret (Accepts bits output) e =
+    let law = accepted_law picture public_input secret cut budget turn_limit bits output e in
+    record {
+      accept = law.0;
+      few = rw law.1 law.0.within;
+      replay = rw law.1 law.0.replay;
+      real = law.0.exits;
+    }
+says picture public_input cut budget secret (Rejects why) e = record {
+  refused = rejected_law picture public_input secret cut budget turn_limit why e;
+  cause = causes_law picture public_input secret cut budget turn_limit why e;
+}
+
+all-say : (picture : Picture) (public_input : List ℕ) (cut : CutPicture) (budget : ℕ) (secrets : List (List ℕ)) →
+    AllSay picture public_input cut budget secrets (judgements_of picture public_input cut budget secrets)
+all-say picture public_input cut budget [] = tt
+all-say picture public_input cut budget (secret ∷ secrets) =
+    (says picture public_input cut budget secret (First picture public_input secret cut budget turn_limit) refl, all-say picture public_input cut budget secrets)
+
+-- ---- the bound
+
+among-output : (picture : Picture) (public_input : List ℕ) (cut : CutPicture) (budget : ℕ) (secrets : List (List ℕ)) (judgements : List Judgement) (output : Output) →
+    AllSay picture public_input cut budget secrets judgements → IsAmong judgements output →
+    IsOutput picture public_input (MaskAt cut.points) cut.secret_length budget turn_limit output
+among-output picture public_input cut budget [] [] output say among = absurd among
+among-output picture public_input cut budget [] (judgement ∷ judgements) output say among = absurd say
+among-output picture public_input cut budget (secret ∷ secrets) [] output say among = absurd say
+among-output picture public_input cut budget (secret ∷ secrets) (Accepts bits other ∷ judgements) output say (inl same) =
+    (secret, subst (λ o. Accept picture public_input (MaskAt cut.points) cut.secret_length budget turn_limit secret o) same say.0.accept)
+among-output picture public_input cut budget (secret ∷ secrets) (Accepts bits other ∷ judgements) output say (inr among) =
+    among-output picture public_input cut budget secrets judgements output say.1 among
+among-output picture public_input cut budget (secret ∷ secrets) (Rejects why ∷ judgements) output say among =
+    among-output picture public_input cut budget secrets judgements output say.1 among
+
+all-outputs : (picture : Picture) (public_input : List ℕ) (cut : CutPicture) (budget : ℕ) (secrets : List (List ℕ)) (judgements : List Judgement) (outputs : List Output) →
+    AllSay picture public_input cut budget secrets judgements → AllByRecursion (IsAmong judgements) outputs →
+    AllByRecursion (IsOutput picture public_input (MaskAt cut.points) cut.secret_length budget turn_limit) outputs
+all-outputs picture public_input cut budget secrets judgements [] say among = tt
+all-outputs picture public_input cut budget secrets judgements (output ∷ outputs) say among = (
+  among-output picture public_input cut budget secrets judgements output say among.0,
+  all-outputs picture public_input cut budget secrets judgements outputs say among.1,
+)
+
+are-few : (picture : Picture) (public_input : List ℕ) (cut : CutPicture) (budget : ℕ) (secrets : List (List ℕ)) (judgements : List Judgement) →
+    AllSay picture public_input cut budget secrets judgements → AreFew judgements budget
+are-few picture public_input cut budget secrets judgements say outputs different among =
+    bound_law picture public_input (MaskAt cut.points) cut.secret_length budget turn_limit outputs
+    (all-outputs picture public_input cut budget secrets judgements outputs say among) different
+
+-- ---- what is loaded is held
+
+within-held : (limit : ℕ) (bytes file : List ℕ) (b : Bool) → (if b then Ok bytes else Err (TooLarge (limit + 1))) ≡ Ok file → bytes ≡ file
+within-held limit bytes file true e = cc
+within-held limit bytes file false e = cc
+
+held-of : (limit : ℕ) (held : Option (List ℕ)) (file : List ℕ) → held_answer limit held ≡ Ok file → held ≡ Some file
+held-of limit None file e = cc
+held-of limit (Some bytes) file e = ap (λ b. Some b) (within-held limit bytes file (nat_le (length bytes) limit) e)
+
+answered : (b : Bool) (limit : ℕ) (held : Option (List ℕ)) (file : List ℕ) → (if b then Err Failed else held_answer limit held) ≡ Ok file → held ≡ Some file
+answered true limit held file e = cc
+answered false limit held file e = held-of limit held file e
+
+pub next-held : (told : Told) (name : List ℕ) (limit : ℕ) (file : List ℕ) → next_answer told name limit ≡ Ok file → told.held name ≡ Some file
+next-held told name limit file e =
+    answered (list_any (λ number. number == (after_load told).loads) told.fails) limit (told.held name) file e
+
+no-memory : (b : Bool) (limit : ℕ) (bytes : List ℕ) → (if b then Ok bytes else Err (TooLarge (limit + 1))) ≡ Err Memory → ⊥
+no-memory true limit bytes e = cc
+no-memory false limit bytes e = cc
+
+held-no-memory : (limit : ℕ) (held : Option (List ℕ)) → held_answer limit held ≡ Err Memory → ⊥
+held-no-memory limit None e = cc
+held-no-memory limit (Some bytes) e = no-memory (nat_le (length bytes) limit) limit bytes e
+
+answer-no-memory : (b : Bool) (limit : ℕ) (held : Option (List ℕ)) → (if b then Err Failed else held_answer limit held) ≡ Err Memory → ⊥
+answer-no-memory true limit held e = cc
+answer-no-memory false limit held e = held-no-memory limit held e
+
+next-no-memory : (told : Told) (name : List ℕ) (limit : ℕ) → next_answer told name limit ≡ Err Memory → ⊥
+next-no-memory told name limit e =
+    answer-no-memory (list_any (λ number. number == (after_load told).loads) told.fails) limit (told.held name) e
+
+abbrev names_of : List Want → List (List ℕ)
+names_of [] = []
+names_of (w ∷ wants) = w.name ∷ names_of wants
+
+held-step : (told : Told) (w : Want) (names : List (List ℕ)) (answer : Result (List ℕ) LoadFault) (later : Result (List (List ℕ)) LoadRefusal) (files : List (List ℕ)) →
+    next_answer told w.name w.limit ≡ answer → ((rest : List (List ℕ)) → later ≡ Ok rest → AreHeld told names rest) →
+    and_load w answer later ≡ Ok files → AreHeld told (w.name ∷ names) files
+held-step told w names (Ok file) (Ok rest) files e h k =
+    subst (λ all. AreHeld told (w.name ∷ names) all) (let same : file ∷ rest ≡ files = cc in same) (next-held told w.name w.limit file e, h rest refl)
+held-step told w names (Ok file) (Err refusal) files e h k = cc
+held-step told w names (Err Failed) later files e h k = cc
+held-step told w names (Err (TooLarge number)) later files e h k = cc
+held-step told w names (Err Memory) later files e h k = absurd (next-no-memory told w.name w.limit e)
+
+-- a load leaves what is held
+same-held : (told : Told) (names files : List (List ℕ)) → AreHeld (after_load told) names files → AreHeld told names files
+same-held told [] [] h = h
+same-held told [] (file ∷ files) h = h
+same-held told (name ∷ names) [] h = h
+same-held told (name ∷ names) (file ∷ files) h = (h.0, same-held told names files h.1)
+
+all-held : (told : Told) (wants : List Want) (files : List (List ℕ)) → loaded_from told wants ≡ Ok files → AreHeld told (names_of wants) files
+all-held told [] files e = subst (λ all. AreHeld told [] all) (let same : [] ≡ files = cc in same) tt
+all-held told (w ∷ wants) files e =
+    held-step told w (names_of wants) (next_answer told w.name w.limit) (loaded_from (after_load told) wants) files refl
+    (λ rest h. same-held told (names_of wants) rest (all-held (after_load told) wants rest h)) e
+
+secret-names : (names : List (List ℕ)) → names_of (secret_wants names) ≡ names
+secret-names [] = refl
+secret-names (name ∷ names) = ap (λ rest. name ∷ rest) (secret-names names)
+
+-- ---- the headline
+
+low-status : (status other : ℕ) → status ≡ other → status ≤ 1 → 1 < other → ⊥
+low-status status other e h k = omega arith
+
+refusal-status : (refusal : LoadRefusal) → 1 < (load_reply refusal).status
+refusal-status (CannotLoad name) = omega arith
+refusal-status (IsTooLarge name number) = omega arith
+
+from-cut : (told : Told) (words : List (List ℕ)) (check : Check) (picture : Picture) (program_file public_input cut_file : List ℕ) (secrets : List (List ℕ)) (reply : Reply) →
+    IsCheck words check → IsSingle program_file picture →
+    AreHeld told (check.program ∷ check.public_input ∷ check.cut ∷ check.secrets) (program_file ∷ public_input ∷ cut_file ∷ secrets) →
+    reply.status ≤ 1 → RepliesToCut picture public_input cut_file check.budget secrets reply → Headline told words reply.status reply.text
+from-cut told words check picture program_file public_input cut_file secrets reply is single held low (inl (none, e)) =
+    absurd (low-status reply.status 3 (ap (λ r. r.status) e) low (omega arith))
+from-cut told words check picture program_file public_input cut_file secrets reply is single held low (inr (cut, text, e)) =
+    let judgements : List Judgement = judgements_of picture public_input cut check.budget secrets in
+    let say = all-say picture public_input cut check.budget secrets in
+    record {
+      check = check;
+      is_check = is;
+      program_file = program_file;
+      public_input = public_input;
+      cut_file = cut_file;
+      secrets = secrets;
+      held = held;
+      picture = picture;
+      is_image = image_of_single program_file picture single;
+      cut = cut;
+      is_cut = text;
+      judgements = judgements;
+      lines = ap (λ r. r.text) e;
+      say = say;
+      bound = are-few picture public_input cut check.budget secrets judgements say;
+      status_is = ap (λ r. r.status) e;
+    }
+
+from-files : (told : Told) (words : List (List ℕ)) (check : Check) (program_file public_input cut_file : List ℕ) (secrets : List (List ℕ)) (reply : Reply) →
+    IsCheck words check →
+    AreHeld told (check.program ∷ check.public_input ∷ check.cut ∷ check.secrets) (program_file ∷ public_input ∷ cut_file ∷ secrets) →
+    reply.status ≤ 1 → RepliesToFiles check.budget program_file public_input cut_file secrets reply → Headline told words reply.status reply.text
+from-files told words check program_file public_input cut_file secrets reply is held low (inl (none, e)) =
+    absurd (low-status reply.status 3 (ap (λ r. r.status) e) low (omega arith))
+from-files told words check program_file public_input cut_file secrets reply is held low (inr (picture, single, rest)) =
+    from-cut told words check picture program_file public_input cut_file secrets reply is single held low rest
+
+from-loads : (told : Told) (words : List (List ℕ)) (check : Check) (loaded : Result (List (List ℕ)) LoadRefusal) (reply : Reply) →
+    IsCheck words check → loaded_from told (wants_of check) ≡ loaded → reply.status ≤ 1 →
+    RepliesToLoads check.budget loaded reply → Headline told words reply.status reply.text
+from-loads told words check (Err refusal) reply is e low h =
+    absurd (low-status reply.status (load_reply refusal).status (ap (λ r. r.status) h) low (refusal-status refusal))
+from-loads told words check (Ok []) reply is e low h = absurd h
+from-loads told words check (Ok (program_file ∷ [])) reply is e low h = absurd h
+from-loads told words check (Ok (program_file ∷ (public_input ∷ []))) reply is e low h = absurd h
+from-loads told words check (Ok (program_file ∷ (public_input ∷ (cut_file ∷ secrets)))) reply is e low h =
+    from-files told words check program_file public_input cut_file secrets reply is
+    (subst (λ names. AreHeld told (check.program ∷ check.public_input ∷ check.cut ∷ names) (program_file ∷ public_input ∷ cut_file ∷ secrets))
+    (secret-names check.secrets) (all-held told (wants_of check) (program_file ∷ public_input ∷ cut_file ∷ secrets) e))
+    low h
+
+-- a reply with status 0 or 1 carries the headline
+pub headline_of : (told : Told) (words : List (List ℕ)) (reply : Reply) → Replies told words reply → reply.status ≤ 1 →
+    Headline told words reply.status reply.text
+headline_of told words reply (inl (none, e)) low = absurd (low-status reply.status 2 (ap (λ r. r.status) e) low (omega arith))
+headline_of told words reply (inr (check, is, h)) low =
+    from-loads told words check (loaded_from told (wants_of check)) reply is refl low h

@@ -1,0 +1,85 @@
+-- The headline: what the lines of a check say of its secrets, and how many different outputs the accepted ones have.
+use Rattle.std.specs.Prelude.{◌≡◌, ℕ, ◌≤◌, ◌^◌, ◌==◌, List, [], ◌∷◌, length, Bool, ◌⊎◌, Option, None, Some, if◌then◌else◌}
+use Rattle.std.specs.List.{AllByRecursion}
+use Rattle.flow_base.specs.declared.outputs.Output.{Output}
+use Rattle.flow_base.specs.Loads.{Told}
+use Rattle.elf32_loader.specs.Pictures.{Picture}
+use Rattle.elf32_loader.specs.Programs.{IsImage}
+use Rattle.crossing_bits.specs.Askers.{AllDifferent}
+use Rattle.lockstep_replay.specs.declared.verdicts.Why.{Why}
+use Rattle.lockstep_replay.specs.Cuts.{CutPicture, IsCutText, MaskAt}
+use Rattle.lockstep_replay.specs.Runs.{real_after}
+use Rattle.lockstep_replay.specs.Acceptance.{Accept, Done, HasExited, guest}
+use Rattle.lockstep_replay.specs.Verdicts.{Judgement, Accepts, Rejects}
+use Rattle.lockstep_replay.specs.VerdictLaws.{Cause}
+use Rattle.flowcheck.specs.CommandLines.{Check, IsCheck}
+use Rattle.flowcheck.specs.Texts.{check_text, accepted_count}
+use Rattle.flowcheck.specs.Replies.{turn_limit}
+
+-- the source holds these files under these names
+abbrev pub AreHeld : Told → List (List ℕ) → List (List ℕ) → Type 0
+AreHeld told [] [] = Unit {0}
+AreHeld told [] (file ∷ files) = ⊥
+AreHeld told (name ∷ names) [] = ⊥
+AreHeld told (name ∷ names) (file ∷ files) = (told.held name ≡ Some file) × AreHeld told names files
+
+-- An accepted secret: it is accepted within the budget; there are at most so many bits; the replay of these bits, on the
+-- program, the public input, the cut and the length of the secret alone, is done with the output of the secret's real run.
+pub record IsAccepted (picture : Picture) (public_input : List ℕ) (cut : CutPicture) (budget : ℕ) (secret : List ℕ) (bits : List Bool) (output : Output) : Type 0 where
+  pub accept : Accept picture public_input (MaskAt cut.points) cut.secret_length budget turn_limit secret output
+  pub few : length bits ≤ budget
+  pub replay : Done picture public_input (MaskAt cut.points) cut.secret_length turn_limit bits output
+  pub real : HasExited (real_after turn_limit (guest picture public_input secret)).state output
+
+-- A rejected secret: no output of it is accepted, and the reason that is printed holds.
+pub record IsRejected (picture : Picture) (public_input : List ℕ) (cut : CutPicture) (budget : ℕ) (secret : List ℕ) (why : Why) : Type 0 where
+  pub refused : (output : Output) → ¬ Accept picture public_input (MaskAt cut.points) cut.secret_length budget turn_limit secret output
+  pub cause : Cause picture public_input secret cut budget turn_limit why
+
+-- what the judgement of a secret says
+abbrev pub Says : Picture → List ℕ → CutPicture → ℕ → List ℕ → Judgement → Type 0
+Says picture public_input cut budget secret (Accepts bits output) = IsAccepted picture public_input cut budget secret bits output
+Says picture public_input cut budget secret (Rejects why) = IsRejected picture public_input cut budget secret why
+
+-- a judgement for each secret, in order
+abbrev pub AllSay : Picture → List ℕ → CutPicture → ℕ → List (List ℕ) → List Judgement → Type 0
+AllSay picture public_input cut budget [] [] = Unit {0}
+AllSay picture public_input cut budget [] (judgement ∷ judgements) = ⊥
+AllSay picture public_input cut budget (secret ∷ secrets) [] = ⊥
+AllSay picture public_input cut budget (secret ∷ secrets) (judgement ∷ judgements) =
+    Says picture public_input cut budget secret judgement × AllSay picture public_input cut budget secrets judgements
+
+-- an output of one of the accepted secrets
+abbrev pub IsAmong : List Judgement → Output → Type 0
+IsAmong [] output = ⊥
+IsAmong (Accepts bits other ∷ judgements) output = (other ≡ output) ⊎ IsAmong judgements output
+IsAmong (Rejects why ∷ judgements) output = IsAmong judgements output
+
+-- at most 2 to the budget different outputs arise of the accepted secrets
+abbrev pub AreFew : List Judgement → ℕ → Type 0
+AreFew judgements budget =
+    (outputs : List Output) → AllDifferent outputs → AllByRecursion (IsAmong judgements) outputs → length outputs ≤ 2 ^ budget
+
+-- The headline of a check, by what the file source tells, the words, the status and the text that is printed.
+pub record Headline (told : Told) (words : List (List ℕ)) (status : ℕ) (text : List ℕ) : Type 0 where
+  pub check : Check
+  pub is_check : IsCheck words check
+  pub program_file : List ℕ
+  pub public_input : List ℕ
+  pub cut_file : List ℕ
+  pub secrets : List (List ℕ)
+  pub held : AreHeld told (check.program ∷ check.public_input ∷ check.cut ∷ check.secrets) (program_file ∷ public_input ∷ cut_file ∷ secrets)
+  pub picture : Picture
+  pub is_image : IsImage program_file picture
+  pub cut : CutPicture
+  pub is_cut : IsCutText cut_file cut
+  pub judgements : List Judgement
+  pub lines : text ≡ check_text judgements check.budget
+  pub say : AllSay picture public_input cut check.budget secrets judgements
+  pub bound : AreFew judgements check.budget
+  pub status_is : status ≡ (if accepted_count judgements == length judgements then 0 else 1)
+
+-- where the source tells nothing, nothing is said
+abbrev pub HeadlineByTold : Option Told → List (List ℕ) → ℕ → List ℕ → Type 0
+HeadlineByTold None words status text = Unit {0}
+HeadlineByTold (Some told) words status text = Headline told words status text

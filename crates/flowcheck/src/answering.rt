@@ -1,0 +1,98 @@
+ghost use Rattle.std.specs.Prelude.{◌≡◌, ◌≤◌, ◌<◌, ◌^◌, ℕ, length, map, string_bytes, IfOk, IsTrue, ◌∷◌, []};
+ghost use Rattle.elf32_loader.specs.Images.{picture_of};
+ghost use Rattle.lockstep_replay.specs.Cuts.{CutPicture};
+ghost use Rattle.lockstep_replay.specs.CutPictures.{cut_picture};
+ghost use Rattle.flow_base.specs.Counts.{Rose};
+ghost use Rattle.flowcheck.specs.Answering.{reply_of, is_one_of, IsNoCheck, LoadsByTold, CheckLoads, RepliesToCheck};
+ghost use Rattle.flowcheck.specs.CommandLines.{IsCheck, highest_budget};
+ghost use Rattle.flowcheck.specs.Loading.{program_limit, cut_limit};
+ghost use Rattle.flowcheck.specs.Replies.{RepliesToCut, RepliesToFiles, RepliesByTold};
+ghost use Rattle.flowcheck.specs.Stops.{AreShort};
+ghost use Rattle.flowcheck.specs.Words.{check_of};
+
+use crate::judging::check_all;
+use crate::loads::{Loaded, load_all};
+use crate::refusals::{cut_reply, program_reply, stop_reply, usage_reply};
+use crate::replies::Reply;
+use crate::words::{CheckWords, check_words};
+use elf32_loader::{ElfFault, Image, load_image};
+use flow_base::{Bytes, Files, NoMemory};
+use lockstep_replay::{CutFault, read_in_cut};
+use std::alloc::Global;
+
+/// The reply once the program is read: to the cut file, and to the secrets by its cut.
+fn reply_to_cut(
+    alloc: Global,
+    image: &Image,
+    loaded: &Loaded,
+    budget: u32,
+) -> Result<Reply, NoMemory>
+    requires cut { length loaded.now.cut ≤ cut_limit }
+    requires short { AreShort loaded.now.secrets }
+    requires within { budget ≤ highest_budget }
+    ensures reply { IfOk result (λ reply. RepliesToCut (picture_of image.now) loaded.now.public_input loaded.now.cut budget loaded.now.secrets (reply_of reply)) }
+    ensures status { IfOk result (λ reply. IsTrue (is_one_of (0 ∷ 1 ∷ 3 ∷ []) reply.status)) }
+{
+    match read_in_cut(alloc, loaded.cut.as_slice()) {
+        Ok(cut) => check_all(
+            alloc,
+            image,
+            &loaded.public_input,
+            &cut,
+            budget,
+            loaded.secrets.as_slice(),
+        ),
+        Err(CutFault::Unbuilt) => cut_reply(alloc),
+        Err(CutFault::Memory) => Err(NoMemory),
+    }
+}
+
+/// The reply once all files are loaded.
+fn reply_to_files(alloc: Global, loaded: &Loaded, budget: u32) -> Result<Reply, NoMemory>
+    requires program { length loaded.now.program ≤ program_limit }
+    requires cut { length loaded.now.cut ≤ cut_limit }
+    requires short { AreShort loaded.now.secrets }
+    requires within { budget ≤ highest_budget }
+    ensures reply { IfOk result (λ reply. RepliesToFiles budget loaded.now.program loaded.now.public_input loaded.now.cut loaded.now.secrets (reply_of reply)) }
+    ensures status { IfOk result (λ reply. IsTrue (is_one_of (0 ∷ 1 ∷ 3 ∷ []) reply.status)) }
+{
+    match load_image(alloc, loaded.program.as_slice()) {
+        Ok(image) => reply_to_cut(alloc, &image, loaded, budget),
+        Err(ElfFault::Unbuilt) => program_reply(alloc),
+        Err(ElfFault::Memory) => Err(NoMemory),
+    }
+}
+
+/// The reply to a check of secrets.
+fn reply_to_check<F: Files>(
+    alloc: Global,
+    files: &mut F,
+    check: &CheckWords,
+) -> Result<Reply, NoMemory>
+    requires within { check.now.budget ≤ highest_budget }
+    ensures reply { IfOk result (λ reply. RepliesToCheck (F.told files.old) (check_of check.now) (reply_of reply)) }
+    ensures loads { IfOk result (λ reply. CheckLoads (F.told files.old) (check_of check.now) (F.told files.new)) }
+    ensures cause { IfOk result (λ reply. reply.status ≡ 5 → Rose (F.faults files.old) (F.faults files.new)) }
+    ensures status { IfOk result (λ reply. IsTrue (is_one_of (0 ∷ 1 ∷ 3 ∷ 5 ∷ 6 ∷ []) reply.status)) }
+{
+    match load_all(alloc, files, check) {
+        Ok(loaded) => reply_to_files(alloc, &loaded, check.budget),
+        Err(stop) => stop_reply(alloc, &stop),
+    }
+}
+
+/// The reply to the words of a command line.
+pub fn reply_to<F: Files>(alloc: Global, files: &mut F, words: &[String]) -> Result<Reply, NoMemory>
+    ensures reply { IfOk result (λ reply. RepliesByTold (F.told files.old) (map string_bytes words.now) (reply_of reply)) }
+    ensures loads { IfOk result (λ reply. LoadsByTold (F.told files.old) (map string_bytes words.now) (F.told files.new)) }
+    ensures cause { IfOk result (λ reply. reply.status ≡ 5 → Rose (F.faults files.old) (F.faults files.new)) }
+    ensures usage { IfOk result (λ reply. reply.status ≡ 2 → IsNoCheck (map string_bytes words.now)) }
+    ensures refused { IfOk result (λ reply. IsNoCheck (map string_bytes words.now) → reply.status ≡ 2) }
+    ensures status { IfOk result (λ reply. IsTrue (is_one_of (0 ∷ 1 ∷ 2 ∷ 3 ∷ 5 ∷ 6 ∷ []) reply.status)) }
+{
+    match check_words(alloc, words) {
+        Ok(Some(check)) => reply_to_check(alloc, files, &check),
+        Ok(None) => usage_reply(alloc),
+        Err(NoMemory) => Err(NoMemory),
+    }
+}

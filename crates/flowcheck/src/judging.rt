@@ -1,0 +1,116 @@
+ghost use Rattle.std.specs.Prelude.{◌≡◌, ◌==◌, ◌≤◌, length, IfOk, [], ◌∷◌, if◌then◌else◌};
+ghost use Rattle.elf32_loader.specs.Images.{picture_of};
+ghost use Rattle.lockstep_replay.specs.CutPictures.{cut_picture};
+ghost use Rattle.lockstep_replay.specs.Judgements.{judgement_of};
+ghost use Rattle.lockstep_replay.specs.Verdicts.{First};
+ghost use Rattle.flowcheck.specs.Answering.{reply_of};
+ghost use Rattle.flowcheck.specs.CommandLines.{highest_budget};
+ghost use Rattle.flowcheck.specs.Replies.{check_reply, judgements_of, turn_limit};
+ghost use Rattle.flowcheck.specs.Stops.{AreShort};
+ghost use Rattle.flowcheck.specs.Loading.{secret_limit};
+ghost use Rattle.flowcheck.specs.Texts.{accepted_count, verdict_lines};
+
+use crate::replies::Reply;
+use crate::texts::{counts_line, verdict_line};
+use elf32_loader::Image;
+use flow_base::{Bytes, NoMemory};
+use lockstep_replay::{InCut, Lockstep, Verdict};
+use std::alloc::Global;
+
+const TURN_LIMIT: u32 = 1_000_000;
+
+/// The verdict on a secret, from a fresh start of the program.
+fn judge(
+    alloc: Global,
+    image: &Image,
+    public_input: &Bytes,
+    secret: &Bytes,
+    cut: &InCut,
+    budget: u32,
+) -> Result<Verdict, NoMemory>
+    requires short { length secret.now ≤ secret_limit }
+    requires within { budget ≤ highest_budget }
+    ensures { IfOk result (λ verdict. judgement_of verdict ≡ First (picture_of image.now) public_input.now secret.now (cut_picture cut.now) budget turn_limit) }
+{
+    let lockstep = Lockstep::new(alloc, image, public_input, secret, cut, budget, TURN_LIMIT)?;
+    Ok(lockstep.run())
+}
+
+/// 1 for a secret that is accepted, 0 for one that is rejected.
+fn accepted_by(verdict: &Verdict) -> usize
+    ensures count { result ≡ accepted_count (judgement_of verdict.now ∷ []) }
+    ensures one { result ≤ 1 }
+{
+    match verdict {
+        Verdict::Accepted { .. } => 1,
+        Verdict::Rejected(_) => 0,
+    }
+}
+
+/// 0 where all secrets are accepted, else 1.
+fn status_of(accepted: usize, checked: usize) -> u8
+    ensures status { result ≡ (if accepted == checked then 0 else 1) }
+    ensures one { result ≤ 1 }
+{
+    if accepted == checked { 0 } else { 1 }
+}
+
+/// The lines of secrets, and how many of them are accepted.
+#[derive(Drop)]
+struct Lines {
+    text: Vec<u8>,
+    accepted: usize,
+}
+
+/// The lines of secrets, each judged from a fresh start.
+fn lines_of(
+    alloc: Global,
+    image: &Image,
+    public_input: &Bytes,
+    cut: &InCut,
+    budget: u32,
+    secrets: &[Bytes],
+) -> Result<Lines, NoMemory>
+    requires short { AreShort secrets.now }
+    requires within { budget ≤ highest_budget }
+    ensures text { IfOk result (λ lines. lines.text.items ≡ verdict_lines 1 (judgements_of (picture_of image.now) public_input.now (cut_picture cut.now) budget secrets.now)) }
+    ensures accepted { IfOk result (λ lines. lines.accepted ≡ accepted_count (judgements_of (picture_of image.now) public_input.now (cut_picture cut.now) budget secrets.now)) }
+{
+    let mut text = Vec::new(alloc);
+    let mut number = 0;
+    let mut accepted = 0;
+    for secret in secrets {
+        number += 1;
+        let verdict = judge(alloc, image, public_input, secret, cut, budget)?;
+        let line = verdict_line(alloc, number, &verdict)?;
+        text.extend_from_slice(line.as_slice())?;
+        accepted += accepted_by(&verdict);
+    }
+    Ok(Lines { text, accepted })
+}
+
+/// The reply to a check of secrets, each judged from a fresh start.
+#[tactic(auto, using(crate::proofs::Judgements::length_judgements))]
+pub fn check_all(
+    alloc: Global,
+    image: &Image,
+    public_input: &Bytes,
+    cut: &InCut,
+    budget: u32,
+    secrets: &[Bytes],
+) -> Result<Reply, NoMemory>
+    requires short { AreShort secrets.now }
+    requires within { budget ≤ highest_budget }
+    ensures reply { IfOk result (λ reply. reply_of reply ≡ check_reply (judgements_of (picture_of image.now) public_input.now (cut_picture cut.now) budget secrets.now) budget) }
+    ensures status { IfOk result (λ reply. reply.status ≤ 1) }
+{
+    let lines = lines_of(alloc, image, public_input, cut, budget, secrets)?;
+    let counts = counts_line(alloc, secrets.len(), lines.accepted, budget)?;
+    let status = status_of(lines.accepted, secrets.len());
+    let mut text = lines.text;
+    text.extend_from_slice(counts.as_slice())?;
+    Ok(Reply {
+        status,
+        text: Bytes::from_vec(text),
+    })
+}

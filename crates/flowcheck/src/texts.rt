@@ -1,0 +1,182 @@
+ghost use Rattle.std.specs.Prelude.{◌≡◌, ◌<◌, ◌++◌, ◌+◌, ◌^◌, ℕ, codes, IfOk};
+ghost use Rattle.std.specs.Fmt.{decimal};
+ghost use Rattle.lockstep_replay.specs.Cuts.{hex_digit, hex_word as hex_word_of};
+ghost use Rattle.lockstep_replay.specs.Judgements.{judgement_of};
+ghost use Rattle.lockstep_replay.specs.Verdicts.{Accepts, Rejects};
+ghost use Rattle.flowcheck.specs.Texts.{counts_line as counts_line_of, fault_text as fault_text_of, why_text as why_text_of, verdict_line as verdict_line_of};
+
+use crossing_bits::Bits;
+use flow_base::{Bytes, NoMemory, Output};
+use lockstep_replay::{Verdict, Why};
+use rv32im_machine::Fault;
+use std::alloc::Global;
+
+/// A digit below 16, in lower case.
+fn glyph(digit: u32) -> u8
+    requires { digit < 16 }
+    ensures { result ≡ hex_digit digit }
+{
+    if digit < 10 {
+        48 + digit as u8
+    } else {
+        87 + digit as u8
+    }
+}
+
+/// `0x` and the eight digits of a word.
+fn hex_word(word: u32) -> [u8; 10]
+    ensures { result ≡ hex_word_of word }
+{
+    [
+        b'0',
+        b'x',
+        glyph(word / 268_435_456 % 16),
+        glyph(word / 16_777_216 % 16),
+        glyph(word / 1_048_576 % 16),
+        glyph(word / 65_536 % 16),
+        glyph(word / 4_096 % 16),
+        glyph(word / 256 % 16),
+        glyph(word / 16 % 16),
+        glyph(word % 16),
+    ]
+}
+
+/// A text, and a word behind it.
+fn with_word(alloc: Global, head: &str, word: u32) -> Result<Bytes, NoMemory>
+    ensures { IfOk result (λ text. text ≡ head.now ++ hex_word_of word) }
+{
+    let mut text = head.as_bytes().to_vec(alloc)?;
+    text.extend_from_slice(&hex_word(word))?;
+    Ok(Bytes::from_vec(text))
+}
+
+/// Two texts, and a word behind each.
+fn with_words(
+    alloc: Global,
+    head: &str,
+    word: u32,
+    middle: &str,
+    other: u32,
+) -> Result<Bytes, NoMemory>
+    ensures { IfOk result (λ text. text ≡ head.now ++ (hex_word_of word ++ (middle.now ++ hex_word_of other))) }
+{
+    let mut text = head.as_bytes().to_vec(alloc)?;
+    text.extend_from_slice(&hex_word(word))?;
+    text.extend_from_slice(middle.as_bytes())?;
+    text.extend_from_slice(&hex_word(other))?;
+    Ok(Bytes::from_vec(text))
+}
+
+/// Why a guest is stopped.
+fn fault_text(alloc: Global, fault: Fault) -> Result<Bytes, NoMemory>
+    ensures { IfOk result (λ text. text ≡ fault_text_of fault) }
+{
+    match fault {
+        Fault::FetchOutside { pc } => with_word(alloc, "fetch-outside ", pc),
+        Fault::FetchUnaligned { pc } => with_word(alloc, "fetch-unaligned ", pc),
+        Fault::LoadOutside { pc, address } => with_words(
+            alloc,
+            "load-outside ",
+            pc,
+            " address ",
+            address,
+        ),
+        Fault::StoreOutside { pc, address } => with_words(
+            alloc,
+            "store-outside ",
+            pc,
+            " address ",
+            address,
+        ),
+        Fault::Breakpoint { pc } => with_word(alloc, "breakpoint ", pc),
+        Fault::OutputLimit { pc } => with_word(alloc, "output-limit ", pc),
+        Fault::Unbuilt { pc, word } => with_words(alloc, "unbuilt ", pc, " word ", word),
+    }
+}
+
+/// A text, and another behind it.
+fn joined(alloc: Global, head: &str, rest: &Bytes) -> Result<Bytes, NoMemory>
+    ensures { IfOk result (λ text. text ≡ head.now ++ rest.now) }
+{
+    let mut text = head.as_bytes().to_vec(alloc)?;
+    text.extend_from_slice(rest.as_slice())?;
+    Ok(Bytes::from_vec(text))
+}
+
+/// Why a secret is rejected.
+fn why_text(alloc: Global, why: Why) -> Result<Bytes, NoMemory>
+    ensures { IfOk result (λ text. text ≡ why_text_of why) }
+{
+    match why {
+        Why::RealFault(fault) => joined(alloc, "guest ", &fault_text(alloc, fault)?),
+        Why::BudgetOverrun { budget, needed } => {
+            let text = format!(in alloc; "budget {budget} needed {needed}")?;
+            Ok(Bytes::from_vec(text.into_bytes()))
+        }
+        Why::TurnLimit { limit } => {
+            let text = format!(in alloc; "turns {limit}")?;
+            Ok(Bytes::from_vec(text.into_bytes()))
+        }
+        Why::SecretLength { cut, got } => {
+            let text = format!(in alloc; "secret-length cut {cut} got {got}")?;
+            Ok(Bytes::from_vec(text.into_bytes()))
+        }
+        Why::Unequal => Bytes::from_slice(alloc, b"unequal"),
+    }
+}
+
+/// The line of a secret that is accepted.
+fn accepted_line(
+    alloc: Global,
+    number: usize,
+    bits: &Bits,
+    output: &Output,
+) -> Result<Bytes, NoMemory>
+    ensures { IfOk result (λ text. text ≡ verdict_line_of number (Accepts bits.now.bits output.now)) }
+{
+    let hex = bits.hex_text(alloc)?;
+    let count = bits.count();
+    let written = output.bytes.len();
+    let status = output.status;
+    let head = format!(in alloc; "accepted {number} bits {count} crossing ")?;
+    let tail = format!(in alloc; " output {written} status {status}\n")?;
+    let mut text = head.into_bytes();
+    text.extend_from_slice(hex.as_slice())?;
+    text.extend_from_slice(tail.as_bytes())?;
+    Ok(Bytes::from_vec(text))
+}
+
+/// The line of a secret that is rejected.
+fn rejected_line(alloc: Global, number: usize, why: Why) -> Result<Bytes, NoMemory>
+    ensures { IfOk result (λ text. text ≡ verdict_line_of number (Rejects why)) }
+{
+    let why = why_text(alloc, why)?;
+    let head = format!(in alloc; "rejected {number} ")?;
+    let mut text = head.into_bytes();
+    text.extend_from_slice(why.as_slice())?;
+    text.extend_from_slice(b"\n")?;
+    Ok(Bytes::from_vec(text))
+}
+
+/// The line of the secret with a number, counted from 1.
+pub fn verdict_line(alloc: Global, number: usize, verdict: &Verdict) -> Result<Bytes, NoMemory>
+    ensures { IfOk result (λ text. text ≡ verdict_line_of number (judgement_of verdict.now)) }
+{
+    match verdict {
+        Verdict::Accepted { bits, output } => accepted_line(alloc, number, bits, output),
+        Verdict::Rejected(why) => rejected_line(alloc, number, *why),
+    }
+}
+
+/// The line of counts.
+pub fn counts_line(
+    alloc: Global,
+    checked: usize,
+    accepted: usize,
+    budget: u32,
+) -> Result<Bytes, NoMemory>
+    ensures { IfOk result (λ text. text ≡ counts_line_of checked accepted budget) }
+{
+    let text = format!(in alloc; "checked {checked} accepted {accepted} budget {budget}\n")?;
+    Ok(Bytes::from_vec(text.into_bytes()))
+}

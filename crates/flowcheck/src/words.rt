@@ -1,0 +1,101 @@
+ghost use Rattle.std.specs.Prelude.{◌≡◌, ◌≤◌, ℕ, map, string_bytes, IfOk, IfSome};
+ghost use Rattle.std.specs.Fmt.{decimal};
+ghost use Rattle.flowcheck.specs.CommandLines.{Check, IsCheck, highest_budget, is_name as is_name_of, are_names as are_names_of};
+ghost use Rattle.flowcheck.specs.Words.{check_of};
+
+use flow_base::NoMemory;
+use std::alloc::Global;
+
+/// The words of a check of secrets.
+#[derive(Clone, Copy)]
+pub struct CheckWords<'a> {
+    pub program: &'a str,
+    pub public_input: &'a str,
+    pub cut: &'a str,
+    pub budget: u32,
+    pub secrets: &'a [String],
+}
+
+const HIGHEST_BUDGET: u32 = 1_048_576;
+
+/// The number that a word may name.
+pub fn number_in(word: &str) -> Option<u32>
+    ensures { (budget : ℕ) → budget ≤ highest_budget → word.now ≡ decimal budget → result ≡ Some budget }
+{
+    word.parse::<u32>().ok()
+}
+
+/// The number of bits that a word names; None exactly where it is no decimal without leading zeros within the range.
+pub fn budget_of(alloc: Global, word: &str) -> Result<Option<u32>, NoMemory>
+    ensures written { IfOk result (λ found. IfSome found (λ budget. word.now ≡ decimal budget)) }
+    ensures within { IfOk result (λ found. IfSome found (λ budget. budget ≤ highest_budget)) }
+    ensures none { result ≡ Ok None → (budget : ℕ) → budget ≤ highest_budget → ¬ (word.now ≡ decimal budget) }
+{
+    let Some(budget) = number_in(word) else {
+        return Ok(None);
+    };
+    if budget > HIGHEST_BUDGET {
+        return Ok(None);
+    }
+    let text = format!(in alloc; "{budget}")?;
+    if text.as_str() != word {
+        return Ok(None);
+    }
+    Ok(Some(budget))
+}
+
+/// Whether a word can name a file.
+pub fn is_name(word: &str) -> bool
+    ensures { result ≡ is_name_of word.now }
+{
+    match word.as_bytes() {
+        [] => false,
+        [first, ..] => *first != b'-',
+    }
+}
+
+/// Whether all words can name files.
+pub fn are_names(words: &[String]) -> bool
+    ensures { result ≡ are_names_of (map string_bytes words.now) }
+{
+    for word in words {
+        if !is_name(word.as_str()) {
+            return false;
+        }
+    }
+    true
+}
+
+/// The check that the words of a command line name; None exactly where they are no command line that is understood.
+pub fn check_words<'a>(
+    alloc: Global,
+    words: &'a [String],
+) -> Result<Option<CheckWords<'a>>, NoMemory>
+    ensures is { IfOk result (λ found. IfSome found (λ check. IsCheck (map string_bytes words.entry.now) (check_of check))) }
+    ensures none { result ≡ Ok None → (check : Check) → ¬ IsCheck (map string_bytes words.entry.now) check }
+{
+    let [command, program, public_input, cut, budget, secrets @ ..] = words else {
+        return Ok(None);
+    };
+    if command.as_str() != "check" || secrets.is_empty() || secrets.len() > 64 {
+        return Ok(None);
+    }
+    if !is_name(program.as_str())
+        || !is_name(public_input.as_str())
+        || !is_name(cut.as_str())
+        || !are_names(secrets)
+    {
+        return Ok(None);
+    }
+    match budget_of(alloc, budget.as_str()) {
+        Ok(Some(budget)) => Ok(Some(CheckWords {
+            program: program.as_str(),
+            public_input: public_input.as_str(),
+            cut: cut.as_str(),
+            budget,
+            secrets,
+        })),
+        Ok(None) => Ok(None),
+        Err(NoMemory) => Err(NoMemory),
+    }
+}
