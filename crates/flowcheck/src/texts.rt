@@ -72,6 +72,7 @@ fn fault_text(alloc: Global, fault: Fault) -> Result<Bytes, NoMemory>
     ensures { IfOk result (λ text. text ≡ fault_text_of fault) }
 {
     match fault {
+        Fault::Illegal { pc, word } => with_words(alloc, "illegal ", pc, " word ", word),
         Fault::FetchOutside { pc } => with_word(alloc, "fetch-outside ", pc),
         Fault::FetchUnaligned { pc } => with_word(alloc, "fetch-unaligned ", pc),
         Fault::LoadOutside { pc, address } => with_words(
@@ -179,4 +180,21 @@ pub fn counts_line(
 {
     let text = format!(in alloc; "checked {checked} accepted {accepted} budget {budget}\n")?;
     Ok(Bytes::from_vec(text.into_bytes()))
+}
+
+#[cfg(test)]
+mod tests {
+    use super::*;
+    use std::test::Fail;
+
+    #[test]
+    fn a_stop_is_told(rt: HostRuntime) -> Result<(), Fail> {
+        let stop = Fault::Illegal {
+            pc: 0x1_0000,
+            word: 0xffff_ffff,
+        };
+        let text = fault_text(rt.alloc(), stop)?;
+        assert_eq!(rt; text.as_slice(), b"illegal 0x00010000 word 0xffffffff".as_slice());
+        Ok(())
+    }
 }
