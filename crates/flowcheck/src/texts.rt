@@ -181,3 +181,20 @@ pub fn counts_line(
     let text = format!(in alloc; "checked {checked} accepted {accepted} budget {budget}\n")?;
     Ok(Bytes::from_vec(text.into_bytes()))
 }
+
+#[cfg(test)]
+mod tests {
+    use super::*;
+    use std::test::Fail;
+
+    #[test]
+    fn a_stop_is_told(rt: HostRuntime) -> Result<(), Fail> {
+        let stop = Fault::Illegal {
+            pc: 0x1_0000,
+            word: 0xffff_ffff,
+        };
+        let text = fault_text(rt.alloc(), stop)?;
+        assert_eq!(rt; text.as_slice(), b"illegal 0x00010000 word 0xffffffff".as_slice());
+        Ok(())
+    }
+}
