@@ -46,8 +46,8 @@ const ECHO: [u32; 11] = [
 /// Exits with status 0.
 const EXIT: [u32; 3] = [0x0000_0513, 0x05d0_0893, 0x0000_0073];
 
-/// EBREAK, which is not carried out so far.
-const BREAK: [u32; 1] = [0x0010_0073];
+/// Loads the byte at address 0.
+const OUTSIDE: [u32; 1] = [0x0000_4283];
 
 const ALL_BITS: &str =
     "flowcheck-cut 1\nsecret 1\nbits 8\npoint 0 0x00010010 in rest 0x000000ff\nend\n";
@@ -137,7 +137,7 @@ fn secrets_are_judged(rt: HostRuntime) -> Result<(), Fail> {
     let echo = program(alloc, &ECHO)?;
     let echo = echo.as_slice();
     let exit = program(alloc, &EXIT)?;
-    let stop = program(alloc, &BREAK)?;
+    let stop = program(alloc, &OUTSIDE)?;
     let words = ["check", "prog", "public", "cut", "8", "s3", "s5", "s4"];
 
     let text = "accepted 1 bits 8 crossing 03 output 1 status 0\nchecked 1 accepted 1 budget 8\n";
@@ -165,7 +165,7 @@ fn secrets_are_judged(rt: HostRuntime) -> Result<(), Fail> {
         "the output gives bits away"
     );
     let text =
-        "rejected 1 guest unbuilt 0x00010000 word 0x00100073\nchecked 1 accepted 0 budget 0\n";
+        "rejected 1 guest load-outside 0x00010000 address 0x00000000\nchecked 1 accepted 0 budget 0\n";
     assert!(rt;
         answers(alloc, stop.as_slice(), NO_BITS, &zero[..6], 1, text)?,
         "the guest is stopped"
@@ -208,7 +208,7 @@ fn commands_are_refused(rt: HostRuntime) -> Result<(), Fail> {
     );
     let text = "refused 3 program unbuilt\n";
     assert!(rt;
-        answers(alloc, &low[..51], ALL_BITS, &many[..6], 3, text)?,
+        answers(alloc, &HEAD[..51], ALL_BITS, &many[..6], 3, text)?,
         "half a program"
     );
     let text = "refused 3 cut unbuilt\n";
