@@ -18,6 +18,8 @@ use Rattle.lockstep_replay.proofs.Causes.{causes_law}
 use Rattle.flowcheck.specs.CommandLines.{Check, IsCheck}
 use Rattle.flowcheck.specs.Loading.{Want, LoadRefusal, CannotLoad, IsTooLarge, and_load, loaded_from, wants_of, secret_wants}
 use Rattle.flowcheck.specs.Replies.{Reply, RepliesByTold, turn_limit, Replies, RepliesToLoads, RepliesToFiles, RepliesToCut, judgements_of, load_reply}
+use Rattle.flowcheck.specs.Headline.{HeadlineByTold}
+use Rattle.flowcheck.specs.Replies.{RepliesByTold}
 use Rattle.flowcheck.specs.Headline.{AreHeld, Says, AllSay, IsAmong, AreFew, Headline}
 
 -- ---- each judgement says what it means
