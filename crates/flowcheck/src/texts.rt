@@ -194,7 +194,10 @@ mod tests {
             word: 0xffff_ffff,
         };
         let text = fault_text(rt.alloc(), stop)?;
-        assert_eq!(rt; text.as_slice(), b"illegal 0x00010000 word 0xffffffff".as_slice());
+        assert_eq!(rt;
+            text.as_slice(),
+            b"illegal 0x00010000 word 0xffffffff".as_slice()
+        );
         Ok(())
     }
 }

@@ -1,9 +1,7 @@
 -- One round of the lockstep.
-use Rattle.std.proofs.Common.{◌≡◌, ℕ, zero, suc, ◌+◌, ◌-◌, ◌≤◌, ◌<◌, List, [], ◌∷◌, ◌++◌, length, length-append, Bool, true, false, refl, sym, ◌∙◌, ap, subst, arith, Option, Some, None}
+use Rattle.std.proofs.Common.{◌≡◌, ℕ, suc, ◌+◌, List, [], ◌++◌, length, length-append, Bool, refl, sym, ◌∙◌, ap, Option, Some, None}
 use Rattle.flow_base.specs.declared.points.Point.{Point}
-use Rattle.flow_base.specs.declared.outputs.Output.{Output}
-use Rattle.crossing_bits.specs.Askers.{Fed, Fed', feed, Uses}
-use Rattle.rv32im_machine.specs.declared.stepping.Fault.{Fault}
+use Rattle.crossing_bits.specs.Askers.{Fed, feed, Uses}
 use Rattle.rv32im_machine.specs.declared.stepping.Stepped.{Stepped}
 use Rattle.rv32im_machine.specs.declared.stepping.Stepped.TheVariants.{Ran, Exited, Stopped}
 use Rattle.rv32im_machine.specs.State.{State}
@@ -11,7 +9,7 @@ use Rattle.rv32im_machine.specs.Folds.{Step}
 use Rattle.lockstep_replay.specs.declared.verdicts.Why.{Why}
 use Rattle.lockstep_replay.specs.declared.verdicts.Why.TheVariants.{TurnLimit}
 use Rattle.lockstep_replay.specs.Cuts.{MaskAt}
-use Rattle.lockstep_replay.specs.Runs.{Place, Masks, fresh, real_after, real_turn, Cross, crossing_of, Replay, replay_turn}
+use Rattle.lockstep_replay.specs.Runs.{Place, Masks, fresh, real_after, Cross, crossing_of, Replay}
 use Rattle.lockstep_replay.specs.Verdicts.{Task, Judgement, Accepts, Rejects, why_after, why_of, why_mode, is_equal, judged_from, judged_after, judged_mode}
 use Rattle.lockstep_replay.specs.Turning.{crossed, replayed_turn, why_turned, Joins}
 use Rattle.lockstep_replay.proofs.Runs.{real_next, cross_next, fed_next}

@@ -1,15 +1,11 @@
 -- One passing on either side.
-use Rattle.std.proofs.Common.{◌≡◌, ℕ, ◌+◌, ◌-◌, ◌≤◌, ◌<◌, List, [], ◌∷◌, ◌++◌, length, take, drop, Bool, refl, sym, ◌∙◌, ap, subst, arith, append_assoc, length-append, min, cond, nat_le, Result, Ok, Err}
-use Rattle.flow_base.specs.Words.{bits_under, bit_count, patched}
-use Rattle.flow_base.specs.declared.points.Point.{Point}
+use Rattle.std.proofs.Common.{◌≡◌, ℕ, ◌+◌, ◌≤◌, ◌<◌, List, ◌++◌, length, take, drop, Bool, ◌∙◌, ap, arith, append_assoc, length-append, Result, Ok, Err}
 use Rattle.crossing_bits.specs.Askers.{Asker, Asks, Fed, Fed', Short, feed}
 use Rattle.crossing_bits.specs.Streams.{Stream, left_of}
 use Rattle.crossing_bits.proofs.Feeding.{feed_enough, feed_few}
-use Rattle.crossing_bits.proofs.Places.{length_bits_under}
 use Rattle.rv32im_machine.specs.State.{State}
 use Rattle.rv32im_machine.specs.Playing.{Played, Finished, Halted, Goes}
 use Rattle.lockstep_replay.specs.Runs.{Place}
-use Rattle.lockstep_replay.specs.Verdicts.{counted_bits}
 use Rattle.lockstep_replay.specs.Tapes.{Tally, Tallies, Crosses, Replays}
 
 -- bits that cross, and then others

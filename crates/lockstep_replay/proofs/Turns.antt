@@ -1,5 +1,5 @@
 -- What the two sides of a common turn come to.
-use Rattle.std.proofs.Common.{◌≡◌, ℕ, zero, suc, ◌+◌, ◌-◌, ◌≤◌, ◌<◌, ◌==◌, ◌&&◌, nat_lt, List, [], ◌∷◌, ◌++◌, length, take, drop, Bool, true, false, refl, sym, ◌∙◌, ap, subst, arith, Result, Ok, Err, Option, Some, None, eq-eqb}
+use Rattle.std.proofs.Common.{◌≡◌, ℕ, zero, suc, ◌+◌, ◌≤◌, ◌<◌, ◌==◌, ◌&&◌, List, [], ◌∷◌, ◌++◌, length, take, drop, Bool, true, false, refl, sym, ◌∙◌, ap, arith, Result, Ok, Err, eq-eqb}
 use Rattle.std.specs.Str.{bytes_eq}
 use Rattle.std.specs.Result.{is_ok}
 use Rattle.std.proofs.lemmas.Slice.Eq.{bytes_eq-Decides}
@@ -9,10 +9,10 @@ use Rattle.flow_base.specs.declared.points.Point.{Point}
 use Rattle.crossing_bits.specs.Askers.{Fed, Fed', Short, feed}
 use Rattle.crossing_bits.specs.Streams.{Stream, left_of}
 use Rattle.rv32im_machine.specs.State.{State}
-use Rattle.rv32im_machine.specs.Playing.{Played, Finished, Halted, outcome}
+use Rattle.rv32im_machine.specs.Playing.{Finished, outcome}
 use Rattle.lockstep_replay.specs.Runs.{Place, Masks, replayed}
 use Rattle.rv32im_machine.specs.Rows.{walk_of}
-use Rattle.lockstep_replay.specs.Verdicts.{is_same_run, is_same_mode, why_mode, why_unequal, counted_bits}
+use Rattle.lockstep_replay.specs.Verdicts.{is_same_run, is_same_mode, why_mode, why_unequal}
 use Rattle.rv32im_machine.specs.declared.stepping.Fault.{Fault}
 use Rattle.rv32im_machine.specs.declared.stepping.Stepped.{Stepped}
 use Rattle.rv32im_machine.specs.declared.stepping.Stepped.TheVariants.{Ran, Exited, Stopped}

@@ -1,5 +1,5 @@
 -- At the end of a turn nothing more crosses.
-use Rattle.std.specs.Prelude.{◌≡◌, ℕ, ◌+◌, ◌<◌, ◌≤◌, List, [], ◌++◌, length, refl}
+use Rattle.std.specs.Prelude.{◌<◌, List, [], refl}
 use Rattle.std.proofs.Common.{arith, sym, append-nil}
 use Rattle.flow_base.specs.declared.points.Point.{Point}
 use Rattle.rv32im_machine.specs.State.{State}

@@ -1,5 +1,5 @@
 -- How the text of a cut is read: its numbers and points are taken at their places, and then the text is compared.
-use Rattle.std.specs.Prelude.{◌≡◌, IsTrue, ℕ, ◌+◌, ◌-◌, ◌*◌, ◌%◌, ◌==◌, ◌&&◌, nat_le, nat_lt, List, [], ◌∷◌, ◌++◌, codes, length, slice_index, Bool, true, Option, Some, None, if◌then◌else◌}
+use Rattle.std.specs.Prelude.{◌≡◌, IsTrue, ℕ, ◌+◌, ◌-◌, ◌*◌, ◌%◌, ◌==◌, ◌&&◌, nat_le, nat_lt, List, [], ◌∷◌, ◌++◌, codes, length, slice_index, Bool, Option, Some, None, if◌then◌else◌}
 use Rattle.std.specs.Fmt.{decimal}
 use Rattle.lockstep_replay.specs.declared.points.InPoint.{InPoint}
 use Rattle.lockstep_replay.specs.Cuts.{CutPicture, IsCutText, are_words, is_ascending, hex_word, point_lines}

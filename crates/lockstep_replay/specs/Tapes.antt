@@ -1,5 +1,5 @@
 -- What a turn of either side leaves of the string of bits.
-use Rattle.std.specs.Prelude.{◌≡◌, ℕ, ◌+◌, ◌≤◌, List, [], ◌∷◌, ◌++◌, length, Bool, true, false}
+use Rattle.std.specs.Prelude.{◌≡◌, ℕ, ◌+◌, ◌≤◌, List, ◌++◌, length, Bool, true, false}
 use Rattle.crossing_bits.specs.Askers.{Fed, Fed', Short}
 use Rattle.crossing_bits.specs.Streams.{Stream, left_of}
 use Rattle.rv32im_machine.specs.State.{State}

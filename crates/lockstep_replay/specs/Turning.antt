@@ -1,11 +1,10 @@
 -- One common turn: a turn of the real run beside one of the replay, on the bits that crossed in it.
-use Rattle.std.specs.Prelude.{◌≡◌, ℕ, ◌+◌, ◌≤◌, List, [], ◌∷◌, ◌++◌, length, Bool, Option, Some, None}
+use Rattle.std.specs.Prelude.{◌≡◌, ℕ, ◌+◌, ◌≤◌, List, [], length, Bool, Option}
 use Rattle.flow_base.specs.declared.points.Point.{Point}
 use Rattle.crossing_bits.specs.Askers.{Fed, Fed', feed}
 use Rattle.crossing_bits.specs.Streams.{Stream}
 use Rattle.rv32im_machine.specs.State.{State}
 use Rattle.rv32im_machine.specs.Rows.{walk_of}
-use Rattle.rv32im_machine.specs.Folds.{Step}
 use Rattle.lockstep_replay.specs.declared.verdicts.Why.{Why}
 use Rattle.lockstep_replay.specs.Runs.{Place, Masks, crossing, replayed}
 use Rattle.lockstep_replay.specs.Verdicts.{why_mode, is_equal}

@@ -1,8 +1,5 @@
-use Rattle.std.proofs.Common.{◌≡◌, ◌∙◌, ℕ, suc, ◌+◌, ◌-◌, ◌++◌, [], length, sym, ap, subst, arith, refl, add-one, Option, None, Some}
-use Rattle.flow_base.specs.declared.points.Point.{Point}
-use Rattle.lockstep_replay.specs.declared.verdicts.Why.{Why}
+use Rattle.std.proofs.Common.{◌≡◌, ◌∙◌, suc, ◌-◌, [], length, sym, ap, subst, arith, add-one, None, Some}
 use Rattle.lockstep_replay.specs.Verdicts.{Task, Accepts, judged_from, why_after}
-use Rattle.lockstep_replay.specs.Turning.{Keeps}
 use Rattle.lockstep_replay.proofs.Rounds.{Stands, stands-start, round-why, round-stands, judged-rejects, judged-accepts, judged-goes, judged-limit, none-of}
 use Rattle.lockstep_replay.proofs.lockstep.run_turns.Goals as goal
 

@@ -1,4 +1,4 @@
-use Rattle.std.proofs.Common.{◌≡◌, ℕ, ◌-◌, ◌<◌}
+use Rattle.std.proofs.Common.{◌≡◌, ◌-◌}
 use Rattle.lockstep_replay.specs.Verdicts.{Task, judged_from}
 use Rattle.lockstep_replay.specs.Turning.{Keeps}
 use Rattle.lockstep_replay.proofs.Rounds.{Stands}

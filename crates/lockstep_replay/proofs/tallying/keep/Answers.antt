@@ -1,4 +1,4 @@
-use Rattle.std.proofs.Common.{arith, ◌≡◌, ◌∙◌, ◌+◌, ◌++◌, length, ap, length-append}
+use Rattle.std.proofs.Common.{arith, ◌≡◌, ◌∙◌, ◌+◌, length, ap, length-append}
 use Rattle.flow_base.specs.Words.{bits_under}
 use Rattle.crossing_bits.proofs.Places.{length_bits_under}
 use Rattle.lockstep_replay.proofs.tallying.keep.Goals as goal

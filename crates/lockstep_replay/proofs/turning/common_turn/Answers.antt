@@ -1,6 +1,5 @@
-use Rattle.std.proofs.Common.{◌≡◌, ◌∙◌, ◌+◌, ◌++◌, ◌≤◌, [], length, sym, ap, arith, length-append, List, Bool, true, false, Option, None, Some}
+use Rattle.std.proofs.Common.{◌≡◌, ◌∙◌, ◌+◌, ◌++◌, [], length, sym, ap, arith, length-append, List, true, false}
 use Rattle.flow_base.specs.declared.points.Point.{Point}
-use Rattle.crossing_bits.specs.Streams.{left_of}
 use Rattle.lockstep_replay.specs.Cuts.{MaskAt}
 use Rattle.lockstep_replay.specs.Sides.{tally_of}
 use Rattle.lockstep_replay.specs.Tapes.{Tally}

@@ -1,4 +1,4 @@
-use Rattle.std.proofs.Common.{◌≡◌, ◌∙◌}
+use Rattle.std.proofs.Common.{◌∙◌}
 use Rattle.std.proofs.lemmas.List.{take_rest}
 use Rattle.lockstep_replay.proofs.Turns.{bytes_eq-drop}
 use Rattle.lockstep_replay.proofs.turning.has_same_output.Goals as goal

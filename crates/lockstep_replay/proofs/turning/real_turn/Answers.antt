@@ -1,4 +1,4 @@
-use Rattle.std.proofs.Common.{◌≡◌, [], sym}
+use Rattle.std.proofs.Common.{[], sym}
 use Rattle.rv32im_machine.specs.Rows.{walk_of}
 use Rattle.rv32im_machine.specs.Folds.{real_end}
 use Rattle.lockstep_replay.specs.Cuts.{MaskAt}

@@ -1,4 +1,4 @@
-use Rattle.std.proofs.Common.{◌≡◌, ◌∙◌, [], sym}
+use Rattle.std.proofs.Common.{◌∙◌, [], sym}
 use Rattle.crossing_bits.specs.Streams.{left_of}
 use Rattle.lockstep_replay.specs.Cuts.{MaskAt}
 use Rattle.lockstep_replay.specs.declared.replays.Short.{Short}

@@ -1,7 +1,7 @@
-use Rattle.std.proofs.Common.{◌≡◌, ◌∷◌}
+use Rattle.std.proofs.Common.{◌∷◌}
 use Rattle.crossing_bits.specs.Askers.{feed}
 use Rattle.crossing_bits.specs.Streams.{left_of}
-use Rattle.rv32im_machine.specs.Language.{Passed, Decided, Gave}
+use Rattle.rv32im_machine.specs.Language.{Decided}
 use Rattle.lockstep_replay.specs.Cuts.{MaskAt}
 use Rattle.lockstep_replay.specs.Runs.{replayed}
 use Rattle.lockstep_replay.specs.Tapes.{Replays}

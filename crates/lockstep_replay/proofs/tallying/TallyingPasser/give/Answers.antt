@@ -1,4 +1,4 @@
-use Rattle.std.proofs.Common.{◌≡◌, ◌∷◌}
+use Rattle.std.proofs.Common.{◌∷◌}
 use Rattle.flow_base.specs.Words.{bits_under}
 use Rattle.rv32im_machine.specs.Folds.{real_end}
 use Rattle.lockstep_replay.specs.Cuts.{mask_of, MaskAt}
