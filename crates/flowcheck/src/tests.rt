@@ -116,75 +116,118 @@ fn answer(
     Ok((status, Bytes::from_slice(alloc, sink.taken())?))
 }
 
-/// Whether the status and all that the sink takes are these.
-fn answers(
-    alloc: Global,
-    program: &[u8],
-    cut: &str,
-    words: &[&str],
+/// A worked example: a program file, a cut, the words after `check prog`, and the status and the text of the answer.
+#[derive(Clone, Copy)]
+struct Row<'a> {
+    program: &'a [u8],
+    cut: &'a str,
+    words: &'a [&'a str],
     status: u8,
-    text: &str,
-) -> Result<bool, NoMemory> {
-    let (given, taken) = answer(alloc, program, cut, words, None)?;
-    Ok(given == status && taken.as_slice() == text.as_bytes())
+    text: &'a str,
 }
+
+/// Whether each row is answered as it says.
+fn all_answer(alloc: Global, rows: &[Row]) -> Result<bool, NoMemory> {
+    for row in rows {
+        let (status, text) = answer(alloc, row.program, row.cut, row.words, None)?;
+        if status != row.status || text.as_slice() != row.text.as_bytes() {
+            return Ok(false);
+        }
+    }
+    Ok(true)
+}
+
+/// The words of a check with a budget, of the secrets of one byte 3, 5 and 4, or of others.
+const EIGHT: [&str; 8] = ["check", "prog", "public", "cut", "8", "s3", "s5", "s4"];
+
+const SEVEN: [&str; 6] = ["check", "prog", "public", "cut", "7", "s65"];
+
+const ZERO: [&str; 7] = ["check", "prog", "public", "cut", "0", "s65", "s3"];
+
+const ABSENT: [&str; 6] = ["check", "prog", "public", "cut", "8", "s9"];
+
+const LARGE: [&str; 6] = ["check", "prog", "large", "cut", "8", "s3"];
+
+const LONG: [&str; 7] = ["check", "prog", "public", "cut", "8", "s3", "s34"];
 
 #[test]
 fn secrets_are_judged(rt: HostRuntime) -> Result<(), Fail> {
     let alloc = rt.alloc();
     let low = program(alloc, &LOW)?;
-    let low = low.as_slice();
-    let echo = program(alloc, &ECHO)?;
-    let echo = echo.as_slice();
-    let exit = program(alloc, &EXIT)?;
-    let stop = program(alloc, &OUTSIDE)?;
-    let words = ["check", "prog", "public", "cut", "8", "s3", "s5", "s4"];
+    let rows = [
+        // all bits of the secret cross
+        Row {
+            program: low.as_slice(),
+            cut: ALL_BITS,
+            words: &EIGHT[..6],
+            status: 0,
+            text: "accepted 1 bits 8 crossing 03 output 1 status 0\nchecked 1 accepted 1 budget 8\n",
+        },
+        // each secret has its own bits
+        Row {
+            program: low.as_slice(),
+            cut: ALL_BITS,
+            words: &EIGHT,
+            status: 0,
+            text: "accepted 1 bits 8 crossing 03 output 1 status 0\naccepted 2 bits 8 crossing 05 output 1 status 0\n\
+                accepted 3 bits 8 crossing 04 output 1 status 0\nchecked 3 accepted 3 budget 8\n",
+        },
+        // a secret of another length
+        Row {
+            program: low.as_slice(),
+            cut: ALL_BITS,
+            words: &LONG,
+            status: 1,
+            text: "accepted 1 bits 8 crossing 03 output 1 status 0\nrejected 2 secret-length cut 1 got 2\n\
+                checked 2 accepted 1 budget 8\n",
+        },
+    ];
+    assert!(rt; all_answer(alloc, &rows)?);
+    Ok(())
+}
 
-    let text = "accepted 1 bits 8 crossing 03 output 1 status 0\nchecked 1 accepted 1 budget 8\n";
-    assert!(rt;
-        answers(alloc, low, ALL_BITS, &words[..6], 0, text)?,
-        "all bits of the secret cross"
-    );
-    let text =
-        "accepted 1 bits 8 crossing 03 output 1 status 0\naccepted 2 bits 8 crossing 05 output 1 status 0\n\
-                accepted 3 bits 8 crossing 04 output 1 status 0\nchecked 3 accepted 3 budget 8\n";
-    assert!(rt;
-        answers(alloc, low, ALL_BITS, &words, 0, text)?,
-        "each secret has its own bits"
-    );
-    let seven = ["check", "prog", "public", "cut", "7", "s65"];
-    let text = "rejected 1 budget 7 needed 8\nchecked 1 accepted 0 budget 7\n";
-    assert!(rt;
-        answers(alloc, echo, ALL_BITS, &seven, 1, text)?,
-        "more bits than the budget"
-    );
-    let zero = ["check", "prog", "public", "cut", "0", "s65", "s3"];
-    let text = "rejected 1 unequal\nchecked 1 accepted 0 budget 0\n";
-    assert!(rt;
-        answers(alloc, echo, NO_BITS, &zero[..6], 1, text)?,
-        "the output gives bits away"
-    );
-    let text =
-        "rejected 1 guest load-outside 0x00010000 address 0x00000000\nchecked 1 accepted 0 budget 0\n";
-    assert!(rt;
-        answers(alloc, stop.as_slice(), NO_BITS, &zero[..6], 1, text)?,
-        "the guest is stopped"
-    );
-    let text =
-        "accepted 1 bits 0 crossing - output 0 status 0\naccepted 2 bits 0 crossing - output 0 status 0\n\
-                checked 2 accepted 2 budget 0\n";
-    assert!(rt;
-        answers(alloc, exit.as_slice(), NO_BITS, &zero, 0, text)?,
-        "no bit crosses"
-    );
-    let long = ["check", "prog", "public", "cut", "8", "s3", "s34"];
-    let text =
-        "accepted 1 bits 8 crossing 03 output 1 status 0\nrejected 2 secret-length cut 1 got 2\n\
-                checked 2 accepted 1 budget 8\n";
-    assert!(rt;
-        answers(alloc, low, ALL_BITS, &long, 1, text)?,
-        "a secret of another length"
-    );
+#[test]
+fn runs_are_rejected(rt: HostRuntime) -> Result<(), Fail> {
+    let alloc = rt.alloc();
+    let echo = program(alloc, &ECHO)?;
+    let exit = program(alloc, &EXIT)?;
+    let outside = program(alloc, &OUTSIDE)?;
+    let rows = [
+        // more bits than the budget
+        Row {
+            program: echo.as_slice(),
+            cut: ALL_BITS,
+            words: &SEVEN,
+            status: 1,
+            text: "rejected 1 budget 7 needed 8\nchecked 1 accepted 0 budget 7\n",
+        },
+        // the output gives bits away
+        Row {
+            program: echo.as_slice(),
+            cut: NO_BITS,
+            words: &ZERO[..6],
+            status: 1,
+            text: "rejected 1 unequal\nchecked 1 accepted 0 budget 0\n",
+        },
+        // the guest is stopped
+        Row {
+            program: outside.as_slice(),
+            cut: NO_BITS,
+            words: &ZERO[..6],
+            status: 1,
+            text: "rejected 1 guest load-outside 0x00010000 address 0x00000000\nchecked 1 accepted 0 budget 0\n",
+        },
+        // no bit crosses
+        Row {
+            program: exit.as_slice(),
+            cut: NO_BITS,
+            words: &ZERO,
+            status: 0,
+            text: "accepted 1 bits 0 crossing - output 0 status 0\naccepted 2 bits 0 crossing - output 0 status 0\n\
+                checked 2 accepted 2 budget 0\n",
+        },
+    ];
+    assert!(rt; all_answer(alloc, &rows)?);
     Ok(())
 }
 
@@ -192,48 +235,68 @@ fn secrets_are_judged(rt: HostRuntime) -> Result<(), Fail> {
 fn commands_are_refused(rt: HostRuntime) -> Result<(), Fail> {
     let alloc = rt.alloc();
     let low = program(alloc, &LOW)?;
-    let low = low.as_slice();
+    let half = Bytes::from_slice(alloc, &HEAD[..51])?;
+    let rows = [
+        // no secret
+        Row {
+            program: low.as_slice(),
+            cut: ALL_BITS,
+            words: &EIGHT[..5],
+            status: 2,
+            text: "refused 2 usage\n",
+        },
+        // half a program
+        Row {
+            program: half.as_slice(),
+            cut: ALL_BITS,
+            words: &EIGHT[..6],
+            status: 3,
+            text: "refused 3 program unbuilt\n",
+        },
+        // a cut at a register
+        Row {
+            program: low.as_slice(),
+            cut: REGISTER,
+            words: &EIGHT[..6],
+            status: 3,
+            text: "refused 3 cut unbuilt\n",
+        },
+        // a name that is not held
+        Row {
+            program: low.as_slice(),
+            cut: ALL_BITS,
+            words: &ABSENT,
+            status: 5,
+            text: "refused 5 load s9\n",
+        },
+        // a public input above its limit
+        Row {
+            program: low.as_slice(),
+            cut: ALL_BITS,
+            words: &LARGE,
+            status: 6,
+            text: "refused 6 too-large large 1048577\n",
+        },
+    ];
+    assert!(rt; all_answer(alloc, &rows)?);
+    Ok(())
+}
+
+#[test]
+fn words_and_puts_fail(rt: HostRuntime) -> Result<(), Fail> {
+    let alloc = rt.alloc();
     let mut many = ["s3"; 70];
-    for (index, word) in ["check", "prog", "public", "cut", "8"].iter().enumerate() {
+    for (index, word) in EIGHT[..5].iter().enumerate() {
         many[index] = *word;
     }
-
+    let (status, text) = answer(alloc, &HEAD, ALL_BITS, &many, None)?;
     assert!(rt;
-        answers(alloc, low, ALL_BITS, &many[..5], 2, "refused 2 usage\n")?,
-        "no secret"
-    );
-    assert!(rt;
-        answers(alloc, low, ALL_BITS, &many, 2, "refused 2 usage\n")?,
+        status == 2 && text.as_slice() == b"refused 2 usage\n".as_slice(),
         "65 secrets"
     );
-    let text = "refused 3 program unbuilt\n";
+    let (status, text) = answer(alloc, &HEAD, ALL_BITS, &many[..5], Some(5))?;
     assert!(rt;
-        answers(alloc, &HEAD[..51], ALL_BITS, &many[..6], 3, text)?,
-        "half a program"
-    );
-    let text = "refused 3 cut unbuilt\n";
-    assert!(rt;
-        answers(alloc, low, REGISTER, &many[..6], 3, text)?,
-        "a cut at a register"
-    );
-    many[5] = "s9";
-    let text = "refused 5 load s9\n";
-    assert!(rt;
-        answers(alloc, low, ALL_BITS, &many[..6], 5, text)?,
-        "a name that is not held"
-    );
-    many[2] = "large";
-    let text = "refused 6 too-large large 1048577\n";
-    assert!(rt;
-        answers(alloc, low, ALL_BITS, &many[..6], 6, text)?,
-        "a public input above its limit"
-    );
-
-    let (status, text) = answer(alloc, low, ALL_BITS, &many[..5], Some(5))?;
-    assert_eq!(rt; status, 7);
-    assert_eq!(rt;
-        text.as_slice(),
-        b"refus".as_slice(),
+        status == 7 && text.as_slice() == b"refus".as_slice(),
         "a put that takes 5 bytes"
     );
     Ok(())
