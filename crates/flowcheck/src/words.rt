@@ -18,20 +18,13 @@ pub struct CheckWords<'a> {
 
 const HIGHEST_BUDGET: u32 = 1_048_576;
 
-/// The number that a word may name.
-pub fn number_in(word: &str) -> Option<u32>
-    ensures { (budget : ℕ) → budget ≤ highest_budget → word.now ≡ decimal budget → result ≡ Some budget }
-{
-    word.parse::<u32>().ok()
-}
-
 /// The number of bits that a word names; None exactly where it is no decimal without leading zeros within the range.
 pub fn budget_of(alloc: Global, word: &str) -> Result<Option<u32>, NoMemory>
     ensures written { IfOk result (λ found. IfSome found (λ budget. word.now ≡ decimal budget)) }
     ensures within { IfOk result (λ found. IfSome found (λ budget. budget ≤ highest_budget)) }
     ensures none { result ≡ Ok None → (budget : ℕ) → budget ≤ highest_budget → ¬ (word.now ≡ decimal budget) }
 {
-    let Some(budget) = number_in(word) else {
+    let Ok(budget) = word.parse::<u32>() else {
         return Ok(None);
     };
     if budget > HIGHEST_BUDGET {
