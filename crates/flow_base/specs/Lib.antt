@@ -7,3 +7,4 @@ pub mod Memory
 pub mod Room
 pub mod Reading
 pub mod Writing
+pub mod Guests

@@ -2,6 +2,7 @@
 //! outside: where files come from and where text goes.
 #![tactic(auto)]
 
+mod guests;
 mod host;
 mod lists;
 mod loading;
@@ -14,6 +15,7 @@ mod register_file;
 #[cfg(test)]
 mod tests;
 
+pub use guests::MEMORY_SIZE;
 pub use host::{DiskFiles, StandardOut};
 pub use lists::{Bytes, List, NoMemory};
 pub use loading::{Files, LoadFault};
