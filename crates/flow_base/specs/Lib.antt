@@ -8,3 +8,4 @@ pub mod Room
 pub mod Reading
 pub mod Writing
 pub mod Guests
+pub mod HexWords

@@ -3,6 +3,7 @@
 #![tactic(auto)]
 
 mod guests;
+mod hex_words;
 mod host;
 mod lists;
 mod loading;
@@ -16,6 +17,7 @@ mod register_file;
 mod tests;
 
 pub use guests::MEMORY_SIZE;
+pub use hex_words::{hex_digits, hex_word};
 pub use host::{DiskFiles, StandardOut};
 pub use lists::{Bytes, List, NoMemory};
 pub use loading::{Files, LoadFault};

@@ -1,6 +1,6 @@
 use crate::{
     Bytes, DiskFiles, Files, Held, List, LoadFault, MemoryFiles, MemorySink, Output, Registers,
-    Sink, SinkFail, SinkFault, Slot, StandardOut, slot_number, slot_width,
+    Sink, SinkFail, SinkFault, Slot, StandardOut, hex_digits, hex_word, slot_number, slot_width,
 };
 use std::fs;
 use std::test::Fail;
@@ -131,4 +131,10 @@ fn reads_files_and_writes_the_standard_output(rt: HostRuntime) -> Result<(), Fai
     let mut out = StandardOut::new(rt);
     assert_eq!(rt; out.put(b"put\n"), Ok(()));
     Ok(())
+}
+
+#[test]
+fn words_are_written_in_hexadecimal(rt: HostRuntime) {
+    assert_eq!(rt; hex_digits(0x0001_0fed), *b"00010fed");
+    assert_eq!(rt; hex_word(0xffff_09ab), *b"0xffff09ab");
 }

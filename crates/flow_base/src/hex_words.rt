@@ -1,0 +1,38 @@
+ghost use Rattle.std.specs.Prelude.{◌≡◌, ◌<◌};
+ghost use Rattle.flow_base.specs.HexWords.{hex_digit, hex_digits as hex_digits_of, hex_word as hex_word_of};
+
+/// A digit below 16, in lower case.
+fn glyph(digit: u32) -> u8
+    requires { digit < 16 }
+    ensures { result ≡ hex_digit digit }
+{
+    if digit < 10 {
+        48 + digit as u8
+    } else {
+        87 + digit as u8
+    }
+}
+
+/// The eight hexadecimal digits of a word, the highest first, in lower case.
+pub fn hex_digits(word: u32) -> [u8; 8]
+    ensures { result ≡ hex_digits_of word }
+{
+    [
+        glyph(word / 268_435_456 % 16),
+        glyph(word / 16_777_216 % 16),
+        glyph(word / 1_048_576 % 16),
+        glyph(word / 65_536 % 16),
+        glyph(word / 4_096 % 16),
+        glyph(word / 256 % 16),
+        glyph(word / 16 % 16),
+        glyph(word % 16),
+    ]
+}
+
+/// `0x` and the eight hexadecimal digits of a word, in lower case: the text of an address or a word of the guest.
+pub fn hex_word(word: u32) -> [u8; 10]
+    ensures { result ≡ hex_word_of word }
+{
+    let [a, b, c, d, e, f, g, h] = hex_digits(word);
+    [b'0', b'x', a, b, c, d, e, f, g, h]
+}
