@@ -1,3 +1,4 @@
 pub mod Single
 pub mod Programs
 pub mod Memory
+pub mod Putting

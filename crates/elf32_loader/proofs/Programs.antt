@@ -6,7 +6,8 @@ use Rattle.elf32_loader.specs.declared.segments.Segment.{Segment}
 use Rattle.elf32_loader.specs.FaultTable.{HasNoFault, IsFileBase, IsOutOfRange}
 use Rattle.elf32_loader.specs.Headers.{Header, HoldsAddress, IsLoad, entry_of, file_type, flags_of, header_at, header_count, header_size, identification, machine_type, table_offset, word_at}
 use Rattle.elf32_loader.specs.Pictures.{Picture, is_valid}
-use Rattle.elf32_loader.specs.Programs.{IsImage, IsLoaded, IsSingle, headers, single, written}
+use Rattle.elf32_loader.specs.Programs.{IsImage, IsLoaded, IsSingle, single}
+use Rattle.elf32_loader.specs.Written.{headers, written}
 use Rattle.elf32_loader.specs.Segments.{rounded_down}
 use Rattle.elf32_loader.proofs.Single.{IsFit, fit, single-of, word-back}
 

@@ -8,7 +8,8 @@ use Rattle.byteorder.specs.Numbers.{little_number-reads_back}
 use Rattle.elf32_loader.specs.declared.segments.Segment.{Segment}
 use Rattle.elf32_loader.specs.Headers.{word_at}
 use Rattle.elf32_loader.specs.Pictures.{Picture, is_valid}
-use Rattle.elf32_loader.specs.Programs.{IsSingle, headers, single, written}
+use Rattle.elf32_loader.specs.Programs.{IsSingle, single}
+use Rattle.elf32_loader.specs.Written.{headers, written}
 use Rattle.elf32_loader.specs.Segments.{highest_base, highest_end, memory_size, rounded_down}
 
 -- what a valid image of one segment is

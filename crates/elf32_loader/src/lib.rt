@@ -6,12 +6,14 @@ mod images;
 mod laws;
 mod loading;
 mod segments;
+mod writing;
 
 pub use fault::ElfFault;
 pub use images::Image;
 pub use laws::{files_of_one_segment_give_their_images, memory_is_what_is_loaded};
 pub use loading::load_image;
 pub use segments::Segment;
+pub use writing::write_image;
 
 #[cfg(test)]
 mod tests;

@@ -2,7 +2,8 @@ ghost use Rattle.std.specs.Prelude.{◌≡◌, ◌-◌, ◌^◌, ◌<◌, ◌≤
 ghost use Rattle.elf32_loader.specs.Headers.{word_at};
 ghost use Rattle.elf32_loader.specs.Images.{picture_of};
 ghost use Rattle.elf32_loader.specs.Pictures.{Picture, is_valid};
-ghost use Rattle.elf32_loader.specs.Programs.{IsImage, IsSingle, headers, single};
+ghost use Rattle.elf32_loader.specs.Programs.{IsImage, IsSingle, single};
+ghost use Rattle.elf32_loader.specs.Written.{headers};
 
 use crate::{ElfFault, Image, Segment};
 use byteorder::{ByteOrder, LittleEndian};

@@ -1,4 +1,4 @@
-use crate::{ElfFault, Image, load_image};
+use crate::{ElfFault, Image, load_image, write_image};
 use std::test::Fail;
 
 /// A program that exits with status 0: `addi a0,x0,0`, `addi a7,x0,93`, `ecall` at 0x10000, as 96 bytes.
@@ -55,6 +55,15 @@ fn files_of_one_segment_load(rt: HostRuntime) -> Result<(), Fail> {
     assert_eq!(rt; shown(&high), (0x8000_0000, 0x8000_0000, 1, 0x8000_0000));
     let odd = load_image(rt.alloc(), &changed(&[(24, 8), (60, 4), (64, 4)]))?;
     assert_eq!(rt; shown(&odd), (0x10000, 0x10008, 1, 0x10004));
+    Ok(())
+}
+
+#[test]
+fn an_image_is_written(rt: HostRuntime) -> Result<(), Fail> {
+    let exit = load_image(rt.alloc(), &EXIT)?;
+    assert_eq!(rt; exit.segments.len(), 1);
+    let written = write_image(rt.alloc(), &exit).map_err(|_| "memory")?;
+    assert_eq!(rt; written.as_slice(), EXIT.as_slice());
     Ok(())
 }
 
