@@ -1,4 +1,10 @@
-pub mod Single
-pub mod Programs
 pub mod Memory
 pub mod Putting
+pub mod Bases
+pub mod Inserting
+pub mod Loads
+pub mod Valid
+pub mod Faults
+pub mod Unique
+pub mod Laying
+pub mod Spelling

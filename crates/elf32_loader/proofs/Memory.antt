@@ -10,16 +10,16 @@ use Rattle.elf32_loader.specs.Programs.{IsImage, IsLoaded, loaded_byte}
 use Rattle.elf32_loader.specs.Segments.{end_of, holds, is_ascending}
 
 -- segments after the first ascend
-rest-ascends : (first second : Segment) (rest : List Segment) → IsTrue (is_ascending (first ∷ second ∷ rest))
+pub rest-ascends : (first second : Segment) (rest : List Segment) → IsTrue (is_ascending (first ∷ second ∷ rest))
     → IsTrue (is_ascending (second ∷ rest))
 rest-ascends first second rest ascends = grind (arith, nat_tests, common_steps)
 
-ends-before : (first second : Segment) (rest : List Segment) → IsTrue (is_ascending (first ∷ second ∷ rest))
+pub ends-before : (first second : Segment) (rest : List Segment) → IsTrue (is_ascending (first ∷ second ∷ rest))
     → end_of first ≤ second.address
 ends-before first second rest ascends = grind (arith, nat_tests, common_steps)
 
 -- the first segment ends at or below each later one
-later-begins : (first : Segment) (rest : List Segment) → IsTrue (is_ascending (first ∷ rest)) → (place : ℕ) (other : Segment)
+pub later-begins : (first : Segment) (rest : List Segment) → IsTrue (is_ascending (first ∷ rest)) → (place : ℕ) (other : Segment)
     → place < length rest → end_of first ≤ (slice_index_or rest place other).address
 later-begins first [] ascends place other below = absurd (omega arith)
 later-begins first (second ∷ rest) ascends zero other below = ends-before first second rest ascends
@@ -29,7 +29,7 @@ later-begins first (second ∷ rest) ascends (suc place) other below =
     let here : end_of first ≤ second.address = ends-before first second rest ascends in
     omega arith
 
-holds-true : (segment : Segment) (address : ℕ) → segment.address ≤ address → address < end_of segment → holds segment address ≡ true
+pub holds-true : (segment : Segment) (address : ℕ) → segment.address ≤ address → address < end_of segment → holds segment address ≡ true
 holds-true segment address above below = grind (arith, nat_tests)
 
 holds-false : (segment : Segment) (address : ℕ) → end_of segment ≤ address → holds segment address ≡ false
@@ -62,14 +62,14 @@ memory-is-loaded file picture image index is_load place here =
     ∙ ap (λ (n : ℕ). slice_index segment.bytes (place - n)) loaded.address
     ∙ loaded.bytes place here
 
-either : (test : Bool) → (test ≡ true) ⊎ (test ≡ false)
+pub either : (test : Bool) → (test ≡ true) ⊎ (test ≡ false)
 either true = inl refl
 either false = inr refl
 
-begins-below : (segment : Segment) (address : ℕ) → holds segment address ≡ true → segment.address ≤ address
+pub begins-below : (segment : Segment) (address : ℕ) → holds segment address ≡ true → segment.address ≤ address
 begins-below segment address inside = grind (arith, nat_tests, common_steps)
 
-ends-above : (segment : Segment) (address : ℕ) → holds segment address ≡ true → address < end_of segment
+pub ends-above : (segment : Segment) (address : ℕ) → holds segment address ≡ true → address < end_of segment
 ends-above segment address inside = grind (arith, nat_tests, common_steps)
 
 -- memory is 0 where no segment holds the address

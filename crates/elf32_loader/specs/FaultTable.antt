@@ -1,21 +1,31 @@
 -- What may be wrong with a program file, each fault as a fact of its bytes.
-use Rattle.std.specs.Prelude.{◌≡◌, ◌≢◌, ◌⊎◌, ℕ, ◌+◌, ◌*◌, ◌%◌, ◌<◌, ◌≤◌, List, length, take}
-use Rattle.elf32_loader.specs.Headers.{Header, HoldsAddress, IsLoad, entry_of, file_type, flags_of, header_at, header_count, header_size, identification, machine_type, table_offset}
-use Rattle.elf32_loader.specs.Segments.{highest_base, highest_end, memory_size, rounded_down}
+use Rattle.std.specs.Prelude.{◌≡◌, ◌≢◌, ◌⊎◌, ℕ, ◌+◌, ◌*◌, ◌%◌, ◌<◌, ◌≤◌, List, length, slice_index}
+use Rattle.elf32_loader.specs.declared.headers.Header.{Header}
+use Rattle.elf32_loader.specs.Headers.{HoldsAddress, IsLoad, entry_of, file_type, flags_of, header_at, header_count, header_size, identification, machine_type, table_offset}
+use Rattle.elf32_loader.specs.Segments.{highest_base, highest_end, rounded_down}
+use Rattle.flow_base.specs.Guests.{memory_size}
+
+-- a load has the lowest address
+abbrev pub IsLowestLoad : List ℕ → ℕ → Type 0
+IsLowestLoad file index =
+    IsLoad file index
+    × ((other : ℕ) → IsLoad file other → (header_at file index).address ≤ (header_at file other).address)
 
 -- the base of a file: the lowest address of a load, rounded down
 abbrev pub IsFileBase : List ℕ → ℕ → Type 0
 IsFileBase file base =
-    (lowest : ℕ) × IsLoad file lowest × (base ≡ rounded_down (header_at file lowest).address)
-    × ((index : ℕ) → IsLoad file index → (header_at file lowest).address ≤ (header_at file index).address)
+    (lowest : ℕ) × IsLowestLoad file lowest × (base ≡ rounded_down (header_at file lowest).address)
 
 -- the file is shorter than an ELF header
 abbrev pub HasNoHeader : List ℕ → Type 0
 HasNoHeader file = length file < 52
 
--- it is not a 32-bit little-endian ELF file of version 1
+-- one of its first bytes is not that of a 32-bit little-endian ELF file of version 1
+abbrev pub IsOtherByte : List ℕ → ℕ → Type 0
+IsOtherByte file place = (place < length identification) × (slice_index file place ≢ slice_index identification place)
+
 abbrev pub IsOtherFormat : List ℕ → Type 0
-IsOtherFormat file = take 7 file ≢ identification
+IsOtherFormat file = (place : ℕ) × IsOtherByte file place
 
 -- it is no executable (ET_EXEC), or not for RISC-V (EM_RISCV)
 abbrev pub IsOtherKind : List ℕ → Type 0
@@ -33,10 +43,13 @@ HasOtherTable file = (header_size file ≢ 32) ⊎ (header_count file ≡ 0) ⊎
 abbrev pub HasCutTable : List ℕ → Type 0
 HasCutTable file = length file < table_offset file + 32 * header_count file
 
--- it wants a dynamic linker: a header is PT_DYNAMIC or PT_INTERP
+-- a header wants a dynamic linker: it is PT_DYNAMIC or PT_INTERP
+abbrev pub IsDynamicAt : List ℕ → ℕ → Type 0
+IsDynamicAt file index =
+    (index < header_count file) × (((header_at file index).kind ≡ 2) ⊎ ((header_at file index).kind ≡ 3))
+
 abbrev pub IsDynamic : List ℕ → Type 0
-IsDynamic file =
-    (index : ℕ) × (index < header_count file) × (((header_at file index).kind ≡ 2) ⊎ ((header_at file index).kind ≡ 3))
+IsDynamic file = (index : ℕ) × IsDynamicAt file index
 
 -- it has no load
 abbrev pub HasNoLoad : List ℕ → Type 0
@@ -49,19 +62,24 @@ IsOutOfRange file base header =
     ⊎ (base + memory_size < header.address + header.memory_size) ⊎ (highest_end < header.address + header.memory_size)
 
 -- a load is out of range
+abbrev pub IsRangeFaultAt : List ℕ → ℕ → ℕ → Type 0
+IsRangeFaultAt file base index = IsLoad file index × IsOutOfRange file base (header_at file index)
+
 abbrev pub HasRangeFault : List ℕ → Type 0
-HasRangeFault file =
-    (base : ℕ) × (index : ℕ) × IsFileBase file base × IsLoad file index × IsOutOfRange file base (header_at file index)
+HasRangeFault file = (base : ℕ) × (index : ℕ) × IsFileBase file base × IsRangeFaultAt file base index
 
 -- the base is too high
 abbrev pub HasHighBase : List ℕ → Type 0
 HasHighBase file = (base : ℕ) × IsFileBase file base × (highest_base < base)
 
 -- two loads share an address
+abbrev pub Overlaps : List ℕ → ℕ → ℕ → Type 0
+Overlaps file a b =
+    (a < b) × IsLoad file a × IsLoad file b
+    × ((address : ℕ) × HoldsAddress (header_at file a) address × HoldsAddress (header_at file b) address)
+
 abbrev pub HasOverlap : List ℕ → Type 0
-HasOverlap file =
-    (a : ℕ) × (b : ℕ) × (address : ℕ) × (a < b) × IsLoad file a × IsLoad file b
-    × HoldsAddress (header_at file a) address × HoldsAddress (header_at file b) address
+HasOverlap file = (a : ℕ) × (b : ℕ) × Overlaps file a b
 
 -- the entry is no multiple of 4, or lies in no load
 abbrev pub HasEntryOutside : List ℕ → Type 0

@@ -1,7 +1,8 @@
 -- The fields of an ELF32 file as functions of its bytes (System V ABI, Object Files: ELF Header, Program Header). All are
 -- little-endian.
-use Rattle.std.specs.Prelude.{◌≡◌, ◌≢◌, ℕ, ◌+◌, ◌*◌, ◌<◌, ◌≤◌, List, [], ◌∷◌}
+use Rattle.std.specs.Prelude.{◌≡◌, ◌≢◌, ℕ, ◌+◌, ◌*◌, ◌<◌, ◌≤◌, List, [], ◌∷◌, length}
 use Rattle.byteorder.specs.Endian.{little_from}
+use Rattle.elf32_loader.specs.declared.headers.Header.{Header}
 
 -- the field of two or four bytes at an offset
 abbrev pub half_at : List ℕ → ℕ → ℕ
@@ -37,13 +38,6 @@ abbrev pub header_count : List ℕ → ℕ
 header_count file = half_at file 44
 
 -- a program header: p_type, p_offset, p_vaddr, p_filesz and p_memsz
-pub record Header : Type 0 where
-  pub kind : ℕ
-  pub offset : ℕ
-  pub address : ℕ
-  pub file_size : ℕ
-  pub memory_size : ℕ
-
 abbrev pub header_from : List ℕ → ℕ → Header
 header_from file start = record {
   kind = word_at file start;
@@ -56,6 +50,11 @@ header_from file start = record {
 -- the program header of an index, counted from 0
 abbrev pub header_at : List ℕ → ℕ → Header
 header_at file index = header_from file (table_offset file + 32 * index)
+
+-- the file has an ELF header and as many program headers as it says
+pub record HasTable (file : List ℕ) : Type 0 where
+  pub header : 52 ≤ length file
+  pub table : table_offset file + 32 * header_count file ≤ length file
 
 -- a header is a load: it is PT_LOAD and takes memory
 abbrev pub IsLoad : List ℕ → ℕ → Type 0

@@ -3,5 +3,7 @@ pub mod Pictures
 pub mod Images
 pub mod Headers
 pub mod FaultTable
+pub mod FirstFault
 pub mod Written
 pub mod Programs
+pub mod Searches

@@ -1,10 +1,13 @@
 -- The image that a program file gives.
-use Rattle.std.specs.Prelude.{◌≡◌, ℕ, ◌+◌, ◌-◌, nat_lt, IsTrue, List, [], ◌∷◌, length, slice_index, All, Contains, if◌then◌else◌}
+use Rattle.std.specs.Prelude.{◌≡◌, ℕ, ◌+◌, ◌-◌, ◌≤◌, nat_lt, IsTrue, List, length, slice_index, All, Contains, if◌then◌else◌}
+use Rattle.elf32_loader.specs.declared.fault.ElfFault.{ElfFault}
+use Rattle.elf32_loader.specs.declared.headers.Header.{Header}
 use Rattle.elf32_loader.specs.declared.segments.Segment.{Segment}
 use Rattle.elf32_loader.specs.FaultTable.{HasNoFault, IsFileBase}
-use Rattle.elf32_loader.specs.Headers.{Header, HoldsAddress, IsLoad, entry_of, header_at}
+use Rattle.elf32_loader.specs.FirstFault.{IsFirstFault}
+use Rattle.elf32_loader.specs.Headers.{HoldsAddress, IsLoad, entry_of, header_at}
 use Rattle.elf32_loader.specs.Pictures.{Picture, is_valid, mem}
-use Rattle.elf32_loader.specs.Segments.{is_ascending, rounded_down}
+use Rattle.elf32_loader.specs.Segments.{is_ascending}
 use Rattle.elf32_loader.specs.Written.{written}
 
 -- the byte that a load puts at an address: one of the file, or 0 past those
@@ -32,20 +35,19 @@ pub record IsImage (file : List ℕ) (picture : Picture) : Type 0 where
   pub each_load_stands : (index : ℕ) → IsLoad file index
       → (segment : Segment) × Contains picture.segments segment × IsLoaded file (header_at file index) segment
 
--- the image of one segment at an address
-abbrev pub single : ℕ → ℕ → List ℕ → Picture
-single entry address bytes =
-    record { base = rounded_down address; entry = entry; segments = record { address = address; bytes = bytes } ∷ [] }
+-- the file that is written for an image of at most 64 segments gives that image
+abbrev pub WrittenAreImages : Type 0
+WrittenAreImages =
+    (picture : Picture) → IsTrue (is_valid picture) → length picture.segments ≤ 64 → IsImage (written picture) picture
 
--- the file is the one that is written for an image of one segment
-pub record IsSingle (file : List ℕ) (picture : Picture) : Type 0 where
-  pub count : length picture.segments ≡ 1
-  pub valid : IsTrue (is_valid picture)
-  pub written : file ≡ written picture
+-- a file with a fault gives none
+abbrev pub FaultsHaveNoImage : Type 0
+FaultsHaveNoImage =
+    (file : List ℕ) (fault : ElfFault) → IsFirstFault file fault → (picture : Picture) → ¬ IsImage file picture
 
--- such a file gives that image
-abbrev pub SinglesAreImages : Type 0
-SinglesAreImages = (file : List ℕ) (picture : Picture) → IsSingle file picture → IsImage file picture
+-- a file gives at most one image
+abbrev pub ImagesAreUnique : Type 0
+ImagesAreUnique = (file : List ℕ) (one other : Picture) → IsImage file one → IsImage file other → one ≡ other
 
 -- the memory of a file's image has what the file's loads put there
 abbrev pub MemoryIsLoaded : Type 0

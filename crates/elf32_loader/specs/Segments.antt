@@ -1,10 +1,7 @@
 -- Segments of guest memory, and what an image keeps of its own.
 use Rattle.std.specs.Prelude.{ℕ, ◌+◌, ◌*◌, ◌/◌, ◌%◌, ◌==◌, ◌&&◌, ◌||◌, nat_le, nat_lt, Bool, true, false, List, [], ◌∷◌, length}
 use Rattle.elf32_loader.specs.declared.segments.Segment.{Segment}
-
--- the number of bytes of guest memory
-abbrev pub memory_size : ℕ
-memory_size = 16777216
+use Rattle.flow_base.specs.Guests.{memory_size}
 
 -- the highest base, and the highest end of a segment
 abbrev pub highest_base : ℕ

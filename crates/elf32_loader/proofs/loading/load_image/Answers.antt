@@ -1,10 +1,17 @@
-use Rattle.std.proofs.Common.{rules}
-use Rattle.elf32_loader.specs.Images.{picture_of}
-use Rattle.elf32_loader.specs.Programs.{IsSingle}
-use Rattle.elf32_loader.proofs.Programs.{image_of_single}
+use Rattle.std.proofs.Common.{◌≡◌, arith}
+use Rattle.elf32_loader.proofs.Valid.{image-from, keeps}
 use Rattle.elf32_loader.proofs.loading.load_image.Goals as goal
+
+pub invariant_of-result : goal.invariant_of-result
+invariant_of-result c =
+    let file = c.args.file.now in
+    let checked = c.in_ok-base.ensures.ok in
+    let image = image-from file c.in_ok-base.base c.entry_from.result c.from_vec.result c.in_ok-segments.segments.items checked.1 checked.0 c.entry_from.ensures c.from_vec.ensures c.in_ok-segments.ensures in
+    let kept = keeps file _ image in
+    record { ascends = kept.ascends; is_based = kept.based; is_inside = kept.inside; is_entered = kept.entered }
 
 pub returns-clause-loaded : goal.returns-clause-loaded
 returns-clause-loaded c =
-    let written : IsSingle c.args.file.now (picture_of c.in_ok-single_image.field-0) = search rules in
-    image_of_single c.args.file.now (picture_of c.in_ok-single_image.field-0) written
+    let file = c.args.file.now in
+    let checked = c.in_ok-base.ensures.ok in
+    image-from file c.in_ok-base.base c.entry_from.result c.from_vec.result c.in_ok-segments.segments.items checked.1 checked.0 c.entry_from.ensures c.from_vec.ensures c.in_ok-segments.ensures

@@ -1,0 +1,5 @@
+use Rattle.elf32_loader.specs.Searches.{AreLoads}
+use Rattle.elf32_loader.proofs.loading.read_segments.Given as goal
+
+abbrev pub invariant-loop-index : goal.invariant-loop-index
+invariant-loop-index l = AreLoads l.file l.index l.segments.items
