@@ -8,16 +8,16 @@ use Rattle.elf32_loader.specs.Programs.{IsImage}
 
 no-load-row : (file : List ℕ) (fault : ElfFault) → HasNoFault file → LoadRows file fault → ⊥
 no-load-row file fault clean rows = elim rows [
-  | inl dynamic ↦ clean.is_not_dynamic dynamic.0
+  | inl dynamic ↦ clean.loads.is_not_dynamic dynamic.0
   | inr others ↦ elim others.1 [
-    | inl none ↦ clean.has_load none.0
+    | inl none ↦ clean.loads.has_load none.0
     | inr others ↦ elim others.1 [
-      | inl range ↦ clean.is_in_range range.0
+      | inl range ↦ clean.loads.is_in_range range.0
       | inr others ↦ elim others.1 [
-        | inl high ↦ clean.has_low_base high.0
+        | inl high ↦ clean.loads.has_low_base high.0
         | inr others ↦ elim others.1 [
-          | inl overlap ↦ clean.has_no_overlap overlap.0
-          | inr others ↦ elim others.1 [ inl outside ↦ clean.has_entry outside.0 | inr none ↦ none.1 ]
+          | inl overlap ↦ clean.loads.has_no_overlap overlap.0
+          | inr others ↦ elim others.1 [ inl outside ↦ clean.loads.has_entry outside.0 | inr none ↦ none.1 ]
         ]
       ]
     ]
@@ -26,17 +26,17 @@ no-load-row file fault clean rows = elim rows [
 
 no-row : (file : List ℕ) (fault : ElfFault) → HasNoFault file → IsFirstFault file fault → ⊥
 no-row file fault clean rows = elim rows [
-  | inl short ↦ clean.has_header short.0
+  | inl short ↦ clean.header.has_header short.0
   | inr others ↦ elim others.1 [
-    | inl other ↦ clean.has_format other.0
+    | inl other ↦ clean.header.has_format other.0
     | inr others ↦ elim others.1 [
-      | inl other ↦ clean.has_kind other.0
+      | inl other ↦ clean.header.has_kind other.0
       | inr others ↦ elim others.1 [
-        | inl compressed ↦ clean.is_not_compressed compressed.0
+        | inl compressed ↦ clean.header.is_not_compressed compressed.0
         | inr others ↦ elim others.1 [
-          | inl other ↦ clean.has_table other.0
+          | inl other ↦ clean.header.has_table other.0
           | inr others ↦ elim others.1 [
-            | inl cut ↦ clean.has_whole_table cut.0
+            | inl cut ↦ clean.header.has_whole_table cut.0
             | inr others ↦ no-load-row file fault clean others.1
           ]
         ]

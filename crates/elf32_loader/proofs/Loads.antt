@@ -25,7 +25,7 @@ at-most a b not_above = elim (cases_lt b a) [ inl above ↦ absurd (not_above ab
 pub in-range : (file : List ℕ) (base index : ℕ) → HasNoFault file → IsFileBase file base → IsLoad file index
     → IsInRange file base index
 in-range file base index clean is_base is_load =
-    let out : ¬ IsOutOfRange file base (header_at file index) = λ fault. clean.is_in_range (base, index, is_base, (is_load, fault)) in
+    let out : ¬ IsOutOfRange file base (header_at file index) = λ fault. clean.loads.is_in_range (base, index, is_base, (is_load, fault)) in
     record {
       in_memory = at-most _ _ (λ above. out (inl above));
       in_file = at-most _ _ (λ above. out (inr (inl above)));
@@ -55,7 +55,7 @@ apart file first second one other clean below is_first is_second loaded_one load
         | inr h ↦ inr (omega (arith, loaded_one.address, loaded_other.address, loaded_one.size))
       ]
       | inr shared ↦
-          absurd (clean.has_no_overlap (first, second, (below, is_first, is_second, (shared.0, shared.2, shared.1))))
+          absurd (clean.loads.has_no_overlap (first, second, (below, is_first, is_second, (shared.0, shared.2, shared.1))))
     ]
 
 -- a header that is no load

@@ -9,7 +9,7 @@ use Rattle.std.proofs.lemmas.List.Elements.{Contains-get_or}
 use Rattle.byteorder.specs.Numbers.{little_number-reads_back}
 use Rattle.elf32_loader.specs.declared.headers.Header.{Header}
 use Rattle.elf32_loader.specs.declared.segments.Segment.{Segment}
-use Rattle.elf32_loader.specs.FaultTable.{HasNoFault, IsFileBase, IsOutOfRange}
+use Rattle.elf32_loader.specs.FaultTable.{HasCleanHeader, HasCleanLoads, IsEntryIn, IsFileBase, IsOutOfRange}
 use Rattle.elf32_loader.specs.Headers.{HoldsAddress, IsLoad, entry_of, file_type, flags_of, header_at, header_count, header_from, header_size, identification, machine_type, table_offset}
 use Rattle.elf32_loader.specs.Pictures.{Picture, is_valid}
 use Rattle.elf32_loader.specs.Programs.{IsImage, IsLoaded}
@@ -240,7 +240,7 @@ aligned picture entered =
     grind (arith, nat_tests)
 
 entry-held : (file : List ℕ) (picture : Picture) → IsGiven file picture
-    → ((index : ℕ) → IsLoad file index → ¬ HoldsAddress (header_at file index) (entry_of file)) → ⊥
+    → ((index : ℕ) → ¬ IsEntryIn file index) → ⊥
 entry-held file picture given nowhere =
     let parts = both (picture.entry % 4 == 0) (some_holds picture.segments picture.entry) given.keeps.entered in
     let found = holder picture.segments picture.entry nothing parts.1 in
@@ -250,13 +250,13 @@ entry-held file picture given nowhere =
     let header = given.spells.header found.0 nothing found.1 in
     let address = ap (λ (h : Header). h.address) header in
     let end = ap (λ (h : Header). h.address + h.memory_size) header in
-    nowhere found.0 (load-at file picture given found.0 found.1)
-    (omega (arith, address, above, given.spells.start), omega (arith, end, below, given.spells.start))
+    let here : HoldsAddress (header_at file found.0) (entry_of file) =
+    (omega (arith, address, above, given.spells.start), omega (arith, end, below, given.spells.start)) in
+    nowhere found.0 (load-at file picture given found.0 found.1, here)
 
-no-fault : (file : List ℕ) (picture : Picture) → IsGiven file picture → HasNoFault file
-no-fault file picture given =
+clean-header : (file : List ℕ) (picture : Picture) → IsGiven file picture → HasCleanHeader file
+clean-header file picture given =
     let laid = given.spells in
-    let is_base = file-base file picture given in
     record {
       has_header = λ short. omega (arith, laid.size);
       has_format = λ other.
@@ -269,6 +269,13 @@ no-fault file picture given =
         | inr h ↦ omega (arith, laid.count, h, given.few, given.first.some)
       ];
       has_whole_table = λ cut. omega (arith, laid.count, laid.table, laid.size);
+    }
+
+clean-loads : (file : List ℕ) (picture : Picture) → IsGiven file picture → HasCleanLoads file
+clean-loads file picture given =
+    let laid = given.spells in
+    let is_base = file-base file picture given in
+    record {
       is_not_dynamic = λ dynamic.
           let below : dynamic.0 < length picture.segments = omega (arith, laid.count, dynamic.1.0) in
           let kind : (header_at file dynamic.0).kind ≡ 1 = ap (λ (h : Header). h.kind) (laid.header dynamic.0 nothing below) in
@@ -326,7 +333,7 @@ written-image picture valid few =
     let file : List ℕ = written picture in
     let given = given-of picture valid few in
     record {
-      no_fault = no-fault file picture given;
+      no_fault = record { header = clean-header file picture given; loads = clean-loads file picture given };
       base = file-base file picture given;
       entry = sym given.spells.start;
       ascends = given.keeps.ascends;

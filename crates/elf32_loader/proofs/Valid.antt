@@ -63,7 +63,7 @@ based-on file base entry (first ∷ rest) image =
     omega (arith, below, above, own.2.address, (stands.2).address) in
     let rounded : base ≡ rounded_down first.address = image.base.2 ∙ ap rounded_down same in
     let low : base ≤ highest_base = elim (cases_lt highest_base base) [
-      | inl high ↦ absurd (image.no_fault.has_low_base (base, image.base, high))
+      | inl high ↦ absurd (image.no_fault.loads.has_low_base (base, image.base, high))
       | inr low ↦ low
     ] in
     grind (arith, nat_tests)
@@ -111,11 +111,13 @@ entered : (file : List ℕ) (picture : Picture) → IsImage file picture → IsT
 entered file picture image =
     let aligned : picture.entry % 4 ≡ 0 = elim (either_zero (picture.entry % 4)) [
       | inl even ↦ even
-      | inr odd ↦ absurd (image.no_fault.has_entry (inl (λ zero. odd (ap (λ (n : ℕ). n % 4) image.entry ∙ zero))))
+      | inr odd ↦ absurd (image.no_fault.loads.has_entry (inl (λ zero. odd (ap (λ (n : ℕ). n % 4) image.entry ∙ zero))))
     ] in
     let held : some_holds picture.segments picture.entry ≡ true = elim (either (some_holds picture.segments picture.entry)) [
       | inl some ↦ some
-      | inr none ↦ absurd (image.no_fault.has_entry (inr (λ index is_load here.
+      | inr none ↦ absurd (image.no_fault.loads.has_entry (inr (λ index held.
+          let is_load = held.0 in
+          let here : HoldsAddress (header_at file index) (entry_of file) = held.1 in
           let stands = image.each_load_stands index is_load in
           let above : (stands.0).address ≤ picture.entry = omega (arith, here.0, (stands.2).address, image.entry) in
           let below : picture.entry < end_of stands.0 = omega (arith, here.1, (stands.2).address, (stands.2).size, image.entry) in

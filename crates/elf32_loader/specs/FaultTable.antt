@@ -81,23 +81,33 @@ Overlaps file a b =
 abbrev pub HasOverlap : List ℕ → Type 0
 HasOverlap file = (a : ℕ) × (b : ℕ) × Overlaps file a b
 
+-- the entry lies in a load
+abbrev pub IsEntryIn : List ℕ → ℕ → Type 0
+IsEntryIn file index = IsLoad file index × HoldsAddress (header_at file index) (entry_of file)
+
 -- the entry is no multiple of 4, or lies in no load
 abbrev pub HasEntryOutside : List ℕ → Type 0
-HasEntryOutside file =
-    (entry_of file % 4 ≢ 0)
-    ⊎ ((index : ℕ) → IsLoad file index → ¬ HoldsAddress (header_at file index) (entry_of file))
+HasEntryOutside file = (entry_of file % 4 ≢ 0) ⊎ ((index : ℕ) → ¬ IsEntryIn file index)
 
--- none of these faults
-pub record HasNoFault (file : List ℕ) : Type 0 where
+-- none of these faults: of the ELF header
+pub record HasCleanHeader (file : List ℕ) : Type 0 where
   pub has_header : ¬ HasNoHeader file
   pub has_format : ¬ IsOtherFormat file
   pub has_kind : ¬ IsOtherKind file
   pub is_not_compressed : ¬ IsCompressed file
   pub has_table : ¬ HasOtherTable file
   pub has_whole_table : ¬ HasCutTable file
+
+-- of the program headers
+pub record HasCleanLoads (file : List ℕ) : Type 0 where
   pub is_not_dynamic : ¬ IsDynamic file
   pub has_load : ¬ HasNoLoad file
   pub is_in_range : ¬ HasRangeFault file
   pub has_low_base : ¬ HasHighBase file
   pub has_no_overlap : ¬ HasOverlap file
   pub has_entry : ¬ HasEntryOutside file
+
+-- of both
+pub record HasNoFault (file : List ℕ) : Type 0 where
+  pub header : HasCleanHeader file
+  pub loads : HasCleanLoads file

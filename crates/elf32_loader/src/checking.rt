@@ -1,5 +1,5 @@
 ghost use Rattle.std.specs.Prelude.{◌≡◌, ◌+◌, ◌*◌, ◌^◌, ◌<◌, ◌≤◌, IfErr, OnOk, length};
-ghost use Rattle.elf32_loader.specs.FaultTable.{HasCutTable, HasNoHeader, HasOtherTable, IsCompressed, IsOtherFormat, IsOtherKind};
+ghost use Rattle.elf32_loader.specs.FaultTable.{HasCleanHeader, HasCutTable, HasNoHeader, HasOtherTable, IsCompressed, IsOtherFormat, IsOtherKind};
 ghost use Rattle.elf32_loader.specs.FirstFault.{AnswersFormat, HeaderRows};
 ghost use Rattle.elf32_loader.specs.Headers.{file_type, header_count, header_size, machine_type, table_offset};
 
@@ -117,7 +117,7 @@ fn check_whole_table(file: &[u8]) -> Result<(), ElfFault>
 /// That the ELF header has no fault, or the first that it has.
 pub fn check_header(file: &[u8]) -> Result<(), ElfFault>
     requires { length file.now < 2 ^ 32 }
-    ensures ok { OnOk result (¬ HasNoHeader file.now × ¬ IsOtherFormat file.now × ¬ IsOtherKind file.now × ¬ IsCompressed file.now × ¬ HasOtherTable file.now × ¬ HasCutTable file.now) }
+    ensures ok { OnOk result (HasCleanHeader file.now) }
     ensures err { IfErr result (λ fault. HeaderRows file.now fault ⊥) }
 {
     check_size(file)?;

@@ -1,5 +1,5 @@
 ghost use Rattle.std.specs.Prelude.{◌≡◌, ◌^◌, ◌<◌, IfErr, IfOk, OnOk, length};
-ghost use Rattle.elf32_loader.specs.FaultTable.{HasEntryOutside, HasHighBase, HasNoFault, HasNoLoad, HasOverlap, HasRangeFault, IsDynamic, IsFileBase, IsLowestLoad};
+ghost use Rattle.elf32_loader.specs.FaultTable.{HasCleanLoads, HasEntryOutside, HasHighBase, HasNoFault, HasNoLoad, HasOverlap, HasRangeFault, IsDynamic, IsFileBase, IsLowestLoad};
 ghost use Rattle.elf32_loader.specs.FirstFault.{AnswersBase, AnswersDynamic, AnswersOverlap, AnswersRange, IsFirstFault, IsLeast, LoadRows};
 ghost use Rattle.elf32_loader.specs.Headers.{HasTable, entry_of, header_at, header_count, header_size};
 ghost use Rattle.elf32_loader.specs.Segments.{rounded_down};
@@ -110,7 +110,7 @@ fn base_of(file: &[u8], lowest: u16) -> u32
 fn check_loads(file: &[u8]) -> Result<u32, ElfFault>
     requires has_table { HasTable file.now }
     requires size { length file.now < 2 ^ 32 }
-    ensures ok { IfOk result (λ base. IsFileBase file.now base × ¬ IsDynamic file.now × ¬ HasNoLoad file.now × ¬ HasRangeFault file.now × ¬ HasHighBase file.now × ¬ HasOverlap file.now × ¬ HasEntryOutside file.now) }
+    ensures ok { IfOk result (λ base. IsFileBase file.now base × HasCleanLoads file.now) }
     ensures err { IfErr result (λ fault. LoadRows file.now fault) }
 {
     check_dynamic(file)?;

@@ -1,7 +1,7 @@
 ghost use Rattle.std.specs.Prelude.{◌≡◌, ◌≢◌, ℕ, ◌+◌, ◌^◌, ◌<◌, ◌↔◌, IsTrue, MatchBool, MatchOption, length};
-ghost use Rattle.elf32_loader.specs.FaultTable.{HasNoLoad, HasOverlap, IsDynamic, IsDynamicAt, IsLowestLoad, IsOutOfRange, IsRangeFaultAt, Overlaps};
+ghost use Rattle.elf32_loader.specs.FaultTable.{HasNoLoad, HasOverlap, IsDynamic, IsDynamicAt, IsEntryIn, IsLowestLoad, IsOutOfRange, IsRangeFaultAt, Overlaps};
 ghost use Rattle.elf32_loader.specs.FirstFault.{IsLeast};
-ghost use Rattle.elf32_loader.specs.Headers.{HasTable, HoldsAddress, IsLoad, entry_of, header_at, header_count};
+ghost use Rattle.elf32_loader.specs.Headers.{HasTable, HoldsAddress, header_count};
 ghost use Rattle.elf32_loader.specs.Searches.{FoundLowest};
 
 use crate::fields::{count_of, entry_from, header_of, load_of};
@@ -136,7 +136,7 @@ pub fn first_overlap(file: &[u8]) -> Option<(u16, u16)>
 /// Whether the entry lies in a load.
 pub fn is_entry_loaded(file: &[u8]) -> bool
     requires { HasTable file.now }
-    ensures { MatchBool result ((index : ℕ) × IsLoad file.now index × HoldsAddress (header_at file.now index) (entry_of file.now)) ((index : ℕ) → IsLoad file.now index → ¬ HoldsAddress (header_at file.now index) (entry_of file.now)) }
+    ensures { MatchBool result ((index : ℕ) × IsEntryIn file.now index) ((index : ℕ) → ¬ IsEntryIn file.now index) }
 {
     let entry = entry_from(file);
     for index in 0..count_of(file) {

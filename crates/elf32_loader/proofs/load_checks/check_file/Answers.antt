@@ -8,5 +8,6 @@ returns-clause-err c =
     let file = c.args.file.now in
     let passed = c.in_ok-check_header.ensures.ok in
     IfErr-weaker c.check_loads.result (LoadRows file) (IsFirstFault file)
-    (λ fault rows. inr (passed.0, inr (passed.1, inr (passed.2, inr (passed.3, inr (passed.4, inr (passed.5, rows)))))))
+    (λ fault rows. inr (passed.has_header, inr (passed.has_format, inr (passed.has_kind,
+    inr (passed.is_not_compressed, inr (passed.has_table, inr (passed.has_whole_table, rows)))))))
     c.check_loads.ensures.err

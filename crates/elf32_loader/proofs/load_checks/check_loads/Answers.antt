@@ -5,7 +5,8 @@ use Rattle.elf32_loader.proofs.load_checks.check_loads.Goals as goal
 
 pub returns-in_err-check_ranges-clause-err : goal.returns-in_err-check_ranges-clause-err
 returns-in_err-check_ranges-clause-err c =
-    let exit = err_from_is_err_and c.from_residual-in_err-check_ranges.result c.from_residual-in_err-check_ranges.ensures.1 in
+    let residual = c.from_residual-in_err-check_ranges in
+    let exit = err_from_is_err_and residual.result residual.ensures.1 in
     let lowest = c.in_ok-lowest.ensures.ok in
     let some : ¬ HasNoLoad c.args.file.now = λ none. none c.in_ok-lowest.lowest lowest.0.0 in
     rw (exit.1, exit.2)
@@ -13,16 +14,21 @@ returns-in_err-check_ranges-clause-err c =
 
 pub returns-in_err-check_base-clause-err : goal.returns-in_err-check_base-clause-err
 returns-in_err-check_base-clause-err c =
-    let exit = err_from_is_err_and c.from_residual-in_err-check_base.result c.from_residual-in_err-check_base.ensures.1 in
+    let residual = c.from_residual-in_err-check_base in
+    let exit = err_from_is_err_and residual.result residual.ensures.1 in
     let lowest = c.in_ok-lowest.ensures.ok in
     let some : ¬ HasNoLoad c.args.file.now = λ none. none c.in_ok-lowest.lowest lowest.0.0 in
     rw (exit.1, exit.2)
-    (inr (c.in_ok-check_dynamic.ensures.ok, inr (some, inr (c.in_ok-check_ranges.ensures.ok, inl c.in_err-check_base.ensures.err))))
+    (inr (c.in_ok-check_dynamic.ensures.ok, inr (some,
+    inr (c.in_ok-check_ranges.ensures.ok, inl c.in_err-check_base.ensures.err))))
 
 pub returns-in_err-check_overlaps-clause-err : goal.returns-in_err-check_overlaps-clause-err
 returns-in_err-check_overlaps-clause-err c =
-    let exit = err_from_is_err_and c.from_residual-in_err-check_overlaps.result c.from_residual-in_err-check_overlaps.ensures.1 in
+    let residual = c.from_residual-in_err-check_overlaps in
+    let exit = err_from_is_err_and residual.result residual.ensures.1 in
     let lowest = c.in_ok-lowest.ensures.ok in
     let some : ¬ HasNoLoad c.args.file.now = λ none. none c.in_ok-lowest.lowest lowest.0.0 in
     rw (exit.1, exit.2)
-    (inr (c.in_ok-check_dynamic.ensures.ok, inr (some, inr (c.in_ok-check_ranges.ensures.ok, inr (c.in_ok-check_base.ensures.ok, inl c.in_err-check_overlaps.ensures.err)))))
+    (inr (c.in_ok-check_dynamic.ensures.ok, inr (some,
+    inr (c.in_ok-check_ranges.ensures.ok, inr (c.in_ok-check_base.ensures.ok,
+    inl c.in_err-check_overlaps.ensures.err)))))
