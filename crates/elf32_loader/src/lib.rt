@@ -19,3 +19,6 @@ pub use laws::{files_give_one_image_or_a_fault, memory_is_what_is_loaded, writte
 pub use loading::load_image;
 pub use segments::Segment;
 pub use writing::write_image;
+
+#[cfg(test)]
+mod tests;
