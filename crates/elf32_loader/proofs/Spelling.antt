@@ -179,8 +179,7 @@ load-at : (file : List ℕ) (picture : Picture) → IsGiven file picture → (pl
 load-at file picture given place below =
     let header = given.spells.header place nothing below in
     let fit = given.fit place nothing below in
-    let size : (header_at file place).memory_size ≡ length (segment_at picture place nothing).bytes = ap (λ (h : Header). h.memory_size) header in
-    (
+    let size : (header_at file place).memory_size ≡ length (segment_at picture place nothing).bytes = ap (λ (h : Header). h.memory_size) header in (
       omega (arith, given.spells.count),
       ap (λ (h : Header). h.kind) header,
       λ none. omega (arith, fit.some),
@@ -203,8 +202,7 @@ lowest-at file picture given (suc place) below first address =
 file-base : (file : List ℕ) (picture : Picture) → IsGiven file picture → IsFileBase file picture.base
 file-base file picture given =
     let some : 0 < length picture.segments = given.first.some in
-    let first : (header_at file 0).address ≡ (segment_at picture 0 nothing).address = address-at file picture given 0 nothing some in
-    (
+    let first : (header_at file 0).address ≡ (segment_at picture 0 nothing).address = address-at file picture given 0 nothing some in (
       0,
       (
         load-at file picture given 0 some,

@@ -1,5 +1,5 @@
--- The fields of an ELF32 file as functions of its bytes (System V ABI, Object Files: ELF Header, Program Header). All are
--- little-endian.
+-- The fields of an ELF32 file as functions of its bytes (System V ABI, Object Files: ELF Header, Program Header). All
+-- are little-endian.
 use Rattle.std.specs.Prelude.{◌≡◌, ◌≢◌, ℕ, ◌+◌, ◌*◌, ◌<◌, ◌≤◌, List, [], ◌∷◌, length}
 use Rattle.byteorder.specs.Endian.{little_from}
 use Rattle.elf32_loader.specs.declared.headers.Header.{Header}

@@ -21,8 +21,8 @@ elf_header entry count =
     identification ++ (replicate 9 0 ++ (halves (2 ∷ 243 ∷ []) ++ (words (1 ∷ entry ∷ 52 ∷ 0 ∷ 0 ∷ [])
     ++ halves (52 ∷ 32 ∷ count ∷ 0 ∷ 0 ∷ 0 ∷ []))))
 
--- the program header of bytes that stand in the file at an offset and in memory at an address: p_type, p_offset, p_vaddr,
--- p_paddr, p_filesz, p_memsz, p_flags and p_align
+-- the program header of bytes that stand in the file at an offset and in memory at an address: p_type, p_offset,
+-- p_vaddr, p_paddr, p_filesz, p_memsz, p_flags and p_align
 abbrev pub program_header : ℕ → ℕ → ℕ → List ℕ
 program_header offset address size = words (1 ∷ offset ∷ address ∷ address ∷ size ∷ size ∷ 7 ∷ 1 ∷ [])
 

@@ -31,8 +31,8 @@ pub enum ElfFault {
     /// The program has compressed instructions (EF_RISCV_RVC).
     #[error("compressed")]
     Compressed,
-    /// The program headers are none or above 64 in number or not of 32 bytes, or no load is among them. A load is a header
-    /// PT_LOAD with p_memsz other than 0.
+    /// The program headers are none or above 64 in number or not of 32 bytes, or no load is among them. A load is a
+    /// header PT_LOAD with p_memsz other than 0.
     #[error("headers {count} size {size} loads {loads}")]
     Headers {
         /// The field e_phnum.
@@ -48,8 +48,9 @@ pub enum ElfFault {
         /// The number of the header.
         index: u16,
     },
-    /// A load has more bytes than memory, or bytes beyond the file, or memory beyond the guest's: the first such load; or
-    /// guest memory would begin above 0xfefff000: the first load of those with the lowest address.
+    /// A load has more bytes than memory, or bytes beyond the file, or memory that ends above the base plus 16,777,216
+    /// or above 0xfffff000: the first such load. Or the base is above 0xfefff000: the first load of those with the
+    /// lowest address. The base is the lowest address of a load rounded down to a multiple of 4,096.
     #[error("segment {index}")]
     SegmentRange {
         /// The number of the header.

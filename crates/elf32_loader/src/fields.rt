@@ -67,7 +67,8 @@ pub fn header_of(file: &[u8], index: u16) -> Header
 pub fn load_of(file: &[u8], index: u16) -> Option<Header>
     requires has_table { HasTable file.now }
     requires below { index < header_count file.now }
-    ensures { MatchOption result (¬ IsLoad file.now index) (λ header. IsLoad file.now index × (header ≡ header_at file.now index)) }
+    ensures { MatchOption result (¬ IsLoad file.now index)
+        (λ header. IsLoad file.now index × (header ≡ header_at file.now index)) }
 {
     let header = header_of(file, index);
     if header.kind == LOAD && header.memory_size != 0 {

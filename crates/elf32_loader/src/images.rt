@@ -7,9 +7,9 @@ use flow_base::List;
 /// What a program file puts into guest memory, which is the 16,777,216 bytes from the base on and 0 where no segment
 /// stands.
 ///
-/// By its type there is at least one segment, and segments are non-empty, ascending and disjoint. The base is the lowest
-/// address of a segment rounded down to a multiple of 4,096, and at most 0xfefff000. No segment ends above the memory's
-/// end or above 0xfffff000. The entry is a multiple of 4 and lies in a segment.
+/// By its type there is at least one segment, and segments are non-empty, ascending and disjoint. The base is the
+/// lowest address of a segment rounded down to a multiple of 4,096, and at most 0xfefff000. No segment ends above the
+/// memory's end or above 0xfffff000. The entry is a multiple of 4 and lies in a segment.
 #[derive(Drop)]
 pub struct Image {
     /// The lowest address of guest memory.

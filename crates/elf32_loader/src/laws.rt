@@ -1,7 +1,7 @@
 ghost use Rattle.elf32_loader.specs.Programs.{FaultsHaveNoImage, ImagesAreUnique, MemoryIsLoaded, RestIsZero, WrittenAreImages};
 
-/// Guest memory has at each address the byte that a load of the program file puts there, and 0 where no load stands. It
-/// does nothing when it is called.
+/// Guest memory has at each address the byte that a load of the program file puts there, and 0 where no load stands.
+/// It does nothing when it is called.
 pub fn memory_is_what_is_loaded()
     ensures loaded { MemoryIsLoaded }
     ensures rest { RestIsZero }
@@ -13,8 +13,8 @@ pub fn files_give_one_image_or_a_fault()
     ensures image { ImagesAreUnique }
 {}
 
-/// The program file that [`write_image`](crate::write_image) writes for an image gives that image. It does nothing when it
-/// is called.
+/// The program file that [`write_image`](crate::write_image) writes for an image gives that image. It does nothing
+/// when it is called.
 pub fn written_files_give_their_images()
     ensures { WrittenAreImages }
 {}

@@ -5,8 +5,8 @@ ghost use Rattle.elf32_loader.specs.Headers.{HasTable, entry_of, header_at, head
 ghost use Rattle.elf32_loader.specs.Segments.{rounded_down};
 
 use crate::ElfFault;
-use crate::checking::check_header;
 use crate::fields::{count_of, entry_from, header_of, size_from};
+use crate::header_checks::check_header;
 use crate::searching::{
     first_dynamic, first_out_of_range, first_overlap, is_entry_loaded, lowest_load,
 };
@@ -33,7 +33,8 @@ fn check_dynamic(file: &[u8]) -> Result<(), ElfFault>
 fn check_lowest(file: &[u8]) -> Result<u16, ElfFault>
     requires { HasTable file.now }
     ensures ok { IfOk result (λ lowest. IsLeast (IsLowestLoad file.now) lowest) }
-    ensures err { IfErr result (λ fault. HasNoLoad file.now × (fault ≡ ElfFault.Headers (header_count file.now) (header_size file.now) 0)) }
+    ensures err { IfErr result (λ fault. HasNoLoad file.now
+        × (fault ≡ ElfFault.Headers (header_count file.now) (header_size file.now) 0)) }
 {
     match lowest_load(file) {
         Some(lowest) => Ok(lowest),
@@ -88,7 +89,8 @@ fn check_overlaps(file: &[u8]) -> Result<(), ElfFault>
 fn check_entry(file: &[u8]) -> Result<(), ElfFault>
     requires { HasTable file.now }
     ensures ok { OnOk result (¬ HasEntryOutside file.now) }
-    ensures err { IfErr result (λ fault. HasEntryOutside file.now × (fault ≡ ElfFault.EntryOutside (entry_of file.now))) }
+    ensures err { IfErr result (λ fault. HasEntryOutside file.now
+        × (fault ≡ ElfFault.EntryOutside (entry_of file.now))) }
 {
     let entry = entry_from(file);
     if entry % 4 != 0 || !is_entry_loaded(file) {

@@ -4,7 +4,7 @@ ghost use Rattle.elf32_loader.specs.FirstFault.{IsFirstFault};
 ghost use Rattle.elf32_loader.specs.Headers.{header_count};
 ghost use Rattle.elf32_loader.specs.Images.{picture_of};
 ghost use Rattle.elf32_loader.specs.Programs.{IsImage, IsLoaded};
-ghost use Rattle.elf32_loader.specs.Searches.{AreLoads, IsPlace};
+ghost use Rattle.elf32_loader.specs.Searches.{AreLoads, IsPlace, IsPutIn};
 
 use crate::fields::{count_of, entry_from, load_of};
 use crate::headers::Header;
@@ -44,7 +44,7 @@ fn place_of(segments: &[Segment], address: u32) -> usize
 
 /// Puts a segment among ascending ones at the place of its address.
 fn insert_segment(segments: &mut Vec<Segment>, segment: Segment) -> Result<(), NoMemory>
-    ensures { OnOk result ((place : ℕ) × IsPlace segment.address segments.old.items place × (segments.new.items ≡ insert segments.old.items place segment)) }
+    ensures { OnOk result (IsPutIn segment segments.old.items segments.new.items) }
 {
     let place = place_of(segments, segment.address);
     match segments.insert(place, segment) {
@@ -54,7 +54,12 @@ fn insert_segment(segments: &mut Vec<Segment>, segment: Segment) -> Result<(), N
 }
 
 /// Puts the load of an index, where it is one, among the loads of the indices below.
-fn put_load(alloc: Global, file: &[u8], index: u16, segments: &mut Vec<Segment>) -> Result<(), NoMemory>
+fn put_load(
+    alloc: Global,
+    file: &[u8],
+    index: u16,
+    segments: &mut Vec<Segment>,
+) -> Result<(), NoMemory>
     requires no_fault { HasNoFault file.now }
     requires based { (base : ℕ) × IsFileBase file.now base }
     requires below { index < header_count file.now }
@@ -82,12 +87,12 @@ fn read_segments(alloc: Global, file: &[u8]) -> Result<Vec<Segment>, NoMemory>
 }
 
 /// The image that a program file spells (System V ABI, Object Files). Each PT_LOAD header with p_memsz other than 0 is a
-/// load: it puts the p_filesz bytes at p_offset to p_vaddr, and then zeros up to p_memsz. Sections, every other header and
-/// every field that no fault names are passed over.
+/// load: it puts the p_filesz bytes at p_offset to p_vaddr, and then zeros up to p_memsz. Sections, every other header
+/// and every field that no fault names are passed over.
 ///
-/// A file that gives no image answers its first fault, in the order in which [`ElfFault`] is tested: the ELF header's size,
-/// its first bytes, kind, flags and number of program headers, the size of their table, PT_DYNAMIC or PT_INTERP, no load,
-/// each load's range, the base, overlaps, the entry. Want of memory answers [`ElfFault::Memory`].
+/// A file that gives no image answers its first fault, in this order: the size of the ELF header, its first bytes, the
+/// kind, the flags, the number and size of the program headers, the end of their table, PT_DYNAMIC or PT_INTERP, no
+/// load, a load out of range, the base, an overlap, the entry. Want of memory answers [`ElfFault::Memory`].
 pub fn load_image(alloc: Global, file: &[u8]) -> Result<Image, ElfFault>
     requires { length file.now < 2 ^ 32 }
     ensures loaded { IfOk result (λ image. IsImage file.now (picture_of image)) }

@@ -80,7 +80,8 @@ fn is_out_of_range(file: &[u8], base: u32, header: &Header) -> bool
 pub fn first_out_of_range(file: &[u8], base: u32) -> Option<u16>
     requires has_table { HasTable file.now }
     requires size { length file.now < 2 ^ 32 }
-    ensures { MatchOption result ((index : ℕ) → ¬ IsRangeFaultAt file.now base index) (λ index. IsLeast (IsRangeFaultAt file.now base) index) }
+    ensures { MatchOption result ((index : ℕ) → ¬ IsRangeFaultAt file.now base index)
+        (λ index. IsLeast (IsRangeFaultAt file.now base) index) }
 {
     for index in 0..count_of(file) {
         if let Some(header) = load_of(file, index) {
@@ -107,7 +108,8 @@ fn share_memory(first: &Header, second: &Header) -> bool
 fn second_of_overlap(file: &[u8], first: u16) -> Option<u16>
     requires has_table { HasTable file.now }
     requires below { first < header_count file.now }
-    ensures { MatchOption result ((second : ℕ) → ¬ Overlaps file.now first second) (λ second. IsLeast (Overlaps file.now first) second) }
+    ensures { MatchOption result ((second : ℕ) → ¬ Overlaps file.now first second)
+        (λ second. IsLeast (Overlaps file.now first) second) }
 {
     let header = load_of(file, first)?;
     for second in first + 1..count_of(file) {
@@ -123,7 +125,8 @@ fn second_of_overlap(file: &[u8], first: u16) -> Option<u16>
 /// The first load that shares an address with a later one, and the first later one that it shares an address with.
 pub fn first_overlap(file: &[u8]) -> Option<(u16, u16)>
     requires { HasTable file.now }
-    ensures { MatchOption result (¬ HasOverlap file.now) (λ pair. IsLeast (λ a. (b : ℕ) × Overlaps file.now a b) pair.0 × IsLeast (Overlaps file.now pair.0) pair.1) }
+    ensures { MatchOption result (¬ HasOverlap file.now)
+        (λ pair. IsLeast (λ a. (b : ℕ) × Overlaps file.now a b) pair.0 × IsLeast (Overlaps file.now pair.0) pair.1) }
 {
     for first in 0..count_of(file) {
         if let Some(second) = second_of_overlap(file, first) {

@@ -20,7 +20,12 @@ fn answer(rt: &impl Abort, alloc: Global, file: &[u8]) -> Result<String, Fail> {
     assert!(rt; file.len() < 1 << 30);
     match load_image(alloc, file) {
         Ok(image) => {
-            Ok(format!(in alloc; "image {:x} {:x} {}", image.base, image.entry, image.segments.len())?)
+            Ok(format!(in alloc;
+                "image {:x} {:x} {}",
+                image.base,
+                image.entry,
+                image.segments.len()
+            )?)
         }
         Err(fault) => Ok(format!(in alloc; "{fault}")?),
     }
@@ -69,7 +74,10 @@ fn segment(image: &Image, index: usize) -> (u32, &[u8]) {
 #[test]
 fn a_file_of_one_segment_loads(rt: HostRuntime) -> Result<(), Fail> {
     let exit = load_image(rt.alloc(), &EXIT)?;
-    assert_eq!(rt; (exit.base, exit.entry, exit.segments.len()), (0x10000, 0x10000, 1));
+    assert_eq!(rt;
+        (exit.base, exit.entry, exit.segments.len()),
+        (0x10000, 0x10000, 1)
+    );
     assert_eq!(rt; segment(&exit, 0).0, 0x10000);
     assert_eq!(rt; segment(&exit, 0).1, &EXIT[84..]);
     let written = write_image(rt.alloc(), &exit).map_err(|_| "memory")?;
@@ -88,7 +96,11 @@ fn a_cut_file_is_truncated(rt: HostRuntime) -> Result<(), Fail> {
         (95, "segment 0"),
         (96, "image 10000 10000 1"),
     ] {
-        assert_eq!(rt; answer(&rt, rt.alloc(), &EXIT[..size])?.as_str(), text, "{size} bytes");
+        assert_eq!(rt;
+            answer(&rt, rt.alloc(), &EXIT[..size])?.as_str(),
+            text,
+            "{size} bytes"
+        );
     }
     Ok(())
 }
@@ -118,7 +130,11 @@ fn each_field_of_the_header_is_judged(rt: HostRuntime) -> Result<(), Fail> {
         (24, 12, "entry 0x0001000c"),
         (26, 0, "entry 0x00000000"),
     ] {
-        assert_eq!(rt; answer(&rt, rt.alloc(), &changed(&[(offset, byte)]))?.as_str(), text, "byte {offset}");
+        assert_eq!(rt;
+            answer(&rt, rt.alloc(), &changed(&[(offset, byte)]))?.as_str(),
+            text,
+            "byte {offset}"
+        );
     }
     Ok(())
 }
@@ -134,10 +150,17 @@ fn the_first_row_is_answered(rt: HostRuntime) -> Result<(), Fail> {
         (5, "dynamic 0"),
         (6, "entry 0x00010002"),
     ] {
-        assert_eq!(rt; answer(&rt, rt.alloc(), &changed(&all[first..]))?.as_str(), text, "from {first}");
+        assert_eq!(rt;
+            answer(&rt, rt.alloc(), &changed(&all[first..]))?.as_str(),
+            text,
+            "from {first}"
+        );
     }
     let high = [(28, 0xff), (29, 0xff), (30, 0xff), (31, 0xff)];
-    assert_eq!(rt; answer(&rt, rt.alloc(), &changed(&high))?.as_str(), "truncated need 4294967327 have 96");
+    assert_eq!(rt;
+        answer(&rt, rt.alloc(), &changed(&high))?.as_str(),
+        "truncated need 4294967327 have 96"
+    );
     Ok(())
 }
 
@@ -158,7 +181,10 @@ fn headers_without_memory_are_passed_over(rt: HostRuntime) -> Result<(), Fail> {
         [word_at(0x10000), empty],
     ] {
         let file = program(rt.alloc(), 0x10000, &headers)?;
-        assert_eq!(rt; answer(&rt, rt.alloc(), &file)?.as_str(), "image 10000 10000 1");
+        assert_eq!(rt;
+            answer(&rt, rt.alloc(), &file)?.as_str(),
+            "image 10000 10000 1"
+        );
     }
     for (headers, text) in [
         ([attributes, empty], "headers 2 size 32 loads 0"),
@@ -189,7 +215,11 @@ fn a_load_out_of_range_is_refused(rt: HostRuntime) -> Result<(), Fail> {
     ] {
         let header = [1, 300, address, file_size, memory_size];
         let file = program(rt.alloc(), 0x10000, &[header])?;
-        assert_eq!(rt; answer(&rt, rt.alloc(), &file)?.as_str(), text, "address {address:x} size {memory_size:x}");
+        assert_eq!(rt;
+            answer(&rt, rt.alloc(), &file)?.as_str(),
+            text,
+            "address {address:x} size {memory_size:x}"
+        );
     }
     let beyond = [1, 0xffff_fff8, 0x10000, 16, 16];
     let file = program(rt.alloc(), 0x10000, &[beyond])?;
@@ -200,13 +230,26 @@ fn a_load_out_of_range_is_refused(rt: HostRuntime) -> Result<(), Fail> {
 #[test]
 fn the_highest_memory_is_taken(rt: HostRuntime) -> Result<(), Fail> {
     for (low, address, size, text) in [
-        (0xfeff_f000, 0xffff_e000, 0x1000, "image fefff000 fefff000 2"),
+        (
+            0xfeff_f000,
+            0xffff_e000,
+            0x1000,
+            "image fefff000 fefff000 2",
+        ),
         (0xfeff_f000, 0xffff_e000, 0x1001, "segment 1"),
         (0xff00_0ffc, 0xff00_0000, 4, "segment 1"),
         (0xff00_0000, 0xff00_0000, 4, "segment 0"),
     ] {
-        let file = program(rt.alloc(), 0xfeff_f000, &[word_at(low), [1, 300, address, 4, size]])?;
-        assert_eq!(rt; answer(&rt, rt.alloc(), &file)?.as_str(), text, "size {size:x}");
+        let file = program(
+            rt.alloc(),
+            0xfeff_f000,
+            &[word_at(low), [1, 300, address, 4, size]],
+        )?;
+        assert_eq!(rt;
+            answer(&rt, rt.alloc(), &file)?.as_str(),
+            text,
+            "size {size:x}"
+        );
     }
     Ok(())
 }
@@ -216,13 +259,28 @@ fn loads_that_share_a_byte_are_named(rt: HostRuntime) -> Result<(), Fail> {
     let stack = [0x6474_e551, 0, 0, 0, 0];
     let five = [1, 300, 0x10000, 5, 5];
     for (headers, text) in [
-        ([word_at(0x10000), word_at(0x10004), stack, stack], "image 10000 10000 2"),
-        ([word_at(0x10004), word_at(0x10000), stack, stack], "image 10000 10000 2"),
+        (
+            [word_at(0x10000), word_at(0x10004), stack, stack],
+            "image 10000 10000 2",
+        ),
+        (
+            [word_at(0x10004), word_at(0x10000), stack, stack],
+            "image 10000 10000 2",
+        ),
         ([five, word_at(0x10004), stack, stack], "overlap 0 1"),
         ([word_at(0x10004), five, stack, stack], "overlap 0 1"),
-        ([stack, word_at(0x10004), word_at(0x10010), five], "overlap 1 3"),
-        ([word_at(0x10020), five, word_at(0x10000), word_at(0x10020)], "overlap 0 3"),
-        ([five, word_at(0x10008), word_at(0x10004), five], "overlap 0 2"),
+        (
+            [stack, word_at(0x10004), word_at(0x10010), five],
+            "overlap 1 3",
+        ),
+        (
+            [word_at(0x10020), five, word_at(0x10000), word_at(0x10020)],
+            "overlap 0 3",
+        ),
+        (
+            [five, word_at(0x10008), word_at(0x10004), five],
+            "overlap 0 2",
+        ),
     ] {
         let file = program(rt.alloc(), 0x10000, &headers)?;
         assert_eq!(rt; answer(&rt, rt.alloc(), &file)?.as_str(), text);
@@ -249,6 +307,9 @@ fn segments_ascend_and_end_in_zeros(rt: HostRuntime) -> Result<(), Fail> {
     assert_eq!(rt; segment(&image, 2).1, [54, 55, 0, 0].as_slice());
     let written = write_image(rt.alloc(), &image).map_err(|_| "memory")?;
     assert_eq!(rt; written.len(), 52 + 3 * 32 + 11);
-    assert_eq!(rt; &written.as_slice()[148..], [64, 65, 66, 67, 0, 0, 0, 54, 55, 0, 0].as_slice());
+    assert_eq!(rt;
+        &written.as_slice()[148..],
+        [64, 65, 66, 67, 0, 0, 0, 54, 55, 0, 0].as_slice()
+    );
     Ok(())
 }

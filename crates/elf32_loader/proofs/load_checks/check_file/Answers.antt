@@ -8,6 +8,14 @@ returns-clause-err c =
     let file = c.args.file.now in
     let passed = c.in_ok-check_header.ensures.ok in
     IfErr-weaker c.check_loads.result (LoadRows file) (IsFirstFault file)
-    (λ fault rows. inr (passed.has_header, inr (passed.has_format, inr (passed.has_kind,
-    inr (passed.is_not_compressed, inr (passed.has_table, inr (passed.has_whole_table, rows)))))))
+    (λ fault rows. inr (
+      passed.has_header,
+      inr (
+        passed.has_format,
+        inr (
+          passed.has_kind,
+          inr (passed.is_not_compressed, inr (passed.has_table, inr (passed.has_whole_table, rows))),
+        ),
+      ),
+    ))
     c.check_loads.ensures.err

@@ -19,8 +19,13 @@ returns-in_err-check_base-clause-err c =
     let lowest = c.in_ok-lowest.ensures.ok in
     let some : ¬ HasNoLoad c.args.file.now = λ none. none c.in_ok-lowest.lowest lowest.0.0 in
     rw (exit.1, exit.2)
-    (inr (c.in_ok-check_dynamic.ensures.ok, inr (some,
-    inr (c.in_ok-check_ranges.ensures.ok, inl c.in_err-check_base.ensures.err))))
+    (inr (
+      c.in_ok-check_dynamic.ensures.ok,
+      inr (
+        some,
+        inr (c.in_ok-check_ranges.ensures.ok, inl c.in_err-check_base.ensures.err),
+      ),
+    ))
 
 pub returns-in_err-check_overlaps-clause-err : goal.returns-in_err-check_overlaps-clause-err
 returns-in_err-check_overlaps-clause-err c =
@@ -29,6 +34,16 @@ returns-in_err-check_overlaps-clause-err c =
     let lowest = c.in_ok-lowest.ensures.ok in
     let some : ¬ HasNoLoad c.args.file.now = λ none. none c.in_ok-lowest.lowest lowest.0.0 in
     rw (exit.1, exit.2)
-    (inr (c.in_ok-check_dynamic.ensures.ok, inr (some,
-    inr (c.in_ok-check_ranges.ensures.ok, inr (c.in_ok-check_base.ensures.ok,
-    inl c.in_err-check_overlaps.ensures.err)))))
+    (inr (
+      c.in_ok-check_dynamic.ensures.ok,
+      inr (
+        some,
+        inr (
+          c.in_ok-check_ranges.ensures.ok,
+          inr (
+            c.in_ok-check_base.ensures.ok,
+            inl c.in_err-check_overlaps.ensures.err,
+          ),
+        ),
+      ),
+    ))

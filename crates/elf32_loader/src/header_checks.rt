@@ -56,7 +56,8 @@ fn check_format(file: &[u8]) -> Result<(), ElfFault>
 fn check_kind(file: &[u8]) -> Result<(), ElfFault>
     requires { 52 ≤ length file.now }
     ensures ok { OnOk result (¬ IsOtherKind file.now) }
-    ensures err { IfErr result (λ fault. IsOtherKind file.now × (fault ≡ ElfFault.WrongKind (file_type file.now) (machine_type file.now))) }
+    ensures err { IfErr result (λ fault. IsOtherKind file.now
+        × (fault ≡ ElfFault.WrongKind (file_type file.now) (machine_type file.now))) }
 {
     let kind = LittleEndian::read_u16(&file[16..]);
     let machine = LittleEndian::read_u16(&file[18..]);
@@ -83,7 +84,8 @@ fn check_flags(file: &[u8]) -> Result<(), ElfFault>
 fn check_table(file: &[u8]) -> Result<(), ElfFault>
     requires { 52 ≤ length file.now }
     ensures ok { OnOk result (¬ HasOtherTable file.now) }
-    ensures err { IfErr result (λ fault. HasOtherTable file.now × (fault ≡ ElfFault.Headers (header_count file.now) (header_size file.now) 0)) }
+    ensures err { IfErr result (λ fault. HasOtherTable file.now
+        × (fault ≡ ElfFault.Headers (header_count file.now) (header_size file.now) 0)) }
 {
     let size = size_from(file);
     let count = count_of(file);
@@ -102,7 +104,8 @@ fn check_whole_table(file: &[u8]) -> Result<(), ElfFault>
     requires header { 52 ≤ length file.now }
     requires size { length file.now < 2 ^ 32 }
     ensures ok { OnOk result (¬ HasCutTable file.now) }
-    ensures err { IfErr result (λ fault. HasCutTable file.now × (fault ≡ ElfFault.Truncated (table_offset file.now + 32 * header_count file.now) (length file.now))) }
+    ensures err { IfErr result (λ fault. HasCutTable file.now
+        × (fault ≡ ElfFault.Truncated (table_offset file.now + 32 * header_count file.now) (length file.now))) }
 {
     let need = u64::from(table_from(file)) + 32 * u64::from(count_of(file));
     if (file.len() as u64) < need {
