@@ -85,17 +85,20 @@ fn a_file_of_one_segment_loads(rt: HostRuntime) -> Result<(), Fail> {
     Ok(())
 }
 
+/// How many bytes of EXIT a file has, and its answer.
+const CUTS: [(usize, &str); 7] = [
+    (0, "truncated need 52 have 0"),
+    (51, "truncated need 52 have 51"),
+    (52, "truncated need 84 have 52"),
+    (83, "truncated need 84 have 83"),
+    (84, "segment 0"),
+    (95, "segment 0"),
+    (96, "image 10000 10000 1"),
+];
+
 #[test]
 fn a_cut_file_is_truncated(rt: HostRuntime) -> Result<(), Fail> {
-    for (size, text) in [
-        (0, "truncated need 52 have 0"),
-        (51, "truncated need 52 have 51"),
-        (52, "truncated need 84 have 52"),
-        (83, "truncated need 84 have 83"),
-        (84, "segment 0"),
-        (95, "segment 0"),
-        (96, "image 10000 10000 1"),
-    ] {
+    for (size, text) in CUTS {
         assert_eq!(rt;
             answer(&rt, rt.alloc(), &EXIT[..size])?.as_str(),
             text,
@@ -105,31 +108,35 @@ fn a_cut_file_is_truncated(rt: HostRuntime) -> Result<(), Fail> {
     Ok(())
 }
 
+/// EXIT with one byte put in place of another, and its answer.
+const EDITS: [(usize, u8, &str); 22] = [
+    (0, 0, "not-elf32 offset 0 byte 0x00"),
+    (4, 2, "not-elf32 offset 4 byte 0x02"),
+    (6, 0, "not-elf32 offset 6 byte 0x00"),
+    (7, 9, "image 10000 10000 1"),
+    (16, 3, "wrong-kind type 3 machine 243"),
+    (17, 1, "wrong-kind type 258 machine 243"),
+    (18, 0xf2, "wrong-kind type 2 machine 242"),
+    (20, 0, "image 10000 10000 1"),
+    (36, 1, "compressed"),
+    (36, 0xfe, "image 10000 10000 1"),
+    (42, 31, "headers 1 size 31 loads 0"),
+    (43, 1, "headers 1 size 288 loads 0"),
+    (44, 0, "headers 0 size 32 loads 0"),
+    (44, 2, "truncated need 116 have 96"),
+    (44, 64, "truncated need 2100 have 96"),
+    (44, 65, "headers 65 size 32 loads 0"),
+    (31, 0xff, "truncated need 4278190164 have 96"),
+    (24, 2, "entry 0x00010002"),
+    (24, 8, "image 10000 10008 1"),
+    (24, 12, "entry 0x0001000c"),
+    (26, 0, "entry 0x00000000"),
+    (27, 1, "entry 0x01010000"),
+];
+
 #[test]
 fn each_field_of_the_header_is_judged(rt: HostRuntime) -> Result<(), Fail> {
-    for (offset, byte, text) in [
-        (0, 0, "not-elf32 offset 0 byte 0x00"),
-        (4, 2, "not-elf32 offset 4 byte 0x02"),
-        (6, 0, "not-elf32 offset 6 byte 0x00"),
-        (7, 9, "image 10000 10000 1"),
-        (16, 3, "wrong-kind type 3 machine 243"),
-        (17, 1, "wrong-kind type 258 machine 243"),
-        (18, 0xf2, "wrong-kind type 2 machine 242"),
-        (20, 0, "image 10000 10000 1"),
-        (36, 1, "compressed"),
-        (36, 0xfe, "image 10000 10000 1"),
-        (42, 31, "headers 1 size 31 loads 0"),
-        (43, 1, "headers 1 size 288 loads 0"),
-        (44, 0, "headers 0 size 32 loads 0"),
-        (44, 2, "truncated need 116 have 96"),
-        (44, 64, "truncated need 2100 have 96"),
-        (44, 65, "headers 65 size 32 loads 0"),
-        (31, 0xff, "truncated need 4278190164 have 96"),
-        (24, 2, "entry 0x00010002"),
-        (24, 8, "image 10000 10008 1"),
-        (24, 12, "entry 0x0001000c"),
-        (26, 0, "entry 0x00000000"),
-    ] {
+    for (offset, byte, text) in EDITS {
         assert_eq!(rt;
             answer(&rt, rt.alloc(), &changed(&[(offset, byte)]))?.as_str(),
             text,
@@ -139,17 +146,20 @@ fn each_field_of_the_header_is_judged(rt: HostRuntime) -> Result<(), Fail> {
     Ok(())
 }
 
+/// The first of the faults that a file has, and its answer.
+const FIRSTS: [(usize, &str); 6] = [
+    (0, "not-elf32 offset 2 byte 0x00"),
+    (2, "wrong-kind type 3 machine 243"),
+    (3, "compressed"),
+    (4, "headers 0 size 32 loads 0"),
+    (5, "dynamic 0"),
+    (6, "entry 0x00010002"),
+];
+
 #[test]
 fn the_first_row_is_answered(rt: HostRuntime) -> Result<(), Fail> {
     let all = [(5, 2), (2, 0), (16, 3), (36, 1), (44, 0), (52, 2), (24, 2)];
-    for (first, text) in [
-        (0, "not-elf32 offset 2 byte 0x00"),
-        (2, "wrong-kind type 3 machine 243"),
-        (3, "compressed"),
-        (4, "headers 0 size 32 loads 0"),
-        (5, "dynamic 0"),
-        (6, "entry 0x00010002"),
-    ] {
+    for (first, text) in FIRSTS {
         assert_eq!(rt;
             answer(&rt, rt.alloc(), &changed(&all[first..]))?.as_str(),
             text,
@@ -164,55 +174,77 @@ fn the_first_row_is_answered(rt: HostRuntime) -> Result<(), Fail> {
     Ok(())
 }
 
-/// A load of four bytes at an address.
-fn word_at(address: u32) -> [u32; 5] {
-    [1, 300, address, 4, 4]
-}
+/// RISCV_ATTRIBUTES, as GNU ld writes it.
+const ATTRIBUTES: [u32; 5] = [0x7000_0003, 300, 0, 0x2a, 0];
+
+/// GNU_STACK.
+const STACK: [u32; 5] = [0x6474_e551, 0, 0, 0, 0];
+
+/// PT_LOAD without memory, its other fields wild.
+const EMPTY: [u32; 5] = [1, 0xffff_fff0, 0xffff_fff0, 0xffff_fff0, 0];
+
+/// A load of five bytes at 0x10000.
+const FIVE: [u32; 5] = [1, 300, 0x10000, 5, 5];
+
+/// Loads of four bytes, each at 0x10000 and as many bytes.
+const AT_0: [u32; 5] = [1, 300, 0x10000, 4, 4];
+
+const AT_4: [u32; 5] = [1, 300, 0x10004, 4, 4];
+
+const AT_8: [u32; 5] = [1, 300, 0x10008, 4, 4];
+
+const AT_32: [u32; 5] = [1, 300, 0x10020, 4, 4];
+
+/// The program headers of files of one load at 0x10000.
+const PASSED: [[[u32; 5]; 2]; 4] = [
+    [ATTRIBUTES, AT_0],
+    [STACK, AT_0],
+    [EMPTY, AT_0],
+    [AT_0, EMPTY],
+];
+
+/// Program headers without a load or with a dynamic linker, and the file's answer.
+const REFUSED: [([[u32; 5]; 2], &str); 3] = [
+    ([ATTRIBUTES, EMPTY], "headers 2 size 32 loads 0"),
+    ([AT_0, [2, 0, 0, 0, 0]], "dynamic 1"),
+    ([[3, 0, 0, 0, 0], [2, 0, 0, 0, 0]], "dynamic 0"),
+];
 
 #[test]
 fn headers_without_memory_are_passed_over(rt: HostRuntime) -> Result<(), Fail> {
-    let attributes = [0x7000_0003, 300, 0, 0x2a, 0];
-    let stack = [0x6474_e551, 0, 0, 0, 0];
-    let empty = [1, 0xffff_fff0, 0xffff_fff0, 0xffff_fff0, 0];
-    for headers in [
-        [attributes, word_at(0x10000)],
-        [stack, word_at(0x10000)],
-        [empty, word_at(0x10000)],
-        [word_at(0x10000), empty],
-    ] {
+    for headers in PASSED {
         let file = program(rt.alloc(), 0x10000, &headers)?;
         assert_eq!(rt;
             answer(&rt, rt.alloc(), &file)?.as_str(),
             "image 10000 10000 1"
         );
     }
-    for (headers, text) in [
-        ([attributes, empty], "headers 2 size 32 loads 0"),
-        ([word_at(0x10000), [2, 0, 0, 0, 0]], "dynamic 1"),
-        ([[3, 0, 0, 0, 0], [2, 0, 0, 0, 0]], "dynamic 0"),
-    ] {
+    for (headers, text) in REFUSED {
         let file = program(rt.alloc(), 0x10000, &headers)?;
         assert_eq!(rt; answer(&rt, rt.alloc(), &file)?.as_str(), text);
     }
     Ok(())
 }
 
+/// The p_vaddr, p_filesz and p_memsz of a load at p_offset 300, and the file's answer.
+const RANGES: [(u32, u32, u32, &str); 12] = [
+    (0x10000, 4, 0x100_0000, "image 10000 10000 1"),
+    (0x10000, 4, 0x100_0001, "segment 0"),
+    (0x10004, 4, 0xff_fffc, "entry 0x00010000"),
+    (0x10004, 4, 0xff_fffd, "segment 0"),
+    (0x10000, 5, 4, "segment 0"),
+    (0x10000, 100, 100, "image 10000 10000 1"),
+    (0x10000, 101, 101, "segment 0"),
+    (0x10000, 0, 4, "image 10000 10000 1"),
+    (0xffff_fff8, 4, 16, "segment 0"),
+    (0xfeff_f000, 4, 0x100_0000, "entry 0x00010000"),
+    (0xfeff_f000, 4, 0x100_0001, "segment 0"),
+    (0xff00_0000, 4, 4, "segment 0"),
+];
+
 #[test]
 fn a_load_out_of_range_is_refused(rt: HostRuntime) -> Result<(), Fail> {
-    for (address, file_size, memory_size, text) in [
-        (0x10000, 4, 0x100_0000, "image 10000 10000 1"),
-        (0x10000, 4, 0x100_0001, "segment 0"),
-        (0x10004, 4, 0xff_fffc, "entry 0x00010000"),
-        (0x10004, 4, 0xff_fffd, "segment 0"),
-        (0x10000, 5, 4, "segment 0"),
-        (0x10000, 100, 100, "image 10000 10000 1"),
-        (0x10000, 101, 101, "segment 0"),
-        (0x10000, 0, 4, "image 10000 10000 1"),
-        (0xffff_fff8, 4, 16, "segment 0"),
-        (0xfeff_f000, 4, 0x100_0000, "entry 0x00010000"),
-        (0xfeff_f000, 4, 0x100_0001, "segment 0"),
-        (0xff00_0000, 4, 4, "segment 0"),
-    ] {
+    for (address, file_size, memory_size, text) in RANGES {
         let header = [1, 300, address, file_size, memory_size];
         let file = program(rt.alloc(), 0x10000, &[header])?;
         assert_eq!(rt;
@@ -227,23 +259,26 @@ fn a_load_out_of_range_is_refused(rt: HostRuntime) -> Result<(), Fail> {
     Ok(())
 }
 
+/// The address of one load, the address and p_memsz of another, and the file's answer.
+const HIGH: [(u32, u32, u32, &str); 4] = [
+    (
+        0xfeff_f000,
+        0xffff_e000,
+        0x1000,
+        "image fefff000 fefff000 2",
+    ),
+    (0xfeff_f000, 0xffff_e000, 0x1001, "segment 1"),
+    (0xff00_0ffc, 0xff00_0000, 4, "segment 1"),
+    (0xff00_0000, 0xff00_0000, 4, "segment 0"),
+];
+
 #[test]
 fn the_highest_memory_is_taken(rt: HostRuntime) -> Result<(), Fail> {
-    for (low, address, size, text) in [
-        (
-            0xfeff_f000,
-            0xffff_e000,
-            0x1000,
-            "image fefff000 fefff000 2",
-        ),
-        (0xfeff_f000, 0xffff_e000, 0x1001, "segment 1"),
-        (0xff00_0ffc, 0xff00_0000, 4, "segment 1"),
-        (0xff00_0000, 0xff00_0000, 4, "segment 0"),
-    ] {
+    for (low, address, size, text) in HIGH {
         let file = program(
             rt.alloc(),
             0xfeff_f000,
-            &[word_at(low), [1, 300, address, 4, size]],
+            &[[1, 300, low, 4, 4], [1, 300, address, 4, size]],
         )?;
         assert_eq!(rt;
             answer(&rt, rt.alloc(), &file)?.as_str(),
@@ -254,34 +289,20 @@ fn the_highest_memory_is_taken(rt: HostRuntime) -> Result<(), Fail> {
     Ok(())
 }
 
+/// Program headers, and the file's answer.
+const SHARED: [([[u32; 5]; 4], &str); 7] = [
+    ([AT_0, AT_4, STACK, STACK], "image 10000 10000 2"),
+    ([AT_4, AT_0, STACK, STACK], "image 10000 10000 2"),
+    ([FIVE, AT_4, STACK, STACK], "overlap 0 1"),
+    ([AT_4, FIVE, STACK, STACK], "overlap 0 1"),
+    ([STACK, AT_4, AT_8, FIVE], "overlap 1 3"),
+    ([AT_32, FIVE, AT_0, AT_32], "overlap 0 3"),
+    ([FIVE, AT_8, AT_4, FIVE], "overlap 0 2"),
+];
+
 #[test]
 fn loads_that_share_a_byte_are_named(rt: HostRuntime) -> Result<(), Fail> {
-    let stack = [0x6474_e551, 0, 0, 0, 0];
-    let five = [1, 300, 0x10000, 5, 5];
-    for (headers, text) in [
-        (
-            [word_at(0x10000), word_at(0x10004), stack, stack],
-            "image 10000 10000 2",
-        ),
-        (
-            [word_at(0x10004), word_at(0x10000), stack, stack],
-            "image 10000 10000 2",
-        ),
-        ([five, word_at(0x10004), stack, stack], "overlap 0 1"),
-        ([word_at(0x10004), five, stack, stack], "overlap 0 1"),
-        (
-            [stack, word_at(0x10004), word_at(0x10010), five],
-            "overlap 1 3",
-        ),
-        (
-            [word_at(0x10020), five, word_at(0x10000), word_at(0x10020)],
-            "overlap 0 3",
-        ),
-        (
-            [five, word_at(0x10008), word_at(0x10004), five],
-            "overlap 0 2",
-        ),
-    ] {
+    for (headers, text) in SHARED {
         let file = program(rt.alloc(), 0x10000, &headers)?;
         assert_eq!(rt; answer(&rt, rt.alloc(), &file)?.as_str(), text);
     }
