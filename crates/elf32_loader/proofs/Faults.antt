@@ -45,5 +45,6 @@ no-row file fault clean rows = elim rows [
   ]
 ]
 
-pub no-image : (file : List ℕ) (fault : ElfFault) → IsFirstFault file fault → (picture : Picture) → ¬ IsImage file picture
+pub no-image : (file : List ℕ) (fault : ElfFault) → IsFirstFault file fault → (picture : Picture)
+    → ¬ IsImage file picture
 no-image file fault first picture image = no-row file fault image.no_fault first

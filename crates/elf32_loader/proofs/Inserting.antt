@@ -1,13 +1,13 @@
 -- A segment that is put among ascending ones at the place of its address.
-use Rattle.std.proofs.Common.{◌≡◌, ◌⊎◌, inl, inr, ℕ, zero, suc, ◌+◌, ◌-◌, ◌<◌, ◌≤◌, List, [], ◌∷◌, ◌++◌, length, take, drop, slice_index, refl, subst, sym, ap, ◌∙◌, arith, IsTrue}
-use Rattle.std.specs.Prelude.{All, Contains, IfSome, insert, slice_get, slice_index_or}
+use Rattle.std.proofs.Common.{◌⊎◌, inl, inr, ℕ, zero, suc, ◌<◌, ◌≤◌, List, [], ◌∷◌, ◌++◌, length, take, drop, refl, subst, sym, arith, IsTrue}
+use Rattle.std.specs.Prelude.{All, Contains, IfSome, insert, slice_get}
 use Rattle.std.proofs.lemmas.Bool.Decides.{nat_tests}
 use Rattle.std.proofs.lemmas.Grind.{common_steps}
 use Rattle.std.proofs.lemmas.List.{take-append-drop}
 use Rattle.std.proofs.lemmas.List.Elements.{All-append, All-cons, All-drop, All-head, All-tail, All-take, Contains-append_cases, Contains-append_left, Contains-append_right}
 use Rattle.elf32_loader.specs.declared.segments.Segment.{Segment}
 use Rattle.elf32_loader.specs.Searches.{IsPlace, is_climbing}
-use Rattle.elf32_loader.specs.Segments.{end_of, is_ascending}
+use Rattle.elf32_loader.specs.Segments.{end_of}
 
 -- two segments share no address
 abbrev pub AreApart : Segment → Segment → Type 0
@@ -15,7 +15,8 @@ AreApart one other = (end_of one ≤ other.address) ⊎ (end_of other ≤ one.ad
 
 -- ascending segments stay so
 climbs-more : (segments : List Segment) (place : ℕ) (x : Segment) → 0 < length x.bytes → IsTrue (is_climbing segments)
-    → All (AreApart x) segments → place ≤ length segments → All (λ segment. segment.address ≤ x.address) (take place segments)
+    → All (AreApart x) segments → place ≤ length segments
+    → All (λ segment. segment.address ≤ x.address) (take place segments)
     → IfSome (slice_get segments place) (λ segment. x.address < segment.address)
     → IsTrue (is_climbing (insert segments place x))
 climbs-more [] zero x some climbs apart within before after = grind (arith, nat_tests)
@@ -42,7 +43,8 @@ climbs-more (first ∷ (second ∷ rest)) (suc (suc place)) x some climbs apart 
     (All-tail (λ (s : Segment). s.address ≤ x.address) first (second ∷ take place rest) before) after in
     grind (arith, nat_tests, common_steps)
 
-pub climbs-insert : (segments : List Segment) (place : ℕ) (x : Segment) → 0 < length x.bytes → IsTrue (is_climbing segments)
+pub climbs-insert : (segments : List Segment) (place : ℕ) (x : Segment) → 0 < length x.bytes
+    → IsTrue (is_climbing segments)
     → All (AreApart x) segments → IsPlace x.address segments place → IsTrue (is_climbing (insert segments place x))
 climbs-insert segments place x some climbs apart is_place =
     climbs-more segments place x some climbs apart is_place.within is_place.before is_place.after

@@ -1,5 +1,5 @@
 -- Where the headers and the bytes of segments stand in the program file that is written for them.
-use Rattle.std.proofs.Common.{◌≡◌, ℕ, zero, suc, ◌+◌, ◌-◌, ◌*◌, ◌<◌, ◌≤◌, ◌^◌, List, [], ◌∷◌, ◌++◌, length, slice_index, refl, subst, sym, ap, ◌∙◌, arith}
+use Rattle.std.proofs.Common.{◌≡◌, ℕ, zero, suc, ◌+◌, ◌*◌, ◌<◌, ◌≤◌, ◌^◌, List, [], ◌∷◌, ◌++◌, length, slice_index, refl, sym, ap, ◌∙◌, arith}
 use Rattle.std.specs.Prelude.{All, slice_index_or}
 use Rattle.std.proofs.lemmas.List.{append_assoc, get_or-append-add, get_or_append_left, length-append}
 use Rattle.std.proofs.lemmas.List.Elements.{All-head, All-tail}
@@ -26,16 +26,19 @@ little-behind (suc count) front xs start place at =
     ap (λ (n : ℕ). n + 256 * little_from (suc start) count (front ++ xs)) byte
     ∙ ap (λ (n : ℕ). slice_index xs place + 256 * n) rest
 
-header-behind : (front xs : List ℕ) (start : ℕ) → start ≡ length front → header_from (front ++ xs) start ≡ header_from xs 0
+header-behind : (front xs : List ℕ) (start : ℕ) → start ≡ length front
+    → header_from (front ++ xs) start ≡ header_from xs 0
 header-behind front xs start at =
     let word : (place : ℕ) → word_at (front ++ xs) (start + place) ≡ word_at xs place =
     λ place. little-behind 4 front xs (start + place) place (omega arith) in
-    let make : ℕ → ℕ → ℕ → ℕ → ℕ → Header = λ (k o a f m : ℕ). record { kind = k; offset = o; address = a; file_size = f; memory_size = m } in
+    let make : ℕ → ℕ → ℕ → ℕ → ℕ → Header =
+    λ (k o a f m : ℕ). record { kind = k; offset = o; address = a; file_size = f; memory_size = m } in
     let file : List ℕ = front ++ xs in
     let kind : word_at file start ≡ word_at xs 0 = little-behind 4 front xs start 0 (omega arith) in
     ap (λ (n : ℕ). make n (word_at file (start + 4)) (word_at file (start + 8)) (word_at file (start + 16)) (word_at file (start + 20))) kind
     ∙ ap (λ (n : ℕ). make (word_at xs 0) n (word_at file (start + 8)) (word_at file (start + 16)) (word_at file (start + 20))) (word 4)
-    ∙ ap (λ (n : ℕ). make (word_at xs 0) (word_at xs 4) n (word_at file (start + 16)) (word_at file (start + 20))) (word 8)
+    ∙ ap (λ (n : ℕ). make (word_at xs 0) (word_at xs 4) n (word_at file (start + 16)) (word_at file (start + 20)))
+    (word 8)
     ∙ ap (λ (n : ℕ). make (word_at xs 0) (word_at xs 4) (word_at xs 8) n (word_at file (start + 20))) (word 16)
     ∙ ap (λ (n : ℕ). make (word_at xs 0) (word_at xs 4) (word_at xs 8) (word_at xs 16) n) (word 20)
 
@@ -69,7 +72,8 @@ starts-within offset (first ∷ rest) zero d below = omega (arith, length-append
 starts-within offset (first ∷ rest) (suc place) d below =
     omega (arith, length-append first.bytes (contents rest), starts-within (offset + length first.bytes) rest place d (omega arith))
 
-pub headers-length : (offset : ℕ) (segments : List Segment) → length (program_headers offset segments) ≡ 32 * length segments
+pub headers-length : (offset : ℕ) (segments : List Segment)
+    → length (program_headers offset segments) ≡ 32 * length segments
 headers-length offset [] = refl
 headers-length offset (first ∷ rest) = omega (arith, headers-length (offset + length first.bytes) rest)
 
@@ -78,16 +82,19 @@ pub header-in : (front : List ℕ) (offset : ℕ) (segments : List Segment) (mor
     → start ≡ length front + 32 * place → place < length segments → offset + length (contents segments) < 2 ^ 32
     → All (λ s. s.address < 2 ^ 32) segments
     → header_from (front ++ (program_headers offset segments ++ more)) start
-    ≡ written_header (start_of offset segments place) (slice_index_or segments place d).address (length (slice_index_or segments place d).bytes)
+    ≡ written_header (start_of offset segments place) (slice_index_or segments place d).address
+    (length (slice_index_or segments place d).bytes)
 header-in front offset [] more place d start at below fits low = absurd (omega arith)
 header-in front offset (first ∷ rest) more zero d start at below fits low =
     let size : ℕ = length first.bytes in
     let rest_headers : List ℕ = program_headers (offset + size) rest in
-    let grouped : (program_header offset first.address size ++ rest_headers) ++ more ≡ program_header offset first.address size ++ (rest_headers ++ more) =
+    let header : List ℕ = program_header offset first.address size in
+    let grouped : (header ++ rest_headers) ++ more ≡ header ++ (rest_headers ++ more) =
     append_assoc (program_header offset first.address size) rest_headers more in
     header-behind front (program_headers offset (first ∷ rest) ++ more) start (omega arith)
     ∙ ap (λ (xs : List ℕ). header_from xs 0) grouped
-    ∙ header-back offset first.address size (rest_headers ++ more) (omega (arith, fits)) (All-head (λ (s : Segment). s.address < 2 ^ 32) first rest low)
+    ∙ header-back offset first.address size (rest_headers ++ more) (omega (arith, fits))
+    (All-head (λ (s : Segment). s.address < 2 ^ 32) first rest low)
     (omega (arith, fits, length-append first.bytes (contents rest)))
 header-in front offset (first ∷ rest) more (suc place) d start at below fits low =
     let size : ℕ = length first.bytes in
@@ -96,15 +103,19 @@ header-in front offset (first ∷ rest) more (suc place) d start at below fits l
     let longer : List ℕ = front ++ header in
     let longer_length : length longer ≡ length front + 32 = length-append front header in
     let grouped : front ++ ((header ++ rest_headers) ++ more) ≡ longer ++ (rest_headers ++ more) =
-    ap (λ (xs : List ℕ). front ++ xs) (append_assoc header rest_headers more) ∙ sym (append_assoc front header (rest_headers ++ more)) in
+    ap (λ (xs : List ℕ). front ++ xs) (append_assoc header rest_headers more)
+    ∙ sym (append_assoc front header (rest_headers ++ more)) in
     ap (λ (xs : List ℕ). header_from xs start) grouped
     ∙ header-in longer (offset + size) rest more place d start (omega arith) (omega arith)
-    (omega (arith, fits, length-append first.bytes (contents rest))) (All-tail (λ (s : Segment). s.address < 2 ^ 32) first rest low)
+    (omega (arith, fits, length-append first.bytes (contents rest)))
+    (All-tail (λ (s : Segment). s.address < 2 ^ 32) first rest low)
 
 -- the bytes of each segment
-pub bytes-in : (front : List ℕ) (offset : ℕ) (segments : List Segment) (place : ℕ) (d : Segment) (i : ℕ) → offset ≡ length front
+pub bytes-in : (front : List ℕ) (offset : ℕ) (segments : List Segment) (place : ℕ) (d : Segment) (i : ℕ)
+    → offset ≡ length front
     → place < length segments → i < length (slice_index_or segments place d).bytes
-    → slice_index (front ++ contents segments) (start_of offset segments place + i) ≡ slice_index (slice_index_or segments place d).bytes i
+    → slice_index (front ++ contents segments) (start_of offset segments place + i)
+    ≡ slice_index (slice_index_or segments place d).bytes i
 bytes-in front offset [] place d i at below within = absurd (omega arith)
 bytes-in front offset (first ∷ rest) zero d i at below within =
     ap (λ (n : ℕ). slice_index (front ++ (first.bytes ++ contents rest)) (n + i)) at
@@ -113,6 +124,8 @@ bytes-in front offset (first ∷ rest) zero d i at below within =
 bytes-in front offset (first ∷ rest) (suc place) d i at below within =
     let longer : List ℕ = front ++ first.bytes in
     let start : ℕ = start_of (offset + length first.bytes) rest place in
-    let grouped : front ++ (first.bytes ++ contents rest) ≡ longer ++ contents rest = sym (append_assoc front first.bytes (contents rest)) in
+    let grouped : front ++ (first.bytes ++ contents rest) ≡ longer ++ contents rest =
+    sym (append_assoc front first.bytes (contents rest)) in
     ap (λ (xs : List ℕ). slice_index xs (start + i)) grouped
-    ∙ bytes-in longer (offset + length first.bytes) rest place d i (omega (arith, length-append front first.bytes)) (omega arith) within
+    ∙ bytes-in longer (offset + length first.bytes) rest place d i (omega (arith, length-append front first.bytes))
+    (omega arith) within

@@ -1,8 +1,9 @@
 -- The loads of a program file without faults, in range and put one after the other among those before.
-use Rattle.std.proofs.Common.{◌≡◌, ◌≢◌, ◌⊎◌, inl, inr, ℕ, ◌+◌, ◌-◌, ◌<◌, ◌≤◌, List, length, slice_index, refl, subst, sym, ap, ◌∙◌, arith, IsTrue}
-use Rattle.std.specs.Prelude.{All, Contains, insert, max, slice_index_or}
+use Rattle.std.proofs.Common.{◌≡◌, ◌≢◌, ◌⊎◌, inl, inr, ℕ, ◌+◌, ◌<◌, ◌≤◌, List, length, subst, arith}
+use Rattle.std.specs.Prelude.{insert, max}
 use Rattle.std.proofs.lemmas.Bool.{cases_lt}
 use Rattle.std.proofs.lemmas.List.Elements.{All-weaker}
+use Rattle.elf32_loader.specs.declared.headers.Header.{Header}
 use Rattle.elf32_loader.specs.declared.segments.Segment.{Segment}
 use Rattle.elf32_loader.specs.FaultTable.{HasNoFault, IsFileBase, IsOutOfRange}
 use Rattle.elf32_loader.specs.Headers.{IsLoad, header_at}
@@ -25,7 +26,8 @@ at-most a b not_above = elim (cases_lt b a) [ inl above ↦ absurd (not_above ab
 pub in-range : (file : List ℕ) (base index : ℕ) → HasNoFault file → IsFileBase file base → IsLoad file index
     → IsInRange file base index
 in-range file base index clean is_base is_load =
-    let out : ¬ IsOutOfRange file base (header_at file index) = λ fault. clean.loads.is_in_range (base, index, is_base, (is_load, fault)) in
+    let out : ¬ IsOutOfRange file base (header_at file index) =
+    λ fault. clean.loads.is_in_range (base, index, is_base, (is_load, fault)) in
     record {
       in_memory = at-most _ _ (λ above. out (inl above));
       in_file = at-most _ _ (λ above. out (inr (inl above)));
@@ -45,11 +47,14 @@ share a m b n some other = elim (cases_lt b (a + m)) [
 ]
 
 -- the segments of two loads are apart
-pub apart : (file : List ℕ) (first second : ℕ) (one other : Segment) → HasNoFault file → first < second → IsLoad file first
+pub apart : (file : List ℕ) (first second : ℕ) (one other : Segment) → HasNoFault file → first < second
+    → IsLoad file first
     → IsLoad file second → IsLoaded file (header_at file first) one → IsLoaded file (header_at file second) other
     → AreApart other one
 apart file first second one other clean below is_first is_second loaded_one loaded_other =
-    elim (share (header_at file second).address (header_at file second).memory_size (header_at file first).address (header_at file first).memory_size is_second.2 is_first.2) [
+    let one_header : Header = header_at file first in
+    let other_header : Header = header_at file second in
+    elim (share other_header.address other_header.memory_size one_header.address one_header.memory_size is_second.2 is_first.2) [
       | inl away ↦ elim away [
         | inl h ↦ inl (omega (arith, loaded_one.address, loaded_other.address, loaded_other.size))
         | inr h ↦ inr (omega (arith, loaded_one.address, loaded_other.address, loaded_one.size))
@@ -59,7 +64,8 @@ apart file first second one other clean below is_first is_second loaded_one load
     ]
 
 -- a header that is no load
-pub loads-skip : (file : List ℕ) (bound : ℕ) (segments : List Segment) → AreLoads file bound segments → ¬ IsLoad file bound
+pub loads-skip : (file : List ℕ) (bound : ℕ) (segments : List Segment) → AreLoads file bound segments
+    → ¬ IsLoad file bound
     → AreLoads file (bound + 1) segments
 loads-skip file bound segments loads none = record {
   climbs = loads.climbs;
@@ -80,13 +86,16 @@ pub loads-put : (file : List ℕ) (bound place : ℕ) (segments : List Segment) 
     → AreLoads file bound segments → IsLoad file bound → IsLoaded file (header_at file bound) x
     → IsPlace x.address segments place → AreLoads file (bound + 1) (insert segments place x)
 loads-put file bound place segments x clean loads is_load loaded is_place =
-    let Below : Segment → Type 0 = λ s. (index : ℕ) × (index < bound) × IsLoad file index × IsLoaded file (header_at file index) s in
-    let Within : Segment → Type 0 = λ s. (index : ℕ) × (index < bound + 1) × IsLoad file index × IsLoaded file (header_at file index) s in
+    let Below : Segment → Type 0 =
+    λ s. (index : ℕ) × (index < bound) × IsLoad file index × IsLoaded file (header_at file index) s in
+    let Within : Segment → Type 0 =
+    λ s. (index : ℕ) × (index < bound + 1) × IsLoad file index × IsLoaded file (header_at file index) s in
     let some : 0 < length x.bytes = omega (arith, loaded.size, is_load.2) in
     record {
       climbs =
           climbs-insert segments place x some loads.climbs
-          (All-weaker Below (AreApart x) (λ s found. apart file found.0 bound s x clean found.1 found.2 is_load found.3 loaded) segments loads.each)
+          (All-weaker Below (AreApart x)
+          (λ s found. apart file found.0 bound s x clean found.1 found.2 is_load found.3 loaded) segments loads.each)
           is_place;
       each =
           all-insert Within segments place x

@@ -19,7 +19,8 @@ pub ends-before : (first second : Segment) (rest : List Segment) → IsTrue (is_
 ends-before first second rest ascends = grind (arith, nat_tests, common_steps)
 
 -- the first segment ends at or below each later one
-pub later-begins : (first : Segment) (rest : List Segment) → IsTrue (is_ascending (first ∷ rest)) → (place : ℕ) (other : Segment)
+pub later-begins : (first : Segment) (rest : List Segment) → IsTrue (is_ascending (first ∷ rest))
+    → (place : ℕ) (other : Segment)
     → place < length rest → end_of first ≤ (slice_index_or rest place other).address
 later-begins first [] ascends place other below = absurd (omega arith)
 later-begins first (second ∷ rest) ascends zero other below = ends-before first second rest ascends
@@ -29,16 +30,20 @@ later-begins first (second ∷ rest) ascends (suc place) other below =
     let here : end_of first ≤ second.address = ends-before first second rest ascends in
     omega arith
 
-pub holds-true : (segment : Segment) (address : ℕ) → segment.address ≤ address → address < end_of segment → holds segment address ≡ true
+pub holds-true : (segment : Segment) (address : ℕ) → segment.address ≤ address → address < end_of segment
+    → holds segment address ≡ true
 holds-true segment address above below = grind (arith, nat_tests)
 
 holds-false : (segment : Segment) (address : ℕ) → end_of segment ≤ address → holds segment address ≡ false
 holds-false segment address above = grind (arith, nat_tests)
 
 -- memory has the byte of the segment that holds an address
-byte-of : (segments : List Segment) → IsTrue (is_ascending segments) → (place : ℕ) (other : Segment) → place < length segments
-    → (address : ℕ) → (slice_index_or segments place other).address ≤ address → address < end_of (slice_index_or segments place other)
-    → byte_in segments address ≡ slice_index (slice_index_or segments place other).bytes (address - (slice_index_or segments place other).address)
+byte-of : (segments : List Segment) → IsTrue (is_ascending segments) → (place : ℕ) (other : Segment)
+    → place < length segments
+    → (address : ℕ) → (slice_index_or segments place other).address ≤ address
+    → address < end_of (slice_index_or segments place other)
+    → byte_in segments address ≡ slice_index (slice_index_or segments place other).bytes
+    (address - (slice_index_or segments place other).address)
 byte-of [] ascends place other within address above below = absurd (omega arith)
 byte-of (first ∷ rest) ascends zero other within address above below = rw (holds-true first address above below) refl
 byte-of (first ∷ []) ascends (suc place) other within address above below = absurd (omega arith)
@@ -48,7 +53,8 @@ byte-of (first ∷ (second ∷ rest)) ascends (suc place) other within address a
     rw passed (byte-of (second ∷ rest) (rest-ascends first second rest ascends) place other (omega arith) address above below)
 
 pub memory-is-loaded : (file : List ℕ) (picture : Picture) → IsImage file picture → (index : ℕ) → IsLoad file index
-    → (place : ℕ) → HoldsAddress (header_at file index) place → mem picture place ≡ loaded_byte file (header_at file index) place
+    → (place : ℕ) → HoldsAddress (header_at file index) place
+    → mem picture place ≡ loaded_byte file (header_at file index) place
 memory-is-loaded file picture image index is_load place here =
     let stands = image.each_load_stands index is_load in
     let segment : Segment = stands.0 in
@@ -56,7 +62,9 @@ memory-is-loaded file picture image index is_load place here =
     let loaded : IsLoaded file (header_at file index) segment = stands.2 in
     let above : segment.address ≤ place = omega (arith, loaded.address, here.0) in
     let below : place < end_of segment = omega (arith, loaded.address, loaded.size, here.1) in
-    let P : Segment → Type 0 = λ s. s.address ≤ place → place < end_of s → byte_in picture.segments place ≡ slice_index s.bytes (place - s.address) in
+    let P : Segment → Type 0 =
+    λ s. s.address ≤ place → place < end_of s → byte_in picture.segments place ≡ slice_index s.bytes
+    (place - s.address) in
     let byte : P segment = subst P found.2 (byte-of picture.segments image.ascends found.0 segment found.1 place) in
     byte above below
     ∙ ap (λ (n : ℕ). slice_index segment.bytes (place - n)) loaded.address
@@ -83,11 +91,14 @@ none-holds (first ∷ rest) address none = elim (either (holds first address)) [
 ]
 
 pub rest-is-zero : (file : List ℕ) (picture : Picture) → IsImage file picture
-    → (place : ℕ) → ((index : ℕ) → IsLoad file index → ¬ HoldsAddress (header_at file index) place) → mem picture place ≡ 0
+    → (place : ℕ) → ((index : ℕ) → IsLoad file index → ¬ HoldsAddress (header_at file index) place)
+    → mem picture place ≡ 0
 rest-is-zero file picture image place nowhere =
     none-holds picture.segments place (λ at other below inside.
     let load = image.each_is_load at other below in
     let loaded : IsLoaded file (header_at file load.0) (slice_index_or picture.segments at other) = load.2 in
-    let above : (slice_index_or picture.segments at other).address ≤ place = begins-below (slice_index_or picture.segments at other) place inside in
-    let under : place < end_of (slice_index_or picture.segments at other) = ends-above (slice_index_or picture.segments at other) place inside in
+    let above : (slice_index_or picture.segments at other).address ≤ place =
+    begins-below (slice_index_or picture.segments at other) place inside in
+    let under : place < end_of (slice_index_or picture.segments at other) =
+    ends-above (slice_index_or picture.segments at other) place inside in
     nowhere load.0 load.1 (omega (arith, loaded.address), omega (arith, loaded.address, loaded.size)))

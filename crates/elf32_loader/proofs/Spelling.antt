@@ -1,6 +1,6 @@
 -- A program file that is written for an image of at most 64 segments gives that image.
-use Rattle.std.proofs.Common.{◌≡◌, ◌⊎◌, inl, inr, ℕ, zero, suc, ◌+◌, ◌-◌, ◌*◌, ◌%◌, ◌<◌, ◌≤◌, ◌^◌, ◌==◌, nat_lt, Bool, true, false, ◌&&◌, List, [], ◌∷◌, ◌++◌, length, take, slice_index, refl, subst, sym, ap, ◌∙◌, arith, IsTrue}
-use Rattle.std.specs.Prelude.{All, Contains, slice_index_or}
+use Rattle.std.proofs.Common.{◌≡◌, inl, inr, ℕ, zero, suc, ◌+◌, ◌-◌, ◌*◌, ◌%◌, ◌<◌, ◌≤◌, ◌^◌, ◌==◌, nat_lt, Bool, true, false, ◌&&◌, List, [], ◌∷◌, length, take, slice_index, refl, subst, sym, ap, ◌∙◌, arith, IsTrue}
+use Rattle.std.specs.Prelude.{All, slice_index_or}
 use Rattle.std.proofs.lemmas.Bool.{false≢true}
 use Rattle.std.proofs.lemmas.Bool.Decides.{nat_tests}
 use Rattle.std.proofs.lemmas.Grind.{common_steps}
@@ -13,12 +13,12 @@ use Rattle.elf32_loader.specs.FaultTable.{HasCleanHeader, HasCleanLoads, IsEntry
 use Rattle.elf32_loader.specs.Headers.{HoldsAddress, IsLoad, entry_of, file_type, flags_of, header_at, header_count, header_from, header_size, identification, machine_type, table_offset}
 use Rattle.elf32_loader.specs.Pictures.{Picture, is_valid}
 use Rattle.elf32_loader.specs.Programs.{IsImage, IsLoaded}
-use Rattle.elf32_loader.specs.Segments.{are_inside, end_of, highest_base, highest_end, holds, is_ascending, is_base, is_entry, is_inside, rounded_down, some_holds}
+use Rattle.elf32_loader.specs.Segments.{are_inside, end_of, highest_base, highest_end, holds, is_ascending, is_base, is_entry, rounded_down, some_holds}
 use Rattle.elf32_loader.specs.Written.{contents, elf_header, headers, program_headers, written}
 use Rattle.flow_base.specs.Guests.{memory_size}
 use Rattle.elf32_loader.proofs.Bases.{same_base}
 use Rattle.elf32_loader.proofs.Laying.{bytes-in, header-in, headers-length, start_of, starts-within, word-back, written_header}
-use Rattle.elf32_loader.proofs.Memory.{begins-below, either, ends-above, ends-before, later-begins, rest-ascends}
+use Rattle.elf32_loader.proofs.Memory.{begins-below, either, ends-above, later-begins, rest-ascends}
 use Rattle.elf32_loader.proofs.Putting.{contents-fit}
 use Rattle.elf32_loader.proofs.Unique.{has-bytes}
 
@@ -28,7 +28,8 @@ segment_at picture place d = slice_index_or picture.segments place d
 
 abbrev header_for : Picture → ℕ → Segment → Header
 header_for picture place d =
-    written_header (start_of (52 + 32 * length picture.segments) picture.segments place) (segment_at picture place d).address
+    written_header (start_of (52 + 32 * length picture.segments) picture.segments place)
+    (segment_at picture place d).address
     (length (segment_at picture place d).bytes)
 
 -- what stands in such a file
@@ -70,7 +71,8 @@ spelt picture low_entry few fits low =
       start = word-back picture.entry low_entry;
       header = λ place d below.
           ap (λ (xs : List ℕ). header_from xs (52 + 32 * place)) (append_assoc front table bytes)
-          ∙ header-in front (52 + 32 * count) picture.segments bytes place d (52 + 32 * place) (omega arith) below (omega arith) low;
+          ∙ header-in front (52 + 32 * count) picture.segments bytes place d (52 + 32 * place) (omega arith) below
+          (omega arith) low;
       content = λ place d i below within.
           bytes-in (headers picture) (52 + 32 * count) picture.segments place d i (sym headers_length) below within;
     }
@@ -99,7 +101,8 @@ each-fit base (first ∷ (second ∷ rest)) ascends inside (suc place) d below =
     each-fit base (second ∷ rest) (rest-ascends first second rest ascends) inside_rest place d (omega arith)
 
 -- an earlier segment ends at or below a later one's address
-in-order : (segments : List Segment) → IsTrue (is_ascending segments) → (a b : ℕ) (d e : Segment) → a < b → b < length segments
+in-order : (segments : List Segment) → IsTrue (is_ascending segments) → (a b : ℕ) (d e : Segment) → a < b
+    → b < length segments
     → end_of (slice_index_or segments a d) ≤ (slice_index_or segments b e).address
 in-order [] ascends a b d e before below = absurd (omega arith)
 in-order (first ∷ rest) ascends zero zero d e before below = absurd (omega arith)
@@ -179,7 +182,8 @@ load-at : (file : List ℕ) (picture : Picture) → IsGiven file picture → (pl
 load-at file picture given place below =
     let header = given.spells.header place nothing below in
     let fit = given.fit place nothing below in
-    let size : (header_at file place).memory_size ≡ length (segment_at picture place nothing).bytes = ap (λ (h : Header). h.memory_size) header in (
+    let size : (header_at file place).memory_size ≡ length (segment_at picture place nothing).bytes =
+    ap (λ (h : Header). h.memory_size) header in (
       omega (arith, given.spells.count),
       ap (λ (h : Header). h.kind) header,
       λ none. omega (arith, fit.some),
@@ -202,13 +206,15 @@ lowest-at file picture given (suc place) below first address =
 file-base : (file : List ℕ) (picture : Picture) → IsGiven file picture → IsFileBase file picture.base
 file-base file picture given =
     let some : 0 < length picture.segments = given.first.some in
-    let first : (header_at file 0).address ≡ (segment_at picture 0 nothing).address = address-at file picture given 0 nothing some in (
+    let first : (header_at file 0).address ≡ (segment_at picture 0 nothing).address =
+    address-at file picture given 0 nothing some in (
       0,
       (
         load-at file picture given 0 some,
         λ other is_load.
             let below : other < length picture.segments = at-place file picture given other is_load in
-            let address : (header_at file other).address ≡ (segment_at picture other nothing).address = address-at file picture given other nothing below in
+            let address : (header_at file other).address ≡ (segment_at picture other nothing).address =
+            address-at file picture given other nothing below in
             lowest-at file picture given other below first address,
       ),
       given.first.rounded nothing ∙ ap rounded_down (sym first),
@@ -276,13 +282,15 @@ clean-loads file picture given =
     record {
       is_not_dynamic = λ dynamic.
           let below : dynamic.0 < length picture.segments = omega (arith, laid.count, dynamic.1.0) in
-          let kind : (header_at file dynamic.0).kind ≡ 1 = ap (λ (h : Header). h.kind) (laid.header dynamic.0 nothing below) in
+          let kind : (header_at file dynamic.0).kind ≡ 1 =
+          ap (λ (h : Header). h.kind) (laid.header dynamic.0 nothing below) in
           omega (arith, dynamic.1.1);
       has_load = λ none. none 0 (load-at file picture given 0 given.first.some);
       is_in_range = λ fault.
           let below : fault.1 < length picture.segments = at-place file picture given fault.1 fault.3.0 in
           let at_base : IsOutOfRange file picture.base (header_at file fault.1) =
-          subst (λ (n : ℕ). IsOutOfRange file n (header_at file fault.1)) (same_base file fault.0 picture.base fault.2 is_base) fault.3.1 in
+          subst (λ (n : ℕ). IsOutOfRange file n (header_at file fault.1))
+          (same_base file fault.0 picture.base fault.2 is_base) fault.3.1 in
           in-range file picture given fault.1 below
           (subst (λ (h : Header). IsOutOfRange file picture.base h) (laid.header fault.1 nothing below) at_base);
       has_low_base = λ high.
@@ -307,13 +315,15 @@ loaded-at file picture given place d below =
       address = refl;
       size = refl;
       bytes = λ at here.
-          let within : nat_lt (at - segment.address) (length segment.bytes) ≡ true = grind (arith, nat_tests, here.0, here.1) in
+          let within : nat_lt (at - segment.address) (length segment.bytes) ≡ true =
+          grind (arith, nat_tests, here.0, here.1) in
           let inside : at - segment.address < length segment.bytes = omega (arith, here.0, here.1) in
           rw within (sym (given.spells.content place d (at - segment.address) below inside));
     } in
     subst (λ (h : Header). IsLoaded file h segment) (sym header) written
 
-given-of : (picture : Picture) → IsTrue (is_valid picture) → length picture.segments ≤ 64 → IsGiven (written picture) picture
+given-of : (picture : Picture) → IsTrue (is_valid picture) → length picture.segments ≤ 64
+    → IsGiven (written picture) picture
 given-of picture valid few =
     let keeps = whole picture valid in
     let first = first-of picture.base picture.segments keeps.based in
@@ -321,8 +331,10 @@ given-of picture valid few =
     let fit = each-fit picture.base picture.segments keeps.ascends keeps.inside in
     let parts = both (picture.entry % 4 == 0) (some_holds picture.segments picture.entry) keeps.entered in
     let found = holder picture.segments picture.entry nothing parts.1 in
-    let low_entry : picture.entry < 2 ^ 32 = omega (arith, ends-above (segment_at picture found.0 nothing) picture.entry found.2, (fit found.0 nothing found.1).in_bounds) in
-    let low : All (λ s. s.address < 2 ^ 32) picture.segments = λ place d below. omega (arith, (fit place d below).in_bounds, (fit place d below).some) in
+    let low_entry : picture.entry < 2 ^ 32 =
+    omega (arith, ends-above (segment_at picture found.0 nothing) picture.entry found.2, (fit found.0 nothing found.1).in_bounds) in
+    let low : All (λ s. s.address < 2 ^ 32) picture.segments =
+    λ place d below. omega (arith, (fit place d below).in_bounds, (fit place d below).some) in
     record { spells = spelt picture low_entry few fits low; keeps = keeps; few = few; first = first; fits = fits; fit = fit }
 
 pub written-image : (picture : Picture) → IsTrue (is_valid picture) → length picture.segments ≤ 64
@@ -335,8 +347,10 @@ written-image picture valid few =
       base = file-base file picture given;
       entry = sym given.spells.start;
       ascends = given.keeps.ascends;
-      each_is_load = λ place d below. (place, load-at file picture given place below, loaded-at file picture given place d below);
+      each_is_load = λ place d below.
+          (place, load-at file picture given place below, loaded-at file picture given place d below);
       each_load_stands = λ index is_load.
           let below : index < length picture.segments = at-place file picture given index is_load in
-          (segment_at picture index nothing, Contains-get_or picture.segments index nothing below, loaded-at file picture given index nothing below);
+          let contained = Contains-get_or picture.segments index nothing below in
+          (segment_at picture index nothing, contained, loaded-at file picture given index nothing below);
     }

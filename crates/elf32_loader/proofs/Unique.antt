@@ -4,19 +4,19 @@ use Rattle.std.specs.Prelude.{All, Contains, slice_index_or}
 use Rattle.std.proofs.lemmas.Bool.Decides.{nat_tests}
 use Rattle.std.proofs.lemmas.Grind.{common_steps}
 use Rattle.std.proofs.lemmas.List.{ext_get_or}
-use Rattle.std.proofs.lemmas.List.Elements.{All-head}
 use Rattle.elf32_loader.specs.declared.headers.Header.{Header}
 use Rattle.elf32_loader.specs.declared.segments.Segment.{Segment}
 use Rattle.elf32_loader.specs.Headers.{header_at}
 use Rattle.elf32_loader.specs.Pictures.{Picture}
-use Rattle.elf32_loader.specs.Programs.{IsImage, IsLoaded, loaded_byte}
+use Rattle.elf32_loader.specs.Programs.{IsImage, IsLoaded}
 use Rattle.elf32_loader.specs.Searches.{is_climbing}
 use Rattle.elf32_loader.specs.Segments.{end_of, is_ascending}
 use Rattle.elf32_loader.proofs.Bases.{same_base}
 use Rattle.elf32_loader.proofs.Memory.{later-begins, rest-ascends}
 
 -- a load makes one segment
-same-segment : (file : List ℕ) (header : Header) (one other : Segment) → IsLoaded file header one → IsLoaded file header other
+same-segment : (file : List ℕ) (header : Header) (one other : Segment) → IsLoaded file header one
+    → IsLoaded file header other
     → one ≡ other
 same-segment file header one other is_one is_other =
     let size : length one.bytes ≡ length other.bytes = is_one.size ∙ sym is_other.size in
@@ -43,7 +43,8 @@ above : (first : Segment) (rest : List Segment) (x : Segment) → IsTrue (is_asc
 above first rest x ascends contained =
     let some : 0 < length first.bytes = has-bytes first rest ascends in
     let P : Segment → Type 0 = λ s. end_of first ≤ s.address in
-    let later : end_of first ≤ x.address = subst P contained.2 (later-begins first rest ascends contained.0 x contained.1) in
+    let later : end_of first ≤ x.address =
+    subst P contained.2 (later-begins first rest ascends contained.0 x contained.1) in
     omega arith
 
 tail-climbs : (first : Segment) (rest : List Segment) → IsTrue (is_climbing (first ∷ rest)) → IsTrue (is_climbing rest)
@@ -68,7 +69,8 @@ same-first one ones other others climbs climbs_other holds_one holds_other =
     absurd (omega arith)))
 
 -- what both lists hold but their first, the rest of the other list holds
-rest-held : (one : Segment) (ones : List Segment) (other : Segment) (others : List Segment) → IsTrue (is_climbing (one ∷ ones))
+rest-held : (one : Segment) (ones : List Segment) (other : Segment) (others : List Segment)
+    → IsTrue (is_climbing (one ∷ ones))
     → other ≡ one → All (Contains (other ∷ others)) (one ∷ ones) → All (Contains others) ones
 rest-held one ones other others climbs same held = λ place d below.
     let x : Segment = slice_index_or ones place d in
@@ -90,7 +92,8 @@ same-list (one ∷ ones) [] climbs climbs_other held held_other =
     let none : Contains [] one = held zero one (omega arith) in absurd (omega (arith, none.1))
 same-list (one ∷ ones) (other ∷ others) climbs climbs_other held held_other =
     let same : other ≡ one =
-    same-first one ones other others climbs climbs_other (held zero one (omega arith)) (held_other zero other (omega arith)) in
+    same-first one ones other others climbs climbs_other (held zero one (omega arith))
+    (held_other zero other (omega arith)) in
     let rest : ones ≡ others =
     same-list ones others (tail-climbs one ones climbs) (tail-climbs other others climbs_other)
     (rest-held one ones other others climbs same held)
@@ -116,9 +119,11 @@ same-image file one other is_one is_other =
     let base : one.base ≡ other.base = same_base file one.base other.base is_one.base is_other.base in
     let entry : one.entry ≡ other.entry = is_one.entry ∙ sym is_other.entry in
     let segments : one.segments ≡ other.segments =
-    same-list one.segments other.segments (climbs-from one.segments is_one.ascends) (climbs-from other.segments is_other.ascends)
+    same-list one.segments other.segments (climbs-from one.segments is_one.ascends)
+    (climbs-from other.segments is_other.ascends)
     (held-by file one other is_one is_other) (held-by file other one is_other is_one) in
-    let make : ℕ → ℕ → List Segment → Picture = λ (b e : ℕ) (s : List Segment). record { base = b; entry = e; segments = s } in
+    let make : ℕ → ℕ → List Segment → Picture =
+    λ (b e : ℕ) (s : List Segment). record { base = b; entry = e; segments = s } in
     ap (λ (b : ℕ). make b one.entry one.segments) base
     ∙ ap (λ (e : ℕ). make other.base e one.segments) entry
     ∙ ap (make other.base other.entry) segments

@@ -1,20 +1,20 @@
 -- The picture of a program file's image is that of an image.
-use Rattle.std.proofs.Common.{◌≡◌, ◌⊎◌, inl, inr, ℕ, zero, suc, ◌+◌, ◌%◌, ◌<◌, ◌≤◌, true, false, List, [], ◌∷◌, length, refl, subst, sym, ap, ◌∙◌, arith, IsTrue}
+use Rattle.std.proofs.Common.{◌≡◌, ◌⊎◌, inl, inr, ℕ, zero, suc, ◌+◌, ◌%◌, ◌<◌, ◌≤◌, true, List, [], ◌∷◌, length, refl, subst, sym, ap, ◌∙◌, arith, IsTrue}
 use Rattle.std.specs.Prelude.{All, Contains, slice_index_or}
 use Rattle.std.proofs.lemmas.Bool.{cases_lt, false≢true}
 use Rattle.std.proofs.lemmas.Bool.Decides.{nat_tests}
 use Rattle.std.proofs.lemmas.Grind.{common_steps}
-use Rattle.std.proofs.lemmas.List.Elements.{All-contains, All-head, All-tail}
+use Rattle.std.proofs.lemmas.List.Elements.{All-head, All-tail}
 use Rattle.elf32_loader.specs.declared.segments.Segment.{Segment}
 use Rattle.elf32_loader.specs.FaultTable.{HasNoFault, IsFileBase}
-use Rattle.elf32_loader.specs.Headers.{HoldsAddress, IsLoad, entry_of, header_at, header_count}
-use Rattle.elf32_loader.specs.Pictures.{Picture, is_valid}
-use Rattle.elf32_loader.specs.Programs.{IsImage, IsLoaded}
+use Rattle.elf32_loader.specs.Headers.{HoldsAddress, entry_of, header_at, header_count}
+use Rattle.elf32_loader.specs.Pictures.{Picture}
+use Rattle.elf32_loader.specs.Programs.{IsImage}
 use Rattle.elf32_loader.specs.Searches.{AreLoads, is_climbing}
 use Rattle.elf32_loader.specs.Segments.{are_inside, end_of, highest_base, highest_end, holds, is_ascending, is_base, is_entry, is_inside, rounded_down, some_holds}
 use Rattle.flow_base.specs.Guests.{memory_size}
-use Rattle.elf32_loader.proofs.Loads.{IsInRange, in-range}
-use Rattle.elf32_loader.proofs.Memory.{either, ends-before, holds-true, later-begins}
+use Rattle.elf32_loader.proofs.Loads.{in-range}
+use Rattle.elf32_loader.proofs.Memory.{either, holds-true, later-begins}
 
 -- climbing segments of which there is one ascend
 ascends-from : (segments : List Segment) (x : Segment) → Contains segments x → IsTrue (is_climbing segments)
@@ -23,11 +23,13 @@ ascends-from [] x contained climbs = absurd (omega (arith, contained.1))
 ascends-from (first ∷ rest) x contained climbs = climbs
 
 -- all loads of a file without faults make its image
-pub image-from : (file : List ℕ) (base entry : ℕ) (segments loaded : List Segment) → HasNoFault file → IsFileBase file base
+pub image-from : (file : List ℕ) (base entry : ℕ) (segments loaded : List Segment) → HasNoFault file
+    → IsFileBase file base
     → entry ≡ entry_of file → segments ≡ loaded → AreLoads file (header_count file) loaded
     → IsImage file (record { base = base; entry = entry; segments = segments })
 image-from file base entry segments loaded clean is_base at_entry same loads =
-    let moved : AreLoads file (header_count file) segments = subst (λ (xs : List Segment). AreLoads file (header_count file) xs) (sym same) loads in
+    let moved : AreLoads file (header_count file) segments =
+    subst (λ (xs : List Segment). AreLoads file (header_count file) xs) (sym same) loads in
     let lowest = moved.stand is_base.0 is_base.1.0.0 is_base.1.0 in
     record {
       no_fault = clean;
@@ -39,11 +41,13 @@ image-from file base entry segments loaded clean is_base at_entry same loads =
     }
 
 -- no segment begins below the first one
-first-lowest : (first : Segment) (rest : List Segment) (place : ℕ) (other : Segment) → IsTrue (is_ascending (first ∷ rest))
+first-lowest : (first : Segment) (rest : List Segment) (place : ℕ) (other : Segment)
+    → IsTrue (is_ascending (first ∷ rest))
     → place < length (first ∷ rest) → first.address ≤ (slice_index_or (first ∷ rest) place other).address
 first-lowest first rest zero other ascends below = omega arith
 first-lowest first rest (suc place) other ascends below =
-    let later : end_of first ≤ (slice_index_or rest place other).address = later-begins first rest ascends place other (omega arith) in
+    let later : end_of first ≤ (slice_index_or rest place other).address =
+    later-begins first rest ascends place other (omega arith) in
     omega arith
 
 -- the base is that of the first segment
@@ -74,7 +78,8 @@ each-inside : (base : ℕ) (segments : List Segment) → All (λ s. IsTrue (is_i
 each-inside base [] all = refl
 each-inside base (first ∷ rest) all =
     let here : IsTrue (is_inside base first) = All-head (λ (s : Segment). IsTrue (is_inside base s)) first rest all in
-    let there : IsTrue (are_inside base rest) = each-inside base rest (All-tail (λ (s : Segment). IsTrue (is_inside base s)) first rest all) in
+    let there : IsTrue (are_inside base rest) =
+    each-inside base rest (All-tail (λ (s : Segment). IsTrue (is_inside base s)) first rest all) in
     grind (arith, nat_tests, common_steps)
 
 is-inside : (base : ℕ) (segment : Segment) → base ≤ segment.address → end_of segment ≤ base + memory_size
@@ -89,7 +94,8 @@ inside file picture image =
     let range = in-range file picture.base found.0 image.no_fault image.base found.1 in
     let lowest = image.base.1.1 found.0 found.1 in
     let based : picture.base ≤ segment.address = omega (arith, image.base.2, lowest, found.2.address) in
-    let guest : end_of segment ≤ picture.base + memory_size = omega (arith, range.in_guest, found.2.address, found.2.size) in
+    let guest : end_of segment ≤ picture.base + memory_size =
+    omega (arith, range.in_guest, found.2.address, found.2.size) in
     let bounds : end_of segment ≤ highest_end = omega (arith, range.in_bounds, found.2.address, found.2.size) in
     is-inside picture.base segment based guest bounds)
 
@@ -113,14 +119,16 @@ entered file picture image =
       | inl even ↦ even
       | inr odd ↦ absurd (image.no_fault.loads.has_entry (inl (λ zero. odd (ap (λ (n : ℕ). n % 4) image.entry ∙ zero))))
     ] in
-    let held : some_holds picture.segments picture.entry ≡ true = elim (either (some_holds picture.segments picture.entry)) [
+    let held : some_holds picture.segments picture.entry ≡ true =
+    elim (either (some_holds picture.segments picture.entry)) [
       | inl some ↦ some
       | inr none ↦ absurd (image.no_fault.loads.has_entry (inr (λ index held.
           let is_load = held.0 in
           let here : HoldsAddress (header_at file index) (entry_of file) = held.1 in
           let stands = image.each_load_stands index is_load in
           let above : (stands.0).address ≤ picture.entry = omega (arith, here.0, (stands.2).address, image.entry) in
-          let below : picture.entry < end_of stands.0 = omega (arith, here.1, (stands.2).address, (stands.2).size, image.entry) in
+          let below : picture.entry < end_of stands.0 =
+          omega (arith, here.1, (stands.2).address, (stands.2).size, image.entry) in
           let P : Segment → Type 0 = λ s. holds s picture.entry ≡ true in
           let holding : P (slice_index_or picture.segments stands.1.0 stands.0) =
           subst P (sym stands.1.2) (holds-true stands.0 picture.entry above below) in

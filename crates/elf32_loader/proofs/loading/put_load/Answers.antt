@@ -1,4 +1,4 @@
-use Rattle.std.proofs.Common.{◌+◌, ◌≡◌, ℕ, arith, subst, ap, List, sym}
+use Rattle.std.proofs.Common.{◌+◌, arith, subst, ap, List, sym}
 use Rattle.std.proofs.lemmas.Result.{on_ok_weaker}
 use Rattle.elf32_loader.specs.declared.headers.Header.{Header}
 use Rattle.elf32_loader.specs.declared.segments.Segment.{Segment}
@@ -20,7 +20,9 @@ pub read_segment-requires-clause-in_memory : goal.read_segment-requires-clause-i
 read_segment-requires-clause-in_memory c =
     let based = c.requires.based in
     let range = in-range c.args.file.now based.0 c.args.index c.requires.no_fault based.1 c.in-Some.ensures.0 in
-    omega (arith, range.in_memory, ap (λ (h : Header). h.file_size) c.in-Some.ensures.1, ap (λ (h : Header). h.memory_size) c.in-Some.ensures.1)
+    let file_size = ap (λ (h : Header). h.file_size) c.in-Some.ensures.1 in
+    let memory_size = ap (λ (h : Header). h.memory_size) c.in-Some.ensures.1 in
+    omega (arith, range.in_memory, file_size, memory_size)
 
 pub returns : goal.returns
 returns c =
@@ -29,5 +31,6 @@ returns c =
     let loaded = subst (λ (h : Header). IsLoaded file h segment) c.in-Some.ensures.1 c.in_ok-segment.ensures in
     on_ok_weaker c.insert_segment.result
     (λ put. subst (λ (xs : List Segment). AreLoads file (c.args.index + 1) xs) (sym put.2)
-    (loads-put file c.args.index put.0 c.args.segments.now.items segment c.requires.no_fault c.requires.loads c.in-Some.ensures.0 loaded put.1))
+    (loads-put file c.args.index put.0 c.args.segments.now.items segment c.requires.no_fault c.requires.loads
+    c.in-Some.ensures.0 loaded put.1))
     c.insert_segment.ensures

@@ -1,5 +1,5 @@
-use Rattle.std.proofs.Common.{◌≡◌, ◌+◌, ◌++◌, ◌∙◌, List, length, ap, arith, drop, ℕ, subst}
-use Rattle.elf32_loader.specs.Written.{contents, program_header, program_headers}
+use Rattle.std.proofs.Common.{◌≡◌, ◌+◌, ◌++◌, ◌∙◌, List, length, ap, arith, drop, ℕ}
+use Rattle.elf32_loader.specs.Written.{program_header, program_headers}
 use Rattle.elf32_loader.proofs.Putting.{contents-more, headers-more}
 use Rattle.elf32_loader.proofs.writing.put_headers.Goals as goal
 
@@ -16,7 +16,8 @@ loop-segment-preserved c =
     c.in_ok-extend_from_slice.ensures.items
     ∙ ap (λ (xs : List ℕ). file ++ xs) (c.segment_header.ensures ∙ ap (program_header place segment.address) same) in
     let more = contents-more index segments segment c.loop-segment-test.true c.segment-item.is in
-    let next = headers-more file longer place index segments segment c.loop-segment-test.true c.segment-item.is (put _ size) in
+    let next =
+    headers-more file longer place index segments segment c.loop-segment-test.true c.segment-item.is (put _ size) in
     record {
       built =
           ap (λ (n : ℕ). longer ++ program_headers (place + n) (drop (index + 1) segments)) size
