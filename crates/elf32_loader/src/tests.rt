@@ -1,6 +1,7 @@
 ghost use Rattle.std.specs.Prelude.{◌^◌, ◌<◌, length};
 
 use crate::{Image, load_image, write_image};
+use flow_base::MEMORY_SIZE;
 use std::alloc::{AllocError, Global};
 use std::process::Abort;
 use std::test::Fail;
@@ -332,5 +333,26 @@ fn segments_ascend_and_end_in_zeros(rt: HostRuntime) -> Result<(), Fail> {
         &written.as_slice()[148..],
         [64, 65, 66, 67, 0, 0, 0, 54, 55, 0, 0].as_slice()
     );
+    Ok(())
+}
+
+/// A file of one load of as many bytes, each 0x13.
+fn large(alloc: Global, size: u32) -> Result<Vec<u8>, AllocError> {
+    let mut file = EXIT[..68].to_vec(alloc)?;
+    file.extend_from_slice(&size.to_le_bytes())?;
+    file.extend_from_slice(&size.to_le_bytes())?;
+    file.extend_from_slice(&EXIT[76..84])?;
+    file.resize(84 + size as usize, 0x13)?;
+    Ok(file)
+}
+
+#[test]
+fn the_largest_image_loads(rt: HostRuntime) -> Result<(), Fail> {
+    let file = large(rt.alloc(), MEMORY_SIZE)?;
+    assert!(rt; file.len() < 1 << 30);
+    let image = load_image(rt.alloc(), &file)?;
+    assert_eq!(rt; segment(&image, 0).1.len(), 16_777_216);
+    let file = large(rt.alloc(), MEMORY_SIZE + 1)?;
+    assert_eq!(rt; answer(&rt, rt.alloc(), &file)?.as_str(), "segment 0");
     Ok(())
 }
