@@ -1,0 +1,18 @@
+//! What each call of a guest answers: the calls' numbers, descriptors, bytes that are inside guest memory, and the break.
+//! All is a function of numbers; nothing here takes memory.
+#![tactic(auto)]
+
+mod breaks;
+mod kinds;
+mod ranges;
+mod reading;
+mod writing;
+
+pub use breaks::move_break;
+pub use kinds::{BAD_ADDRESS, BAD_DESCRIPTOR, CallKind, UNKNOWN_CALL, call_kind};
+pub use ranges::inside;
+pub use reading::read_count;
+pub use writing::{WriteCheck, write_check};
+
+#[cfg(test)]
+mod tests;
