@@ -4,11 +4,12 @@ use Rattle.std.proofs.lemmas.List.{get_or_append_left, get_or-append_right, get_
 use Rattle.std.proofs.lemmas.Grind.{common_steps}
 use Rattle.std.proofs.lemmas.Bool.{cases_lt}
 use Rattle.std.proofs.lemmas.Bool.Decides.{nat_tests}
+use Rattle.flow_base.specs.Guests.{memory_size}
 use Rattle.elf32_loader.specs.declared.segments.Segment.{Segment}
 use Rattle.elf32_loader.specs.Pictures.{Picture, byte_in}
 use Rattle.elf32_loader.specs.Segments.{are_inside, end_of, holds, is_ascending}
 use Rattle.rv32im_machine.specs.Start.{HoldsImage, first_memory, laid, laid_at, zeros}
-use Rattle.rv32im_machine.specs.State.{State, memory_size}
+use Rattle.rv32im_machine.specs.State.{State}
 
 either : (test : Bool) → (test ≡ true) ⊎ (test ≡ false)
 either true = inl refl

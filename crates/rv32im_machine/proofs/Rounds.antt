@@ -1,13 +1,25 @@
 -- One round of the rows that go over bytes.
-use Rattle.std.proofs.Common.{◌≡◌, ℕ, suc, ◌+◌, refl}
+use Rattle.std.proofs.Common.{◌≡◌, ℕ, suc, ◌+◌, List, refl}
+use Rattle.std.specs.Prelude.{slice_index}
 use Rattle.flow_base.specs.declared.points.Slot.TheVariants.{SecretIn, ByteOut}
 use Rattle.rv32im_machine.specs.declared.language.Place.TheVariants.{Byte}
-use Rattle.rv32im_machine.specs.declared.language.Source.TheVariants.{At, Secret}
+use Rattle.rv32im_machine.specs.declared.language.Source.TheVariants.{At, Constant, Secret}
 use Rattle.rv32im_machine.specs.declared.language.Sources.TheVariants.{One}
 use Rattle.rv32im_machine.specs.declared.language.Shape.TheVariants.{Copied}
-use Rattle.rv32im_machine.specs.State.{Control, secret_taken, emitted}
-use Rattle.rv32im_machine.specs.Language.{Passes, Decides, Shaped}
-use Rattle.rv32im_machine.specs.Calls.{point, answered, secret_reads, writes}
+use Rattle.rv32im_machine.specs.State.{Control, public_taken, secret_taken, emitted}
+use Rattle.rv32im_machine.specs.Language.{Passes, Decides, Moves, Shaped}
+use Rattle.rv32im_machine.specs.Calls.{point, answered, public_reads, secret_reads, writes}
+
+pub public_reads-none : (n to answer : ℕ) (input : List ℕ) (c : Control) → n ≡ 0 →
+    public_reads n to answer input c ≡ answered answer c
+unfolding public_reads
+public_reads-none n to answer input c e = rw e refl
+
+pub public_reads-more : (n rest to answer : ℕ) (input : List ℕ) (c : Control) → n ≡ suc rest →
+    public_reads n to answer input c
+    ≡ Moves (Byte to) Copied (Constant (slice_index input c.public_at)) (public_reads rest (to + 1) answer input (public_taken c))
+unfolding public_reads
+public_reads-more n rest to answer input c e = rw e refl
 
 pub secret_reads-none : (n to answer : ℕ) (c : Control) → n ≡ 0 → secret_reads n to answer c ≡ answered answer c
 unfolding secret_reads

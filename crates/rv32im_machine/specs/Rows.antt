@@ -10,6 +10,7 @@ use Rattle.rv32im_decode.specs.declared.instructions.StoreKind.TheVariants.{Sb, 
 use Rattle.rv32im_decode.specs.declared.instructions.OpKind.TheVariants.{Add}
 use Rattle.rv32im_decode.specs.Operations.{word_of, operation_of, upper_of, load_size, store_size}
 use Rattle.rv32im_decode.specs.Encoding.{decoded}
+use Rattle.guest_calls.specs.Calls.{is_inside}
 use Rattle.rv32im_machine.specs.declared.stepping.Fault.{Fault}
 use Rattle.rv32im_machine.specs.declared.stepping.Fault.TheVariants.{Illegal, FetchOutside, FetchUnaligned, LoadOutside, StoreOutside, Breakpoint}
 use Rattle.rv32im_machine.specs.declared.stepping.Stepped.{Stepped}
@@ -22,7 +23,7 @@ use Rattle.rv32im_machine.specs.declared.language.Part.TheVariants.{Byte0, Byte1
 use Rattle.rv32im_machine.specs.declared.language.Shape.TheVariants.{Copied, Extended, Part}
 use Rattle.rv32im_machine.specs.declared.language.Operation.TheVariants.{Result, Decision, Target}
 use Rattle.rv32im_machine.specs.declared.language.Seen.TheVariants.{Word}
-use Rattle.rv32im_machine.specs.State.{Setting, Control, State, is_inside, onward, moved_to, ended}
+use Rattle.rv32im_machine.specs.State.{Setting, Control, State, onward, moved_to, ended}
 use Rattle.rv32im_machine.specs.Language.{Turn, Looks, Passes, Decides, Moves, Ends, Shaped, Computed, Walk, walk, none_held}
 use Rattle.rv32im_machine.specs.Calls.{point, call_row}
 

@@ -1,14 +1,11 @@
 -- A state of the guest machine.
-use Rattle.std.specs.Prelude.{ℕ, ◌+◌, ◌-◌, ◌*◌, ◌%◌, ◌^◌, ◌==◌, ◌&&◌, ◌||◌, nat_le, List, [], ◌∷◌, ◌++◌, slice_index, slice_set, Bool, if◌then◌else◌}
+use Rattle.std.specs.Prelude.{ℕ, ◌+◌, ◌-◌, ◌*◌, ◌%◌, ◌^◌, ◌==◌, List, [], ◌∷◌, ◌++◌, slice_index, slice_set, if◌then◌else◌}
 use Rattle.rv32im_machine.specs.declared.stepping.Stepped.{Stepped}
 
--- guest memory has 16 MiB
-abbrev pub memory_size : ℕ
-memory_size = 16777216
-
--- what no step changes and both runs of a check share
+-- what no step changes and both runs of a check share; the starting break is an address
 pub record Setting : Type 0 where
   pub base : ℕ
+  pub start_break : ℕ
   pub public_input : List ℕ
   pub secret_length : ℕ
   pub output_limit : ℕ
@@ -18,6 +15,7 @@ pub record Control : Type 0 where
   pub pc : ℕ
   pub public_at : ℕ
   pub secret_at : ℕ
+  pub current_break : ℕ
   pub output : List ℕ
   pub mode : Stepped
   pub region : ℕ
@@ -33,11 +31,6 @@ pub record State : Type 0 where
   pub secret : List ℕ
   pub control : Control
   pub store : Store
-
--- each of the bytes from the address on is one of guest memory; no bytes are inside anywhere
-abbrev pub is_inside : ℕ → ℕ → ℕ → Bool
-is_inside base address count =
-    (count == 0) || (nat_le base address && nat_le (address + count) (base + memory_size))
 
 abbrev pub register_of : Store → ℕ → ℕ
 register_of store register = slice_index store.registers register
@@ -87,6 +80,12 @@ ended mode control = record control { mode = mode }
 
 unfoldable pub secret_taken : Control → Control
 secret_taken control = record control { secret_at = control.secret_at + 1 }
+
+unfoldable pub public_taken : Control → Control
+public_taken control = record control { public_at = control.public_at + 1 }
+
+unfoldable pub break_moved : ℕ → Control → Control
+break_moved value control = record control { current_break = value }
 
 unfoldable pub emitted : ℕ → Control → Control
 emitted byte control = record control { output = control.output ++ byte ∷ [] }

@@ -1,91 +1,22 @@
 #![tactic(auto, unfolding(crate::specs::Language::walked))]
 
-ghost use Rattle.std.specs.Prelude.{◌≡◌, ℕ, ◌+◌, ◌-◌, ◌^◌, ◌<◌, ◌≤◌, length, IsTrue};
+ghost use Rattle.std.specs.Prelude.{◌≡◌, ℕ, ◌+◌, ◌^◌, ◌<◌, ◌≤◌, length, IsTrue};
 ghost use Rattle.flow_base.specs.Points.{is_slot, width_of};
-ghost use Rattle.rv32im_machine.specs.State.{is_inside, register_of};
+ghost use Rattle.guest_calls.specs.Calls.{is_inside};
+ghost use Rattle.rv32im_machine.specs.State.{register_of};
 ghost use Rattle.rv32im_machine.specs.Language.{turn_walk, Walk, Decided};
 ghost use Rattle.rv32im_machine.specs.Rows.{row_walk};
-ghost use Rattle.rv32im_machine.specs.Calls.{point, secret_plan, read_plan, append_plan, write_plan, unbuilt_call, answered, secret_reads, writes, planned, with_arguments, exits, call_row, MayPerform};
+ghost use Rattle.rv32im_machine.specs.Calls.{point, read_plan, write_plan, break_plan, answered, public_reads, secret_reads, writes, planned, with_first, with_arguments, exits, kind_row, MayPerform};
 ghost use Rattle.rv32im_machine.specs.Playing.{Goes, outcome};
 
 use crate::language::{Part, Place, Shape, Source, Sources, Work};
 use crate::machines::Machine;
 use crate::passing::Passer;
-use crate::stepping::{CallPlan, Fault, Stepped};
+use crate::plans::{plan_break, plan_read, plan_write};
+use crate::stepping::{CallPlan, Stepped};
 use flow_base::Slot;
+use guest_calls::{CallKind, UNKNOWN_CALL, call_kind};
 use rv32im_decode::Instr;
-
-/// The word of ECALL.
-const CALL_WORD: u32 = 0x0000_0073;
-
-/// The answer for bytes that are not all inside guest memory: -14 (EFAULT).
-const BAD_ADDRESS: u32 = 0xffff_fff2;
-
-/// The stop of a call or a descriptor that is not carried out so far.
-fn unbuilt_plan(machine: &Machine) -> CallPlan
-    ensures plan { result ≡ unbuilt_call machine.now.control }
-    ensures may { MayPerform result machine.now }
-{
-    CallPlan::Stop(Fault::Unbuilt {
-        pc: machine.pc(),
-        word: CALL_WORD,
-    })
-}
-
-/// What a read of so many of the secret bytes that are left does.
-fn secret_read_plan(machine: &Machine, to: u32, count: u32) -> CallPlan
-    requires { count ≤ machine.now.setting.secret_length - machine.now.control.secret_at }
-    ensures plan { result ≡ secret_plan machine.now.setting machine.now.control to count }
-    ensures may { MayPerform result machine.now }
-{
-    if count == 0 {
-        CallPlan::Answer(0)
-    } else if machine.is_inside(to, count) {
-        CallPlan::SecretRead { to, count }
-    } else {
-        CallPlan::Answer(BAD_ADDRESS)
-    }
-}
-
-/// What a read does (Linux for RISC-V, call 63).
-fn plan_read(machine: &Machine, descriptor: u32, to: u32, count: u32) -> CallPlan
-    ensures plan { result ≡ read_plan machine.now.setting machine.now.control descriptor to count }
-    ensures may { MayPerform result machine.now }
-{
-    if descriptor == 3 {
-        secret_read_plan(machine, to, count.min(machine.secret_left()))
-    } else {
-        unbuilt_plan(machine)
-    }
-}
-
-/// What a write of so many bytes does, where the descriptor is that of the output.
-fn plan_append(machine: &Machine, from: u32, count: u32) -> CallPlan
-    ensures plan { result ≡ append_plan machine.now.setting machine.now.control from count }
-    ensures may { MayPerform result machine.now }
-{
-    if count == 0 {
-        CallPlan::Answer(0)
-    } else if !machine.is_inside(from, count) {
-        CallPlan::Answer(BAD_ADDRESS)
-    } else if count <= machine.output_left() {
-        CallPlan::Write { from, count }
-    } else {
-        CallPlan::Stop(Fault::OutputLimit { pc: machine.pc() })
-    }
-}
-
-/// What a write does (Linux for RISC-V, call 64).
-fn plan_write(machine: &Machine, descriptor: u32, from: u32, count: u32) -> CallPlan
-    ensures plan { result ≡ write_plan machine.now.setting machine.now.control descriptor from count }
-    ensures may { MayPerform result machine.now }
-{
-    if descriptor == 1 {
-        plan_append(machine, from, count)
-    } else {
-        unbuilt_plan(machine)
-    }
-}
 
 /// The answer of a call is put into a0.
 fn answer<P: Passer>(machine: &mut Machine, passer: &mut P, value: u32) -> Result<(), P::Stop>
@@ -118,6 +49,41 @@ fn exit<P: Passer>(machine: &mut Machine, passer: &mut P) -> Result<(), P::Stop>
     )?;
     machine.end(Stepped::Exited(status as u8));
     Ok(())
+}
+
+/// The next bytes of the public input go to memory, one after another, from an address on.
+fn read_public<P: Passer>(
+    machine: &mut Machine,
+    passer: &mut P,
+    to: u32,
+    count: u32,
+) -> Result<(), P::Stop>
+    requires inside { IsTrue (is_inside machine.old.setting.base to count) }
+    requires below { to + count ≤ 2 ^ 32 }
+    requires left { machine.old.control.public_at + count ≤ length machine.old.setting.public_input }
+    ensures { P.Plays passer.old
+        (turn_walk machine.old
+        (public_reads count to count machine.old.setting.public_input machine.old.control))
+        (outcome result machine.new (P.tape passer.new)) }
+{
+    for i in 0..count {
+        let address = to + i;
+        let byte = machine.next_public();
+        let value = u32::from(byte);
+        match passer.move_to(
+            Place::Byte(address),
+            Shape::Copied,
+            Source::Constant(value),
+            value,
+        ) {
+            Ok(()) => {
+                machine.take_public();
+                machine.set_byte(address, byte);
+            }
+            Err(stop) => return Err(stop),
+        }
+    }
+    answer(machine, passer, count)
 }
 
 /// The next secret bytes pass, one after another, and go to memory from an address on.
@@ -189,13 +155,19 @@ fn write_output<P: Passer>(
 /// A plan is carried out.
 fn perform<P: Passer>(machine: &mut Machine, passer: &mut P, plan: CallPlan) -> Result<(), P::Stop>
     requires { MayPerform plan machine.old }
-    ensures { P.Plays passer.old (turn_walk machine.old (planned plan machine.old.control))
+    ensures { P.Plays passer.old (turn_walk machine.old (planned plan machine.old.setting machine.old.control))
         (outcome result machine.new (P.tape passer.new)) }
 {
     match plan {
         CallPlan::Answer(value) => answer(machine, passer, value),
+        CallPlan::PublicRead { to, count } => read_public(machine, passer, to, count),
         CallPlan::SecretRead { to, count } => read_secret(machine, passer, to, count),
         CallPlan::Write { from, count } => write_output(machine, passer, from, count),
+        CallPlan::Brk(value) => {
+            machine.set_break(value);
+            answer(machine, passer, value)
+        }
+        CallPlan::Exit => exit(machine, passer),
         CallPlan::Stop(fault) => {
             machine.end(Stepped::Stopped(fault));
             Ok(())
@@ -230,7 +202,7 @@ fn argument<P: Passer>(
 fn read_turn<P: Passer>(machine: &mut Machine, passer: &mut P) -> Result<(), P::Stop>
     ensures { P.Plays passer.old
         (turn_walk machine.old
-        (with_arguments (read_plan machine.old.setting machine.old.control) machine.old.control))
+        (with_arguments (read_plan machine.old.setting machine.old.control) machine.old.setting machine.old.control))
         (outcome result machine.new (P.tape passer.new)) }
 {
     let descriptor = argument(machine, passer, Slot::Arg0, 10)?;
@@ -244,7 +216,7 @@ fn read_turn<P: Passer>(machine: &mut Machine, passer: &mut P) -> Result<(), P::
 fn write_turn<P: Passer>(machine: &mut Machine, passer: &mut P) -> Result<(), P::Stop>
     ensures { P.Plays passer.old
         (turn_walk machine.old
-        (with_arguments (write_plan machine.old.setting machine.old.control) machine.old.control))
+        (with_arguments (write_plan machine.old.setting machine.old.control) machine.old.setting machine.old.control))
         (outcome result machine.new (P.tape passer.new)) }
 {
     let descriptor = argument(machine, passer, Slot::Arg0, 10)?;
@@ -254,27 +226,33 @@ fn write_turn<P: Passer>(machine: &mut Machine, passer: &mut P) -> Result<(), P:
     perform(machine, passer, plan)
 }
 
-/// The call of a number.
-fn numbered_turn<P: Passer>(
-    machine: &mut Machine,
-    passer: &mut P,
-    number: u32,
-) -> Result<(), P::Stop>
-    ensures { P.Plays passer.old (turn_walk machine.old (call_row number machine.old.setting machine.old.control))
+/// A brk call (214).
+fn break_turn<P: Passer>(machine: &mut Machine, passer: &mut P) -> Result<(), P::Stop>
+    ensures { P.Plays passer.old
+        (turn_walk machine.old
+        (with_first (break_plan machine.old.setting machine.old.control) machine.old.setting machine.old.control))
         (outcome result machine.new (P.tape passer.new)) }
 {
-    match number {
-        63 => read_turn(machine, passer),
-        64 => write_turn(machine, passer),
-        93 => exit(machine, passer),
-        _ => {
-            let pc = machine.pc();
-            machine.end(Stepped::Stopped(Fault::Unbuilt {
-                pc,
-                word: CALL_WORD,
-            }));
-            Ok(())
-        }
+    let request = argument(machine, passer, Slot::Arg0, 10)?;
+    let plan = plan_break(machine, request);
+    perform(machine, passer, plan)
+}
+
+/// The call of a kind.
+fn kind_turn<P: Passer>(
+    machine: &mut Machine,
+    passer: &mut P,
+    kind: CallKind,
+) -> Result<(), P::Stop>
+    ensures { P.Plays passer.old (turn_walk machine.old (kind_row kind machine.old.setting machine.old.control))
+        (outcome result machine.new (P.tape passer.new)) }
+{
+    match kind {
+        CallKind::Read => read_turn(machine, passer),
+        CallKind::Write => write_turn(machine, passer),
+        CallKind::Exit => exit(machine, passer),
+        CallKind::Brk => break_turn(machine, passer),
+        CallKind::Unknown => answer(machine, passer, UNKNOWN_CALL),
     }
 }
 
@@ -284,5 +262,5 @@ pub(crate) fn call_turn<P: Passer>(machine: &mut Machine, passer: &mut P) -> Res
         (outcome result machine.new (P.tape passer.new)) }
 {
     let number = argument(machine, passer, Slot::Number, 17)?;
-    numbered_turn(machine, passer, number)
+    kind_turn(machine, passer, call_kind(number))
 }

@@ -10,7 +10,7 @@ pub enum Place {
     Second,
 }
 
-/// Where one value comes from: a place, a number that both inputs have no part in, or the secret byte of this index.
+/// Where one value comes from: a place, a number that no secret has a part in, or the secret byte of this index.
 #[derive(Clone, Copy, Debug, PartialEq, Eq)]
 pub enum Source {
     At(Place),

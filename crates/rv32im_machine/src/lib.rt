@@ -11,6 +11,7 @@ mod machines;
 mod operands;
 mod passing;
 mod plain;
+mod plans;
 mod results;
 mod starting;
 mod stepping;
@@ -20,7 +21,7 @@ pub use language::{Operation, Part, Place, Seen, Shape, Source, Sources, Work};
 pub use laws::{ended_machines_stand_still, next_follows_the_step};
 pub use machines::Machine;
 pub use passing::Passer;
-pub use stepping::{CallPlan, Fault, Stepped};
+pub use stepping::{Arguments, CallPlan, Fault, Stepped};
 pub use walker::turn_by;
 
 #[cfg(test)]

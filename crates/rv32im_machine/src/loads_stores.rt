@@ -3,7 +3,8 @@
 ghost use Rattle.std.specs.Prelude.{◌≡◌, ◌+◌, ◌^◌, ◌<◌, ◌≤◌, IsTrue};
 ghost use Rattle.rv32im_decode.specs.Operations.{load_size, store_size};
 ghost use Rattle.rv32im_decode.specs.Encoding.{InRange};
-ghost use Rattle.rv32im_machine.specs.State.{is_inside, joined};
+ghost use Rattle.guest_calls.specs.Calls.{is_inside};
+ghost use Rattle.rv32im_machine.specs.State.{joined};
 ghost use Rattle.rv32im_machine.specs.Language.{shaped, part_of, walk, Held, bytes_at};
 ghost use Rattle.rv32im_machine.specs.Rows.{row_walk, load_checked, store_checked, load_at, store_at, loaded_from};
 ghost use Rattle.rv32im_machine.specs.Playing.{outcome};

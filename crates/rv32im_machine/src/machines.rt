@@ -1,18 +1,18 @@
-#![tactic(auto, unfolding(crate::specs::State::with_register, crate::specs::State::with_byte, crate::specs::State::saved, crate::specs::State::moved_to, crate::specs::State::onward, crate::specs::State::ended, crate::specs::State::secret_taken, crate::specs::State::emitted))]
+#![tactic(auto, unfolding(crate::specs::State::with_register, crate::specs::State::with_byte, crate::specs::State::saved, crate::specs::State::moved_to, crate::specs::State::onward, crate::specs::State::ended, crate::specs::State::public_taken, crate::specs::State::secret_taken, crate::specs::State::break_moved, crate::specs::State::emitted))]
 
 ghost use Rattle.std.specs.Prelude.{◌≡◌, ◌+◌, ◌-◌, ◌^◌, ◌<◌, ◌≤◌, [], length, slice_index, vec_len, vec_capacity, IsTrue};
-ghost use Rattle.rv32im_machine.specs.State.{State, memory_size, is_inside, register_of, byte_of, word_at, with_register, with_byte, moved_to, onward, ended, secret_taken, emitted};
+ghost use Rattle.flow_base.specs.Guests.{memory_size};
+ghost use Rattle.flow_base.specs.Points.{is_slot};
+ghost use Rattle.guest_calls.specs.Calls.{is_inside, checked_write, moved_break};
+ghost use Rattle.rv32im_machine.specs.State.{State, register_of, byte_of, word_at, with_register, with_byte, moved_to, onward, ended, public_taken, secret_taken, break_moved, emitted};
 ghost use Rattle.rv32im_machine.specs.Language.{with_store, with_control};
 ghost use Rattle.rv32im_machine.specs.Calls.{point};
 ghost use Rattle.rv32im_machine.specs.Start.{start_on};
-ghost use Rattle.flow_base.specs.Points.{is_slot};
 
 use crate::stepping::Stepped;
-use flow_base::{Bytes, Point, Registers, Slot};
+use flow_base::{Bytes, MEMORY_SIZE, Point, Registers, Slot};
+use guest_calls::{WriteCheck, move_break, write_check};
 use std::marker::Model;
-
-/// Guest memory has 16 MiB.
-pub(crate) const MEMORY_SIZE: u32 = 16_777_216;
 
 /// A guest with its memory, registers, inputs and output; contracts see it as a state.
 #[derive(Drop)]
@@ -27,6 +27,8 @@ pub struct Machine {
     public_at: usize,
     secret: Bytes,
     secret_at: usize,
+    start_break: u32,
+    current_break: u32,
     output: Vec<u8>,
     output_limit: u32,
     mode: Stepped,
@@ -34,13 +36,15 @@ pub struct Machine {
 
 impl Model for Machine {
     ghost use Rattle.std.specs.Prelude.{◌≡◌, ℕ, ◌+◌, ◌<◌, ◌≤◌, ◌^◌, length, vec_len, vec_capacity};
-    ghost use Rattle.rv32im_machine.specs.State.{State, memory_size};
+    ghost use Rattle.flow_base.specs.Guests.{memory_size};
+    ghost use Rattle.rv32im_machine.specs.State.{State};
 
     ghost Value = { State };
 
     ghost view = { λ m. record {
       setting = record {
         base = m.base;
+        start_break = m.start_break;
         public_input = m.public;
         secret_length = length m.secret;
         output_limit = m.output_limit;
@@ -50,6 +54,7 @@ impl Model for Machine {
         pc = m.pc;
         public_at = m.public_at;
         secret_at = m.secret_at;
+        current_break = m.current_break;
         output = m.output.items;
         mode = m.mode;
         region = m.region;
@@ -58,6 +63,7 @@ impl Model for Machine {
     } };
 
     ghost invariant = { λ m. (vec_len m.memory ≡ memory_size) × (m.base + memory_size < 2 ^ 32)
+        × (m.public_at ≤ length m.public) × (length m.public < 2 ^ 32)
         × (m.secret_at ≤ length m.secret) × (length m.secret < 2 ^ 32)
         × (vec_len m.output ≤ m.output_limit) × (m.output_limit ≤ vec_capacity m.output) };
 }
@@ -67,6 +73,7 @@ impl Machine {
     pub(crate) fn at_start(
         base: u32,
         entry: u32,
+        start_break: u32,
         memory: Vec<u8>,
         public: Bytes,
         secret: Bytes,
@@ -75,10 +82,11 @@ impl Machine {
     ) -> Machine
         requires size { vec_len memory ≡ memory_size }
         requires base { base + memory_size < 2 ^ 32 }
+        requires public { length public < 2 ^ 32 }
         requires secret { length secret < 2 ^ 32 }
         requires output { output.items ≡ [] }
         requires room { output_limit ≤ vec_capacity output }
-        ensures { result ≡ start_on memory.items base entry public secret output_limit }
+        ensures { result ≡ start_on memory.items base entry start_break public secret output_limit }
     {
         let mut registers = Registers::new();
         registers.set(2, base + MEMORY_SIZE - 64);
@@ -93,6 +101,8 @@ impl Machine {
             public_at: 0,
             secret,
             secret_at: 0,
+            start_break,
+            current_break: start_break,
             output,
             output_limit,
             mode: Stepped::Ran,
@@ -232,8 +242,42 @@ impl Machine {
         self.mode = mode;
     }
 
+    /// How many bytes of the public input are not yet read.
+    pub fn public_left(&self) -> u32
+        ensures { result ≡ length self.now.setting.public_input - self.now.control.public_at }
+    {
+        (self.public.len() - self.public_at) as u32
+    }
+
+    /// The next byte of the public input, which stays unread.
+    pub(crate) fn next_public(&self) -> u8
+        requires { self.now.control.public_at < length self.now.setting.public_input }
+        ensures { result ≡ slice_index self.now.setting.public_input self.now.control.public_at }
+    {
+        self.public.as_slice()[self.public_at]
+    }
+
+    /// Reads the next byte of the public input.
+    pub(crate) fn take_public(&mut self)
+        requires { self.old.control.public_at < length self.old.setting.public_input }
+        ensures { self.new ≡ with_control (public_taken self.old.control) self.old }
+    {
+        self.public_at += 1;
+    }
+
+    /// The next byte of the public input, which is then read.
+    pub fn public_byte(&mut self) -> u8
+        requires { self.old.control.public_at < length self.old.setting.public_input }
+        ensures byte { result ≡ slice_index self.old.setting.public_input self.old.control.public_at }
+        ensures taken { self.new ≡ with_control (public_taken self.old.control) self.old }
+    {
+        let byte = self.next_public();
+        self.take_public();
+        byte
+    }
+
     /// How many secret bytes are not yet read.
-    pub(crate) fn secret_left(&self) -> u32
+    pub fn secret_left(&self) -> u32
         ensures { result ≡ self.now.setting.secret_length - self.now.control.secret_at }
     {
         (self.secret.len() - self.secret_at) as u32
@@ -273,12 +317,53 @@ impl Machine {
         byte
     }
 
+    /// The break after a request for another, an address: it moves within its start and the end of guest memory.
+    pub(crate) fn requested_break(&self, request: u32) -> u32
+        ensures { result ≡ moved_break self.now.setting.start_break self.now.control.current_break
+            (self.now.setting.base + memory_size) request }
+    {
+        move_break(
+            self.start_break,
+            self.current_break,
+            self.base + MEMORY_SIZE,
+            request,
+        )
+    }
+
+    /// Sets the break, an address.
+    pub fn set_break(&mut self, value: u32)
+        ensures { self.new ≡ with_control (break_moved value self.old.control) self.old }
+    {
+        self.current_break = value;
+    }
+
     /// How many more bytes the output may have.
-    pub(crate) fn output_left(&self) -> u32
+    pub fn output_left(&self) -> u32
         ensures left { result ≡ self.now.setting.output_limit - length self.now.control.output }
         ensures within { length self.now.control.output ≤ self.now.setting.output_limit }
     {
         self.output_limit - self.output.len() as u32
+    }
+
+    /// How many bytes were written so far.
+    pub(crate) fn written(&self) -> u32
+        ensures { result ≡ length self.now.control.output }
+    {
+        let written = self.output.len();
+        prove!(written <= self.output_limit as usize);
+        written as u32
+    }
+
+    /// What a write of `count` bytes from an address on does.
+    pub(crate) fn write_check(&self, from: u32, count: u32) -> WriteCheck
+        ensures check { result ≡ checked_write self.now.setting.base from count
+            (length self.now.control.output) self.now.setting.output_limit }
+        ensures inside { result ≡ WriteCheck.Append → IsTrue (is_inside self.now.setting.base from count) }
+        ensures below { result ≡ WriteCheck.Append → from + count ≤ 2 ^ 32 }
+        ensures room { result ≡ WriteCheck.Append →
+            length self.now.control.output + count ≤ self.now.setting.output_limit }
+    {
+        write_check(self.base, from, count, self.written(), self.output_limit)
     }
 
     /// Appends a byte to the output. It takes no memory.

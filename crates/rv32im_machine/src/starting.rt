@@ -1,11 +1,12 @@
 ghost use Rattle.std.specs.Prelude.{◌≡◌, ◌+◌, ◌-◌, ◌^◌, ◌<◌, ◌≤◌, IfOk, IsTrue, length, vec_len};
+ghost use Rattle.flow_base.specs.Guests.{memory_size};
 ghost use Rattle.elf32_loader.specs.Images.{picture_of};
-ghost use Rattle.elf32_loader.specs.Segments.{are_inside};
-ghost use Rattle.rv32im_machine.specs.Start.{HoldsImage, zeros, laid, laid_at, start};
+ghost use Rattle.elf32_loader.specs.Segments.{are_inside, end_of};
+ghost use Rattle.rv32im_machine.specs.Start.{HoldsImage, zeros, laid, laid_at, top_of, first_break, start};
 
-use crate::machines::{MEMORY_SIZE, Machine};
+use crate::machines::Machine;
 use elf32_loader::{Image, Segment};
-use flow_base::{Bytes, NoMemory, Registers};
+use flow_base::{Bytes, MEMORY_SIZE, NoMemory};
 use std::alloc::{AllocError, Global};
 
 /// So many zeros.
@@ -32,7 +33,7 @@ fn lay_segment(memory: &mut Vec<u8>, base: u32, segment: &Segment)
 /// Lays segments over memory, one after another.
 fn lay_segments(memory: &mut Vec<u8>, base: u32, segments: &[Segment])
     requires inside { IsTrue (are_inside base segments.now) }
-    requires size { vec_len memory.old ≡ 16777216 }
+    requires size { vec_len memory.old ≡ memory_size }
     ensures laid { memory.new.items ≡ laid base segments.now memory.old.items }
     ensures length { vec_len memory.new ≡ vec_len memory.old }
 {
@@ -43,9 +44,41 @@ fn lay_segments(memory: &mut Vec<u8>, base: u32, segments: &[Segment])
     }
 }
 
+/// The highest end of segments that lie in the memory from the base on; 0 where there are none.
+fn highest_end(base: u32, segments: &[Segment]) -> u32
+    requires { IsTrue (are_inside base segments.now) }
+    ensures top { result ≡ top_of segments.now }
+    ensures below { result ≤ 0xfffff000 }
+{
+    let mut top = 0;
+    let mut rest = segments;
+    while let [segment, more @ ..] = rest {
+        top = segment_end(segment).max(top);
+        rest = more;
+    }
+    top
+}
+
+/// The address after a segment's last byte.
+fn segment_end(segment: &Segment) -> u32
+    requires { end_of segment.now ≤ 0xfffff000 }
+    ensures { result ≡ end_of segment.now }
+{
+    segment.address + segment.bytes.len() as u32
+}
+
+/// The break at the start: the highest end of the segments, rounded up to a multiple of 4,096.
+fn starting_break(base: u32, segments: &[Segment]) -> u32
+    requires { IsTrue (are_inside base segments.now) }
+    ensures { result ≡ first_break segments.now }
+{
+    highest_end(base, segments).next_multiple_of(4096)
+}
+
 impl Machine {
     /// A guest at its start: its memory is what the image puts there, 0 where no segment stands, the program counter is
-    /// the entry, and the registers are 0 but x2, the stack pointer, which is the memory's end minus 64.
+    /// the entry, and the registers are 0 but x2, the stack pointer, which is the memory's end minus 64. The break is
+    /// the highest segment end rounded up to a multiple of 4,096.
     ///
     /// It has copies of both inputs, and room for `output_limit` bytes of output, so no later call takes memory.
     /// `NoMemory` comes where there is not enough.
@@ -57,7 +90,8 @@ impl Machine {
         secret: &Bytes,
         output_limit: u32,
     ) -> Result<Machine, NoMemory>
-        requires { length secret.now < 2 ^ 32 }
+        requires public { length public.now < 2 ^ 32 }
+        requires secret { length secret.now < 2 ^ 32 }
         ensures start { IfOk result (λ machine.
             machine ≡ start (picture_of image.now) public.now secret.now output_limit) }
         ensures memory { IfOk result (λ machine. HoldsImage (picture_of image.now) machine) }
@@ -70,6 +104,7 @@ impl Machine {
         Ok(Machine::at_start(
             image.base,
             image.entry,
+            starting_break(image.base, image.segments.as_slice()),
             memory,
             public,
             secret,

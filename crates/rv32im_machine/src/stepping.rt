@@ -15,8 +15,6 @@ pub enum Fault {
     Breakpoint { pc: u32 },
     /// A write call would give more output bytes than the limit.
     OutputLimit { pc: u32 },
-    /// The word at `pc` is an ECALL with a call or descriptor that is not carried out so far.
-    Unbuilt { pc: u32, word: u32 },
 }
 
 /// What a step answers, and the mode of a machine after it.
@@ -30,12 +28,30 @@ pub enum Stepped {
     Stopped(Fault),
 }
 
-/// What a call does, once its arguments have gone on: an answer that is put into a0, bytes to read from the secret
-/// input, bytes to write, or a stop. Addresses and counts are in bytes.
+/// The number of a call (a7) and its arguments (a0, a1 and a2), as they have gone on.
+#[derive(Clone, Copy, Debug, PartialEq, Eq)]
+pub struct Arguments {
+    pub number: u32,
+    pub first: u32,
+    pub second: u32,
+    pub third: u32,
+}
+
+/// What a call does, once its arguments have gone on. Addresses and counts are in bytes.
 #[derive(Clone, Copy, Debug, PartialEq, Eq)]
 pub enum CallPlan {
+    /// This is put into a0, and nothing else is done.
     Answer(u32),
+    /// The next bytes of the public input go to memory, and their number into a0.
+    PublicRead { to: u32, count: u32 },
+    /// The next bytes of the secret input go to memory, and their number into a0.
     SecretRead { to: u32, count: u32 },
+    /// Bytes of memory are appended to the output, and their number is put into a0.
     Write { from: u32, count: u32 },
+    /// This is the break from now on, and is put into a0.
+    Brk(u32),
+    /// The run exits with the low 8 bits of a0 as status.
+    Exit,
+    /// The guest is stopped.
     Stop(Fault),
 }
