@@ -56,7 +56,8 @@ write_checked OverLimit control from count = Stop (OutputLimit control.pc)
 abbrev pub append_plan : Setting → Control → ℕ → ℕ → CallPlan
 append_plan setting control from count =
     if count == 0 then Answer 0
-    else write_checked (checked_write setting.base from count (length control.output) setting.output_limit) control from count
+    else write_checked (checked_write setting.base from count (length control.output) setting.output_limit)
+    control from count
 
 abbrev pub write_plan : Setting → Control → ℕ → ℕ → ℕ → CallPlan
 write_plan setting control descriptor from count =

@@ -63,7 +63,7 @@ impl Model for Machine {
     } };
 
     ghost invariant = { λ m. (vec_len m.memory ≡ memory_size) × (m.base + memory_size < 2 ^ 32)
-        × (m.public_at ≤ length m.public) × (length m.public < 2 ^ 32)
+        × (m.public_at ≤ length m.public)
         × (m.secret_at ≤ length m.secret) × (length m.secret < 2 ^ 32)
         × (vec_len m.output ≤ m.output_limit) × (m.output_limit ≤ vec_capacity m.output) };
 }
@@ -82,7 +82,6 @@ impl Machine {
     ) -> Machine
         requires size { vec_len memory ≡ memory_size }
         requires base { base + memory_size < 2 ^ 32 }
-        requires public { length public < 2 ^ 32 }
         requires secret { length secret < 2 ^ 32 }
         requires output { output.items ≡ [] }
         requires room { output_limit ≤ vec_capacity output }
@@ -243,10 +242,10 @@ impl Machine {
     }
 
     /// How many bytes of the public input are not yet read.
-    pub fn public_left(&self) -> u32
+    pub fn public_left(&self) -> usize
         ensures { result ≡ length self.now.setting.public_input - self.now.control.public_at }
     {
-        (self.public.len() - self.public_at) as u32
+        self.public.len() - self.public_at
     }
 
     /// The next byte of the public input, which stays unread.
@@ -262,6 +261,7 @@ impl Machine {
         requires { self.old.control.public_at < length self.old.setting.public_input }
         ensures { self.new ≡ with_control (public_taken self.old.control) self.old }
     {
+        prove!(self.public_at < self.public.len());
         self.public_at += 1;
     }
 

@@ -1,4 +1,5 @@
 ghost use Rattle.std.specs.Prelude.{◌≡◌, ◌-◌, ◌≤◌, length};
+ghost use Rattle.guest_calls.specs.Calls.{bytes_read};
 ghost use Rattle.rv32im_machine.specs.Calls.{public_plan, secret_plan, read_plan, append_plan, write_plan, break_plan, kind_plan, plan_of, MayPerform};
 
 use crate::machines::Machine;
@@ -37,13 +38,21 @@ fn secret_read_plan(machine: &Machine, to: u32, count: u32) -> CallPlan
     }
 }
 
+/// How many bytes a read of `count` bytes of the public input reads.
+fn public_count(machine: &Machine, count: u32) -> u32
+    ensures { result ≡ bytes_read count (length machine.now.setting.public_input - machine.now.control.public_at) }
+{
+    let left = machine.public_left().min(u32::MAX as usize);
+    read_count(count, left as u32)
+}
+
 /// What a read does: descriptor 0 is the public input, and 3 the secret input.
 pub(crate) fn plan_read(machine: &Machine, descriptor: u32, to: u32, count: u32) -> CallPlan
     ensures plan { result ≡ read_plan machine.now.setting machine.now.control descriptor to count }
     ensures may { MayPerform result machine.now }
 {
     match descriptor {
-        0 => public_read_plan(machine, to, read_count(count, machine.public_left())),
+        0 => public_read_plan(machine, to, public_count(machine, count)),
         3 => secret_read_plan(machine, to, read_count(count, machine.secret_left())),
         _ => CallPlan::Answer(BAD_DESCRIPTOR),
     }

@@ -90,8 +90,7 @@ impl Machine {
         secret: &Bytes,
         output_limit: u32,
     ) -> Result<Machine, NoMemory>
-        requires public { length public.now < 2 ^ 32 }
-        requires secret { length secret.now < 2 ^ 32 }
+        requires { length secret.now < 2 ^ 32 }
         ensures start { IfOk result (λ machine.
             machine ≡ start (picture_of image.now) public.now secret.now output_limit) }
         ensures memory { IfOk result (λ machine. HoldsImage (picture_of image.now) machine) }
