@@ -11,15 +11,18 @@ use Rattle.rv32im_decode.specs.declared.instructions.StoreKind.{StoreKind}
 use Rattle.rv32im_decode.specs.declared.instructions.StoreKind.TheVariants.{Sb, Sh, Sw}
 use Rattle.rv32im_decode.specs.Operations.{word_of, load_size, store_size}
 use Rattle.rv32im_decode.specs.Encoding.{decoded}
+use Rattle.guest_calls.specs.declared.kinds.CallKind.{CallKind}
+use Rattle.guest_calls.specs.declared.kinds.CallKind.TheVariants.{Read, Write as WriteCall, Exit as ExitCall, Brk as BrkCall, Unknown}
+use Rattle.guest_calls.specs.Calls.{is_inside, kind_of, unknown_call}
 use Rattle.rv32im_machine.specs.declared.stepping.Fault.{Fault}
-use Rattle.rv32im_machine.specs.declared.stepping.Fault.TheVariants.{Illegal, FetchOutside, FetchUnaligned, LoadOutside, StoreOutside, Unbuilt}
+use Rattle.rv32im_machine.specs.declared.stepping.Fault.TheVariants.{Illegal, FetchOutside, FetchUnaligned, LoadOutside, StoreOutside}
 use Rattle.rv32im_machine.specs.declared.stepping.Stepped.{Stepped}
 use Rattle.rv32im_machine.specs.declared.stepping.Stepped.TheVariants.{Ran, Exited, Stopped}
 use Rattle.rv32im_machine.specs.declared.stepping.CallPlan.{CallPlan}
-use Rattle.rv32im_machine.specs.declared.stepping.CallPlan.TheVariants.{Answer, SecretRead, Write, Stop}
-use Rattle.rv32im_machine.specs.State.{State, Setting, Control, Store, is_inside, onward, moved_to, ended, secret_taken, emitted, restored, saved}
+use Rattle.rv32im_machine.specs.declared.stepping.CallPlan.TheVariants.{Answer, PublicRead, SecretRead, Write, Brk, Exit, Stop}
+use Rattle.rv32im_machine.specs.State.{State, Setting, Control, Store, onward, moved_to, ended, public_taken, secret_taken, break_moved, emitted, restored, saved}
 use Rattle.rv32im_machine.specs.Language.{Turn, Looks, Passes, Decides, Gives, Moves, Saves, Restores, Ends, Walk, Looked, Passed, Decided, Gave, Moved, Saved, Restored, Ended, Held, none_held, walked, shaped, value_of, put, hold, seen_value}
-use Rattle.rv32im_machine.specs.Calls.{answered, secret_reads, writes, planned, with_arguments, exits, call_row, read_plan, write_plan, call_word}
+use Rattle.rv32im_machine.specs.Calls.{answered, public_reads, secret_reads, writes, planned, with_arguments, exits, kind_row, call_row, read_plan, write_plan, break_plan}
 use Rattle.rv32im_machine.specs.Rows.{stops, load_checked, store_at, store_checked, jumps, links, branches, row, fetched, turn_in, walk_of}
 use Rattle.rv32im_machine.specs.Folds.{real_end, Step}
 use Rattle.lockstep_replay.specs.Runs.{Place, Masks, mask_at, replayed}
@@ -147,6 +150,14 @@ grows_answered : (base : List ℕ) (answer : ℕ) (control : Control) → Longer
 unfolding onward
 grows_answered base answer control h = h
 
+grows_public :
+    (count : ℕ) (base : List ℕ) (to answer : ℕ) (input : List ℕ) (control : Control) → Longer base control.output →
+    Grows base (public_reads count to answer input control)
+unfolding public_reads public_taken
+grows_public zero base to answer input control h = grows_answered base answer control h
+grows_public (suc count) base to answer input control h =
+    grows_public count base (to + 1) answer input (public_taken control) h
+
 grows_reads :
     (count : ℕ) (base : List ℕ) (to answer : ℕ) (control : Control) → Longer base control.output →
     Grows base (secret_reads count to answer control)
@@ -162,31 +173,44 @@ grows_writes zero base from answer control h = grows_answered base answer contro
 grows_writes (suc count) base from answer control h =
     λ byte. grows_writes count base (from + 1) answer (emitted byte control) (longer_byte base control.output byte h)
 
-grows_planned :
-    (base : List ℕ) (plan : CallPlan) (control : Control) → Longer base control.output → Grows base
-    (planned plan control)
-grows_planned base (Answer answer) control h = grows_answered base answer control h
-grows_planned base (SecretRead to count) control h = grows_reads count base to count control h
-grows_planned base (Write from count) control h = grows_writes count base from count control h
-grows_planned base (Stop fault) control h = grows_stops base fault control h
-
 grows_exits : (base : List ℕ) (control : Control) → Longer base control.output → Grows base (exits control)
 unfolding ended
 grows_exits base control h = λ status. h
 
+grows_planned :
+    (base : List ℕ) (plan : CallPlan) (setting : Setting) (control : Control) → Longer base control.output → Grows base
+    (planned plan setting control)
+unfolding break_moved
+grows_planned base (Answer answer) setting control h = grows_answered base answer control h
+grows_planned base (PublicRead to count) setting control h =
+    grows_public count base to count setting.public_input control h
+grows_planned base (SecretRead to count) setting control h = grows_reads count base to count control h
+grows_planned base (Write from count) setting control h = grows_writes count base from count control h
+grows_planned base (Brk value) setting control h = grows_answered base value (break_moved value control) h
+grows_planned base Exit setting control h = grows_exits base control h
+grows_planned base (Stop fault) setting control h = grows_stops base fault control h
+
 grows_arguments :
-    (base : List ℕ) (plan : ℕ → ℕ → ℕ → CallPlan) (control : Control) → Longer base control.output →
-    Grows base (with_arguments plan control)
-grows_arguments base plan control h = λ first second third. grows_planned base (plan first second third) control h
+    (base : List ℕ) (plan : ℕ → ℕ → ℕ → CallPlan) (setting : Setting) (control : Control) →
+    Longer base control.output →
+    Grows base (with_arguments plan setting control)
+grows_arguments base plan setting control h =
+    λ first second third. grows_planned base (plan first second third) setting control h
+
+grows_kind :
+    (base : List ℕ) (kind : CallKind) (setting : Setting) (control : Control) → Longer base control.output →
+    Grows base (kind_row kind setting control)
+grows_kind base Read setting control h = grows_arguments base (read_plan setting control) setting control h
+grows_kind base WriteCall setting control h = grows_arguments base (write_plan setting control) setting control h
+grows_kind base ExitCall setting control h = grows_planned base Exit setting control h
+grows_kind base BrkCall setting control h =
+    λ request. grows_planned base (break_plan setting control request) setting control h
+grows_kind base Unknown setting control h = grows_planned base (Answer unknown_call) setting control h
 
 grows_call :
     (base : List ℕ) (number : ℕ) (setting : Setting) (control : Control) → Longer base control.output →
     Grows base (call_row number setting control)
-grows_call base number setting control h =
-    either base (number == 63) _ _ (grows_arguments base (read_plan setting control) control h)
-    (either base (number == 64) _ _ (grows_arguments base (write_plan setting control) control h)
-    (either base (number == 93) _ _ (grows_exits base control h)
-    (grows_stops base (Unbuilt control.pc call_word) control h)))
+grows_call base number setting control h = grows_kind base (kind_of number) setting control h
 
 grows_row :
     (base : List ℕ) (instr : Instr) (setting : Setting) (control : Control) → Longer base control.output →
