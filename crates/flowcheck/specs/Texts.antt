@@ -3,7 +3,7 @@ use Rattle.std.specs.Prelude.{ℕ, ◌+◌, List, [], ◌∷◌, ◌++◌, lengt
 use Rattle.std.specs.Fmt.{decimal}
 use Rattle.crossing_bits.specs.HexText.{hex_of}
 use Rattle.rv32im_machine.specs.declared.stepping.Fault.{Fault}
-use Rattle.rv32im_machine.specs.declared.stepping.Fault.TheVariants.{Illegal, FetchOutside, FetchUnaligned, LoadOutside, StoreOutside, Breakpoint, OutputLimit, Unbuilt}
+use Rattle.rv32im_machine.specs.declared.stepping.Fault.TheVariants.{Illegal, FetchOutside, FetchUnaligned, LoadOutside, StoreOutside, Breakpoint, OutputLimit}
 use Rattle.lockstep_replay.specs.declared.verdicts.Why.{Why}
 use Rattle.lockstep_replay.specs.declared.verdicts.Why.TheVariants.{RealFault, BudgetOverrun, TurnLimit, SecretLength, Unequal}
 use Rattle.lockstep_replay.specs.Cuts.{hex_word}
@@ -18,7 +18,6 @@ fault_text (LoadOutside pc address) = codes "load-outside " ++ (hex_word pc ++ (
 fault_text (StoreOutside pc address) = codes "store-outside " ++ (hex_word pc ++ (codes " address " ++ hex_word address))
 fault_text (Breakpoint pc) = codes "breakpoint " ++ hex_word pc
 fault_text (OutputLimit pc) = codes "output-limit " ++ hex_word pc
-fault_text (Unbuilt pc word) = codes "unbuilt " ++ (hex_word pc ++ (codes " word " ++ hex_word word))
 
 -- why a secret is rejected
 abbrev pub why_text : Why → List ℕ

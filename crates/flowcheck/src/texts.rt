@@ -91,7 +91,6 @@ fn fault_text(alloc: Global, fault: Fault) -> Result<Bytes, NoMemory>
         ),
         Fault::Breakpoint { pc } => with_word(alloc, "breakpoint ", pc),
         Fault::OutputLimit { pc } => with_word(alloc, "output-limit ", pc),
-        Fault::Unbuilt { pc, word } => with_words(alloc, "unbuilt ", pc, " word ", word),
     }
 }
 
