@@ -1,5 +1,5 @@
-//! What each call of a guest answers: the calls' numbers, descriptors, bytes that are inside guest memory, and the break.
-//! All is a function of numbers; nothing here takes memory.
+//! What each call of a guest answers: numbers of calls, error answers, bytes that are inside guest memory, reads,
+//! writes and the break. All is a function of numbers; nothing here takes memory.
 #![tactic(auto)]
 
 mod breaks;

@@ -94,8 +94,8 @@ pub(crate) fn plan_break(machine: &Machine, request: u32) -> CallPlan
 }
 
 impl Machine {
-    /// What a call of these arguments does, by Linux for RISC-V; an exit asks no argument but its number here, and its
-    /// status is taken when it is carried out.
+    /// What a call does, by the numbers of Linux for RISC-V, once its arguments have gone on. A call that asks for fewer
+    /// of them passes over the others; an exit's status is taken from a0 when the exit is carried out.
     pub fn call_plan(&self, arguments: &Arguments) -> CallPlan
         ensures plan { result ≡ plan_of self.now.setting self.now.control arguments.now }
         ensures may { MayPerform result self.now }
