@@ -1,0 +1,71 @@
+ghost use Rattle.std.specs.Prelude.{◌≡◌};
+ghost use Rattle.rv32im_asm.specs.Kinds.{number_of};
+
+use flow_base::NoMemory;
+use std::fmt;
+use thiserror::Error;
+
+/// Why a line gives no bytes, whatever the labels are.
+#[derive(Clone, Copy, Debug, PartialEq, Eq)]
+pub enum LineKind {
+    /// The line is not of a form that the language has.
+    Malformed,
+    /// An instruction or a word does not stand at a multiple of 4.
+    Misplaced,
+    /// The program exceeds 1 MiB with this line.
+    TooLong,
+    /// The program has no byte.
+    Empty,
+}
+
+impl LineKind {
+    /// The number of the kind, from 1 to 4.
+    pub fn number(self) -> u8
+        ensures { result ≡ number_of self }
+    {
+        match self {
+            LineKind::Malformed => 1,
+            LineKind::Misplaced => 2,
+            LineKind::TooLong => 3,
+            LineKind::Empty => 4,
+        }
+    }
+}
+
+impl fmt::Display for LineKind {
+    fn fmt<W: fmt::Write>(&self, f: &mut fmt::Formatter<W>) -> fmt::Result {
+        write!(f, "{}", self.number())
+    }
+}
+
+/// Why a source gives no program. Lines are counted from 1.
+#[derive(Debug, Drop, Error)]
+pub enum AsmFault {
+    /// The line fails by its form, its place or its size; or the program has no byte, with number 0.
+    #[error("line {number} kind {kind}")]
+    Line { number: u32, kind: LineKind },
+    /// An earlier line begins with the same label.
+    #[error("label-twice {number}")]
+    LabelTwice { number: u32 },
+    /// No line begins with the label that is named.
+    #[error("label-missing {number}")]
+    LabelMissing { number: u32 },
+    /// A number or an offset does not fit its field, or an offset is odd.
+    #[error("range {number}")]
+    ImmediateRange { number: u32 },
+    /// There was not enough memory.
+    #[error("out of memory")]
+    Memory,
+}
+
+impl From<NoMemory> for AsmFault {
+    ghost use Rattle.std.specs.Prelude.{◌≡◌};
+    ghost use Rattle.rv32im_asm.specs.declared.fault.AsmFault.TheVariants.{Memory};
+    ghost use Rattle.flow_base.specs.declared.lists.NoMemory.{NoMemory as TheNoMemory};
+
+    ghost from_gives = { λ _ fault. fault ≡ Memory };
+
+    fn from(_: NoMemory) -> AsmFault {
+        AsmFault::Memory
+    }
+}

@@ -1,0 +1,6 @@
+//! An assembler of RV32IM: sources to images.
+#![tactic(auto)]
+
+mod fault;
+
+pub use fault::{AsmFault, LineKind};
