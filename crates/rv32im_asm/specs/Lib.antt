@@ -1,1 +1,12 @@
 pub mod Kinds
+pub mod Lines
+pub mod Registers
+pub mod FirstWords
+pub mod Operands
+pub mod Statements
+pub mod Sizes
+pub mod Encodings
+pub mod Pieces
+pub mod Assembling
+pub mod Labels
+pub mod Answers

@@ -1,0 +1,106 @@
+-- The program of a source, or the fault of the first line that fails.
+use Rattle.std.specs.Prelude.{ℕ, ℤ, pos, ◌+◌, ◌-ℤ◌, ◌%◌, ◌==◌, ◌&&◌, nat_lt, not, Bool, true, false, List, [], ◌∷◌, ◌++◌, take, Option, Some, None, Result, Ok, Err, unwrap_or, option_map, if◌then◌else◌}
+use Rattle.std.specs.Option.{option_and_then}
+use Rattle.elf32_loader.specs.Pictures.{Picture}
+use Rattle.elf32_loader.specs.Programs.{single}
+use Rattle.rv32im_asm.specs.Lines.{label_of, lines_of}
+use Rattle.rv32im_asm.specs.Statements.{Meaning, said_by}
+use Rattle.rv32im_asm.specs.Sizes.{place_of, size_of, total_size}
+use Rattle.rv32im_asm.specs.Encodings.{bytes_with}
+use Rattle.rv32im_asm.specs.declared.fault.AsmFault.{AsmFault}
+use Rattle.rv32im_asm.specs.declared.fault.AsmFault.TheVariants.{Line, LabelTwice, LabelMissing, ImmediateRange}
+use Rattle.rv32im_asm.specs.declared.fault.LineKind.TheVariants.{Malformed, Misplaced, TooLong, Empty}
+use Rattle.rv32im_asm.specs.declared.places.Place.{Place}
+use Rattle.rv32im_asm.specs.declared.statements.Operation.{Operation}
+use Rattle.rv32im_asm.specs.declared.statements.Operation.TheVariants as the
+
+-- the address of the program and its entry, and the bytes that it has at most
+abbrev pub start : ℕ
+start = 65536
+
+abbrev pub largest : ℕ
+largest = 1048576
+
+-- ---- a line at its place, with the places of labels
+
+-- instructions and words stand at multiples of 4
+abbrev pub is_aligned : Operation → Bool
+is_aligned the.Nothing = false
+is_aligned the.Byte = false
+is_aligned the.Zero = false
+is_aligned _ = true
+
+-- the bytes of an operation whose number is that of a label, by the bytes before both: branches and jumps go by the bytes
+-- from themselves, and la takes the address; no other operation names a label
+abbrev pub placed_bytes : Operation → ℕ → ℕ → Option (List ℕ)
+placed_bytes (the.Branch kind rs1 rs2) here offset = bytes_with (the.Branch kind rs1 rs2) (pos offset -ℤ pos here)
+placed_bytes (the.Jal rd) here offset = bytes_with (the.Jal rd) (pos offset -ℤ pos here)
+placed_bytes (the.Constant rd) here offset = bytes_with (the.Constant rd) (pos (start + offset))
+placed_bytes _ here offset = None
+
+-- a label behind a line of no size has no address; that line fails by itself
+abbrev pub unplaced_bytes : Operation → Option (List ℕ)
+unplaced_bytes (the.Branch kind rs1 rs2) = Some []
+unplaced_bytes (the.Jal rd) = Some []
+unplaced_bytes (the.Constant rd) = Some []
+unplaced_bytes _ = None
+
+abbrev pub label_bytes : Operation → ℕ → Option ℕ → Option (List ℕ)
+label_bytes operation here None = unplaced_bytes operation
+label_bytes operation here (Some offset) = placed_bytes operation here offset
+
+abbrev pub or_range : ℕ → Option (List ℕ) → Result (List ℕ) AsmFault
+or_range line None = Err (ImmediateRange line)
+or_range line (Some bytes) = Ok bytes
+
+abbrev pub bytes_by : ℕ → Operation → ℕ → Option Place → Result (List ℕ) AsmFault
+bytes_by line operation here None = Err (LabelMissing line)
+bytes_by line operation here (Some place) = or_range line (label_bytes operation here place.offset)
+
+abbrev pub bytes_for : (List ℕ → Option Place) → ℕ → Operation → ℕ → ℤ → Option (List ℕ) → Result (List ℕ) AsmFault
+bytes_for places line operation here number None = or_range line (bytes_with operation number)
+bytes_for places line operation here number (Some name) = bytes_by line operation here (places name)
+
+-- an earlier line than the one of this index begins with the same label
+abbrev pub is_taken : ℕ → Option Place → Bool
+is_taken index None = false
+is_taken index (Some place) = nat_lt place.index index
+
+-- the bytes of a line with a meaning, or its fault
+abbrev pub reading_with : (List ℕ → Option Place) → ℕ → ℕ → Bool → Meaning → Result (List ℕ) AsmFault
+reading_with places line here taken meaning =
+    if is_aligned meaning.operation && not (here % 4 == 0) then Err (Line line Misplaced) else
+    if nat_lt largest (here + unwrap_or (size_of meaning) 0) then Err (Line line TooLong) else
+    if taken then Err (LabelTwice line) else
+    bytes_for places line meaning.operation here meaning.value.number meaning.value.label
+
+abbrev pub reading_of : (List ℕ → Option Place) → ℕ → ℕ → Option Place → Option Meaning → Result (List ℕ) AsmFault
+reading_of places index here own None = Err (Line (index + 1) Malformed)
+reading_of places index here own (Some meaning) = reading_with places (index + 1) here (is_taken index own) meaning
+
+-- the bytes of a line, or its fault, where the lines before it have `here` bytes
+abbrev pub reading : (List ℕ → Option Place) → ℕ → ℕ → List ℕ → Result (List ℕ) AsmFault
+reading places index here line = reading_of places index here (option_and_then places (label_of line)) (said_by line)
+
+-- ---- the whole
+
+-- bytes and then what follows, or the first fault
+abbrev pub joined : Result (List ℕ) AsmFault → Result (List ℕ) AsmFault → Result (List ℕ) AsmFault
+joined (Err fault) rest = Err fault
+joined (Ok bytes) (Err fault) = Err fault
+joined (Ok bytes) (Ok more) = Ok (bytes ++ more)
+
+-- the bytes of these of the lines, the first of which has this index, or the fault of the first that fails
+abbrev pub readings : List (List ℕ) → ℕ → List (List ℕ) → Result (List ℕ) AsmFault
+readings lines index [] = Ok []
+readings lines index (line ∷ rest) =
+    joined (reading (place_of lines) index (unwrap_or (total_size (take index lines)) 0) line) (readings lines (index + 1) rest)
+
+-- a program has a byte; it is one segment at its start, which is its entry
+abbrev pub program_of : Result (List ℕ) AsmFault → Result Picture AsmFault
+program_of (Err fault) = Err fault
+program_of (Ok []) = Err (Line 0 Empty)
+program_of (Ok (byte ∷ bytes)) = Ok (single start start (byte ∷ bytes))
+
+abbrev pub assembled : List ℕ → Result Picture AsmFault
+assembled source = program_of (readings (lines_of source) 0 (lines_of source))

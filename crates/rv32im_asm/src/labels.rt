@@ -1,0 +1,55 @@
+ghost use Rattle.std.specs.Prelude.{◌≡◌, ℕ, List as Seq, None, Some, OnOk, option_map};
+ghost use Rattle.rv32im_asm.specs.Labels.{noted, places_in};
+
+use crate::places::Place;
+use flow_base::NoMemory;
+use std::alloc::Global;
+use std::collections::BTreeMap;
+
+/// The place of each label.
+#[derive(Drop)]
+pub struct Labels<'a> {
+    pub places: BTreeMap<&'a [u8], Place>,
+}
+
+impl<'a> Labels<'a> {
+    /// No label.
+    pub fn new(alloc: Global) -> Labels<'a>
+        ensures { (name : Seq ℕ) → places_in result name ≡ None }
+    {
+        Labels {
+            places: BTreeMap::new(alloc),
+        }
+    }
+
+    /// The place of a label.
+    pub fn place(&self, label: &[u8]) -> Option<Place>
+        ensures { result ≡ places_in self.now label.now }
+    {
+        self.places.get(label).copied()
+    }
+
+    /// Notes the place of a label, where a line begins with one that has none yet.
+    pub fn note(&mut self, label: Option<&'a [u8]>, place: Place) -> Result<(), NoMemory>
+        ensures { OnOk result ((name : Seq ℕ)
+            → places_in self.new name ≡ noted name (option_map (λ l. l.now) label.entry) place (places_in self.old name)) }
+    {
+        match label {
+            Some(name) => self.add(name, place),
+            None => Ok(()),
+        }
+    }
+
+    fn add(&mut self, label: &'a [u8], place: Place) -> Result<(), NoMemory>
+        ensures { OnOk result ((name : Seq ℕ)
+            → places_in self.new name ≡ noted name (Some label.entry.now) place (places_in self.old name)) }
+    {
+        if self.place(label).is_some() {
+            return Ok(());
+        }
+        match self.places.insert(label, place) {
+            Ok(_) => Ok(()),
+            Err(_) => Err(NoMemory),
+        }
+    }
+}
