@@ -12,7 +12,8 @@ parts_of text = slice_split (λ byte. byte == 44) text
 pub parts-none : (text : List ℕ) → cut_at 44 text ≡ None → parts_of text ≡ text ∷ []
 parts-none text h = commas-cut text ∙ ap (commas_in text) h
 
-pub parts-some : (text front back : List ℕ) → cut_at 44 text ≡ Some (front, back) → parts_of text ≡ front ∷ parts_of back
+pub parts-some : (text front back : List ℕ) → cut_at 44 text ≡ Some (front, back) → parts_of text
+    ≡ front ∷ parts_of back
 parts-some text front back h = commas-cut text ∙ ap (commas_in text) h
 
 -- a text has a part
@@ -55,7 +56,8 @@ two-none (byte ∷ rest) h = ap two_of (operands-none byte rest h)
 pub two-last : (text first second : List ℕ) → cut_at 44 text ≡ Some (first, second) → cut_at 44 second ≡ None
     → two_of (operands_in text) ≡ Some (trimmed first, trimmed second)
 two-last text first second h last =
-    ap two_of (operands-some text first second h ∙ ap (λ others. trimmed first ∷ map trimmed others) (parts-none second last))
+    ap two_of (operands-some text first second h ∙ ap (λ others. trimmed first ∷ map trimmed others)
+    (parts-none second last))
 
 two_more : (text first second : List ℕ) (found : Option (List ℕ × List ℕ)) → cut_at 44 text ≡ Some (first, second)
     → cut_at 44 second ≡ found → found ≢ None → two_of (operands_in text) ≡ None
@@ -76,7 +78,8 @@ three-none (byte ∷ rest) h = ap three_of (operands-none byte rest h)
 pub three-two : (text first rest : List ℕ) → cut_at 44 text ≡ Some (first, rest) → cut_at 44 rest ≡ None
     → three_of (operands_in text) ≡ None
 three-two text first rest h last =
-    ap three_of (operands-some text first rest h ∙ ap (λ others. trimmed first ∷ map trimmed others) (parts-none rest last))
+    ap three_of (operands-some text first rest h ∙ ap (λ others. trimmed first ∷ map trimmed others)
+    (parts-none rest last))
 
 pub three-last : (text first rest second third : List ℕ) → cut_at 44 text ≡ Some (first, rest)
     → cut_at 44 rest ≡ Some (second, third) → cut_at 44 third ≡ None
@@ -85,8 +88,10 @@ three-last text first rest second third h next last =
     ap three_of (operands-some text first rest h ∙ ap (λ others. trimmed first ∷ map trimmed others)
     (parts-some rest second third next ∙ ap (λ others. second ∷ others) (parts-none third last)))
 
-three_more : (text first rest second third : List ℕ) (found : Option (List ℕ × List ℕ)) → cut_at 44 text ≡ Some (first, rest)
-    → cut_at 44 rest ≡ Some (second, third) → cut_at 44 third ≡ found → found ≢ None → three_of (operands_in text) ≡ None
+three_more : (text first rest second third : List ℕ) (found : Option (List ℕ × List ℕ)) → cut_at 44 text
+    ≡ Some (first, rest)
+    → cut_at 44 rest ≡ Some (second, third) → cut_at 44 third ≡ found → found ≢ None → three_of (operands_in text)
+    ≡ None
 three_more text first rest second third None h next is more = absurd (more refl)
 three_more text first rest second third (Some parts) h next is more =
     let (fourth, others, last) = part_of parts.1 in

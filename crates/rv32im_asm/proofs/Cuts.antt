@@ -1,5 +1,6 @@
 -- A text cut at a byte.
-use Rattle.std.proofs.Common.{◌≡◌, ℕ, ◌+◌, ◌<◌, ◌==◌, nat_lt, Bool, true, false, List, [], ◌∷◌, length, take, drop, Option, Some, None, option_map, cond, add-one, refl, ap, sym, ◌∙◌, arith, drop-cons}
+use Rattle.std.proofs.Common.{◌≡◌, ℕ, ◌+◌, ◌<◌, ◌==◌, Bool, true, false, List, [], ◌∷◌, length, take, drop, Option}
+use Rattle.std.proofs.Common.{Some, None, option_map, cond, refl, ap, ◌∙◌, arith}
 use Rattle.std.proofs.lemmas.Grind.{common_steps}
 use Rattle.std.specs.List.{position, onto_first, slice_split}
 use Rattle.rv32im_asm.specs.Lines.{cut_at, lines_of}
@@ -33,7 +34,8 @@ place_step false value byte rest other known =
     rw (place_in-no value byte rest other) (place_more value byte rest (place_in value rest) other known)
 
 pub cut_at-place : (value : ℕ) (text : List ℕ)
-    → cut_at value text ≡ option_map (λ place. (take place text, drop (place + 1) text)) (position (λ byte. byte == value) text)
+    → cut_at value text ≡ option_map (λ place. (take place text, drop (place + 1) text)) (position
+    (λ byte. byte == value) text)
 cut_at-place value [] = refl
 cut_at-place value (byte ∷ rest) = place_step (byte == value) value byte rest refl (cut_at-place value rest)
 
@@ -52,7 +54,8 @@ onto_line : (byte : ℕ) (rest : List ℕ) (found : Option (List ℕ × List ℕ
 onto_line byte rest None = refl
 onto_line byte rest (Some parts) = refl
 
-line_step : (b : Bool) (byte next : ℕ) (rest : List ℕ) → lines_of (next ∷ rest) ≡ lines_in (next ∷ rest) (cut_at 10 (next ∷ rest))
+line_step : (b : Bool) (byte next : ℕ) (rest : List ℕ) → lines_of (next ∷ rest)
+    ≡ lines_in (next ∷ rest) (cut_at 10 (next ∷ rest))
     → cond b ([] ∷ lines_of (next ∷ rest)) (onto_first byte (lines_of (next ∷ rest)))
     ≡ lines_in (byte ∷ (next ∷ rest)) (cond b (Some ([], next ∷ rest))
     (option_map (λ parts. (byte ∷ parts.0, parts.1)) (cut_at 10 (next ∷ rest))))
@@ -65,11 +68,13 @@ last_line : (b : Bool) (byte : ℕ)
 last_line true byte = refl
 last_line false byte = refl
 
-pub lines_of-cut : (byte : ℕ) (rest : List ℕ) → lines_of (byte ∷ rest) ≡ lines_in (byte ∷ rest) (cut_at 10 (byte ∷ rest))
+pub lines_of-cut : (byte : ℕ) (rest : List ℕ) → lines_of (byte ∷ rest)
+    ≡ lines_in (byte ∷ rest) (cut_at 10 (byte ∷ rest))
 lines_of-cut byte [] = last_line (byte == 10) byte
 lines_of-cut byte (next ∷ rest) = line_step (byte == 10) byte next rest (lines_of-cut next rest)
 
-pub lines_of-some : (text front back : List ℕ) → cut_at 10 text ≡ Some (front, back) → lines_of text ≡ front ∷ lines_of back
+pub lines_of-some : (text front back : List ℕ) → cut_at 10 text ≡ Some (front, back) → lines_of text
+    ≡ front ∷ lines_of back
 lines_of-some [] front back h = absurd (grind arith)
 lines_of-some (byte ∷ rest) front back h = lines_of-cut byte rest ∙ ap (lines_in (byte ∷ rest)) h
 
@@ -92,9 +97,11 @@ onto_part : (byte : ℕ) (rest : List ℕ) (found : Option (List ℕ × List ℕ
 onto_part byte rest None = refl
 onto_part byte rest (Some parts) = refl
 
-comma_step : (b : Bool) (byte : ℕ) (rest : List ℕ) → slice_split (λ byte. byte == 44) rest ≡ commas_in rest (cut_at 44 rest)
+comma_step : (b : Bool) (byte : ℕ) (rest : List ℕ) → slice_split (λ byte. byte == 44) rest
+    ≡ commas_in rest (cut_at 44 rest)
     → cond b ([] ∷ slice_split (λ byte. byte == 44) rest) (onto_first byte (slice_split (λ byte. byte == 44) rest))
-    ≡ commas_in (byte ∷ rest) (cond b (Some ([], rest)) (option_map (λ parts. (byte ∷ parts.0, parts.1)) (cut_at 44 rest)))
+    ≡ commas_in (byte ∷ rest) (cond b (Some ([], rest)) (option_map (λ parts. (byte ∷ parts.0, parts.1))
+    (cut_at 44 rest)))
 comma_step true byte rest known = refl
 comma_step false byte rest known = ap (onto_first byte) known ∙ onto_part byte rest (cut_at 44 rest)
 

@@ -1,5 +1,7 @@
 -- The sizes of lines and the places of labels, line by line.
-use Rattle.std.proofs.Common.{◌≡◌, ℕ, ◌+◌, ◌*◌, ◌^◌, ◌≤◌, ◌<◌, IfSome, Bool, true, false, cond, List, [], ◌∷◌, ◌++◌, length, take, Option, Some, None, option_map, zero-add, refl, ap, sym, ◌∙◌, subst, arith}
+use Rattle.std.proofs.Common.{◌≡◌, ℕ, ◌+◌, ◌*◌, ◌^◌, ◌≤◌, ◌<◌, IfSome, Bool, true, false, cond, List, [], ◌∷◌, ◌++◌}
+use Rattle.std.proofs.Common.{length, take, Option, Some, None, option_map, zero-add, refl, ap, sym, ◌∙◌, subst}
+use Rattle.std.proofs.Common.{arith}
 use Rattle.std.proofs.lemmas.Grind.{common_steps}
 use Rattle.std.proofs.lemmas.Slice.Eq.{bytes_eq-Decides}
 use Rattle.std.specs.Str.{bytes_eq}
@@ -24,7 +26,8 @@ noted_step false label name place old (Some first) new other none is known = kno
 pub same_text : (label name : List ℕ) → bytes_eq label name ≡ true → label ≡ name
 same_text label name same = grind (arith, common_steps, bytes_eq-Decides label name)
 
-pub noted_after : (label name : List ℕ) (place : Place) (old : List ℕ → Option Place) (new : Option Place) → old label ≡ None
+pub noted_after : (label name : List ℕ) (place : Place) (old : List ℕ → Option Place) (new : Option Place)
+    → old label ≡ None
     → new ≡ cond (bytes_eq label name) (Some place) (old name) → new ≡ noted name (Some label) place (old name)
 noted_after label name place old new none known =
     noted_step (bytes_eq label name) label name place (old name) (old name) new refl
@@ -32,7 +35,8 @@ noted_after label name place old new none known =
 
 -- ---- sizes
 
-both_assoc : (a b c : Option ℕ) → both (λ m n. m + n) a (both (λ m n. m + n) b c) ≡ both (λ m n. m + n) (both (λ m n. m + n) a b) c
+both_assoc : (a b c : Option ℕ) → both (λ m n. m + n) a (both (λ m n. m + n) b c)
+    ≡ both (λ m n. m + n) (both (λ m n. m + n) a b) c
 both_assoc None b c = refl
 both_assoc (Some m) None c = refl
 both_assoc (Some m) (Some n) None = refl
@@ -57,7 +61,8 @@ or_behind None passes place = cond passes (Some place) None
 or_behind (Some first) passes place = Some first
 
 push_step : (b : Bool) (p : List ℕ → Bool) (index : ℕ) (lines : List (List ℕ)) (line : List ℕ)
-    → position_from p (index + 1) (lines ++ line ∷ []) ≡ or_behind (position_from p (index + 1) lines) (p line) (index + 1 + length lines)
+    → position_from p (index + 1) (lines ++ line ∷ []) ≡ or_behind (position_from p (index + 1) lines) (p line)
+    (index + 1 + length lines)
     → cond b (Some index) (position_from p (index + 1) (lines ++ line ∷ []))
     ≡ or_behind (cond b (Some index) (position_from p (index + 1) lines)) (p line) (index + (1 + length lines))
 push_step true p index lines line known = refl
@@ -65,7 +70,8 @@ push_step false p index lines line known =
     known ∙ ap (or_behind (position_from p (index + 1) lines) (p line)) (omega arith)
 
 position_push : (p : List ℕ → Bool) (index : ℕ) (lines : List (List ℕ)) (line : List ℕ)
-    → position_from p index (lines ++ line ∷ []) ≡ or_behind (position_from p index lines) (p line) (index + length lines)
+    → position_from p index (lines ++ line ∷ []) ≡ or_behind (position_from p index lines) (p line)
+    (index + length lines)
 position_push p index [] line = ap (or_behind None (p line)) (omega arith)
 position_push p index (first ∷ lines) line =
     push_step (p first) p index lines line (position_push p (index + 1) lines line)
@@ -92,23 +98,27 @@ place_behind : (b : Bool) (lines : List (List ℕ)) (line : List ℕ)
     ≡ cond b (Some (record { index = length lines; offset = total_size lines })) None
 place_behind true lines line =
     ap (λ index. Some (place_at (lines ++ line ∷ []) index)) (zero-add (length lines))
-    ∙ ap (λ front. Some (record { index = length lines; offset = total_size front })) (take-append_seam lines (line ∷ []))
+    ∙ ap (λ front. Some (record { index = length lines; offset = total_size front })) (take-append_seam lines
+    (line ∷ []))
 place_behind false lines line = refl
 
 place_push : (lines : List (List ℕ)) (line name : List ℕ) (found : Option ℕ)
     → position_from (λ other. is_label name (label_of other)) 0 lines ≡ found
     → option_map (place_at (lines ++ line ∷ [])) (or_behind found (is_label name (label_of line)) (0 + length lines))
-    ≡ noted name (label_of line) (record { index = length lines; offset = total_size lines }) (option_map (place_at lines) found)
+    ≡ noted name (label_of line) (record { index = length lines; offset = total_size lines }) (option_map
+    (place_at lines) found)
 place_push lines line name None h = place_behind (is_label name (label_of line)) lines line
 place_push lines line name (Some place) h =
     let below : place < 0 + length lines = position_below _ 0 lines place h in
-    ap (λ front. Some (record { index = place; offset = total_size front })) (take-append-le place lines (line ∷ []) (omega arith))
+    ap (λ front. Some (record { index = place; offset = total_size front })) (take-append-le place lines (line ∷ [])
+    (omega arith))
 
 pub place_of-push : (lines : List (List ℕ)) (line name : List ℕ)
     → place_of (lines ++ line ∷ []) name
     ≡ noted name (label_of line) (record { index = length lines; offset = total_size lines }) (place_of lines name)
 place_of-push lines line name =
-    ap (option_map (place_at (lines ++ line ∷ []))) (position_push (λ other. is_label name (label_of other)) 0 lines line)
+    ap (option_map (place_at (lines ++ line ∷ []))) (position_push (λ other. is_label name
+    (label_of other)) 0 lines line)
     ∙ place_push lines line name (position_from (λ other. is_label name (label_of other)) 0 lines) refl
 
 -- ---- nearness
@@ -117,7 +127,8 @@ near_step : (b : Bool) (place : Place) → IsNear (Some place) → IsNear (cond 
 near_step true place near = near
 near_step false place near = tt
 
-pub noted_near : (name : List ℕ) (label : Option (List ℕ)) (place : Place) (old : Option Place) → IsNear (Some place) → IsNear old
+pub noted_near : (name : List ℕ) (label : Option (List ℕ)) (place : Place) (old : Option Place)
+    → IsNear (Some place) → IsNear old
     → IsNear (noted name label place old)
 noted_near name label place None near known = near_step (is_label name label) place near
 noted_near name label place (Some first) near known = known
@@ -133,10 +144,12 @@ places_next front line name index offset label old new count sum own known note 
     note ∙ (ap (λ o. noted name label (record { index = index; offset = offset }) o) known
     ∙ (ap (λ l. noted name l (record { index = index; offset = offset }) (place_of front name)) own
     ∙ (ap (λ o. noted name (label_of line) (record { index = index; offset = o }) (place_of front name)) sum
-    ∙ (ap (λ i. noted name (label_of line) (record { index = i; offset = total_size front }) (place_of front name)) (sym count)
+    ∙ (ap (λ i. noted name (label_of line) (record { index = i; offset = total_size front }) (place_of front name))
+    (sym count)
     ∙ sym (place_of-push front line name)))))
 
-pub nearby : (offset : Option ℕ) (index : ℕ) → IfSome offset (λ n. n ≤ index * 1048576) → index < 2 ^ 32 → IsNearBy offset
+pub nearby : (offset : Option ℕ) (index : ℕ) → IfSome offset (λ n. n ≤ index * 1048576) → index < 2 ^ 32
+    → IsNearBy offset
 nearby None index small low = tt
 nearby (Some n) index small low = omega (arith, small)
 

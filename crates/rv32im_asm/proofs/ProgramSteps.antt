@@ -1,5 +1,6 @@
 -- The bytes of lines, line by line.
-use Rattle.std.proofs.Common.{◌≡◌, ℕ, ◌+◌, List, [], ◌∷◌, ◌++◌, length, take, Option, Some, None, Result, Ok, Err, unwrap_or, refl, ap, sym, ◌∙◌, append_assoc, arith}
+use Rattle.std.proofs.Common.{◌≡◌, ℕ, ◌+◌, List, ◌∷◌, ◌++◌, take, Option, Some, Result, Ok, Err, unwrap_or, refl, ap}
+use Rattle.std.proofs.Common.{sym, ◌∙◌, append_assoc}
 use mathlib.Core.Path.{fun_ext}
 use Rattle.rv32im_asm.specs.Assembling.{joined, reading, readings}
 use Rattle.rv32im_asm.specs.Sizes.{place_of, total_size}
@@ -29,7 +30,8 @@ joined-twice : (program bytes : List ℕ) (rest : Result (List ℕ) AsmFault)
 joined-twice program bytes (Err fault) = refl
 joined-twice program bytes (Ok more) = ap Ok (append_assoc program bytes more)
 
-pub bytes_step : (all more : List (List ℕ)) (index here : ℕ) (line program bytes : List ℕ) (places : List ℕ → Option Place)
+pub bytes_step : (all more : List (List ℕ)) (index here : ℕ) (line program bytes : List ℕ) (places : List ℕ
+    → Option Place)
     → ((name : List ℕ) → places name ≡ place_of all name) → total_size (take index all) ≡ Some here
     → Ok bytes ≡ reading places index here line
     → joined (Ok program) (readings all index (line ∷ more)) ≡ readings all 0 all

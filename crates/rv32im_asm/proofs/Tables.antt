@@ -3,7 +3,7 @@ use Rattle.std.proofs.Common.{◌≡◌, map, refl}
 use Rattle.rv32im_asm.specs.Registers.{plain_names, convention_names}
 use Rattle.rv32im_asm.specs.FirstWords.{first_words}
 use Rattle.rv32im_asm.specs.declared.registers.TheConstants.{PLAIN_NAMES, CONVENTION_NAMES}
-use Rattle.rv32im_asm.specs.declared.words.TheConstants.{FIRST_WORDS}
+use Rattle.rv32im_asm.specs.declared.first_words.TheConstants.{FIRST_WORDS}
 
 pub plain_table : map (λ name. name.now) PLAIN_NAMES ≡ plain_names
 unfolding plain_names

@@ -1,5 +1,6 @@
 -- The program of a source, or the fault of the first line that fails.
-use Rattle.std.specs.Prelude.{ℕ, ℤ, pos, ◌+◌, ◌-ℤ◌, ◌%◌, ◌==◌, ◌&&◌, nat_lt, not, Bool, true, false, List, [], ◌∷◌, ◌++◌, take, Option, Some, None, Result, Ok, Err, unwrap_or, option_map, if◌then◌else◌}
+use Rattle.std.specs.Prelude.{ℕ, ℤ, pos, ◌+◌, ◌-ℤ◌, ◌%◌, ◌==◌, ◌&&◌, nat_lt, not, Bool, true, false, List, [], ◌∷◌}
+use Rattle.std.specs.Prelude.{◌++◌, take, Option, Some, None, Result, Ok, Err, unwrap_or, if◌then◌else◌}
 use Rattle.std.specs.Option.{option_and_then}
 use Rattle.elf32_loader.specs.Pictures.{Picture}
 use Rattle.elf32_loader.specs.Programs.{single}
@@ -30,8 +31,8 @@ is_aligned the.Byte = false
 is_aligned the.Zero = false
 is_aligned _ = true
 
--- the bytes of an operation whose number is that of a label, by the bytes before both: branches and jumps go by the bytes
--- from themselves, and la takes the address; no other operation names a label
+-- the bytes of an operation whose number is that of a label, by the bytes before both: branches and jumps go by the
+-- bytes from themselves, and la takes the address; no other operation names a label
 abbrev pub placed_bytes : Operation → ℕ → ℕ → Option (List ℕ)
 placed_bytes (the.Branch kind rs1 rs2) here offset = bytes_with (the.Branch kind rs1 rs2) (pos offset -ℤ pos here)
 placed_bytes (the.Jal rd) here offset = bytes_with (the.Jal rd) (pos offset -ℤ pos here)
@@ -94,7 +95,8 @@ joined (Ok bytes) (Ok more) = Ok (bytes ++ more)
 abbrev pub readings : List (List ℕ) → ℕ → List (List ℕ) → Result (List ℕ) AsmFault
 readings lines index [] = Ok []
 readings lines index (line ∷ rest) =
-    joined (reading (place_of lines) index (unwrap_or (total_size (take index lines)) 0) line) (readings lines (index + 1) rest)
+    joined (reading (place_of lines) index (unwrap_or (total_size (take index lines)) 0) line) (readings lines
+    (index + 1) rest)
 
 -- a program has a byte; it is one segment at its start, which is its entry
 abbrev pub program_of : Result (List ℕ) AsmFault → Result Picture AsmFault

@@ -1,5 +1,6 @@
 -- The sizes of lines in bytes, and the places of labels.
-use Rattle.std.specs.Prelude.{ℕ, ℤ, pos, neg_ℤ, nat_abs, int_le, ◌+◌, ◌&&◌, Bool, false, List, [], ◌∷◌, take, Option, Some, None, option_map, if◌then◌else◌}
+use Rattle.std.specs.Prelude.{ℕ, ℤ, pos, nat_abs, int_le, ◌+◌, ◌&&◌, Bool, false, List, [], ◌∷◌, take, Option, Some}
+use Rattle.std.specs.Prelude.{None, option_map, if◌then◌else◌}
 use Rattle.std.specs.Option.{option_and_then}
 use Rattle.std.specs.List.{position_from}
 use Rattle.std.specs.Str.{bytes_eq}
@@ -8,7 +9,7 @@ use Rattle.rv32im_asm.specs.Operands.{both}
 use Rattle.rv32im_asm.specs.Statements.{Meaning, said_by}
 use Rattle.rv32im_asm.specs.declared.places.Place.{Place}
 use Rattle.rv32im_asm.specs.declared.statements.Operation.{Operation}
-use Rattle.rv32im_asm.specs.declared.statements.Operation.TheVariants.{Nothing, Constant, Word, Byte, Zero}
+use Rattle.rv32im_asm.specs.declared.statements.Operation.TheVariants.{Nothing, Constant, Byte, Zero}
 
 abbrev pub is_between : ℤ → ℤ → ℤ → Bool
 is_between low high number = int_le low number && int_le number high

@@ -1,11 +1,14 @@
-ghost use Rattle.std.specs.Prelude.{◌≡◌, ◌≢◌, ℕ, ◌+◌, ◌<◌, ◌≤◌, ◌^◌, ◌++◌, List as Seq, Err, IfOk, IfSome, OnOk, length, replicate};
+ghost use Rattle.std.specs.Prelude.{◌≡◌, ◌≢◌, ℕ, ◌+◌, ◌<◌, ◌≤◌, ◌^◌, ◌++◌, List as Seq, Err, IfOk, IfSome, OnOk};
+ghost use Rattle.std.specs.Prelude.{length, replicate};
 ghost use Rattle.std.specs.Prelude.{ℤ, Some, option_map};
 ghost use Rattle.std.specs.Option.{option_and_then, option_copied};
 ghost use Rattle.elf32_loader.specs.Images.{picture_of};
 ghost use Rattle.elf32_loader.specs.Programs.{single};
 ghost use Rattle.rv32im_asm.specs.Answers.{answer_of};
-ghost use Rattle.rv32im_asm.specs.Assembling.{assembled, bytes_for, is_aligned as stands_aligned, placed_bytes, unplaced_bytes};
-ghost use Rattle.rv32im_asm.specs.Assembling.{is_taken as is_taken_by, or_range as or_range_fault, reading as read_as, reading_with};
+ghost use Rattle.rv32im_asm.specs.Assembling.{assembled, bytes_for, is_aligned as stands_aligned, placed_bytes};
+ghost use Rattle.rv32im_asm.specs.Assembling.{unplaced_bytes};
+ghost use Rattle.rv32im_asm.specs.Assembling.{is_taken as is_taken_by, or_range as or_range_fault};
+ghost use Rattle.rv32im_asm.specs.Assembling.{reading as read_as, reading_with};
 ghost use Rattle.rv32im_asm.specs.Assembling.{readings};
 ghost use Rattle.rv32im_asm.specs.Encodings.{bytes_with};
 ghost use Rattle.rv32im_asm.specs.Labels.{IsNear, IsNearBy, places_in};
@@ -22,6 +25,7 @@ use crate::labels::Labels;
 use crate::lines::label;
 use crate::meanings::statement_in;
 use crate::pieces::{Piece, encode_operation, size};
+use crate::placing::place_labels;
 use crate::places::Place;
 use crate::statements::{Operation, Statement};
 use elf32_loader::{Image, Segment};
@@ -33,48 +37,6 @@ const START: u32 = 0x1_0000;
 
 /// The number of bytes that a program may have.
 const LARGEST: u64 = 0x10_0000;
-
-/// The size in bytes of a line; None where it is not of a form.
-fn line_size(line: &[u8]) -> Option<u64>
-    ensures exact { result ≡ size_of_line line.now }
-    ensures small { IfSome result (λ size. size ≤ 1048576) }
-{
-    let statement = statement_in(line)?;
-    size(statement.operation, statement.value.number)
-}
-
-/// The size of some lines and one more.
-fn grown(offset: Option<u64>, line: &[u8]) -> Option<u64>
-    requires { IsNearBy offset }
-    ensures exact { result ≡ both (λ before size. before + size) offset (size_of_line line.now) }
-    ensures small { IfSome result (λ after. IfSome offset (λ before. after ≤ before + 1048576)) }
-{
-    let before = offset?;
-    let size = line_size(line)?;
-    Some(before + size)
-}
-
-/// The places of the labels of a source.
-fn labels<'a>(alloc: Global, source: &'a [u8]) -> Result<Labels<'a>, NoMemory>
-    requires { length source.now < 2 ^ 32 }
-    ensures places { IfOk result (λ labels. (name : Seq ℕ)
-        → places_in labels name ≡ place_of (lines_of source.entry.now) name) }
-    ensures near { IfOk result (λ labels. (name : Seq ℕ) → IsNear (places_in labels name)) }
-{
-    let mut labels = Labels::new(alloc);
-    let mut index: u64 = 0;
-    let mut offset: Option<u64> = Some(0);
-    let mut rest = source;
-    while !rest.is_empty() {
-        let (line, more) = first_line(rest);
-        let place = Place { index, offset };
-        labels.note(label(line), place)?;
-        offset = grown(offset, line);
-        index += 1;
-        rest = more;
-    }
-    Ok(labels)
-}
 
 /// Whether instructions and words stand there.
 fn is_aligned(operation: Operation) -> bool
@@ -104,10 +66,15 @@ fn placed(line: u32, operation: Operation, here: u64, offset: u64) -> Result<Pie
     requires here { here ≤ 1048576 }
     requires near { offset < 2 ^ 60 }
     ensures exact { piece_bytes result ≡ or_range_fault line (placed_bytes operation here offset) }
-    ensures sized { IfOk result (λ piece. (number : ℤ) → IsSized (size_with operation number) (length (bytes_in piece))) }
+    ensures sized { IfOk result (λ piece. (number : ℤ)
+        → IsSized (size_with operation number) (length (bytes_in piece))) }
 {
     match operation {
-        Operation::Branch { .. } | Operation::Jal { .. } => or_range(line, operation, offset as i64 - here as i64),
+        Operation::Branch { .. } | Operation::Jal { .. } => or_range(
+            line,
+            operation,
+            offset as i64 - here as i64,
+        ),
         Operation::Constant { .. } => or_range(line, operation, i64::from(START) + offset as i64),
         _ => Err(AsmFault::ImmediateRange { number: line }),
     }
@@ -116,10 +83,13 @@ fn placed(line: u32, operation: Operation, here: u64, offset: u64) -> Result<Pie
 /// The same where the label has no address, since a line before it has no size.
 fn unplaced(line: u32, operation: Operation) -> Result<Piece, AsmFault>
     ensures exact { piece_bytes result ≡ or_range_fault line (unplaced_bytes operation) }
-    ensures sized { IfOk result (λ piece. (number : ℤ) → IsSized (size_with operation number) (length (bytes_in piece))) }
+    ensures sized { IfOk result (λ piece. (number : ℤ)
+        → IsSized (size_with operation number) (length (bytes_in piece))) }
 {
     match operation {
-        Operation::Branch { .. } | Operation::Jal { .. } | Operation::Constant { .. } => Ok(Piece::Nothing),
+        Operation::Branch { .. } | Operation::Jal { .. } | Operation::Constant { .. } => Ok(
+            Piece::Nothing,
+        ),
         _ => Err(AsmFault::ImmediateRange { number: line }),
     }
 }
@@ -149,7 +119,8 @@ fn located(labels: &Labels, line: u32, here: u64, statement: Statement) -> Resul
 
 /// Whether an earlier line than the one of this index begins with its label.
 fn is_taken(labels: &Labels, index: u64, own: Option<&[u8]>) -> bool
-    ensures { result ≡ is_taken_by index (option_and_then (places_in labels.now) (option_map (λ name. name.now) own.entry)) }
+    ensures { result
+        ≡ is_taken_by index (option_and_then (places_in labels.now) (option_map (λ name. name.now) own.entry)) }
 {
     let Some(own) = own else { return false };
     match labels.place(own) {
@@ -165,11 +136,18 @@ fn line_fault(number: u32, kind: LineKind) -> AsmFault
 }
 
 /// The bytes and the size of a statement at its place, or the fault of its line.
-fn checked(labels: &Labels, line: u32, here: u64, taken: bool, statement: Statement) -> Result<(Piece, u64), AsmFault>
+fn checked(
+    labels: &Labels,
+    line: u32,
+    here: u64,
+    taken: bool,
+    statement: Statement,
+) -> Result<(Piece, u64), AsmFault>
     requires registers { HasRegisters statement.operation }
     requires here { here ≤ 1048576 }
     requires near { (name : Seq ℕ) → IsNear (places_in labels.now name) }
-    ensures exact { reading_bytes result ≡ reading_with (places_in labels.now) line here taken (meaning_of statement.entry) }
+    ensures exact { reading_bytes result
+        ≡ reading_with (places_in labels.now) line here taken (meaning_of statement.entry) }
     ensures sized { IfOk result (λ found. size_of (meaning_of statement.entry) ≡ Some found.1) }
     ensures shorter { IfOk result (λ found. length (bytes_in found.0) ≤ found.1) }
     ensures fits { IfOk result (λ found. here + found.1 ≤ 1048576) }
@@ -247,7 +225,7 @@ fn program(alloc: Global, source: &[u8]) -> Result<Bytes, AsmFault>
     ensures exact { result ≢ Err AsmFault.Memory → result ≡ readings (lines_of source.now) 0 (lines_of source.now) }
     ensures small { IfOk result (λ program. length program ≤ 1048576) }
 {
-    let labels = labels(alloc, source)?;
+    let labels = place_labels(alloc, source)?;
     let mut program: Vec<u8> = Vec::new(alloc);
     let mut index: u64 = 0;
     let mut here: u64 = 0;

@@ -3,7 +3,8 @@
 ghost use Rattle.std.specs.Prelude.{◌≡◌, ◌==◌, ◌+◌, ◌∷◌, ◌<◌, ◌≤◌, length, option_map, IfSome};
 ghost use Rattle.std.specs.List.{after_first, before_first, list_all, position};
 ghost use Rattle.rv32im_asm.specs.Lines.{cut_at as parts_at, first_word, is_blank as is_space, is_name as is_label};
-ghost use Rattle.rv32im_asm.specs.Lines.{lines_of, trimmed as without_blanks, without_blanks_after, without_blanks_before};
+ghost use Rattle.rv32im_asm.specs.Lines.{lines_of, trimmed as without_blanks, without_blanks_after};
+ghost use Rattle.rv32im_asm.specs.Lines.{without_blanks_before};
 ghost use Rattle.rv32im_asm.specs.Lines.{is_name_byte as may_follow, is_name_start as may_begin};
 
 /// The place of the first byte of this value.

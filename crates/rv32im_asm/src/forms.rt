@@ -53,7 +53,11 @@ pub fn value<'a>(wanted: Wanted, text: &'a [u8]) -> Option<Value<'a>>
     match wanted {
         Wanted::Number => number_value(text),
         Wanted::Label => label_value(text),
-        Wanted::Target => if is_name(text) { label_value(text) } else { number_value(text) },
+        Wanted::Target => if is_name(text) {
+            label_value(text)
+        } else {
+            number_value(text)
+        },
     }
 }
 

@@ -32,7 +32,8 @@ impl<'a> Labels<'a> {
     /// Notes the place of a label, where a line begins with one that has none yet.
     pub fn note(&mut self, label: Option<&'a [u8]>, place: Place) -> Result<(), NoMemory>
         ensures { OnOk result ((name : Seq ℕ)
-            → places_in self.new name ≡ noted name (option_map (λ l. l.now) label.entry) place (places_in self.old name)) }
+            → places_in self.new name
+            ≡ noted name (option_map (λ l. l.now) label.entry) place (places_in self.old name)) }
     {
         match label {
             Some(name) => self.add(name, place),

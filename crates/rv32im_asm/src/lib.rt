@@ -4,16 +4,17 @@
 mod assembling;
 mod cutting;
 mod fault;
+mod first_words;
 mod forms;
 mod labels;
 mod lines;
 mod meanings;
 mod numbers;
 mod pieces;
+mod placing;
 mod places;
 mod registers;
 mod statements;
-mod words;
 
 pub use assembling::assemble;
 pub use fault::{AsmFault, LineKind};

@@ -1,7 +1,8 @@
 //! The parts of a line.
 
 ghost use Rattle.std.specs.Prelude.{◌≡◌, option_map};
-ghost use Rattle.rv32im_asm.specs.Lines.{body_in, body_of, label_of, labelled as named_in, operands_in, one_of, stands_apart};
+ghost use Rattle.rv32im_asm.specs.Lines.{body_in, body_of, label_of, labelled as named_in, operands_in, one_of};
+ghost use Rattle.rv32im_asm.specs.Lines.{stands_apart};
 ghost use Rattle.rv32im_asm.specs.Lines.{text_of, three_of, two_of};
 
 use crate::cutting::{before, cut_at, is_blank, is_name, trim_start, trimmed};
@@ -18,7 +19,11 @@ fn labelled<'a>(text: &'a [u8]) -> Option<(&'a [u8], &'a [u8])>
     ensures { option_map (λ parts. (parts.0.now, parts.1.now)) result ≡ named_in text.entry.now }
 {
     let (name, rest) = cut_at(b':', text)?;
-    if is_name(name) { Some((name, rest)) } else { None }
+    if is_name(name) {
+        Some((name, rest))
+    } else {
+        None
+    }
 }
 
 /// The label that a line begins with.
@@ -35,7 +40,11 @@ pub fn body<'a>(line: &'a [u8]) -> Option<&'a [u8]>
 {
     let text = text(line);
     match labelled(text) {
-        Some((_, rest)) => if is_apart(rest) { Some(trim_start(rest)) } else { None },
+        Some((_, rest)) => if is_apart(rest) {
+            Some(trim_start(rest))
+        } else {
+            None
+        },
         None => Some(text),
     }
 }

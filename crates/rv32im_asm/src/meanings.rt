@@ -2,15 +2,19 @@
 
 ghost use Rattle.std.specs.Prelude.{◌≡◌, option_map, IfSome};
 ghost use Rattle.rv32im_asm.specs.Lines.{operands_in};
-ghost use Rattle.rv32im_asm.specs.Statements.{HasRegisters, meaning_in, meaning_of, said_by, statement_of, value_of, with_value};
+ghost use Rattle.rv32im_asm.specs.Statements.{HasRegisters, meaning_in, meaning_of, said_by, statement_of, value_of};
+ghost use Rattle.rv32im_asm.specs.Statements.{with_value};
 ghost use Rattle.rv32im_asm.specs.declared.statements.Operation.TheVariants.{Immediate};
 ghost use Rattle.rv32im_decode.specs.declared.instructions.ImmKind.TheVariants.{Addi};
 
 use crate::cutting::cut_word;
-use crate::forms::{no_operand, one_value, plain, register_and, register_and_place, registers_and, three_registers, two_registers};
+use crate::forms::{
+    no_operand, one_value, plain, register_and, register_and_place, registers_and, three_registers,
+    two_registers,
+};
 use crate::lines::body;
 use crate::statements::{Mnemonic, Operation, Statement, Value, Wanted};
-use crate::words::mnemonic;
+use crate::first_words::mnemonic;
 use rv32im_decode::ImmKind;
 
 /// What a mnemonic or directive says of its operands; None where they are not of its form.

@@ -1,7 +1,8 @@
 //! Numbers, and a number with a register in parentheses.
 
 ghost use Rattle.std.specs.Prelude.{◌≡◌, ◌<◌, ◌≤◌, min, option_map, IfSome, pos, neg_ℤ};
-ghost use Rattle.rv32im_asm.specs.Operands.{at_most as at_most_of, digit_of, digits_in, magnitude_of, negative_of, number_of, place_of, positive_of};
+ghost use Rattle.rv32im_asm.specs.Operands.{at_most as at_most_of, digit_of, digits_in, magnitude_of, negative_of};
+ghost use Rattle.rv32im_asm.specs.Operands.{number_of, place_of, positive_of};
 ghost use Rattle.rv32im_asm.specs.Operands.{closed as closed_in};
 ghost use Rattle.rv32im_asm.specs.Lines.{cut_at as parts_at};
 
@@ -110,7 +111,11 @@ fn closed(text: &[u8]) -> Option<u8>
     ensures below { IfSome result (λ register. register < 32) }
 {
     let (name, rest) = cut_at(b')', text)?;
-    if rest.is_empty() { register(name) } else { None }
+    if rest.is_empty() {
+        register(name)
+    } else {
+        None
+    }
 }
 
 /// A number with a register in parentheses.

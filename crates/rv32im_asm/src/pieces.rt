@@ -1,6 +1,7 @@
 //! The bytes of operations.
 
-ghost use Rattle.std.specs.Prelude.{◌≡◌, ◌<◌, ◌≤◌, ◌++◌, length, option_map, IfSome, OnOk, Some, None, if◌then◌else◌, nat_abs};
+ghost use Rattle.std.specs.Prelude.{◌≡◌, ◌<◌, ◌≤◌, ◌++◌, length, option_map, IfSome, OnOk, Some, None, if◌then◌else◌};
+ghost use Rattle.std.specs.Prelude.{nat_abs};
 ghost use Rattle.std.specs.Prelude.{pos, neg_ℤ, ◌≤ℤ◌, ◌<ℤ◌};
 ghost use Rattle.rv32im_asm.specs.Encodings.{bytes_with, constant_bytes, high_part, is_branch_offset, is_immediate};
 ghost use Rattle.rv32im_asm.specs.Encodings.{is_jump_offset, is_operand, low_part, word_bytes};
@@ -86,7 +87,11 @@ fn branch_offset(number: i64) -> Option<i32>
     ensures { result ≡ (if is_branch_offset number then Some number else None) }
 {
     let offset = between(-4096, 4095, number)?;
-    if number.unsigned_abs() % 2 == 0 { Some(offset) } else { None }
+    if number.unsigned_abs() % 2 == 0 {
+        Some(offset)
+    } else {
+        None
+    }
 }
 
 /// A number as the offset of a jump.
@@ -94,7 +99,11 @@ fn jump_offset(number: i64) -> Option<i32>
     ensures { result ≡ (if is_jump_offset number then Some number else None) }
 {
     let offset = between(-0x10_0000, 0xf_ffff, number)?;
-    if number.unsigned_abs() % 2 == 0 { Some(offset) } else { None }
+    if number.unsigned_abs() % 2 == 0 {
+        Some(offset)
+    } else {
+        None
+    }
 }
 
 /// A number in two's complement.
@@ -157,7 +166,12 @@ pub fn encode_operation(operation: Operation, number: i64) -> Option<Piece>
         }
         Operation::Store { kind, rs1, rs2 } => {
             let imm = immediate(number)?;
-            one(Instr::Store { kind, rs1, rs2, imm })
+            one(Instr::Store {
+                kind,
+                rs1,
+                rs2,
+                imm,
+            })
         }
         Operation::Jalr { rd, rs1 } => {
             let imm = immediate(number)?;
@@ -177,7 +191,12 @@ pub fn encode_operation(operation: Operation, number: i64) -> Option<Piece>
         }
         Operation::Branch { kind, rs1, rs2 } => {
             let offset = branch_offset(number)?;
-            one(Instr::Branch { kind, rs1, rs2, offset })
+            one(Instr::Branch {
+                kind,
+                rs1,
+                rs2,
+                offset,
+            })
         }
         Operation::Jal { rd } => {
             let offset = jump_offset(number)?;

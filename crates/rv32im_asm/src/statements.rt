@@ -32,22 +32,57 @@ pub enum Operation {
     /// No byte.
     Nothing,
     /// The instructions that take no number.
-    Op { kind: OpKind, rd: u8, rs1: u8, rs2: u8 },
+    Op {
+        kind: OpKind,
+        rd: u8,
+        rs1: u8,
+        rs2: u8,
+    },
     Ecall,
     Ebreak,
     /// The instructions whose immediate is the number.
-    Immediate { kind: ImmKind, rd: u8, rs1: u8 },
-    Load { kind: LoadKind, rd: u8, rs1: u8 },
-    Store { kind: StoreKind, rs1: u8, rs2: u8 },
-    Jalr { rd: u8, rs1: u8 },
-    Lui { rd: u8 },
-    Auipc { rd: u8 },
-    Fence { rd: u8, rs1: u8 },
+    Immediate {
+        kind: ImmKind,
+        rd: u8,
+        rs1: u8,
+    },
+    Load {
+        kind: LoadKind,
+        rd: u8,
+        rs1: u8,
+    },
+    Store {
+        kind: StoreKind,
+        rs1: u8,
+        rs2: u8,
+    },
+    Jalr {
+        rd: u8,
+        rs1: u8,
+    },
+    Lui {
+        rd: u8,
+    },
+    Auipc {
+        rd: u8,
+    },
+    Fence {
+        rd: u8,
+        rs1: u8,
+    },
     /// The instructions whose offset is the number.
-    Branch { kind: BranchKind, rs1: u8, rs2: u8 },
-    Jal { rd: u8 },
+    Branch {
+        kind: BranchKind,
+        rs1: u8,
+        rs2: u8,
+    },
+    Jal {
+        rd: u8,
+    },
     /// The two instructions that put the number into a register.
-    Constant { rd: u8 },
+    Constant {
+        rd: u8,
+    },
     /// The number in four bytes.
     Word,
     /// The number in one byte.

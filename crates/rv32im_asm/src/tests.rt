@@ -27,7 +27,10 @@ fn gives_words(rt: HostRuntime) -> Result<(), Fail> {
     for (source, want) in [
         ("li a0, 0x12345fff", "376534121305f5ff"),
         ("loop: j loop", "6f000000"),
-        ("addi a0, x0, 0\naddi a7, x0, 93\necall\n", "130500009308d00573000000"),
+        (
+            "addi a0, x0, 0\naddi a7, x0, 93\necall\n",
+            "130500009308d00573000000",
+        ),
     ] {
         assert_eq!(rt; answer(rt.alloc(), source)?.as_str(), want, "{source}");
     }

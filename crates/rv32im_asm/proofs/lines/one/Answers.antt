@@ -6,7 +6,8 @@ use Rattle.rv32im_asm.proofs.lines.one.Goals as goal
 
 pub returns-in-Some : goal.returns-in-Some
 returns-in-Some c =
-    let cut : cut_at 44 c.args.text.now ≡ Some (c.in-Some.field-0.0.now, c.in-Some.field-0.1.now) = grind (arith, common_steps) in
+    let cut : cut_at 44 c.args.text.now ≡ Some (c.in-Some.field-0.0.now, c.in-Some.field-0.1.now) = grind
+    (arith, common_steps) in
     sym (one-some c.args.text.now c.in-Some.field-0.0.now c.in-Some.field-0.1.now cut)
 
 pub returns-in-None : goal.returns-in-None

@@ -1,4 +1,4 @@
-use Rattle.std.proofs.Common.{◌≡◌, ◌≢◌, [], None, Some, sym, arith}
+use Rattle.std.proofs.Common.{◌≡◌, ◌≢◌, None, Some, sym, arith}
 use Rattle.std.proofs.lemmas.Grind.{common_steps}
 use Rattle.rv32im_asm.specs.Lines.{cut_at}
 use Rattle.rv32im_asm.proofs.Commas.{three-none, three-two, three-last, three-more}
@@ -11,13 +11,15 @@ returns-in_err-first c =
 
 pub returns-in_err-second : goal.returns-in_err-second
 returns-in_err-second c =
-    let cut : cut_at 44 c.args.text.now ≡ Some (c.in_ok-first.first.now, c.in_ok-first.rest.now) = grind (arith, common_steps) in
+    let cut : cut_at 44 c.args.text.now ≡ Some (c.in_ok-first.first.now, c.in_ok-first.rest.now) = grind
+    (arith, common_steps) in
     let last : cut_at 44 c.in_ok-first.rest.now ≡ None = grind (arith, common_steps) in
     grind (arith, common_steps, three-two c.args.text.now c.in_ok-first.first.now c.in_ok-first.rest.now cut last)
 
 pub returns-in-Some : goal.returns-in-Some
 returns-in-Some c =
-    let cut : cut_at 44 c.args.text.now ≡ Some (c.in_ok-first.first.now, c.in_ok-first.rest.now) = grind (arith, common_steps) in
+    let cut : cut_at 44 c.args.text.now ≡ Some (c.in_ok-first.first.now, c.in_ok-first.rest.now) = grind
+    (arith, common_steps) in
     let next : cut_at 44 c.in_ok-first.rest.now ≡ Some (c.in_ok-second.second.now, c.in_ok-second.third.now) =
     grind (arith, common_steps) in
     let more : cut_at 44 c.in_ok-second.third.now ≢ None = grind (arith, common_steps) in
@@ -26,7 +28,8 @@ returns-in-Some c =
 
 pub returns-in-None : goal.returns-in-None
 returns-in-None c =
-    let cut : cut_at 44 c.args.text.now ≡ Some (c.in_ok-first.first.now, c.in_ok-first.rest.now) = grind (arith, common_steps) in
+    let cut : cut_at 44 c.args.text.now ≡ Some (c.in_ok-first.first.now, c.in_ok-first.rest.now) = grind
+    (arith, common_steps) in
     let next : cut_at 44 c.in_ok-first.rest.now ≡ Some (c.in_ok-second.second.now, c.in_ok-second.third.now) =
     grind (arith, common_steps) in
     let last : cut_at 44 c.in_ok-second.third.now ≡ None = grind (arith, common_steps) in

@@ -1,4 +1,4 @@
-use Rattle.std.proofs.Common.{◌≡◌, ◌≢◌, [], None, Some, sym, arith}
+use Rattle.std.proofs.Common.{◌≡◌, ◌≢◌, None, Some, sym, arith}
 use Rattle.std.proofs.lemmas.Grind.{common_steps}
 use Rattle.rv32im_asm.specs.Lines.{cut_at}
 use Rattle.rv32im_asm.proofs.Commas.{two-none, two-last, two-more}
@@ -11,13 +11,15 @@ returns-in_err-first c =
 
 pub returns-in-Some : goal.returns-in-Some
 returns-in-Some c =
-    let cut : cut_at 44 c.args.text.now ≡ Some (c.in_ok-first.first.now, c.in_ok-first.second.now) = grind (arith, common_steps) in
+    let cut : cut_at 44 c.args.text.now ≡ Some (c.in_ok-first.first.now, c.in_ok-first.second.now) = grind
+    (arith, common_steps) in
     let more : cut_at 44 c.in_ok-first.second.now ≢ None = grind (arith, common_steps) in
     sym (two-more c.args.text.now c.in_ok-first.first.now c.in_ok-first.second.now cut more)
 
 pub returns-in-None : goal.returns-in-None
 returns-in-None c =
-    let cut : cut_at 44 c.args.text.now ≡ Some (c.in_ok-first.first.now, c.in_ok-first.second.now) = grind (arith, common_steps) in
+    let cut : cut_at 44 c.args.text.now ≡ Some (c.in_ok-first.first.now, c.in_ok-first.second.now) = grind
+    (arith, common_steps) in
     let last : cut_at 44 c.in_ok-first.second.now ≡ None = grind (arith, common_steps) in
     rw (c.trimmed.ensures, c.trimmed-in-None.ensures)
     (sym (two-last c.args.text.now c.in_ok-first.first.now c.in_ok-first.second.now cut last))

@@ -1,6 +1,6 @@
 use Rattle.std.proofs.Common.{◌≡◌, length}
 use Rattle.rv32im_asm.proofs.Found.{found_in}
-use Rattle.rv32im_asm.proofs.words.find.Given as goal
+use Rattle.rv32im_asm.proofs.first_words.find.Given as goal
 
 abbrev pub decreases-loop-rest : goal.decreases-loop-rest
 decreases-loop-rest l = length l.rest

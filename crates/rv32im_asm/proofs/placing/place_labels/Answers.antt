@@ -1,13 +1,13 @@
-use Rattle.std.proofs.Common.{◌≡◌, ℕ, ◌+◌, ◌<◌, ◌≤◌, ◌^◌, List, [], ◌∷◌, ◌++◌, length, take, drop, Option, option_map, suc, add-one, ap, sym, ◌∙◌, subst, arith}
+use Rattle.std.proofs.Common.{◌≡◌, ◌+◌, [], ◌∷◌, ◌++◌, length, take, add-one, ap, sym, ◌∙◌, subst, arith}
 use Rattle.std.proofs.lemmas.Grind.{common_steps}
-use Rattle.rv32im_asm.specs.Labels.{IsNear, places_in}
+use Rattle.rv32im_asm.specs.Labels.{IsNear}
 use Rattle.rv32im_asm.specs.Lines.{lines_of}
 use Rattle.rv32im_asm.specs.Operands.{both}
 use Rattle.rv32im_asm.specs.Sizes.{line_size, place_of, total_size}
 use Rattle.rv32im_asm.specs.declared.places.Place.{Place}
 use Rattle.rv32im_asm.proofs.Fronts.{HasNext, has_next, all_front}
 use Rattle.rv32im_asm.proofs.LabelSteps.{nearby, no_lines, noted_near, places_next, small_next, total_size-push}
-use Rattle.rv32im_asm.proofs.assembling.labels.Goals as goal
+use Rattle.rv32im_asm.proofs.placing.place_labels.Goals as goal
 
 pub loop-rest-preserved : goal.loop-rest-preserved
 loop-rest-preserved c =
@@ -21,16 +21,18 @@ loop-rest-preserved c =
     record {
       left = rw add-one next.left;
       offset = c.grown-offset.ensures.exact
-        ∙ (ap (λ offset. both (λ m n. m + n) offset (line_size line)) c.loop-rest.invariant.offset
-        ∙ sym (ap total_size grown ∙ total_size-push front line));
+          ∙ (ap (λ offset. both (λ m n. m + n) offset (line_size line)) c.loop-rest.invariant.offset
+          ∙ sym (ap total_size grown ∙ total_size-push front line));
       places = λ name. places_next front line name c.loop-rest.index c.loop-rest.offset _ _ _ next.count
-        c.loop-rest.invariant.offset c.label.ensures (c.loop-rest.invariant.places name) (c.in_ok-note.ensures name)
-        ∙ ap (λ lines. place_of lines name) (sym grown);
+          c.loop-rest.invariant.offset c.label.ensures (c.loop-rest.invariant.places name) (c.in_ok-note.ensures name)
+          ∙ ap (λ lines. place_of lines name) (sym grown);
       near = λ name. subst IsNear (sym (c.in_ok-note.ensures name)) (noted_near name _ place _
-        (nearby c.loop-rest.offset c.loop-rest.index c.loop-rest.invariant.small (omega (arith, c.loop-rest.invariant.bound, c.requires)))
-        (c.loop-rest.invariant.near name));
-      small = small_next c.loop-rest.offset (line_size line) c.grown-offset.result c.loop-rest.index c.grown-offset.ensures.exact
-        c.loop-rest.invariant.small c.grown-offset.ensures.small;
+          (nearby c.loop-rest.offset c.loop-rest.index c.loop-rest.invariant.small (omega
+          (arith, c.loop-rest.invariant.bound, c.requires)))
+          (c.loop-rest.invariant.near name));
+      small = small_next c.loop-rest.offset
+      (line_size line) c.grown-offset.result c.loop-rest.index c.grown-offset.ensures.exact
+          c.loop-rest.invariant.small c.grown-offset.ensures.small;
       bound = omega (arith, c.loop-rest.invariant.bound, c.first_line.ensures.nearer);
     }
 

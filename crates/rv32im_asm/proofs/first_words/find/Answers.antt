@@ -1,7 +1,7 @@
 use Rattle.std.proofs.Common.{◌≡◌, None, ◌∙◌, arith}
 use Rattle.std.proofs.lemmas.Grind.{common_steps}
 use Rattle.rv32im_asm.proofs.Found.{found_in, found_in-lookup}
-use Rattle.rv32im_asm.proofs.words.find.Goals as goal
+use Rattle.rv32im_asm.proofs.first_words.find.Goals as goal
 
 pub returns : goal.returns
 returns c =
