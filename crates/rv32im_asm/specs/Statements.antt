@@ -38,9 +38,9 @@ without_value operation = with_value operation (plain (pos 0))
 -- ---- the operands of the forms
 
 -- no operand
-abbrev pub is_none_wanted : List (List ℕ) → Bool
-is_none_wanted [] = true
-is_none_wanted (a ∷ operands) = false
+abbrev pub has_no_operand : List (List ℕ) → Bool
+has_no_operand [] = true
+has_no_operand (a ∷ operands) = false
 
 -- rd, rs1, rs2
 abbrev pub three_registers : List (List ℕ) → Option (ℕ × ℕ × ℕ)
@@ -79,7 +79,7 @@ one_value wanted operands = option_and_then (value_in wanted) (one_of operands)
 -- ---- the forms
 
 abbrev pub form_none : Operation → List (List ℕ) → Option Meaning
-form_none operation operands = if is_none_wanted operands then Some (without_value operation) else None
+form_none operation operands = if has_no_operand operands then Some (without_value operation) else None
 
 abbrev pub form_place : (ℕ → ℕ → Operation) → List (List ℕ) → Option Meaning
 form_place make operands =

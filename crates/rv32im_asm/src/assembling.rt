@@ -259,7 +259,21 @@ fn image(alloc: Global, program: Bytes) -> Result<Image, NoMemory>
     })
 }
 
-/// The image of a source: one segment at 0x00010000, which is its entry.
+/// The image of a source: one segment at 0x00010000, which is its base and its entry, with the bytes of its lines one
+/// after the other.
+///
+/// A line is a label, a statement or both, and `#` starts a comment. The statements are the instructions of RV32IM with
+/// their operands (RISC-V Unprivileged ISA; registers also by their names in the calling convention), the
+/// pseudoinstructions `nop`, `ret`, `mv`, `j`, `li` and `la`, of which the last two have always two instructions, and
+/// `.word`, `.byte` and `.zero`.
+///
+/// The fault is that of the first line that fails, and of several in one line the first of these:
+/// [`AsmFault::Line`] where the line is not of a form, where an instruction or a word does not stand at a multiple of 4
+/// bytes, or where the program exceeds 1,048,576 bytes with the line; [`AsmFault::LabelTwice`] where an earlier line
+/// begins with the same label; [`AsmFault::LabelMissing`] where no line begins with the label that is named;
+/// [`AsmFault::ImmediateRange`] where a number or an offset does not fit its field, or an offset is odd. Where no line
+/// fails and the program has no byte it is [`AsmFault::Line`] with number 0, and want of memory answers
+/// [`AsmFault::Memory`].
 pub fn assemble(alloc: Global, source: &[u8]) -> Result<Image, AsmFault>
     requires { length source.now < 2 ^ 32 }
     ensures { result ≢ Err AsmFault.Memory → answer_of result ≡ assembled source.now }

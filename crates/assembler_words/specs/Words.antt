@@ -1,0 +1,22 @@
+-- What is counted: the sources that assemble to the bytes of their words.
+use Rattle.std.specs.Prelude.{◌≡◌, ℕ, ◌==◌, ◌&&◌, Bool, false, List, [], ◌∷◌, Ok}
+use Rattle.std.specs.Str.{bytes_eq}
+use Rattle.elf32_loader.specs.Pictures.{Picture}
+use Rattle.elf32_loader.specs.Programs.{single}
+use Rattle.elf32_loader.specs.declared.segments.Segment.{Segment}
+use Rattle.rv32im_asm.specs.Assembling.{assembled}
+
+-- a source assembles to these bytes: they are the one segment, whose address is the entry
+abbrev pub IsAssembledTo : List ℕ → List ℕ → Type 0
+IsAssembledTo source bytes = assembled source ≡ Ok (single 65536 65536 bytes)
+
+-- the segments are one, at the start, of these bytes
+abbrev pub has_segment : List Segment → List ℕ → Bool
+has_segment [] bytes = false
+has_segment (segment ∷ []) bytes = (segment.address == 65536) && bytes_eq segment.bytes bytes
+has_segment (segment ∷ (next ∷ segments)) bytes = false
+
+-- an image shows these bytes
+abbrev pub has_bytes : Picture → List ℕ → Bool
+has_bytes picture bytes =
+    (picture.base == 65536) && ((picture.entry == 65536) && has_segment picture.segments bytes)
