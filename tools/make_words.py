@@ -16,8 +16,8 @@ GNU as gets the same text without comments and with other blanks, but for these 
     la a0, label           always LUI and ADDI: `lui a0, %hi(label)` and `addi a0, a0, %lo(label)`
 
 The numbers of li are such that GNU as makes LUI and ADDI of it, as this assembler always does: neither the lower 12
-bits are 0 nor does the number fit these 12 bits. No number has leading zeros, which GNU as reads in base 8. Sources that
-are refused are not in the table. Needs riscv64-unknown-elf-as, -ld and -objcopy."""
+bits are 0 nor does the number fit these 12 bits. No number has leading zeros, which GNU as reads in base 8. Sources
+that are refused are not in the table. Needs riscv64-unknown-elf-as, -ld and -objcopy."""
 import re
 import struct
 import subprocess

@@ -23,8 +23,8 @@ fn bytes(alloc: Global, text: &str) -> Option<Vec<u8>> {
     Some(bytes)
 }
 
-/// Whether the source of a row `SOURCE -> WORD WORD ..` assembles to its words; None where it is no such row or memory is
-/// short.
+/// Whether the source of a row `SOURCE -> WORD WORD ..` assembles to its words; None where it is no such row or memory
+/// is short.
 pub fn agrees(alloc: Global, row: &str) -> Option<bool> {
     let (text, words) = row.split_once(" -> ")?;
     let source = source(alloc, text).ok()?;

@@ -91,12 +91,15 @@ joined (Err fault) rest = Err fault
 joined (Ok bytes) (Err fault) = Err fault
 joined (Ok bytes) (Ok more) = Ok (bytes ++ more)
 
+-- how many bytes the lines before an index have; each has a size where none of them fails
+abbrev pub bytes_before : List (List ℕ) → ℕ → ℕ
+bytes_before lines index = unwrap_or (total_size (take index lines)) 0
+
 -- the bytes of these of the lines, the first of which has this index, or the fault of the first that fails
 abbrev pub readings : List (List ℕ) → ℕ → List (List ℕ) → Result (List ℕ) AsmFault
 readings lines index [] = Ok []
 readings lines index (line ∷ rest) =
-    joined (reading (place_of lines) index (unwrap_or (total_size (take index lines)) 0) line) (readings lines
-    (index + 1) rest)
+    joined (reading (place_of lines) index (bytes_before lines index) line) (readings lines (index + 1) rest)
 
 -- a program has a byte; it is one segment at its start, which is its entry
 abbrev pub program_of : Result (List ℕ) AsmFault → Result Picture AsmFault

@@ -70,8 +70,8 @@ bytes_with (the.Lui rd) number =
     if_fits (is_between (pos 0) (pos 1048575) number) (instr.Lui rd (nat_abs number))
 bytes_with (the.Auipc rd) number =
     if_fits (is_between (pos 0) (pos 1048575) number) (instr.Auipc rd (nat_abs number))
-bytes_with (the.Fence rd rs1) number = if_fits (is_between (pos 0) (pos 4095) number) (instr.Fence rd rs1
-    (nat_abs number))
+bytes_with (the.Fence rd rs1) number =
+    if_fits (is_between (pos 0) (pos 4095) number) (instr.Fence rd rs1 (nat_abs number))
 bytes_with (the.Branch kind rs1 rs2) number = if_fits (is_branch_offset number) (instr.Branch kind rs1 rs2 number)
 bytes_with (the.Jal rd) number = if_fits (is_jump_offset number) (instr.Jal rd number)
 bytes_with (the.Constant rd) number = Some (constant_bytes rd (word_of number))

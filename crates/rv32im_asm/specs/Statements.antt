@@ -90,8 +90,8 @@ form_registers wanted make operands =
     option_map (λ found. with_value (make found.0 found.1) found.2) (registers_and wanted operands)
 
 abbrev pub form_register : Wanted → (ℕ → Operation) → List (List ℕ) → Option Meaning
-form_register wanted make operands = option_map (λ found. with_value (make found.0) found.1)
-    (register_and wanted operands)
+form_register wanted make operands =
+    option_map (λ found. with_value (make found.0) found.1) (register_and wanted operands)
 
 abbrev pub form_value : Wanted → Operation → List (List ℕ) → Option Meaning
 form_value wanted operation operands = option_map (with_value operation) (one_value wanted operands)
@@ -128,8 +128,8 @@ statement_of the.Zero operands = form_value Number operation.Zero operands
 abbrev pub meaning_in : List ℕ → Option Meaning
 meaning_in [] = Some (without_value operation.Nothing)
 meaning_in (byte ∷ rest) =
-    option_and_then (λ mnemonic. statement_of mnemonic (operands_of (byte ∷ rest))) (mnemonic_of (first_word
-    (byte ∷ rest)))
+    option_and_then (λ mnemonic. statement_of mnemonic (operands_of (byte ∷ rest)))
+    (mnemonic_of (first_word (byte ∷ rest)))
 
 -- what a line says; none where it is not of a form
 abbrev pub said_by : List ℕ → Option Meaning
