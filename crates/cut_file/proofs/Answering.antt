@@ -1,0 +1,53 @@
+-- What reading answers, as the text and its faults tell it.
+use Rattle.std.proofs.Common.{◌≡◌, ◌≢◌, List, ℕ, Result, Ok, Err, sym, ◌∙◌, ap}
+use Rattle.std.specs.Prelude.{IfOk, IfErr}
+use Rattle.cut_file.specs.declared.cuts.Cut.{Cut}
+use Rattle.cut_file.specs.declared.faults.CutFault.{CutFault}
+use Rattle.cut_file.specs.declared.faults.CutFault.TheVariants.{Version, Line, Order, Truncated, Trailing, Memory}
+use Rattle.cut_file.specs.Cuts.{CutPicture}
+use Rattle.cut_file.specs.Texts.{CutText}
+use Rattle.cut_file.specs.Faults.{FirstCutFault}
+use Rattle.cut_file.specs.Pictures.{picture_of}
+use Rattle.cut_file.specs.Reading.{cut_in}
+use Rattle.cut_file.proofs.FileFaults.{cut-found, fault-found, faulty, faulty-same, fine}
+use Rattle.cut_file.proofs.FileTexts.{cut-own, fault-own}
+
+abbrev pub ReadsFile : List ℕ → Result Cut CutFault → Type 0
+ReadsFile file answer = IfOk answer (λ cut. cut_in file ≡ Ok (picture_of cut))
+
+abbrev pub RefusesFile : List ℕ → Result Cut CutFault → Type 0
+RefusesFile file answer = IfErr answer (λ fault. fault ≢ Memory → cut_in file ≡ Err fault)
+
+pub answers-text : (file : List ℕ) (answer : Result Cut CutFault) → ReadsFile file answer → IfOk answer (λ cut. CutText file (picture_of cut))
+answers-text file (Ok cut) ok = cut-found file (picture_of cut) ok
+answers-text file (Err fault) ok = tt
+
+fault-first : (fault : CutFault) (file : List ℕ) → (fault ≢ Memory → cut_in file ≡ Err fault) → FirstCutFault file fault
+fault-first Version file err = fault-found file Version (err (λ e. cc))
+fault-first (Line number) file err = fault-found file (Line number) (err (λ e. cc))
+fault-first (Order number) file err = fault-found file (Order number) (err (λ e. cc))
+fault-first Truncated file err = fault-found file Truncated (err (λ e. cc))
+fault-first (Trailing offset) file err = fault-found file (Trailing offset) (err (λ e. cc))
+fault-first Memory file err = tt
+
+pub answers-fault : (file : List ℕ) (answer : Result Cut CutFault) → RefusesFile file answer → IfErr answer (λ fault. FirstCutFault file fault)
+answers-fault file (Ok cut) err = tt
+answers-fault file (Err fault) err = fault-first fault file err
+
+differ : (cut : CutPicture) (fault : CutFault) → fine cut ≡ faulty fault → ⊥
+differ cut fault e = cc
+
+pub answers-refused : (file : List ℕ) (answer : Result Cut CutFault) → RefusesFile file answer →
+    IfErr answer (λ fault. fault ≢ Memory → (cut : CutPicture) → ¬ CutText file cut)
+answers-refused file (Ok cut) err = tt
+answers-refused file (Err fault) err = λ free cut text. differ cut fault (sym (cut-own file cut text) ∙ err free)
+
+abbrev failed : CutFault → Result Cut CutFault
+failed fault = Err fault
+
+pub answers-only : (file : List ℕ) (answer : Result Cut CutFault) (fault : CutFault) → ReadsFile file answer → RefusesFile file answer →
+    FirstCutFault file fault → fault ≢ Memory → answer ≢ Err Memory → answer ≡ Err fault
+answers-only file (Ok cut) fault ok err known free fits = absurd (differ (picture_of cut) fault (sym ok ∙ fault-own fault file free known))
+answers-only file (Err other) fault ok err known free fits =
+    let told : cut_in file ≡ Err other = err (λ e. fits (ap failed e)) in
+    ap failed (faulty-same {A = CutPicture} other fault (sym told ∙ fault-own fault file free known))

@@ -1,0 +1,14 @@
+pub mod Parts
+pub mod MaskLists
+pub mod Following
+pub mod Pieces
+pub mod Numbers
+pub mod Hexadecimal
+pub mod Slots
+pub mod Lines
+pub mod PointLines
+pub mod LineSteps
+pub mod FileFaults
+pub mod FileTexts
+pub mod Answering
+pub mod CutMasks

@@ -1,0 +1,8 @@
+use Rattle.cut_file.proofs.CutMasks.{mask-own, mask-within}
+use Rattle.cut_file.proofs.laws.masks_are_of_their_points.Goals as goal
+
+pub returns-clause-point : goal.returns-clause-point
+returns-clause-point c = mask-own
+
+pub returns-clause-width : goal.returns-clause-width
+returns-clause-width c = mask-within

@@ -1,0 +1,68 @@
+-- A cut, and what it keeps: ranges, orders, and runs of masks that differ from their neighbours.
+use Rattle.std.specs.Prelude.{ℕ, ◌==◌, ◌&&◌, ◌||◌, nat_le, nat_lt, not, Bool, true, List, [], ◌∷◌}
+use Rattle.std.specs.List.{list_all}
+use Rattle.flow_base.specs.declared.points.Point.{Point}
+use Rattle.flow_base.specs.Points.{is_slot, number_of}
+use Rattle.cut_file.specs.declared.points.CutPoint.{CutPoint}
+use Rattle.cut_file.specs.declared.points.Run.{Run}
+
+-- a cut without the proofs of what it keeps
+pub record CutPicture : Type 0 where
+  pub secret_length : ℕ
+  pub bits : ℕ
+  pub skip : List ℕ
+  pub points : List CutPoint
+
+-- each two neighbours pass a test
+abbrev pub neighbours_pass : {A : Type 0} → (A → A → Bool) → List A → Bool
+neighbours_pass test [] = true
+neighbours_pass test (first ∷ []) = true
+neighbours_pass test (first ∷ (second ∷ others)) = test first second && neighbours_pass test (second ∷ others)
+
+-- a word of 32 bits
+abbrev pub is_word : ℕ → Bool
+is_word number = nat_lt number 4294967296
+
+abbrev pub is_run : Run → Bool
+is_run run = nat_le 1 run.count && (is_word run.count && is_word run.mask)
+
+abbrev pub have_other_masks : Run → Run → Bool
+have_other_masks first second = not (first.mask == second.mask)
+
+abbrev pub are_runs : List Run → Bool
+are_runs runs = list_all is_run runs && neighbours_pass have_other_masks runs
+
+-- the number of a region; 0 stands for what is outside regions
+abbrev pub is_region : ℕ → Bool
+is_region region = nat_le 1 region && nat_le region 65535
+
+-- regions to be skipped, strictly ascending
+abbrev pub are_regions : List ℕ → Bool
+are_regions skip = list_all is_region skip && neighbours_pass nat_lt skip
+
+-- points are ordered by region, address and slot number
+abbrev pub is_below : Point → Point → Bool
+is_below first second =
+    nat_lt first.region second.region
+    || ((first.region == second.region) && (nat_lt first.address second.address
+    || ((first.address == second.address) && nat_lt (number_of first.slot) (number_of second.slot))))
+
+abbrev pub is_point : Point → Bool
+is_point point = nat_le point.region 65535 && (is_word point.address && is_slot point.slot)
+
+abbrev pub is_cut_point : CutPoint → Bool
+is_cut_point cut_point = is_point cut_point.point && (are_runs cut_point.runs && is_word cut_point.rest)
+
+abbrev pub has_slot : CutPoint → Bool
+has_slot cut_point = is_slot cut_point.point.slot
+
+abbrev pub stands_before : CutPoint → CutPoint → Bool
+stands_before first second = is_below first.point second.point
+
+-- points, strictly ascending
+abbrev pub are_points : List CutPoint → Bool
+are_points points = list_all is_cut_point points && neighbours_pass stands_before points
+
+-- the picture is that of a cut
+abbrev pub is_valid : CutPicture → Bool
+is_valid cut = nat_le cut.secret_length 65536 && (is_word cut.bits && (are_regions cut.skip && are_points cut.points))

@@ -1,0 +1,30 @@
+-- The mask of a cut at a visit of a point.
+use Rattle.std.specs.Prelude.{ℕ, ◌-◌, ◌==◌, ◌&&◌, Bool, List, [], ◌∷◌, ◌++◌, replicate, slice_index_or, bit_and, if◌then◌else◌}
+use Rattle.flow_base.specs.declared.points.Point.{Point}
+use Rattle.flow_base.specs.Points.{number_of, width_of}
+use Rattle.cut_file.specs.declared.points.CutPoint.{CutPoint}
+use Rattle.cut_file.specs.declared.points.Run.{Run}
+
+-- the masks of runs, one for each visit
+unfoldable pub listed_masks : List Run → List ℕ
+listed_masks [] = []
+listed_masks (run ∷ runs) = replicate run.count run.mask ++ listed_masks runs
+
+-- the mask that is listed for a visit, counted from 1, or `rest` behind those
+abbrev pub listed_mask : CutPoint → ℕ → ℕ
+listed_mask cut_point visit = slice_index_or (listed_masks cut_point.runs) (visit - 1) cut_point.rest
+
+-- that mask within the slot's width
+abbrev pub mask_of : CutPoint → ℕ → ℕ
+mask_of cut_point visit = bit_and (listed_mask cut_point visit) (width_of cut_point.point.slot)
+
+abbrev pub is_same_point : Point → Point → Bool
+is_same_point first second =
+    (first.region == second.region) && ((first.address == second.address)
+    && (number_of first.slot == number_of second.slot))
+
+-- the mask of points at a visit of a point, 0 where none of them is the point
+abbrev pub MaskAt : List CutPoint → Point → ℕ → ℕ
+MaskAt [] point visit = 0
+MaskAt (cut_point ∷ points) point visit =
+    if is_same_point cut_point.point point then mask_of cut_point visit else MaskAt points point visit

@@ -1,0 +1,40 @@
+use flow_base::NoMemory;
+use std::alloc::AllocError;
+
+/// Why a file gives no cut: what is wrong with the first line that fails.
+#[derive(Clone, Copy, Debug, PartialEq, Eq)]
+pub enum CutFault {
+    /// The first line is whole and not `flowcheck-cut 1`.
+    Version,
+    /// A whole line is of no form that may stand there.
+    Line {
+        /// The line's number, counted from 1.
+        number: u32,
+    },
+    /// A skip or a point does not exceed the one before it.
+    Order {
+        /// The line's number, counted from 1.
+        number: u32,
+    },
+    /// The file ends within a line or before the line `end`.
+    Truncated,
+    /// Bytes follow the line `end`.
+    Trailing {
+        /// The place in bytes of the first of them.
+        offset: u32,
+    },
+    /// There was not enough memory.
+    Memory,
+}
+
+impl From<NoMemory> for CutFault {
+    ghost use Rattle.std.specs.Prelude.{◌≡◌};
+    ghost use Rattle.cut_file.specs.declared.faults.CutFault.TheVariants.{Memory};
+    ghost use Rattle.flow_base.specs.declared.lists.NoMemory.{NoMemory as TheNoMemory};
+
+    ghost from_gives = { λ _ fault. fault ≡ Memory };
+
+    fn from(_: NoMemory) -> CutFault {
+        CutFault::Memory
+    }
+}

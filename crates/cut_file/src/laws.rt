@@ -1,0 +1,19 @@
+ghost use Rattle.cut_file.specs.CutLaws.{FaultsAreOne, MasksAreOfTheirPoints, MasksAreWithinWidths, TextsAreOne, TextsHaveNoFault};
+
+/// Each text is that of one cut at most, and each cut has one text. It does nothing when it is called.
+pub fn texts_are_one()
+    ensures { TextsAreOne }
+{}
+
+/// A file has one first fault at most, and none where it is the text of a cut. It does nothing when it is called.
+pub fn faults_are_first()
+    ensures one { FaultsAreOne }
+    ensures none { TextsHaveNoFault }
+{}
+
+/// The mask of a cut at a point that it names is that of [`mask_at`](crate::mask_at), and each mask is within the width of
+/// its slot. It does nothing when it is called.
+pub fn masks_are_of_their_points()
+    ensures point { MasksAreOfTheirPoints }
+    ensures width { MasksAreWithinWidths }
+{}

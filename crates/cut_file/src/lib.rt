@@ -1,0 +1,23 @@
+//! Cuts as texts: which bits of which values of a run cross, read from a text and written as one.
+#![tactic(auto)]
+
+mod cuts;
+mod faults;
+mod laws;
+mod line_words;
+mod masks;
+mod points;
+mod reading;
+mod words;
+mod writing;
+
+pub use cuts::Cut;
+pub use faults::CutFault;
+pub use laws::{faults_are_first, masks_are_of_their_points, texts_are_one};
+pub use masks::mask_at;
+pub use points::{CutPoint, Run};
+pub use reading::read_cut;
+pub use writing::write_cut;
+
+#[cfg(test)]
+mod tests;
