@@ -18,11 +18,13 @@ ReadsFile file answer = IfOk answer (λ cut. cut_in file ≡ Ok (picture_of cut)
 abbrev pub RefusesFile : List ℕ → Result Cut CutFault → Type 0
 RefusesFile file answer = IfErr answer (λ fault. fault ≢ Memory → cut_in file ≡ Err fault)
 
-pub answers-text : (file : List ℕ) (answer : Result Cut CutFault) → ReadsFile file answer → IfOk answer (λ cut. CutText file (picture_of cut))
+pub answers-text : (file : List ℕ) (answer : Result Cut CutFault) → ReadsFile file answer →
+    IfOk answer (λ cut. CutText file (picture_of cut))
 answers-text file (Ok cut) ok = cut-found file (picture_of cut) ok
 answers-text file (Err fault) ok = tt
 
-fault-first : (fault : CutFault) (file : List ℕ) → (fault ≢ Memory → cut_in file ≡ Err fault) → FirstCutFault file fault
+fault-first : (fault : CutFault) (file : List ℕ) → (fault ≢ Memory → cut_in file ≡ Err fault) →
+    FirstCutFault file fault
 fault-first Version file err = fault-found file Version (err (λ e. cc))
 fault-first (Line number) file err = fault-found file (Line number) (err (λ e. cc))
 fault-first (Order number) file err = fault-found file (Order number) (err (λ e. cc))
@@ -30,7 +32,8 @@ fault-first Truncated file err = fault-found file Truncated (err (λ e. cc))
 fault-first (Trailing offset) file err = fault-found file (Trailing offset) (err (λ e. cc))
 fault-first Memory file err = tt
 
-pub answers-fault : (file : List ℕ) (answer : Result Cut CutFault) → RefusesFile file answer → IfErr answer (λ fault. FirstCutFault file fault)
+pub answers-fault : (file : List ℕ) (answer : Result Cut CutFault) → RefusesFile file answer →
+    IfErr answer (λ fault. FirstCutFault file fault)
 answers-fault file (Ok cut) err = tt
 answers-fault file (Err fault) err = fault-first fault file err
 
@@ -45,9 +48,11 @@ answers-refused file (Err fault) err = λ free cut text. differ cut fault (sym (
 abbrev failed : CutFault → Result Cut CutFault
 failed fault = Err fault
 
-pub answers-only : (file : List ℕ) (answer : Result Cut CutFault) (fault : CutFault) → ReadsFile file answer → RefusesFile file answer →
+pub answers-only : (file : List ℕ) (answer : Result Cut CutFault) (fault : CutFault) → ReadsFile file answer →
+    RefusesFile file answer →
     FirstCutFault file fault → fault ≢ Memory → answer ≢ Err Memory → answer ≡ Err fault
-answers-only file (Ok cut) fault ok err known free fits = absurd (differ (picture_of cut) fault (sym ok ∙ fault-own fault file free known))
+answers-only file (Ok cut) fault ok err known free fits = absurd (differ (picture_of cut) fault (sym ok
+    ∙ fault-own fault file free known))
 answers-only file (Err other) fault ok err known free fits =
     let told : cut_in file ≡ Err other = err (λ e. fits (ap failed e)) in
     ap failed (faulty-same {A = CutPicture} other fault (sym told ∙ fault-own fault file free known))

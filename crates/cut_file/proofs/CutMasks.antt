@@ -1,13 +1,16 @@
 -- The masks of a cut's points.
-use Rattle.std.proofs.Common.{◌≡◌, ℕ, ◌<◌, ◌==◌, ◌&&◌, nat_le, nat_lt, true, false, List, [], ◌∷◌, ◌++◌, if◌then◌else◌, ◌⊎◌, inl, inr, refl, sym, ◌∙◌, ap, arith}
+use Rattle.std.proofs.Common.{◌≡◌, ℕ, ◌<◌, ◌==◌, ◌&&◌, nat_le, nat_lt, true, false, List, [], ◌∷◌, ◌++◌}
+use Rattle.std.proofs.Common.{if◌then◌else◌, ◌⊎◌, inl, inr, refl, sym, ◌∙◌, ap, arith}
 use Rattle.std.specs.Prelude.{bit_and}
 use Rattle.std.specs.List.{list_all}
 use Rattle.std.specs.Int.Bits.{and_self, and_zero_l}
 use Rattle.std.proofs.lemmas.Nat.{and_assoc}
-use Rattle.std.proofs.lemmas.Bool.{and_parts, and_from, cases_Bool, cond-false, cond-true, eq-eqb, eqb-true, and_left, and_right, lt-ltb, ltb-true, ne_eqb, or_cases, or_left, or_right}
+use Rattle.std.proofs.lemmas.Bool.{and_parts, and_from, cases_Bool, cond-false, cond-true, eq-eqb, eqb-true, and_left}
+use Rattle.std.proofs.lemmas.Bool.{and_right, lt-ltb, ltb-true, ne_eqb, or_cases, or_left, or_right}
 use Rattle.flow_base.specs.declared.points.Point.{Point}
 use Rattle.flow_base.specs.declared.points.Slot.{Slot}
-use Rattle.flow_base.specs.declared.points.Slot.TheVariants.{First, Second, Address, Result, Decision, Number, Arg0, Arg1, Arg2, SecretIn, ByteOut, Status, OutReg, OutRange}
+use Rattle.flow_base.specs.declared.points.Slot.TheVariants.{First, Second, Address, Result, Decision, Number, Arg0}
+use Rattle.flow_base.specs.declared.points.Slot.TheVariants.{Arg1, Arg2, SecretIn, ByteOut, Status, OutReg, OutRange}
 use Rattle.flow_base.specs.Points.{is_slot, number_of, width_of}
 use Rattle.cut_file.specs.declared.points.CutPoint.{CutPoint}
 use Rattle.cut_file.specs.Cuts.{are_points, is_below, is_cut_point, is_point, neighbours_pass, stands_before}
@@ -48,7 +51,8 @@ below-from a b known =
       ]))
     ]
 
-address-trans : (c d e f g h : ℕ) → ((c < d) ⊎ ((c ≡ d) × (f < g))) → ((d < e) ⊎ ((d ≡ e) × (g < h))) → (c < e) ⊎ ((c ≡ e) × (f < h))
+address-trans : (c d e f g h : ℕ) → ((c < d) ⊎ ((c ≡ d) × (f < g))) → ((d < e) ⊎ ((d ≡ e) × (g < h))) →
+    (c < e) ⊎ ((c ≡ e) × (f < h))
 address-trans c d e f g h (inl p) (inl q) = inl (omega arith)
 address-trans c d e f g h (inl p) (inr q) = inl (omega (arith, q.0))
 address-trans c d e f g h (inr p) (inl q) = inl (omega (arith, p.0))
@@ -62,7 +66,8 @@ region-trans a b c d e f g h i (inr p) (inr q) = inr (p.0 ∙ q.0, address-trans
 
 pub below-trans : (a b c : Point) → is_below a b ≡ true → is_below b c ≡ true → is_below a c ≡ true
 below-trans a b c first second =
-    below-from a c (region-trans a.region b.region c.region a.address b.address c.address (number_of a.slot) (number_of b.slot) (number_of c.slot)
+    below-from a c (region-trans a.region b.region c.region a.address b.address c.address (number_of a.slot)
+    (number_of b.slot) (number_of c.slot)
     (below-cases a b first) (below-cases b c second))
 
 pub below-other : (a b : Point) → is_below a b ≡ true → is_same_point a b ≡ false
@@ -77,41 +82,50 @@ below-other a b below =
 
 pub same-self : (a : Point) → is_same_point a a ≡ true
 same-self a =
-    and_from _ _ (eq-eqb a.region a.region refl) (and_from _ _ (eq-eqb a.address a.address refl) (eq-eqb (number_of a.slot) (number_of a.slot) refl))
+    and_from _ _ (eq-eqb a.region a.region refl) (and_from _ _ (eq-eqb a.address a.address refl) (eq-eqb
+    (number_of a.slot) (number_of a.slot) refl))
 
 -- what stands first stands before all others
 pub first-below : (first : CutPoint) (before after : List CutPoint) (cut_point : CutPoint) →
-    neighbours_pass stands_before (first ∷ (before ++ (cut_point ∷ after))) ≡ true → is_below first.point cut_point.point ≡ true
+    neighbours_pass stands_before (first ∷ (before ++ (cut_point ∷ after))) ≡ true →
+    is_below first.point cut_point.point ≡ true
 first-below first [] after cut_point known = (and_parts (is_below first.point cut_point.point) _ known).0
 first-below first (second ∷ before) after cut_point known =
     let both = and_parts (is_below first.point second.point) _ known in
     below-trans first.point second.point cut_point.point both.0 (first-below second before after cut_point both.1)
 
-neighbours-behind : (first : CutPoint) (others : List CutPoint) → neighbours_pass stands_before (first ∷ others) ≡ true →
+neighbours-behind : (first : CutPoint) (others : List CutPoint) →
+    neighbours_pass stands_before (first ∷ others) ≡ true →
     neighbours_pass stands_before others ≡ true
 neighbours-behind first [] known = refl
 neighbours-behind first (second ∷ others) known = (and_parts (is_below first.point second.point) _ known).1
 
-own-mask : (before after : List CutPoint) (cut_point : CutPoint) (visit : ℕ) → neighbours_pass stands_before (before ++ (cut_point ∷ after)) ≡ true →
+own-mask : (before after : List CutPoint) (cut_point : CutPoint) (visit : ℕ) →
+    neighbours_pass stands_before (before ++ (cut_point ∷ after)) ≡ true →
     MaskAt (before ++ (cut_point ∷ after)) cut_point.point visit ≡ mask_of cut_point visit
 own-mask [] after cut_point visit known =
-    cond-true (is_same_point cut_point.point cut_point.point) (mask_of cut_point visit) (MaskAt after cut_point.point visit) (same-self cut_point.point)
+    cond-true (is_same_point cut_point.point cut_point.point) (mask_of cut_point visit)
+    (MaskAt after cut_point.point visit) (same-self cut_point.point)
 own-mask (first ∷ before) after cut_point visit known =
-    cond-false (is_same_point first.point cut_point.point) (mask_of first visit) (MaskAt (before ++ (cut_point ∷ after)) cut_point.point visit)
+    cond-false (is_same_point first.point cut_point.point) (mask_of first visit) (MaskAt (before ++
+    (cut_point ∷ after)) cut_point.point visit)
     (below-other first.point cut_point.point (first-below first before after cut_point known))
     ∙ own-mask before after cut_point visit (neighbours-behind first (before ++ (cut_point ∷ after)) known)
 
-pub mask-own : (before after : List CutPoint) (cut_point : CutPoint) (visit : ℕ) → are_points (before ++ (cut_point ∷ after)) ≡ true →
+pub mask-own : (before after : List CutPoint) (cut_point : CutPoint) (visit : ℕ) →
+    are_points (before ++ (cut_point ∷ after)) ≡ true →
     MaskAt (before ++ (cut_point ∷ after)) cut_point.point visit ≡ mask_of cut_point visit
 mask-own before after cut_point visit known =
-    own-mask before after cut_point visit (and_parts (list_all is_cut_point (before ++ (cut_point ∷ after))) _ known).1
+    own-mask before after cut_point visit (and_parts (list_all is_cut_point (before ++
+    (cut_point ∷ after))) _ known).1
 
 -- ---- the widths
 
 -- the width of the slot of a number
 width_at : ℕ → ℕ
 width_at number =
-    if number == 5 then 1 else if nat_le 10 number && nat_le number 12 then 255 else if nat_le 44 number then 255 else 4294967295
+    if number == 5 then 1 else if nat_le 10 number && nat_le number 12 then 255 else if nat_le 44 number then 255
+    else 4294967295
 
 width-number : (slot : Slot) → is_slot slot ≡ true → width_of slot ≡ width_at (number_of slot)
 unfolding width_at
@@ -130,7 +144,8 @@ width-number Status known = refl
 width-number (OutReg register) known = grind arith
 width-number (OutRange range) known = grind arith
 
-same-width : (first second : Slot) → is_slot first ≡ true → is_slot second ≡ true → number_of first ≡ number_of second → width_of first ≡ width_of second
+same-width : (first second : Slot) → is_slot first ≡ true → is_slot second ≡ true →
+    number_of first ≡ number_of second → width_of first ≡ width_of second
 same-width first second known other e = width-number first known ∙ ap width_at e ∙ sym (width-number second other)
 
 same-slot : (first second : Point) → is_same_point first second ≡ true → number_of first.slot ≡ number_of second.slot
@@ -148,14 +163,16 @@ slot-known cut_point known =
     let address = and_parts (nat_le cut_point.point.region 65535) _ place.0 in
     (and_parts (nat_lt cut_point.point.address 4294967296) (is_slot cut_point.point.slot) address.1).1
 
-mask-within_all : (points : List CutPoint) (point : Point) (visit : ℕ) → list_all is_cut_point points ≡ true → is_slot point.slot ≡ true →
+mask-within_all : (points : List CutPoint) (point : Point) (visit : ℕ) → list_all is_cut_point points ≡ true →
+    is_slot point.slot ≡ true →
     bit_and (MaskAt points point visit) (width_of point.slot) ≡ MaskAt points point visit
 mask-within_all [] point visit known slot = and_zero_l (width_of point.slot)
 mask-within_all (first ∷ points) point visit known slot =
     let both = and_parts (is_cut_point first) (list_all is_cut_point points) known in
     elim (cases_Bool (is_same_point first.point point)) [
       | inl same ↦
-          let width = same-width first.point.slot point.slot (slot-known first both.0) slot (same-slot first.point point same) in
+          let width = same-width first.point.slot point.slot (slot-known first both.0) slot
+          (same-slot first.point point same) in
           let here : MaskAt (first ∷ points) point visit ≡ mask_of first visit =
           cond-true (is_same_point first.point point) (mask_of first visit) (MaskAt points point visit) same in
           ap (λ (m : ℕ). bit_and m (width_of point.slot)) here
@@ -165,9 +182,12 @@ mask-within_all (first ∷ points) point visit known slot =
       | inr other ↦
           let there : MaskAt (first ∷ points) point visit ≡ MaskAt points point visit =
           cond-false (is_same_point first.point point) (mask_of first visit) (MaskAt points point visit) other in
-          ap (λ (m : ℕ). bit_and m (width_of point.slot)) there ∙ mask-within_all points point visit both.1 slot ∙ sym there
+          ap (λ (m : ℕ). bit_and m (width_of point.slot)) there ∙ mask-within_all points point visit both.1 slot
+          ∙ sym there
     ]
 
-pub mask-within : (points : List CutPoint) (point : Point) (visit : ℕ) → are_points points ≡ true → is_slot point.slot ≡ true →
+pub mask-within : (points : List CutPoint) (point : Point) (visit : ℕ) → are_points points ≡ true →
+    is_slot point.slot ≡ true →
     bit_and (MaskAt points point visit) (width_of point.slot) ≡ MaskAt points point visit
-mask-within points point visit known slot = mask-within_all points point visit (and_parts (list_all is_cut_point points) _ known).0 slot
+mask-within points point visit known slot = mask-within_all points point visit (and_parts
+    (list_all is_cut_point points) _ known).0 slot

@@ -1,11 +1,13 @@
 -- Items that follow one another.
-use Rattle.std.proofs.Common.{◌≡◌, ℕ, ◌-◌, ◌<◌, ◌&&◌, Bool, true, false, List, [], ◌∷◌, ◌++◌, length, get_or, refl, sym, ap, ◌∙◌, append_assoc, arith}
+use Rattle.std.proofs.Common.{◌≡◌, ℕ, ◌-◌, ◌<◌, ◌&&◌, Bool, true, false, List, [], ◌∷◌, ◌++◌, length, get_or, refl}
+use Rattle.std.proofs.Common.{sym, ap, ◌∙◌, append_assoc, arith}
 use Rattle.std.specs.List.{list_all}
 use Rattle.std.proofs.Common.{nat_lt, nat_le, IsTrue}
 use Rattle.std.proofs.lemmas.Bool.{and_parts, and_from}
 use Rattle.flow_base.specs.Points.{is_slot}
 use Rattle.cut_file.specs.declared.points.CutPoint.{CutPoint}
-use Rattle.cut_file.specs.Cuts.{are_points, are_regions, is_valid, is_cut_point, is_point, is_region, is_word, neighbours_pass, stands_before}
+use Rattle.cut_file.specs.Cuts.{are_points, are_regions, is_valid, is_cut_point, is_point, is_region, is_word}
+use Rattle.cut_file.specs.Cuts.{neighbours_pass, stands_before}
 use Rattle.cut_file.specs.declared.cuts.Cut.{Cut}
 use Rattle.cut_file.specs.Pictures.{picture_of}
 use Rattle.cut_file.specs.Reading.{may_follow}
@@ -29,7 +31,8 @@ pub all-push : {A : Type 0} (test : A → Bool) (items : List A) (item : A) →
 all-push test [] item = grind arith
 all-push test (first ∷ others) item = grind (arith, all-push test others item)
 
-pub all-last : {A : Type 0} (test : A → Bool) (items : List A) (last : A) → list_all test items ≡ true → 0 < length items →
+pub all-last : {A : Type 0} (test : A → Bool) (items : List A) (last : A) → list_all test items ≡ true →
+    0 < length items →
     test (get_or items (length items - 1) last) ≡ true
 all-last test [] last all some = grind arith
 all-last test (first ∷ []) last all some = grind arith
@@ -47,18 +50,21 @@ is_so true so = refl
 is_so false so = grind arith
 
 pub list-push : {A : Type 0} (each : A → Bool) (test : A → A → Bool) (items : List A) (item : A) →
-    (list_all each items && neighbours_pass test items) ≡ true → each item ≡ true → may_follow test items item ≡ true →
+    (list_all each items && neighbours_pass test items) ≡ true → each item ≡ true →
+    may_follow test items item ≡ true →
     (list_all each (items ++ (item ∷ [])) && neighbours_pass test (items ++ (item ∷ []))) ≡ true
 list-push each test items item known own follows =
     let both = and_parts _ _ known in
-    and_from _ _ (all-push each items item ∙ and_from _ _ both.0 own) (neighbours-push test items item ∙ and_from _ _ both.1 follows)
+    and_from _ _ (all-push each items item ∙ and_from _ _ both.0 own) (neighbours-push test items item
+    ∙ and_from _ _ both.1 follows)
 
 pub regions-push : (skip : List ℕ) (region : ℕ) → IsTrue (are_regions skip) → IsTrue (is_region region) →
     may_follow nat_lt skip region ≡ true → IsTrue (are_regions (skip ++ (region ∷ [])))
 regions-push skip region known own follows =
     is_true _ (list-push is_region nat_lt skip region (is_so _ known) (is_so _ own) follows)
 
-pub points-push : (points : List CutPoint) (point : CutPoint) → IsTrue (are_points points) → IsTrue (is_cut_point point) →
+pub points-push : (points : List CutPoint) (point : CutPoint) → IsTrue (are_points points) →
+    IsTrue (is_cut_point point) →
     may_follow stands_before points point ≡ true → IsTrue (are_points (points ++ (point ∷ [])))
 points-push points point known own follows =
     is_true _ (list-push is_cut_point stands_before points point (is_so _ known) (is_so _ own) follows)
@@ -73,28 +79,33 @@ slot-of point known =
 pub slot-last : (points : List CutPoint) (last : CutPoint) → IsTrue (are_points points) → 0 < length points →
     IsTrue (is_slot (get_or points (length points - 1) last).point.slot)
 slot-last points last known some =
-    slot-of (get_or points (length points - 1) last) (all-last is_cut_point points last (and_parts _ _ (is_so _ known)).0 some)
+    slot-of (get_or points (length points - 1) last) (all-last is_cut_point points last (and_parts _ _
+    (is_so _ known)).0 some)
 
 -- what a cut keeps makes its picture valid
 pub cut-valid : (cut : Cut) → is_valid (picture_of cut) ≡ true
 cut-valid cut =
-    and_from _ _ (is_so _ cut.is_short) (and_from _ _ (is_so _ cut.is_number) (and_from _ _ (is_so _ cut.skips) (is_so _ cut.crosses)))
+    and_from _ _ (is_so _ cut.is_short) (and_from _ _ (is_so _ cut.is_number) (and_from _ _ (is_so _ cut.skips)
+    (is_so _ cut.crosses)))
 
 -- ---- the front of a list that is kept
 
-pub all-front : {A : Type 0} (test : A → Bool) (items more : List A) → list_all test (items ++ more) ≡ true → list_all test items ≡ true
+pub all-front : {A : Type 0} (test : A → Bool) (items more : List A) → list_all test (items ++ more) ≡ true →
+    list_all test items ≡ true
 all-front test [] more all = refl
 all-front test (first ∷ items) more all =
     let both = and_parts (test first) (list_all test (items ++ more)) all in
     and_from (test first) (list_all test items) both.0 (all-front test items more both.1)
 
-pub neighbours-front : {A : Type 0} (test : A → A → Bool) (items more : List A) → neighbours_pass test (items ++ more) ≡ true →
+pub neighbours-front : {A : Type 0} (test : A → A → Bool) (items more : List A) →
+    neighbours_pass test (items ++ more) ≡ true →
     neighbours_pass test items ≡ true
 neighbours-front test [] more all = refl
 neighbours-front test (first ∷ []) more all = refl
 neighbours-front test (first ∷ (second ∷ items)) more all =
     let both = and_parts (test first second) (neighbours_pass test (second ∷ (items ++ more))) all in
-    and_from (test first second) (neighbours_pass test (second ∷ items)) both.0 (neighbours-front test (second ∷ items) more both.1)
+    and_from (test first second) (neighbours_pass test (second ∷ items)) both.0 (neighbours-front test
+    (second ∷ items) more both.1)
 
 abbrev pub is_kept : {A : Type 0} → (A → Bool) → (A → A → Bool) → List A → Bool
 is_kept each test items = list_all each items && neighbours_pass test items
@@ -109,11 +120,15 @@ pub kept-step : {A : Type 0} (each : A → Bool) (test : A → A → Bool) (item
     is_kept each test (items ++ (item ∷ more)) ≡ true → IsKeptStep each test items item
 kept-step each test items item more kept =
     let same : items ++ (item ∷ more) ≡ (items ++ (item ∷ [])) ++ more = sym (append_assoc items (item ∷ []) more) in
-    let whole = and_parts (list_all each (items ++ (item ∷ more))) (neighbours_pass test (items ++ (item ∷ more))) kept in
+    let whole = and_parts (list_all each (items ++ (item ∷ more))) (neighbours_pass test (items ++
+    (item ∷ more))) kept in
     let all = all-front each (items ++ (item ∷ [])) more (ap (list_all each) (sym same) ∙ whole.0) in
-    let neighbours = neighbours-front test (items ++ (item ∷ [])) more (ap (neighbours_pass test) (sym same) ∙ whole.1) in
+    let neighbours = neighbours-front test (items ++ (item ∷ [])) more (ap (neighbours_pass test) (sym same)
+    ∙ whole.1) in
     record {
       own = (and_parts (list_all each items) (each item) (sym (all-push each items item) ∙ all)).1;
-      follows = (and_parts (neighbours_pass test items) (may_follow test items item) (sym (neighbours-push test items item) ∙ neighbours)).1;
-      kept = and_from (list_all each (items ++ (item ∷ []))) (neighbours_pass test (items ++ (item ∷ []))) all neighbours;
+      follows = (and_parts (neighbours_pass test items) (may_follow test items item) (sym
+          (neighbours-push test items item) ∙ neighbours)).1;
+      kept = and_from (list_all each (items ++ (item ∷ []))) (neighbours_pass test (items ++
+          (item ∷ []))) all neighbours;
     }

@@ -1,5 +1,6 @@
 -- A hexadecimal word is read as the word that it is written from, and as no other.
-use Rattle.std.proofs.Common.{◌≡◌, ℕ, ◌+◌, ◌*◌, ◌/◌, ◌%◌, ◌<◌, ◌≤◌, ◌==◌, Bool, true, false, List, [], ◌∷◌, length, slice_index, if◌then◌else◌, Some, None, refl, sym, ◌∙◌, ap, subst, arith}
+use Rattle.std.proofs.Common.{◌≡◌, ℕ, ◌+◌, ◌*◌, ◌/◌, ◌%◌, ◌<◌, ◌≤◌, ◌==◌, Bool, true, false, List, [], ◌∷◌, length}
+use Rattle.std.proofs.Common.{slice_index, if◌then◌else◌, Some, None, refl, sym, ◌∙◌, ap, subst, arith}
 use Rattle.std.specs.Prelude.{map}
 use Rattle.std.specs.Str.{bytes_eq}
 use Rattle.std.proofs.lemmas.Slice.Eq.{bytes_eq-Decides}
@@ -18,7 +19,8 @@ linear a b c d e f g h i j k l m n o p q r s t u v w x = omega arith
 
 digits-sum : (word : ℕ) → word < 4294967296 →
     word / 268435456 % 16 * 268435456 + word / 16777216 % 16 * 16777216 + word / 1048576 % 16 * 1048576
-    + word / 65536 % 16 * 65536 + word / 4096 % 16 * 4096 + word / 256 % 16 * 256 + word / 16 % 16 * 16 + word % 16 ≡ word
+    + word / 65536 % 16 * 65536 + word / 4096 % 16 * 4096 + word / 256 % 16 * 256 + word / 16 % 16 * 16 + word % 16 ≡
+    word
 digits-sum word small =
     let a : word ≡ 16 * (word / 16) + word % 16 = omega arith in
     let b : word / 16 ≡ 16 * (word / 256) + word / 16 % 16 = omega arith in
@@ -28,7 +30,8 @@ digits-sum word small =
     let f : word / 1048576 ≡ 16 * (word / 16777216) + word / 1048576 % 16 = omega arith in
     let g : word / 16777216 ≡ 16 * (word / 268435456) + word / 16777216 % 16 = omega arith in
     let h : word / 268435456 % 16 ≡ word / 268435456 = omega arith in
-    linear word (word / 16) (word / 256) (word / 4096) (word / 65536) (word / 1048576) (word / 16777216) (word / 268435456)
+    linear word (word / 16) (word / 256) (word / 4096) (word / 65536) (word / 1048576) (word / 16777216)
+    (word / 268435456)
     (word % 16) (word / 16 % 16) (word / 256 % 16) (word / 4096 % 16) (word / 65536 % 16) (word / 1048576 % 16)
     (word / 16777216 % 16) (word / 268435456 % 16) a b c d e f g h
 
@@ -57,7 +60,8 @@ bounded a b c d e f g h i j k l m n o p = omega arith
 
 word-small : (bytes : List ℕ) → word_of bytes < 4294967296
 word-small bytes =
-    bounded _ _ _ _ _ _ _ _ (digit-small (slice_index bytes 2)) (digit-small (slice_index bytes 3)) (digit-small (slice_index bytes 4))
+    bounded _ _ _ _ _ _ _ _ (digit-small (slice_index bytes 2)) (digit-small (slice_index bytes 3)) (digit-small
+    (slice_index bytes 4))
     (digit-small (slice_index bytes 5)) (digit-small (slice_index bytes 6)) (digit-small (slice_index bytes 7))
     (digit-small (slice_index bytes 8)) (digit-small (slice_index bytes 9))
 
@@ -71,7 +75,8 @@ pub record IsWordOf (bytes : List ℕ) (word : ℕ) : Type 0 where
   pub text : bytes ≡ hex_word word
   pub small : word < 4294967296
 
-gate : (a b : Bool) (value word : ℕ) → (if a then (if b then Some value else None) else None) ≡ Some word → (b ≡ true) × (value ≡ word)
+gate : (a b : Bool) (value word : ℕ) → (if a then (if b then Some value else None) else None) ≡ Some word →
+    (b ≡ true) × (value ≡ word)
 gate true true value word e = (refl, some-same value word e)
 gate true false value word e = absurd cc
 gate false b value word e = absurd cc
@@ -102,12 +107,14 @@ hex-high digit = grind arith
 digits-clean : (separator : ℕ) (digits : List ℕ) → separator < 48 → has_byte separator (map hex_digit digits) ≡ false
 digits-clean separator [] low = refl
 digits-clean separator (digit ∷ digits) low =
-    clean-cons separator (hex_digit digit) (map hex_digit digits) (λ e. omega (arith, hex-high digit, e)) (digits-clean separator digits low)
+    clean-cons separator (hex_digit digit) (map hex_digit digits) (λ e. omega (arith, hex-high digit, e))
+    (digits-clean separator digits low)
 
 pub hex_word-clean : (separator word : ℕ) → separator < 48 → has_byte separator (hex_word word) ≡ false
 unfolding hex_word
 hex_word-clean separator word low =
-    let digits : List ℕ = (word / 268435456 % 16) ∷ (word / 16777216 % 16) ∷ (word / 1048576 % 16) ∷ (word / 65536 % 16)
+    let digits : List ℕ = (word / 268435456 % 16) ∷ (word / 16777216 % 16) ∷ (word / 1048576 % 16) ∷
+    (word / 65536 % 16)
     ∷ (word / 4096 % 16) ∷ (word / 256 % 16) ∷ (word / 16 % 16) ∷ (word % 16) ∷ [] in
     clean-cons separator 48 (120 ∷ map hex_digit digits) (λ e. omega (arith, e))
     (clean-cons separator 120 (map hex_digit digits) (λ e. omega (arith, e)) (digits-clean separator digits low))

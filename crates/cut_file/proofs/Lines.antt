@@ -1,5 +1,6 @@
 -- The words of a line, and the lines, are read as what they are written from, and as nothing else.
-use Rattle.std.proofs.Common.{◌≡◌, ℕ, ◌<◌, nat_le, Bool, true, false, List, [], ◌∷◌, ◌++◌, codes, if◌then◌else◌, Option, Some, None, refl, sym, ◌∙◌, ap, subst, arith}
+use Rattle.std.proofs.Common.{◌≡◌, ℕ, ◌<◌, nat_le, Bool, true, false, List, [], ◌∷◌, ◌++◌, codes, if◌then◌else◌}
+use Rattle.std.proofs.Common.{Option, Some, None, refl, sym, ◌∙◌, ap, subst, arith}
 use Rattle.std.specs.Fmt.{decimal}
 use Rattle.cut_file.specs.Cuts.{is_region, is_word}
 use Rattle.cut_file.specs.Texts.{bits_line, secret_line, skip_line}
@@ -13,12 +14,14 @@ pub record IsThen {A B : Type 0} (first : Option A) (next : A → Option B) (ans
   pub is : first ≡ Some value
   pub then_is : next value ≡ Some answer
 
-pub then-found : {A B : Type 0} (first : Option A) (next : A → Option B) (answer : B) → (first >>= next) ≡ Some answer →
+pub then-found : {A B : Type 0} (first : Option A) (next : A → Option B) (answer : B) →
+    (first >>= next) ≡ Some answer →
     IsThen first next answer
 then-found None next answer e = absurd cc
 then-found (Some value) next answer e = record { value = value; is = refl; then_is = e }
 
-pub then-own : {A B : Type 0} (first : Option A) (next : A → Option B) (value : A) → first ≡ Some value → (first >>= next) ≡ next value
+pub then-own : {A B : Type 0} (first : Option A) (next : A → Option B) (value : A) → first ≡ Some value →
+    (first >>= next) ≡ next value
 then-own first next value e = rw e refl
 
 some_or : {A : Type 0} → A → Option A → A
@@ -32,7 +35,8 @@ pub the-same : {A : Type 0} (a b : A) → some_value a ≡ some_value b → a �
 unfolding some_or
 the-same a b e = ap (some_or a) e
 
-pub kept-found : {A : Type 0} (test : Bool) (value answer : A) (P : A → Type 0) → (if test then Some value else None) ≡ Some answer →
+pub kept-found : {A : Type 0} (test : Bool) (value answer : A) (P : A → Type 0) →
+    (if test then Some value else None) ≡ Some answer →
     (test ≡ true → P value) → P answer
 kept-found true value answer P e own = subst P (the-same value answer e) (own refl)
 kept-found false value answer P e own = absurd cc
@@ -67,9 +71,11 @@ behind-found wanted line number e =
     let n = number-found t.value number t.then_is in
     (after-found wanted line t.value t.is ∙ ap (λ (l : List ℕ). wanted ++ l) n.text, n.small)
 
-pub behind-own : (wanted : List ℕ) (number : ℕ) → number < 4294967296 → number_behind wanted (wanted ++ decimal number) ≡ Some number
+pub behind-own : (wanted : List ℕ) (number : ℕ) → number < 4294967296 →
+    number_behind wanted (wanted ++ decimal number) ≡ Some number
 behind-own wanted number small =
-    then-own (after_text wanted (wanted ++ decimal number)) (λ digits. number_in digits) (decimal number) (after-own wanted (decimal number))
+    then-own (after_text wanted (wanted ++ decimal number)) (λ digits. number_in digits) (decimal number)
+    (after-own wanted (decimal number))
     ∙ number-own number small
 
 regrouped : (o : Option (List ℕ)) (next : ℕ → Option ℕ) →
@@ -88,17 +94,20 @@ pub record IsSecretLine (line : List ℕ) (number : ℕ) : Type 0 where
 pub secret-found : (line : List ℕ) (number : ℕ) → secret_in line ≡ Some number → IsSecretLine line number
 unfolding secret_in
 secret-found line number e =
-    let t = then-found (number_behind (codes "secret ") line) (λ number. if nat_le number 65536 then Some number else None) number
+    let t = then-found (number_behind (codes "secret ") line)
+    (λ number. if nat_le number 65536 then Some number else None) number
     (sym (regroup (codes "secret ") line (λ number. if nat_le number 65536 then Some number else None)) ∙ e) in
     let b = behind-found (codes "secret ") line t.value t.is in
-    kept-found (nat_le t.value 65536) t.value number (λ n. IsSecretLine line n) t.then_is (λ short. record { text = b.0; short = short })
+    kept-found (nat_le t.value 65536) t.value number (λ n. IsSecretLine line n) t.then_is
+    (λ short. record { text = b.0; short = short })
 
 pub secret-own : (number : ℕ) → nat_le number 65536 ≡ true → secret_in (secret_line number) ≡ Some number
 unfolding secret_in
 secret-own number short =
     let small : number < 4294967296 = grind arith in
     regroup (codes "secret ") (secret_line number) (λ number. if nat_le number 65536 then Some number else None)
-    ∙ then-own (number_behind (codes "secret ") (secret_line number)) _ number (behind-own (codes "secret ") number small)
+    ∙ then-own (number_behind (codes "secret ") (secret_line number)) _ number (behind-own
+    (codes "secret ") number small)
     ∙ rw short refl
 
 pub record IsBitsLine (line : List ℕ) (number : ℕ) : Type 0 where
@@ -122,10 +131,12 @@ pub record IsSkipOf (line : List ℕ) (region : ℕ) : Type 0 where
 pub skip-found : (line : List ℕ) (region : ℕ) → skip_in line ≡ Some region → IsSkipOf line region
 unfolding skip_in
 skip-found line region e =
-    let t = then-found (number_behind (codes "skip ") line) (λ number. if is_region number then Some number else None) region
+    let t = then-found (number_behind (codes "skip ") line)
+    (λ number. if is_region number then Some number else None) region
     (sym (regroup (codes "skip ") line (λ number. if is_region number then Some number else None)) ∙ e) in
     let b = behind-found (codes "skip ") line t.value t.is in
-    kept-found (is_region t.value) t.value region (λ n. IsSkipOf line n) t.then_is (λ own. record { text = b.0; known = own })
+    kept-found (is_region t.value) t.value region (λ n. IsSkipOf line n) t.then_is
+    (λ own. record { text = b.0; known = own })
 
 pub skip-own : (region : ℕ) → is_region region ≡ true → skip_in (skip_line region) ≡ Some region
 unfolding skip_in

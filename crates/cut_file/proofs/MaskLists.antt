@@ -1,5 +1,6 @@
 -- The mask at a visit, as runs are passed over one by one.
-use Rattle.std.proofs.Common.{◌≡◌, ℕ, ◌+◌, ◌-◌, ◌<◌, ◌≤◌, List, [], ◌∷◌, length, refl, sym, ap, ◌∙◌, arith, drop, drop-cons, get_or, suc, add-one}
+use Rattle.std.proofs.Common.{◌≡◌, ℕ, ◌+◌, ◌-◌, ◌<◌, ◌≤◌, List, [], ◌∷◌, length, refl, sym, ap, ◌∙◌, arith, drop}
+use Rattle.std.proofs.Common.{drop-cons, get_or, suc, add-one}
 use Rattle.std.specs.Prelude.{replicate, slice_index_or}
 use Rattle.std.proofs.Math.ListN.{get_or-append, drop_of_length-le}
 use Rattle.std.proofs.lemmas.List.{get_or-append_right, get_or-replicate, length-replicate}
@@ -35,22 +36,28 @@ unfolding listed_masks
 mask-rest visit rest = refl
 
 -- the same with the first run at an index
-pub mask-here_at : (runs : List Run) (index : ℕ) (other : Run) (visit rest whole : ℕ) → index < length runs → 1 ≤ visit →
-    visit ≤ (get_or runs index other).count → mask_in (drop index runs) visit rest ≡ whole → (get_or runs index other).mask ≡ whole
+pub mask-here_at : (runs : List Run) (index : ℕ) (other : Run) (visit rest whole : ℕ) → index < length runs →
+    1 ≤ visit →
+    visit ≤ (get_or runs index other).count → mask_in (drop index runs) visit rest ≡ whole →
+    (get_or runs index other).mask ≡ whole
 mask-here_at runs index other visit rest whole inside first within known =
-    let tail : drop index runs ≡ get_or runs index other ∷ drop (suc index) runs = drop-cons runs index other inside in
+    let tail : drop index runs ≡ get_or runs index other ∷ drop
+    (suc index) runs = drop-cons runs index other inside in
     sym (mask-here (get_or runs index other) (drop (suc index) runs) visit rest first within)
     ∙ ap (λ (l : List Run). mask_in l visit rest) (sym tail) ∙ known
 
-pub mask-later_at : (runs : List Run) (index : ℕ) (other : Run) (visit rest whole : ℕ) → index < length runs → 1 ≤ visit →
+pub mask-later_at : (runs : List Run) (index : ℕ) (other : Run) (visit rest whole : ℕ) → index < length runs →
+    1 ≤ visit →
     (get_or runs index other).count < visit → mask_in (drop index runs) visit rest ≡ whole →
     mask_in (drop (index + 1) runs) (visit - (get_or runs index other).count) rest ≡ whole
 mask-later_at runs index other visit rest whole inside first behind known =
-    let tail : drop index runs ≡ get_or runs index other ∷ drop (suc index) runs = drop-cons runs index other inside in
+    let tail : drop index runs ≡ get_or runs index other ∷ drop
+    (suc index) runs = drop-cons runs index other inside in
     rw add-one (sym (mask-later (get_or runs index other) (drop (suc index) runs) visit rest first behind)
     ∙ ap (λ (l : List Run). mask_in l visit rest) (sym tail) ∙ known)
 
 pub mask-rest_at : (runs : List Run) (index visit rest whole : ℕ) → length runs ≤ index →
     mask_in (drop index runs) visit rest ≡ whole → rest ≡ whole
 mask-rest_at runs index visit rest whole past known =
-    sym (mask-rest visit rest) ∙ ap (λ (l : List Run). mask_in l visit rest) (sym (drop_of_length-le runs past)) ∙ known
+    sym (mask-rest visit rest) ∙ ap (λ (l : List Run). mask_in l visit rest) (sym (drop_of_length-le runs past))
+    ∙ known

@@ -1,5 +1,7 @@
 -- A decimal word is read as the number that it is written from, and as no other.
-use Rattle.std.proofs.Common.{◌≡◌, ℕ, ◌+◌, ◌-◌, ◌*◌, ◌/◌, ◌%◌, ◌<◌, ◌≤◌, nat_lt, Bool, true, false, List, [], ◌∷◌, ◌++◌, length, get_or, if◌then◌else◌, Option, Some, None, refl, sym, ◌∙◌, ap, subst, append_assoc, arith, length-append, inl, inr}
+use Rattle.std.proofs.Common.{◌≡◌, ℕ, ◌+◌, ◌-◌, ◌*◌, ◌/◌, ◌%◌, ◌<◌, ◌≤◌, nat_lt, Bool, true, false, List, [], ◌∷◌}
+use Rattle.std.proofs.Common.{◌++◌, length, get_or, if◌then◌else◌, Option, Some, None, refl, sym, ◌∙◌, ap, subst}
+use Rattle.std.proofs.Common.{append_assoc, arith, length-append, inl, inr}
 use Rattle.std.specs.Fmt.{decimal}
 use Rattle.std.proofs.lemmas.Fmt.{decimal_by_steps, decimal_digit, decimal_step, decimal_nonempty, first_decimal}
 use Rattle.std.proofs.lemmas.Bool.{ne_eqb, cases_eq}
@@ -19,10 +21,12 @@ ReadsBack number digits = (rest : List ℕ) → number < 4294967296 → digits_i
 one_digit : (number : ℕ) → number < 10 → ReadsBack number ((48 + number) ∷ [])
 one_digit number small rest fits = grind (arith, digit-step 0 number rest small)
 
-more_digits : (number : ℕ) (digits : List ℕ) → 10 ≤ number → ReadsBack (number / 10) digits → ReadsBack number (digits ++ ((48 + number % 10) ∷ []))
+more_digits : (number : ℕ) (digits : List ℕ) → 10 ≤ number → ReadsBack (number / 10) digits →
+    ReadsBack number (digits ++ ((48 + number % 10) ∷ []))
 more_digits number digits large ih rest fits =
     let e : number / 10 * 10 + number % 10 ≡ number = omega arith in
-    rw append_assoc (ih ((48 + number % 10) ∷ rest) (omega arith) ∙ digit-step (number / 10) (number % 10) rest (omega arith) (omega arith) ∙ ap (λ (n : ℕ). digits_in n rest) e)
+    rw append_assoc (ih ((48 + number % 10) ∷ rest) (omega arith)
+    ∙ digit-step (number / 10) (number % 10) rest (omega arith) (omega arith) ∙ ap (λ (n : ℕ). digits_in n rest) e)
 
 digits-own : (number : ℕ) → number < 4294967296 → digits_in 0 (decimal number) ≡ Some number
 digits-own number small =
@@ -37,18 +41,21 @@ no-leading_zero (byte ∷ (next ∷ bytes)) above = ne_eqb byte 48 (λ e. omega 
 decimal-leads : (number : ℕ) → number < 4294967296 → has_leading_zero (decimal number) ≡ false
 decimal-leads number small =
     elim (cases_eq number 0) [
-      | inl zero ↦ ap (λ (n : ℕ). has_leading_zero (decimal n)) zero ∙ ap has_leading_zero (decimal_digit 0 (omega arith))
+      | inl zero ↦ ap (λ (n : ℕ). has_leading_zero (decimal n)) zero
+          ∙ ap has_leading_zero (decimal_digit 0 (omega arith))
       | inr other ↦ no-leading_zero (decimal number) (first_decimal number (omega (arith, other)) (omega arith))
     ]
 
-number-from : (word : List ℕ) (number : ℕ) → 0 < length word → has_leading_zero word ≡ false → digits_in 0 word ≡ Some number →
+number-from : (word : List ℕ) (number : ℕ) → 0 < length word → has_leading_zero word ≡ false →
+    digits_in 0 word ≡ Some number →
     number_in word ≡ Some number
 number-from [] number some leads digits = absurd (omega arith)
 number-from (byte ∷ bytes) number some leads digits = rw leads digits
 
 pub number-own : (number : ℕ) → number < 4294967296 → number_in (decimal number) ≡ Some number
 number-own number small =
-    number-from (decimal number) number (decimal_nonempty number (omega arith)) (decimal-leads number small) (digits-own number small)
+    number-from (decimal number) number (decimal_nonempty number (omega arith)) (decimal-leads number small)
+    (digits-own number small)
 
 -- ---- what is read was written
 
@@ -67,7 +74,8 @@ pub some-same : (a b : ℕ) → is_some_number a ≡ is_some_number b → a ≡ 
 unfolding number_or
 some-same a b e = ap number_or e
 
-gate : (a b : Bool) (answer : Option ℕ) (number : ℕ) → (if a then (if b then answer else None) else None) ≡ Some number →
+gate : (a b : Bool) (answer : Option ℕ) (number : ℕ) → (if a then
+    (if b then answer else None) else None) ≡ Some number →
     (a ≡ true) × (b ≡ true) × (answer ≡ Some number)
 gate true true answer number e = (refl, refl, e)
 gate true false answer number e = absurd cc
@@ -82,12 +90,14 @@ record IsDigitStep (number byte : ℕ) (bytes : List ℕ) (answer : ℕ) : Type 
 digits-step : (number byte : ℕ) (bytes : List ℕ) (answer : ℕ) → digits_in number (byte ∷ bytes) ≡ Some answer →
     IsDigitStep number byte bytes answer
 digits-step number byte bytes answer e =
-    let g = gate (is_digit byte) (nat_lt (number * 10 + (byte - 48)) 4294967296) (digits_in (number * 10 + (byte - 48)) bytes) answer e in
+    let g = gate (is_digit byte) (nat_lt (number * 10 + (byte - 48)) 4294967296) (digits_in (number * 10 +
+    (byte - 48)) bytes) answer e in
     let digit : is_digit byte ≡ true = g.0 in
     let below : nat_lt (number * 10 + (byte - 48)) 4294967296 ≡ true = g.1 in
     record { low = grind arith; high = grind arith; fits = grind arith; rest = g.2 }
 
-digits-found : (number : ℕ) (word : List ℕ) (answer : ℕ) → 0 < number → number < 4294967296 → digits_in number word ≡ Some answer →
+digits-found : (number : ℕ) (word : List ℕ) (answer : ℕ) → 0 < number → number < 4294967296 →
+    digits_in number word ≡ Some answer →
     (decimal number ++ word ≡ decimal answer) × (answer < 4294967296)
 digits-found number [] answer some small e =
     let same = some-same number answer e in
@@ -104,8 +114,11 @@ digits-found number (byte ∷ bytes) answer some small e =
     let last : 48 + (number * 10 + (byte - 48)) % 10 ≡ byte = omega arith in
     let text : decimal (number * 10 + (byte - 48)) ≡ decimal number ++ (byte ∷ []) =
     written ∙ ap (λ (n : ℕ). decimal n ++ ((48 + (number * 10 + (byte - 48)) % 10) ∷ [])) front
-    ∙ ap (λ (b : ℕ). decimal number ++ (b ∷ [])) last in
-    (sym (append_assoc (decimal number) (byte ∷ []) bytes) ∙ ap (λ (l : List ℕ). l ++ bytes) (sym text) ∙ inner.0, inner.1)
+    ∙ ap (λ (b : ℕ). decimal number ++ (b ∷ [])) last in (
+      sym (append_assoc (decimal number) (byte ∷ []) bytes) ∙ ap (λ (l : List ℕ). l ++ bytes) (sym text)
+          ∙ inner.0,
+      inner.1,
+    )
 
 alone-or_other : (byte : ℕ) (bytes : List ℕ) → has_leading_zero (byte ∷ bytes) ≡ false → byte ≡ 48 → bytes ≡ []
 alone-or_other byte [] leads zero = refl
@@ -124,11 +137,13 @@ first-found byte bytes answer leads step =
     elim (cases_eq byte 48) [
       | inl zero ↦
           let alone = alone-or_other byte bytes leads zero in
-          let empty : digits_in (0 * 10 + (byte - 48)) [] ≡ Some answer = ap (λ (l : List ℕ). digits_in (0 * 10 + (byte - 48)) l) (sym alone) ∙ step.rest in
+          let empty : digits_in (0 * 10 + (byte - 48)) [] ≡ Some answer = ap (λ (l : List ℕ). digits_in (0 * 10 +
+          (byte - 48)) l) (sym alone) ∙ step.rest in
           let same = some-same (0 * 10 + (byte - 48)) answer empty in
           let none : answer ≡ 0 = omega (arith, same, zero) in
           record {
-            text = ap (λ (l : List ℕ). byte ∷ l) alone ∙ ap (λ (b : ℕ). b ∷ []) zero ∙ sym (ap decimal none ∙ decimal_digit 0 (omega arith));
+            text = ap (λ (l : List ℕ). byte ∷ l) alone ∙ ap (λ (b : ℕ). b ∷ []) zero ∙ sym (ap decimal none
+                ∙ decimal_digit 0 (omega arith));
             small = omega (arith, none);
           }
       | inr other ↦
@@ -149,7 +164,8 @@ number-found (byte ∷ bytes) number e =
 
 -- ---- a decimal word has digits alone
 
-pub clean-append : (separator : ℕ) (first second : List ℕ) → has_byte separator first ≡ false → has_byte separator second ≡ false →
+pub clean-append : (separator : ℕ) (first second : List ℕ) → has_byte separator first ≡ false →
+    has_byte separator second ≡ false →
     has_byte separator (first ++ second) ≡ false
 clean-append separator [] second e f = f
 clean-append separator (byte ∷ first) second e f = grind (arith, clean-append separator first second)
@@ -158,7 +174,8 @@ pub clean-cons : (separator byte : ℕ) (bytes : List ℕ) → (byte ≡ separat
     has_byte separator (byte ∷ bytes) ≡ false
 clean-cons separator byte bytes other e = rw (ne_eqb byte separator other) e
 
-pub decimal-clean : (separator number : ℕ) → separator < 48 → number < 4294967296 → has_byte separator (decimal number) ≡ false
+pub decimal-clean : (separator number : ℕ) → separator < 48 → number < 4294967296 →
+    has_byte separator (decimal number) ≡ false
 decimal-clean separator number low small =
     decimal_by_steps (λ (n : ℕ) (ds : List ℕ). has_byte separator ds ≡ false)
     (λ (n : ℕ) h. clean-cons separator (48 + n) [] (λ e. omega (arith, e)) refl)
@@ -178,5 +195,9 @@ pub decimal-begins : (number : ℕ) → number < 4294967296 → (0 < length (dec
 decimal-begins number small =
     decimal_by_steps (λ (n : ℕ) (ds : List ℕ). (0 < length ds) × BeginsLow ds)
     (λ (n : ℕ) h. (omega arith, omega arith))
-    (λ (n : ℕ) (ds : List ℕ) h ih. (omega (arith, ih.0, length-append {A = ℕ}), begins-append ds ((48 + n % 10) ∷ []) ih.0 ih.1))
+    (λ (n : ℕ) (ds : List ℕ) h ih. (
+      omega (arith, ih.0, length-append {A = ℕ}),
+      begins-append ds
+          ((48 + n % 10) ∷ []) ih.0 ih.1,
+    ))
     number (omega arith)

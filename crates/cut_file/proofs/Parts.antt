@@ -1,7 +1,9 @@
 -- How bytes are divided at separators.
-use Rattle.std.proofs.Common.{◌≡◌, ℕ, ◌==◌, ◌||◌, Bool, true, false, List, [], ◌∷◌, ◌++◌, Option, Some, None, if◌then◌else◌, refl, sym, ap, ◌∙◌, arith}
+use Rattle.std.proofs.Common.{◌≡◌, ℕ, ◌==◌, ◌||◌, Bool, true, false, List, [], ◌∷◌, ◌++◌, Option, Some, None}
+use Rattle.std.proofs.Common.{if◌then◌else◌, refl, sym, ap, ◌∙◌, arith}
 use Rattle.std.proofs.Common.{◌&&◌, not, inl, inr, eq-eqb}
-use Rattle.std.proofs.lemmas.Bool.{and_parts, cases_Bool, cond-false, cond-true, eqb-true, not-true, or_from, or_parts}
+use Rattle.std.proofs.lemmas.Bool.{and_parts, cases_Bool, cond-false, cond-true, eqb-true, not-true, or_from}
+use Rattle.std.proofs.lemmas.Bool.{or_parts}
 use Rattle.cut_file.specs.Texts.{joined}
 use Rattle.cut_file.specs.Reading.{divided, with_byte, onto_first, parts}
 
@@ -15,11 +17,13 @@ abbrev pub has_byte : ℕ → List ℕ → Bool
 has_byte separator [] = false
 has_byte separator (byte ∷ bytes) = (byte == separator) || has_byte separator bytes
 
-pub parts-alone : (separator : ℕ) (bytes : List ℕ) → divided separator bytes ≡ None → parts separator bytes ≡ bytes ∷ []
+pub parts-alone : (separator : ℕ) (bytes : List ℕ) → divided separator bytes ≡ None →
+    parts separator bytes ≡ bytes ∷ []
 parts-alone separator [] e = refl
 parts-alone separator (byte ∷ bytes) e = grind (arith, parts-alone separator bytes)
 
-with-parts : (byte : ℕ) (halves : Option (List ℕ × List ℕ)) (front rest : List ℕ) → with_byte byte halves ≡ Some (front, rest) →
+with-parts : (byte : ℕ) (halves : Option (List ℕ × List ℕ)) (front rest : List ℕ) →
+    with_byte byte halves ≡ Some (front, rest) →
     (inner : List ℕ) × (halves ≡ Some (inner, rest)) × (front ≡ byte ∷ inner)
 with-parts byte None front rest e = absurd (grind arith)
 with-parts byte (Some p) front rest e = (p.0, grind arith, grind arith)
@@ -40,9 +44,11 @@ unfolding front_of rest_of
 halves-same a b c d e = (ap front_of e, ap rest_of e)
 
 parts-divided-cons : (is : Bool) (separator byte : ℕ) (bytes front rest : List ℕ) →
-    ((inner : List ℕ) → divided separator bytes ≡ Some (inner, rest) → parts separator bytes ≡ inner ∷ parts separator rest) →
+    ((inner : List ℕ) → divided separator bytes ≡ Some (inner, rest) →
+    parts separator bytes ≡ inner ∷ parts separator rest) →
     (if is then Some ([], bytes) else with_byte byte (divided separator bytes)) ≡ Some (front, rest) →
-    (if is then [] ∷ parts separator bytes else onto_first byte (parts separator bytes)) ≡ front ∷ parts separator rest
+    (if is then [] ∷ parts separator bytes else onto_first byte
+    (parts separator bytes)) ≡ front ∷ parts separator rest
 parts-divided-cons true separator byte bytes front rest more e =
     let same = halves-same [] bytes front rest e in
     ap (λ (l : List ℕ). l ∷ parts separator bytes) same.0 ∙ ap (λ (l : List ℕ). front ∷ parts separator l) same.1
@@ -64,7 +70,8 @@ abbrev pub clean_words : ℕ → List (List ℕ) → Bool
 clean_words separator [] = true
 clean_words separator (part ∷ others) = not (has_byte separator part) && clean_words separator others
 
-onto-clean : (separator byte : ℕ) (others : List (List ℕ)) → (byte == separator) ≡ false → clean_words separator others ≡ true →
+onto-clean : (separator byte : ℕ) (others : List (List ℕ)) → (byte == separator) ≡ false →
+    clean_words separator others ≡ true →
     clean_words separator (onto_first byte others) ≡ true
 onto-clean separator byte [] other clean = rw other refl
 onto-clean separator byte (part ∷ others) other clean = rw other clean
@@ -77,7 +84,8 @@ parts-clean separator (byte ∷ bytes) =
       | inr other ↦ rw other (onto-clean separator byte (parts separator bytes) other (parts-clean separator bytes))
     ]
 
-joined-onto : (separator byte : ℕ) (others : List (List ℕ)) → joined separator (onto_first byte others) ≡ byte ∷ joined separator others
+joined-onto : (separator byte : ℕ) (others : List (List ℕ)) → joined separator
+    (onto_first byte others) ≡ byte ∷ joined separator others
 joined-onto separator byte [] = refl
 joined-onto separator byte (part ∷ []) = refl
 joined-onto separator byte (part ∷ (next ∷ others)) = refl
@@ -87,7 +95,8 @@ joined-second : (separator byte : ℕ) (others : List (List ℕ)) →
 joined-second separator byte [] = refl
 joined-second separator byte (part ∷ others) = refl
 
-joined-empty : (separator : ℕ) (bytes : List ℕ) → joined separator ([] ∷ parts separator bytes) ≡ separator ∷ joined separator (parts separator bytes)
+joined-empty : (separator : ℕ) (bytes : List ℕ) → joined separator
+    ([] ∷ parts separator bytes) ≡ separator ∷ joined separator (parts separator bytes)
 joined-empty separator [] = refl
 joined-empty separator (byte ∷ bytes) =
     elim (cases_Bool (byte == separator)) [
@@ -99,9 +108,11 @@ pub joined-parts : (separator : ℕ) (bytes : List ℕ) → joined separator (pa
 joined-parts separator [] = refl
 joined-parts separator (byte ∷ bytes) =
     elim (cases_Bool (byte == separator)) [
-      | inl is ↦ rw is (joined-empty separator bytes ∙ ap (λ (l : List ℕ). separator ∷ l) (joined-parts separator bytes)
+      | inl is ↦ rw is (joined-empty separator bytes ∙ ap (λ (l : List ℕ). separator ∷ l)
+          (joined-parts separator bytes)
           ∙ ap (λ (b : ℕ). b ∷ bytes) (sym (eqb-true byte separator is)))
-      | inr other ↦ rw other (joined-onto separator byte (parts separator bytes) ∙ ap (λ (l : List ℕ). byte ∷ l) (joined-parts separator bytes))
+      | inr other ↦ rw other (joined-onto separator byte (parts separator bytes)
+          ∙ ap (λ (l : List ℕ). byte ∷ l) (joined-parts separator bytes))
     ]
 
 -- a clean part in front of a separator is the first part
@@ -118,7 +129,8 @@ parts-last separator (byte ∷ part) clean =
     let both = or_parts (byte == separator) (has_byte separator part) clean in
     rw both.0 (ap (onto_first byte) (parts-last separator part both.1))
 
-pub parts-joined : (separator : ℕ) (word : List ℕ) (words : List (List ℕ)) → clean_words separator (word ∷ words) ≡ true →
+pub parts-joined : (separator : ℕ) (word : List ℕ) (words : List (List ℕ)) →
+    clean_words separator (word ∷ words) ≡ true →
     parts separator (joined separator (word ∷ words)) ≡ word ∷ words
 parts-joined separator word [] clean =
     let both = and_parts (not (has_byte separator word)) _ clean in
@@ -147,7 +159,8 @@ divided-found separator [] front rest e = absurd cc
 divided-found separator (byte ∷ bytes) front rest e =
     elim (cases_Bool (byte == separator)) [
       | inl is ↦
-          let here : some_halves [] bytes ≡ some_halves front rest = sym (cond-true (byte == separator) (some_halves [] bytes) (with_byte byte (divided separator bytes)) is) ∙ e in
+          let here : some_halves [] bytes ≡ some_halves front rest = sym (cond-true (byte == separator)
+          (some_halves [] bytes) (with_byte byte (divided separator bytes)) is) ∙ e in
           let same = halves-same [] bytes front rest here in
           record {
             whole = ap (λ (b : ℕ). b ∷ bytes) (eqb-true byte separator is) ∙ ap (λ (l : List ℕ). separator ∷ l) same.1
@@ -155,20 +168,24 @@ divided-found separator (byte ∷ bytes) front rest e =
             clean = ap (has_byte separator) (sym same.0);
           }
       | inr other ↦
-          let there : with_byte byte (divided separator bytes) ≡ some_halves front rest = sym (cond-false (byte == separator) (some_halves [] bytes) (with_byte byte (divided separator bytes)) other) ∙ e in
+          let there : with_byte byte (divided separator bytes) ≡ some_halves front rest = sym (cond-false
+          (byte == separator) (some_halves [] bytes) (with_byte byte (divided separator bytes)) other) ∙ e in
           let w = with-parts byte (divided separator bytes) front rest there in
           let inner = divided-found separator bytes w.0 rest w.1 in
           record {
-            whole = ap (λ (l : List ℕ). byte ∷ l) inner.whole ∙ ap (λ (l : List ℕ). l ++ (separator ∷ rest)) (sym w.2);
+            whole = ap (λ (l : List ℕ). byte ∷ l) inner.whole
+                ∙ ap (λ (l : List ℕ). l ++ (separator ∷ rest)) (sym w.2);
             clean = ap (has_byte separator) w.2 ∙ or_from _ _ other inner.clean;
           }
     ]
 
-pub divided-none : (separator : ℕ) (bytes : List ℕ) → divided separator bytes ≡ None → has_byte separator bytes ≡ false
+pub divided-none : (separator : ℕ) (bytes : List ℕ) → divided separator bytes ≡ None →
+    has_byte separator bytes ≡ false
 divided-none separator [] e = refl
 divided-none separator (byte ∷ bytes) e = grind (arith, divided-none separator bytes)
 
-pub none-divided : (separator : ℕ) (bytes : List ℕ) → has_byte separator bytes ≡ false → divided separator bytes ≡ None
+pub none-divided : (separator : ℕ) (bytes : List ℕ) → has_byte separator bytes ≡ false →
+    divided separator bytes ≡ None
 none-divided separator [] clean = refl
 none-divided separator (byte ∷ bytes) clean =
     let both = or_parts (byte == separator) (has_byte separator bytes) clean in

@@ -1,12 +1,14 @@
 -- The pieces of a text that is written.
-use Rattle.std.proofs.Common.{◌≡◌, ℕ, suc, ◌+◌, ◌<◌, List, [], ◌∷◌, ◌++◌, codes, length, drop, get_or, refl, sym, ap, ◌∙◌, append_assoc, add-one, drop-cons}
+use Rattle.std.proofs.Common.{◌≡◌, ℕ, suc, ◌+◌, ◌<◌, List, [], ◌∷◌, ◌++◌, codes, length, drop, get_or, refl, sym, ap}
+use Rattle.std.proofs.Common.{◌∙◌, append_assoc, add-one, drop-cons}
 use Rattle.std.specs.Prelude.{map}
 use Rattle.std.specs.Fmt.{decimal}
 use Rattle.std.proofs.lemmas.List.{append-nil}
 use Rattle.cut_file.specs.declared.points.CutPoint.{CutPoint}
 use Rattle.cut_file.specs.declared.points.Run.{Run}
 use Rattle.cut_file.specs.Cuts.{CutPicture}
-use Rattle.cut_file.specs.Texts.{bits_line, cut_text, end_line, ended, hex_word, joined, point_line, run_text, secret_line, skip_line, slot_text, version_line}
+use Rattle.cut_file.specs.Texts.{bits_line, cut_text, end_line, ended, hex_word, joined, point_line, run_text}
+use Rattle.cut_file.specs.Texts.{secret_line, skip_line, slot_text, version_line}
 use Rattle.cut_file.specs.Writing.{point_pieces, runs_text}
 
 -- words, each behind a space
@@ -18,7 +20,8 @@ pub joined-led : (word : List ℕ) (words : List (List ℕ)) → joined 32 (word
 joined-led word [] = sym (append-nil word)
 joined-led word (next ∷ words) = ap (λ (l : List ℕ). word ++ (32 ∷ l)) (joined-led next words)
 
-pub led-runs : (runs : List Run) (words : List (List ℕ)) → led (map run_text runs ++ words) ≡ runs_text runs ++ led words
+pub led-runs : (runs : List Run) (words : List (List ℕ)) → led
+    (map run_text runs ++ words) ≡ runs_text runs ++ led words
 led-runs [] words = refl
 led-runs (run ∷ runs) words =
     ap (λ (l : List ℕ). 32 ∷ (run_text run ++ l)) (led-runs runs words)
@@ -38,25 +41,33 @@ point-pieces point =
     let slot = slot_text point.point.slot in
     let last : List ℕ = codes " rest " ++ hex_word point.rest in
     let words = joined-led region
-    (hex_word point.point.address ∷ (slot ∷ (map run_text point.runs ++ (codes "rest" ∷ (hex_word point.rest ∷ []))))) in
-    let inner : led (map run_text point.runs ++ (codes "rest" ∷ (hex_word point.rest ∷ []))) ≡ runs_text point.runs ++ last =
+    (hex_word point.point.address ∷ (slot ∷ (map run_text point.runs ++ (codes "rest" ∷
+    (hex_word point.rest ∷ []))))) in
+    let inner : led (map run_text point.runs ++ (codes "rest" ∷
+    (hex_word point.rest ∷ []))) ≡ runs_text point.runs ++ last =
     led-runs point.runs (codes "rest" ∷ (hex_word point.rest ∷ [])) in
     ap (λ (l : List ℕ). (codes "point " ++ l) ++ codes "\n") words
-    ∙ ap (λ (l : List ℕ). (codes "point " ++ (region ++ (codes " " ++ (hex_word point.point.address ++ (codes " " ++ (slot ++ l)))))) ++ codes "\n") inner
-    ∙ ap (λ (l : List ℕ). codes "point " ++ l) (append_assoc region (codes " " ++ (hex_word point.point.address ++ (codes " " ++ (slot ++ (runs_text point.runs ++ last))))) (codes "\n"))
-    ∙ ap (λ (l : List ℕ). codes "point " ++ (region ++ (codes " " ++ (hex_word point.point.address ++ (codes " " ++ l))))) (append_assoc slot (runs_text point.runs ++ last) (codes "\n"))
-    ∙ ap (λ (l : List ℕ). codes "point " ++ (region ++ (codes " " ++ (hex_word point.point.address ++ (codes " " ++ (slot ++ l)))))) (append_assoc (runs_text point.runs) last (codes "\n"))
+    ∙ ap (λ (l : List ℕ). (codes "point " ++ (region ++ (codes " " ++ (hex_word point.point.address ++ (codes " " ++
+    (slot ++ l)))))) ++ codes "\n") inner
+    ∙ ap (λ (l : List ℕ). codes "point " ++ l) (append_assoc region (codes " " ++ (hex_word point.point.address ++
+    (codes " " ++ (slot ++ (runs_text point.runs ++ last))))) (codes "\n"))
+    ∙ ap (λ (l : List ℕ). codes "point " ++ (region ++ (codes " " ++ (hex_word point.point.address ++
+    (codes " " ++ l))))) (append_assoc slot (runs_text point.runs ++ last) (codes "\n"))
+    ∙ ap (λ (l : List ℕ). codes "point " ++ (region ++ (codes " " ++ (hex_word point.point.address ++ (codes " " ++
+    (slot ++ l)))))) (append_assoc (runs_text point.runs) last (codes "\n"))
 
 -- one more piece of runs, points
 pub runs-step : (runs : List Run) (index : ℕ) (other : Run) (text whole : List ℕ) → index < length runs →
     text ++ runs_text (drop index runs) ≡ whole →
     (text ++ (32 ∷ run_text (get_or runs index other))) ++ runs_text (drop (index + 1) runs) ≡ whole
 runs-step runs index other text whole inside known =
-    let tail : drop index runs ≡ get_or runs index other ∷ drop (suc index) runs = drop-cons runs index other inside in
+    let tail : drop index runs ≡ get_or runs index other ∷ drop
+    (suc index) runs = drop-cons runs index other inside in
     rw add-one (append_assoc text (32 ∷ run_text (get_or runs index other)) (runs_text (drop (suc index) runs))
     ∙ ap (λ (l : List Run). text ++ runs_text l) (sym tail) ∙ known)
 
-pub points-step : (points : List CutPoint) (index : ℕ) (other : CutPoint) (text whole : List ℕ) → index < length points →
+pub points-step : (points : List CutPoint) (index : ℕ) (other : CutPoint) (text whole : List ℕ) →
+    index < length points →
     text ++ ended (map point_line (drop index points)) ≡ whole →
     (text ++ point_pieces (get_or points index other)) ++ ended (map point_line (drop (index + 1) points)) ≡ whole
 points-step points index other text whole inside known =
@@ -70,7 +81,8 @@ points-step points index other text whole inside known =
 
 -- the text of a cut in the pieces that are written
 pub cut-pieces : (cut : CutPicture) →
-    ((ended (version_line ∷ (secret_line cut.secret_length ∷ (bits_line cut.bits ∷ []))) ++ ended (map skip_line cut.skip))
+    ((ended (version_line ∷ (secret_line cut.secret_length ∷ (bits_line cut.bits ∷ []))) ++ ended
+    (map skip_line cut.skip))
     ++ ended (map point_line cut.points)) ++ codes "end\n" ≡ cut_text cut
 cut-pieces cut =
     let head : List (List ℕ) = version_line ∷ (secret_line cut.secret_length ∷ (bits_line cut.bits ∷ [])) in

@@ -1,11 +1,13 @@
 -- The line of a point is read as that point, and as no other.
-use Rattle.std.proofs.Common.{◌≡◌, ℕ, ◌<◌, nat_le, not, Bool, true, false, List, [], ◌∷◌, ◌++◌, codes, if◌then◌else◌, Option, Some, None, refl, sym, ◌∙◌, ap, subst, append_assoc, arith}
+use Rattle.std.proofs.Common.{◌≡◌, ℕ, ◌<◌, nat_le, not, Bool, true, false, List, [], ◌∷◌, ◌++◌, codes, if◌then◌else◌}
+use Rattle.std.proofs.Common.{Option, Some, None, refl, sym, ◌∙◌, ap, subst, append_assoc, arith}
 use Rattle.std.specs.Prelude.{map}
 use Rattle.std.specs.Fmt.{decimal}
 use Rattle.std.specs.List.{list_all}
 use Rattle.std.specs.Str.{bytes_eq}
 use Rattle.std.proofs.lemmas.Slice.Eq.{bytes_eq-Decides}
-use Rattle.std.proofs.lemmas.Bool.{and_parts, and_from, cases_Bool, false_from_ne_true, not_from_false, not-true, cond-true, cond-false}
+use Rattle.std.proofs.lemmas.Bool.{and_parts, and_from, cases_Bool, false_from_ne_true, not_from_false, not-true}
+use Rattle.std.proofs.lemmas.Bool.{cond-true, cond-false}
 use Rattle.std.proofs.lemmas.List.{append-nil}
 use Rattle.std.proofs.Common.{inl, inr}
 use Rattle.flow_base.specs.declared.points.Point.{Point}
@@ -15,13 +17,15 @@ use Rattle.cut_file.specs.declared.points.CutPoint.{CutPoint}
 use Rattle.cut_file.specs.declared.points.Run.{Run}
 use Rattle.cut_file.specs.Cuts.{are_runs, have_other_masks, is_cut_point, is_point, is_run, is_word}
 use Rattle.cut_file.specs.Texts.{hex_word, joined, point_line, point_words, run_text, slot_text}
-use Rattle.cut_file.specs.Reading.{◌>>=◌, after_text, divided, first_of, may_follow, number_in, others_of, parts, place_in, point_in, point_in_words, rest_in, run_in, runs_in, slot_in, word_in}
+use Rattle.cut_file.specs.Reading.{◌>>=◌, after_text, divided, first_of, may_follow, number_in, others_of, parts}
+use Rattle.cut_file.specs.Reading.{place_in, point_in, point_in_words, rest_in, run_in, runs_in, slot_in, word_in}
 use Rattle.cut_file.proofs.Parts.{clean_words, divided-found, divided-own, has_byte, joined-parts, parts-joined}
 use Rattle.cut_file.proofs.Following.{kept-step, list-push}
 use Rattle.cut_file.proofs.Numbers.{clean-append, clean-cons, decimal-clean, number-found, number-own}
 use Rattle.cut_file.proofs.Hexadecimal.{hex_word-clean, word-found, word-own}
 use Rattle.cut_file.proofs.Slots.{slot-clean, slot-found, slot-own}
-use Rattle.cut_file.proofs.Lines.{after-found, after-own, below-word, kept-found, the-same, then-found, then-own, word-below}
+use Rattle.cut_file.proofs.Lines.{after-found, after-own, below-word, kept-found, the-same, then-found, then-own}
+use Rattle.cut_file.proofs.Lines.{word-below}
 
 -- ---- runs
 
@@ -47,11 +51,13 @@ run-found bytes run e =
     let split = divided-found 42 bytes halves.value.0 halves.value.1 halves.is in
     let number = number-found halves.value.0 count.value count.is in
     let word = word-found halves.value.1 mask.value mask.is in
-    kept-found (nat_le 1 count.value) (record { count = count.value; mask = mask.value }) run (λ r. IsRunOf bytes r) mask.then_is
+    kept-found (nat_le 1 count.value) (record { count = count.value; mask = mask.value }) run
+    (λ r. IsRunOf bytes r) mask.then_is
     (λ some. record {
       text = split.whole ∙ ap (λ (l : List ℕ). l ++ (42 ∷ halves.value.1)) number.text
           ∙ ap (λ (l : List ℕ). decimal count.value ++ (42 ∷ l)) word.text;
-      known = and_from _ _ some (and_from _ _ (below-word count.value number.small) (below-word mask.value word.small));
+      known = and_from _ _ some (and_from _ _ (below-word count.value number.small)
+          (below-word mask.value word.small));
     })
 
 pub run-own : (run : Run) → is_run run ≡ true → run_in (run_text run) ≡ Some run
@@ -63,17 +69,20 @@ run-own run known =
     let mask = word-below run.mask words.1 in
     then-own (divided 42 (run_text run)) counted (decimal run.count, hex_word run.mask)
     (divided-own 42 (decimal run.count) (hex_word run.mask) (decimal-clean 42 run.count (omega arith) count))
-    ∙ then-own (number_in (decimal run.count)) (λ count. masked count (hex_word run.mask)) run.count (number-own run.count count)
+    ∙ then-own (number_in (decimal run.count)) (λ count. masked count (hex_word run.mask)) run.count
+    (number-own run.count count)
     ∙ then-own (word_in (hex_word run.mask)) (λ mask. keep_run run.count mask) run.mask (word-own run.mask mask)
     ∙ rw some.0 refl
 
-pub run-clean : (separator : ℕ) (run : Run) → separator < 42 → is_run run ≡ true → has_byte separator (run_text run) ≡ false
+pub run-clean : (separator : ℕ) (run : Run) → separator < 42 → is_run run ≡ true →
+    has_byte separator (run_text run) ≡ false
 run-clean separator run low known =
     let some = and_parts (nat_le 1 run.count) _ known in
     let words = and_parts (is_word run.count) (is_word run.mask) some.1 in
     clean-append separator (decimal run.count) (42 ∷ hex_word run.mask)
     (decimal-clean separator run.count (omega arith) (word-below run.count words.0))
-    (clean-cons separator 42 (hex_word run.mask) (λ e. omega (arith, e)) (hex_word-clean separator run.mask (omega arith)))
+    (clean-cons separator 42 (hex_word run.mask) (λ e. omega (arith, e)) (hex_word-clean separator run.mask
+    (omega arith)))
 
 no-run_rest : run_in (codes "rest") ≡ None
 unfolding run_in
@@ -104,7 +113,8 @@ words_of : Option (List Run × List (List ℕ)) → List (List ℕ)
 words_of None = []
 words_of (Some p) = p.1
 
-runs-end : (runs found : List Run) (word : List ℕ) (words rest : List (List ℕ)) → are_runs runs ≡ true → word ≡ codes "rest" →
+runs-end : (runs found : List Run) (word : List ℕ) (words rest : List (List ℕ)) → are_runs runs ≡ true →
+    word ≡ codes "rest" →
     some_runs runs words ≡ some_runs found rest → IsRunsOf runs (word ∷ words) found rest
 unfolding runs_of words_of
 runs-end runs found word words rest known is e =
@@ -141,13 +151,16 @@ runs-found [] runs found rest known e = absurd cc
 runs-found (word ∷ words) runs found rest known e =
     elim (cases_Bool (bytes_eq word (codes "rest"))) [
       | inl is ↦ runs-end runs found word words rest known ((bytes_eq-Decides word (codes "rest")).0 is)
-          (sym (cond-true (bytes_eq word (codes "rest")) (some_runs runs words) (run_in word >>= run_then runs words) is) ∙ e)
+          (sym (cond-true (bytes_eq word (codes "rest")) (some_runs runs words)
+          (run_in word >>= run_then runs words) is) ∙ e)
       | inr other ↦
           let go_on : (run_in word >>= run_then runs words) ≡ some_runs found rest =
-          sym (cond-false (bytes_eq word (codes "rest")) (some_runs runs words) (run_in word >>= run_then runs words) other) ∙ e in
+          sym (cond-false (bytes_eq word (codes "rest")) (some_runs runs words)
+          (run_in word >>= run_then runs words) other) ∙ e in
           let run = then-found (run_in word) (run_then runs words) (found, rest) go_on in
           let own = run-found word run.value run.is in
-          let step = follows-found (may_follow have_other_masks runs run.value) (runs_in (runs ++ run.value ∷ []) words) found rest run.then_is in
+          let step = follows-found (may_follow have_other_masks runs run.value) (runs_in
+          (runs ++ run.value ∷ []) words) found rest run.then_is in
           runs-more runs found run.value word words rest own.text
           (runs-found words (runs ++ run.value ∷ []) found rest
           (list-push is_run have_other_masks runs run.value known own.known step.0) step.1)
@@ -163,7 +176,8 @@ runs-own (run ∷ more) runs rest known =
     let same : runs ++ (run ∷ more) ≡ (runs ++ (run ∷ [])) ++ more = sym (append_assoc runs (run ∷ []) more) in
     let follows : run_then runs words run ≡ runs_in (runs ++ run ∷ []) words =
     cond-true (may_follow have_other_masks runs run) (runs_in (runs ++ run ∷ []) words) None step.follows in
-    cond-false (bytes_eq (run_text run) (codes "rest")) (some_runs runs words) (run_in (run_text run) >>= run_then runs words) (run-no_rest run step.own)
+    cond-false (bytes_eq (run_text run) (codes "rest")) (some_runs runs words) (run_in
+    (run_text run) >>= run_then runs words) (run-no_rest run step.own)
     ∙ then-own (run_in (run_text run)) (run_then runs words) run (run-own run step.own)
     ∙ follows
     ∙ runs-own more (runs ++ run ∷ []) rest (ap are_runs (sym same) ∙ known)
@@ -176,11 +190,13 @@ first-is [] word e = absurd cc
 first-is (first ∷ others) word e = ap (λ (w : List ℕ). w ∷ others) (the-same first word e)
 
 pub record IsPlaceOf (words : List (List ℕ)) (point : Point) : Type 0 where
-  pub text : words ≡ decimal point.region ∷ (hex_word point.address ∷ (slot_text point.slot ∷ others_of (others_of (others_of words))))
+  pub text : words ≡ decimal point.region ∷ (hex_word point.address ∷ (slot_text point.slot ∷ others_of (others_of
+      (others_of words))))
   pub known : is_point point ≡ true
 
 abbrev keep_place : ℕ → ℕ → Slot → Option Point
-keep_place region address slot = if nat_le region 65535 then Some (record { region = region; address = address; slot = slot }) else None
+keep_place region address slot = if nat_le region 65535 then Some
+    (record { region = region; address = address; slot = slot }) else None
 
 abbrev slotted : ℕ → ℕ → List ℕ → Option Point
 slotted region address word = slot_in word >>= λ slot. keep_place region address slot
@@ -204,19 +220,27 @@ place-found words point e =
     let region = then-found (number_in first.value) (placed_second words) point first.then_is in
     let second = then-found (first_of (others_of words)) (addressed words region.value) point region.then_is in
     let address = then-found (word_in second.value) (placed_third words region.value) point second.then_is in
-    let third = then-found (first_of (others_of (others_of words))) (slotted region.value address.value) point address.then_is in
-    let slot = then-found (slot_in third.value) (λ slot. keep_place region.value address.value slot) point third.then_is in
+    let third = then-found (first_of (others_of (others_of words)))
+    (slotted region.value address.value) point address.then_is in
+    let slot = then-found (slot_in third.value) (λ slot. keep_place region.value address.value slot) point
+    third.then_is in
     let number = number-found first.value region.value region.is in
     let word = word-found second.value address.value address.is in
     let name = slot-found third.value slot.value slot.is in
     let rest = others_of (others_of (others_of words)) in
-    kept-found (nat_le region.value 65535) (record { region = region.value; address = address.value; slot = slot.value }) point (λ p. IsPlaceOf words p)
+    kept-found (nat_le region.value 65535) (record {
+      region = region.value;
+      address = address.value;
+      slot =
+          slot.value;
+    }) point (λ p. IsPlaceOf words p)
     slot.then_is (λ low. record {
       text =
           first-is words first.value first.is ∙ ap (λ (w : List ℕ). w ∷ others_of words) number.text
           ∙ ap (λ (l : List (List ℕ)). decimal region.value ∷ l) (first-is (others_of words) second.value second.is
           ∙ ap (λ (w : List ℕ). w ∷ others_of (others_of words)) word.text
-          ∙ ap (λ (l : List (List ℕ)). hex_word address.value ∷ l) (first-is (others_of (others_of words)) third.value third.is
+          ∙ ap (λ (l : List (List ℕ)). hex_word address.value ∷ l) (first-is (others_of
+          (others_of words)) third.value third.is
           ∙ ap (λ (w : List ℕ). w ∷ rest) name.text));
       known = and_from _ _ low (and_from _ _ (below-word address.value word.small) name.known);
     })
@@ -231,8 +255,10 @@ place-own point rest known =
     let fits : nat_le point.region 65535 ≡ true = low.0 in
     let small : point.region < 4294967296 = grind arith in
     then-own (number_in (decimal point.region)) (placed_second words) point.region (number-own point.region small)
-    ∙ then-own (word_in (hex_word point.address)) (placed_third words point.region) point.address (word-own point.address (word-below point.address other.0))
-    ∙ then-own (slot_in (slot_text point.slot)) (λ slot. keep_place point.region point.address slot) point.slot (slot-own point.slot other.1)
+    ∙ then-own (word_in (hex_word point.address)) (placed_third words point.region) point.address
+    (word-own point.address (word-below point.address other.0))
+    ∙ then-own (slot_in (slot_text point.slot)) (λ slot. keep_place point.region point.address slot) point.slot
+    (slot-own point.slot other.1)
     ∙ rw fits refl
 
 -- ---- the whole line
@@ -266,25 +292,29 @@ rested point runs = rest_in runs.1 >>= λ rest. keep_point point runs.0 rest
 abbrev ran : List (List ℕ) → Point → Option CutPoint
 ran words point = runs_in [] (others_of (others_of (others_of words))) >>= rested point
 
-pub words-found : (words : List (List ℕ)) (point : CutPoint) → point_in_words words ≡ Some point → IsPointOf words point
+pub words-found : (words : List (List ℕ)) (point : CutPoint) → point_in_words words ≡ Some point →
+    IsPointOf words point
 unfolding point_in_words
 words-found words point e =
     let place = then-found (place_in words) (ran words) point e in
     let left = others_of (others_of (others_of words)) in
     let runs = then-found (runs_in [] left) (rested place.value) point place.then_is in
-    let rest = then-found (rest_in runs.value.1) (λ rest. keep_point place.value runs.value.0 rest) point runs.then_is in
+    let rest = then-found (rest_in runs.value.1) (λ rest. keep_point place.value runs.value.0 rest) point
+    runs.then_is in
     let first = place-found words place.value place.is in
     let second = runs-found left [] runs.value.0 runs.value.1 refl runs.is in
     let third = rest-found runs.value.1 rest.value rest.is in
     let own : IsPointOf words (record { point = place.value; runs = runs.value.0; rest = rest.value }) = record {
       text = first.text
-          ∙ ap (λ (l : List (List ℕ)). decimal place.value.region ∷ (hex_word place.value.address ∷ (slot_text place.value.slot ∷ l)))
+          ∙ ap (λ (l : List (List ℕ)). decimal place.value.region ∷ (hex_word place.value.address ∷
+          (slot_text place.value.slot ∷ l)))
           (second.text
           ∙ ap (λ (l : List Run). map run_text l ++ (codes "rest" ∷ runs.value.1)) (sym second.whole)
           ∙ ap (λ (l : List (List ℕ)). map run_text runs.value.0 ++ (codes "rest" ∷ l)) third.text);
       known = and_from _ _ first.known (and_from _ _ second.known third.word);
     } in
-    subst (λ (p : CutPoint). IsPointOf words p) (the-same (record { point = place.value; runs = runs.value.0; rest = rest.value }) point rest.then_is) own
+    subst (λ (p : CutPoint). IsPointOf words p) (the-same
+    (record { point = place.value; runs = runs.value.0; rest = rest.value }) point rest.then_is) own
 
 pub words-own : (point : CutPoint) → is_cut_point point ≡ true → point_in_words (point_words point) ≡ Some point
 unfolding point_in_words
@@ -293,18 +323,23 @@ words-own point known =
     let other = and_parts (are_runs point.runs) (is_word point.rest) place.1 in
     then-own (place_in (point_words point)) (ran (point_words point)) point.point
     (place-own point.point (map run_text point.runs ++ (codes "rest" ∷ (hex_word point.rest ∷ []))) place.0)
-    ∙ then-own (runs_in [] (map run_text point.runs ++ (codes "rest" ∷ (hex_word point.rest ∷ [])))) (rested point.point) (point.runs, hex_word point.rest ∷ [])
+    ∙ then-own (runs_in [] (map run_text point.runs ++ (codes "rest" ∷ (hex_word point.rest ∷ []))))
+    (rested point.point) (point.runs, hex_word point.rest ∷ [])
     (runs-own point.runs [] (hex_word point.rest ∷ []) other.0)
-    ∙ then-own (rest_in (hex_word point.rest ∷ [])) (λ rest. keep_point point.point point.runs rest) point.rest (rest-own point.rest other.1)
+    ∙ then-own (rest_in (hex_word point.rest ∷ [])) (λ rest. keep_point point.point point.runs rest) point.rest
+    (rest-own point.rest other.1)
 
-clean-runs : (separator : ℕ) (runs : List Run) (words : List (List ℕ)) → separator < 42 → list_all is_run runs ≡ true →
+clean-runs : (separator : ℕ) (runs : List Run) (words : List (List ℕ)) → separator < 42 →
+    list_all is_run runs ≡ true →
     clean_words separator words ≡ true → clean_words separator (map run_text runs ++ words) ≡ true
 clean-runs separator [] words low all clean = clean
 clean-runs separator (run ∷ runs) words low all clean =
     let both = and_parts (is_run run) (list_all is_run runs) all in
-    and_from _ _ (not_from_false _ (run-clean separator run low both.0)) (clean-runs separator runs words low both.1 clean)
+    and_from _ _ (not_from_false _ (run-clean separator run low both.0))
+    (clean-runs separator runs words low both.1 clean)
 
-pub words-clean : (separator : ℕ) (point : CutPoint) → separator < 42 → is_cut_point point ≡ true → clean_words separator (point_words point) ≡ true
+pub words-clean : (separator : ℕ) (point : CutPoint) → separator < 42 → is_cut_point point ≡ true →
+    clean_words separator (point_words point) ≡ true
 words-clean separator point low known =
     let place = and_parts (is_point point.point) _ known in
     let other = and_parts (are_runs point.runs) (is_word point.rest) place.1 in
@@ -318,7 +353,8 @@ words-clean separator point low known =
     (and_from _ _ (not_from_false _ (hex_word-clean separator point.point.address (omega arith)))
     (and_from _ _ (not_from_false _ (slot-clean separator point.point.slot (omega arith) slot.1))
     (clean-runs separator point.runs (codes "rest" ∷ (hex_word point.rest ∷ [])) low runs.0
-    (and_from _ _ (not_from_false _ rest) (and_from _ _ (not_from_false _ (hex_word-clean separator point.rest (omega arith))) refl)))))
+    (and_from _ _ (not_from_false _ rest) (and_from _ _ (not_from_false _ (hex_word-clean separator point.rest
+    (omega arith))) refl)))))
 
 pub record IsPointLineOf (line : List ℕ) (point : CutPoint) : Type 0 where
   pub text : line ≡ point_line point
@@ -338,12 +374,14 @@ point-found line point e =
 pub point-own : (point : CutPoint) → is_cut_point point ≡ true → point_in (point_line point) ≡ Some point
 unfolding point_in
 point-own point known =
-    then-own (after_text (codes "point ") (point_line point)) (λ words. point_in_words (parts 32 words)) (joined 32 (point_words point))
+    then-own (after_text (codes "point ") (point_line point)) (λ words. point_in_words (parts 32 words)) (joined 32
+    (point_words point))
     (after-own (codes "point ") (joined 32 (point_words point)))
     ∙ ap point_in_words (parts-joined 32 _ _ (words-clean 32 point (omega arith) known))
     ∙ words-own point known
 
-clean-joined : (separator : ℕ) (words : List (List ℕ)) → (32 ≡ separator → ⊥) → clean_words separator words ≡ true → has_byte separator (joined 32 words) ≡ false
+clean-joined : (separator : ℕ) (words : List (List ℕ)) → (32 ≡ separator → ⊥) → clean_words separator words ≡ true →
+    has_byte separator (joined 32 words) ≡ false
 clean-joined separator [] other clean = refl
 clean-joined separator (word ∷ []) other clean = not-true _ (and_parts (not (has_byte separator word)) _ clean).0
 clean-joined separator (word ∷ (next ∷ words)) other clean =

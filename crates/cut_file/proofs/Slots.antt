@@ -1,11 +1,14 @@
 -- A slot's text is read as that slot, and as no other.
-use Rattle.std.proofs.Common.{◌≡◌, ℕ, ◌<◌, ◌≤◌, ◌==◌, ◌&&◌, nat_le, nat_lt, Bool, true, false, List, [], ◌∷◌, codes, length, get_or, if◌then◌else◌, Option, Some, None, option_and_then, refl, ◌∙◌, ap, subst, arith}
+use Rattle.std.proofs.Common.{◌≡◌, ℕ, ◌<◌, ◌≤◌, ◌==◌, ◌&&◌, nat_le, nat_lt, Bool, true, false, List, [], ◌∷◌, codes}
+use Rattle.std.proofs.Common.{length, get_or, if◌then◌else◌, Option, Some, None, option_and_then, refl, ◌∙◌, ap}
+use Rattle.std.proofs.Common.{subst, arith}
 use Rattle.std.specs.Fmt.{decimal}
 use Rattle.std.specs.Str.{bytes_eq}
 use Rattle.std.proofs.lemmas.Slice.Eq.{bytes_eq-Decides}
 use Rattle.std.proofs.lemmas.Bool.{and_parts, ne_eqb}
 use Rattle.flow_base.specs.declared.points.Slot.{Slot}
-use Rattle.flow_base.specs.declared.points.Slot.TheVariants.{First, Second, Address, Result, Decision, Number, Arg0, Arg1, Arg2, SecretIn, ByteOut, Status, OutReg, OutRange}
+use Rattle.flow_base.specs.declared.points.Slot.TheVariants.{First, Second, Address, Result, Decision, Number, Arg0}
+use Rattle.flow_base.specs.declared.points.Slot.TheVariants.{Arg1, Arg2, SecretIn, ByteOut, Status, OutReg, OutRange}
 use Rattle.flow_base.specs.Points.{is_slot}
 use Rattle.cut_file.specs.Texts.{slot_text}
 use Rattle.cut_file.specs.Reading.{named_slot, number_in, numbered_slot, or_else, slot_in, slot_of}
@@ -31,12 +34,15 @@ some-slot a b e = ap slot_or e
 abbrev Told : List ℕ → Option Slot → Type 0
 Told bytes answer = (slot : Slot) → answer ≡ Some slot → IsSlotOf bytes slot
 
-named-here : (name : Bool) (bytes : List ℕ) (slot : Slot) (others : Option Slot) → (name ≡ true → IsSlotOf bytes slot) → Told bytes others →
+named-here : (name : Bool) (bytes : List ℕ) (slot : Slot) (others : Option Slot) → (name ≡ true →
+    IsSlotOf bytes slot) → Told bytes others →
     Told bytes (if name then Some slot else others)
-named-here true bytes slot others own more other e = subst (λ (s : Slot). IsSlotOf bytes s) (some-slot slot other e) (own refl)
+named-here true bytes slot others own more other e = subst (λ (s : Slot). IsSlotOf bytes s) (some-slot slot other e)
+    (own refl)
 named-here false bytes slot others own more other e = more other e
 
-named : (bytes name : List ℕ) (slot : Slot) (others : Option Slot) → name ≡ slot_text slot → is_slot slot ≡ true → Told bytes others →
+named : (bytes name : List ℕ) (slot : Slot) (others : Option Slot) → name ≡ slot_text slot → is_slot slot ≡ true →
+    Told bytes others →
     Told bytes (if bytes_eq bytes name then Some slot else others)
 named bytes name slot others same known more =
     named-here (bytes_eq bytes name) bytes slot others
@@ -53,9 +59,11 @@ named_slot-found bytes =
     (named bytes (codes "de") Decision _ refl refl (named bytes (codes "nr") Number _ refl refl
     (named bytes (codes "a0") Arg0 _ refl refl (named bytes (codes "a1") Arg1 _ refl refl
     (named bytes (codes "a2") Arg2 _ refl refl (named bytes (codes "in") SecretIn _ refl refl
-    (named bytes (codes "ou") ByteOut _ refl refl (named bytes (codes "st") Status _ refl refl (named-none bytes))))))))))))
+    (named bytes (codes "ou") ByteOut _ refl refl (named bytes (codes "st") Status _ refl refl
+    (named-none bytes))))))))))))
 
-slot_of-found : (letter number : ℕ) (digits : List ℕ) → digits ≡ decimal number → Told (letter ∷ digits) (slot_of letter number)
+slot_of-found : (letter number : ℕ) (digits : List ℕ) → digits ≡ decimal number →
+    Told (letter ∷ digits) (slot_of letter number)
 slot_of-found letter number digits text =
     named-here ((letter == 120) && (nat_le 1 number && nat_le number 31)) (letter ∷ digits) (OutReg number) _
     (λ is. record {
@@ -68,7 +76,8 @@ slot_of-found letter number digits text =
       known = (and_parts (letter == 114) _ is).1;
     }) (named-none (letter ∷ digits)))
 
-numbered-then : (letter : ℕ) (digits : List ℕ) (found : Option ℕ) → ((number : ℕ) → found ≡ Some number → digits ≡ decimal number) →
+numbered-then : (letter : ℕ) (digits : List ℕ) (found : Option ℕ) → ((number : ℕ) → found ≡ Some number →
+    digits ≡ decimal number) →
     Told (letter ∷ digits) (option_and_then (λ number. slot_of letter number) found)
 numbered-then letter digits None own = named-none (letter ∷ digits)
 numbered-then letter digits (Some number) own = slot_of-found letter number digits (own number refl)
@@ -79,14 +88,16 @@ numbered_slot-found [] = named-none []
 numbered_slot-found (letter ∷ digits) =
     numbered-then letter digits (number_in digits) (λ number e. (number-found digits number e).text)
 
-either-found : (bytes : List ℕ) (first second : Option Slot) → Told bytes first → Told bytes second → Told bytes (or_else first second)
+either-found : (bytes : List ℕ) (first second : Option Slot) → Told bytes first → Told bytes second →
+    Told bytes (or_else first second)
 either-found bytes None second e f = f
 either-found bytes (Some slot) second e f = e
 
 pub slot-found : (bytes : List ℕ) (slot : Slot) → slot_in bytes ≡ Some slot → IsSlotOf bytes slot
 unfolding slot_in
 slot-found bytes slot e =
-    either-found bytes (named_slot bytes) (numbered_slot bytes) (named_slot-found bytes) (numbered_slot-found bytes) slot e
+    either-found bytes (named_slot bytes) (numbered_slot bytes) (named_slot-found bytes)
+    (numbered_slot-found bytes) slot e
 
 -- ---- what is written is read
 
@@ -102,7 +113,8 @@ number-named : (letter number : ℕ) (slot : Slot) → number < 4294967296 → s
 unfolding numbered_slot
 number-named letter number slot small e = rw (number-own number small) e
 
-slot_of-register : (register : ℕ) → (nat_le 1 register && nat_le register 31) ≡ true → slot_of 120 register ≡ Some (OutReg register)
+slot_of-register : (register : ℕ) → (nat_le 1 register && nat_le register 31) ≡ true →
+    slot_of 120 register ≡ Some (OutReg register)
 slot_of-register register known = rw known refl
 
 slot_of-range : (range : ℕ) → nat_lt range 64 ≡ true → slot_of 114 range ≡ Some (OutRange range)
@@ -136,10 +148,12 @@ slot-own (OutReg register) known =
 slot-own (OutRange range) known =
     let small : range < 4294967296 = grind arith in
     let begins = decimal-begins range small in
-    ap (λ (o : Option Slot). or_else o (numbered_slot (114 ∷ decimal range))) (range-none (decimal range) begins.0 begins.1)
+    ap (λ (o : Option Slot). or_else o (numbered_slot (114 ∷ decimal range))) (range-none
+    (decimal range) begins.0 begins.1)
     ∙ number-named 114 range (OutRange range) small (slot_of-range range known)
 
-pub slot-clean : (separator : ℕ) (slot : Slot) → separator < 48 → is_slot slot ≡ true → has_byte separator (slot_text slot) ≡ false
+pub slot-clean : (separator : ℕ) (slot : Slot) → separator < 48 → is_slot slot ≡ true →
+    has_byte separator (slot_text slot) ≡ false
 slot-clean separator First low known = grind arith
 slot-clean separator Second low known = grind arith
 slot-clean separator Address low known = grind arith

@@ -24,12 +24,15 @@ FaultsAreOne =
 
 -- a text has none
 abbrev pub TextsHaveNoFault : Type 0
-TextsHaveNoFault = (file : List ℕ) (cut : CutPicture) (fault : CutFault) → CutText file cut → fault ≢ Memory → ¬ FirstCutFault file fault
+TextsHaveNoFault =
+    (file : List ℕ) (cut : CutPicture) (fault : CutFault) → CutText file cut → fault ≢ Memory
+    → ¬ FirstCutFault file fault
 
 -- each point of points that ascend has its own masks
 abbrev pub MasksAreOfTheirPoints : Type 0
 MasksAreOfTheirPoints =
-    (before after : List CutPoint) (cut_point : CutPoint) (visit : ℕ) → are_points (before ++ (cut_point ∷ after)) ≡ true
+    (before after : List CutPoint) (cut_point : CutPoint) (visit : ℕ)
+    → are_points (before ++ (cut_point ∷ after)) ≡ true
     → MaskAt (before ++ (cut_point ∷ after)) cut_point.point visit ≡ mask_of cut_point visit
 
 -- a mask has no bit beyond the slot's width

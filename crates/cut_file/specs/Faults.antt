@@ -1,10 +1,13 @@
 -- What may be wrong with the text of a cut, told of the first line that fails.
-use Rattle.std.specs.Prelude.{◌≡◌, ◌⊎◌, ℕ, suc, ◌≤◌, ◌||◌, ◌==◌, nat_le, nat_lt, Bool, true, false, List, [], ◌∷◌, ◌++◌, length}
+use Rattle.std.specs.Prelude.{◌≡◌, ◌⊎◌, ℕ, suc, ◌≤◌, ◌||◌, ◌==◌, nat_le, nat_lt, Bool, true, false, List, [], ◌∷◌}
+use Rattle.std.specs.Prelude.{◌++◌, length}
 use Rattle.cut_file.specs.declared.points.CutPoint.{CutPoint}
 use Rattle.cut_file.specs.declared.faults.CutFault.{CutFault}
 use Rattle.cut_file.specs.declared.faults.CutFault.TheVariants.{Version, Line, Order, Truncated, Trailing, Memory}
-use Rattle.cut_file.specs.Cuts.{CutPicture, is_cut_point, is_region, is_valid, is_word, neighbours_pass, stands_before}
-use Rattle.cut_file.specs.Texts.{bits_line, cut_text, end_line, ended, listed_lines, point_line, secret_line, skip_line, version_line}
+use Rattle.cut_file.specs.Cuts.{CutPicture, is_cut_point, is_region, is_valid, is_word, neighbours_pass}
+use Rattle.cut_file.specs.Cuts.{stands_before}
+use Rattle.cut_file.specs.Texts.{bits_line, cut_text, end_line, ended, listed_lines, point_line, secret_line}
+use Rattle.cut_file.specs.Texts.{skip_line, version_line}
 
 -- the lines in order that stand before a line: none, the first, the first two, or at least three
 pub data Front : Type 0 where
@@ -45,7 +48,8 @@ IsPointLine line = (cut_point : CutPoint) × (is_cut_point cut_point ≡ true) �
 -- the line is of a form that may stand behind these lines. A skip may not stand behind a point
 abbrev pub MayStand : Front → List ℕ → Type 0
 MayStand Nothing line = line ≡ version_line
-MayStand Versioned line = (secret_length : ℕ) × (nat_le secret_length 65536 ≡ true) × (line ≡ secret_line secret_length)
+MayStand Versioned line = (secret_length : ℕ) × (nat_le secret_length 65536 ≡ true) ×
+    (line ≡ secret_line secret_length)
 MayStand (Sized secret_length) line = (bits : ℕ) × (is_word bits ≡ true) × (line ≡ bits_line bits)
 MayStand (Listed cut) line = (line ≡ end_line) ⊎ ((IsSkipLine line × (cut.points ≡ [])) ⊎ IsPointLine line)
 

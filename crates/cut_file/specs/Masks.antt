@@ -1,5 +1,6 @@
 -- The mask of a cut at a visit of a point.
-use Rattle.std.specs.Prelude.{ℕ, ◌-◌, ◌==◌, ◌&&◌, Bool, List, [], ◌∷◌, ◌++◌, replicate, slice_index_or, bit_and, if◌then◌else◌}
+use Rattle.std.specs.Prelude.{ℕ, ◌-◌, ◌==◌, ◌&&◌, Bool, List, [], ◌∷◌, ◌++◌, replicate, slice_index_or, bit_and}
+use Rattle.std.specs.Prelude.{if◌then◌else◌}
 use Rattle.flow_base.specs.declared.points.Point.{Point}
 use Rattle.flow_base.specs.Points.{number_of, width_of}
 use Rattle.cut_file.specs.declared.points.CutPoint.{CutPoint}

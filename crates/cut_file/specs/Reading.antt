@@ -1,5 +1,7 @@
 -- How the text of a cut is read, line by line and word by word.
-use Rattle.std.specs.Prelude.{ℕ, ◌+◌, ◌-◌, ◌*◌, ◌%◌, ◌==◌, ◌&&◌, nat_le, nat_lt, List, [], ◌∷◌, ◌++◌, codes, length, slice_index, Bool, true, false, Option, Some, None, option_and_then, Result, Ok, Err, if◌then◌else◌}
+use Rattle.std.specs.Prelude.{ℕ, ◌+◌, ◌-◌, ◌*◌, ◌%◌, ◌==◌, ◌&&◌, nat_le, nat_lt, List, [], ◌∷◌, ◌++◌, codes, length}
+use Rattle.std.specs.Prelude.{slice_index, Bool, true, false, Option, Some, None, option_and_then, Result, Ok, Err}
+use Rattle.std.specs.Prelude.{if◌then◌else◌}
 use Rattle.std.specs.Borrow.{Bor}
 use Rattle.std.specs.Str.{bytes_eq}
 use Rattle.flow_base.specs.declared.points.Point.{Point}
@@ -97,7 +99,9 @@ word_of bytes =
 -- the word that stands as 0x and eight digits
 unfoldable pub word_in : List ℕ → Option ℕ
 word_in bytes =
-    if length bytes == 10 then (if bytes_eq bytes (hex_word (word_of bytes)) then Some (word_of bytes) else None) else None
+    if length bytes == 10
+    then (if bytes_eq bytes (hex_word (word_of bytes)) then Some (word_of bytes) else None)
+    else None
 
 -- the slot of a text of two letters
 unfoldable pub named_slot : List ℕ → Option Slot
@@ -226,7 +230,8 @@ or_fault (Some x) fault = Ok x
 abbrev pub with_region : ℕ → CutPicture → ℕ → Result CutPicture CutFault
 with_region number cut region =
     if is_empty cut.points
-    then (if may_follow nat_lt cut.skip region then Ok (record cut { skip = cut.skip ++ (region ∷ []) }) else Err (Order number))
+    then (if may_follow nat_lt cut.skip region
+    then Ok (record cut { skip = cut.skip ++ (region ∷ []) }) else Err (Order number))
     else Err (Line number)
 
 -- a cut with a point behind its own, by the line of that number

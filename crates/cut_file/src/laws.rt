@@ -1,4 +1,5 @@
-ghost use Rattle.cut_file.specs.CutLaws.{FaultsAreOne, MasksAreOfTheirPoints, MasksAreWithinWidths, TextsAreOne, TextsHaveNoFault};
+ghost use Rattle.cut_file.specs.CutLaws.{FaultsAreOne, MasksAreOfTheirPoints, MasksAreWithinWidths, TextsAreOne};
+ghost use Rattle.cut_file.specs.CutLaws.{TextsHaveNoFault};
 
 /// Each text is that of one cut at most, and each cut has one text. It does nothing when it is called.
 pub fn texts_are_one()
@@ -11,8 +12,8 @@ pub fn faults_are_first()
     ensures none { TextsHaveNoFault }
 {}
 
-/// The mask of a cut at a point that it names is that of [`mask_at`](crate::mask_at), and each mask is within the width of
-/// its slot. It does nothing when it is called.
+/// The mask of a cut at a point that it names is that of [`mask_at`](crate::mask_at), and each mask is within the width
+/// of its slot. It does nothing when it is called.
 pub fn masks_are_of_their_points()
     ensures point { MasksAreOfTheirPoints }
     ensures width { MasksAreWithinWidths }

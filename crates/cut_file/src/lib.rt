@@ -4,6 +4,7 @@
 mod cuts;
 mod faults;
 mod laws;
+mod line_forms;
 mod line_words;
 mod masks;
 mod points;

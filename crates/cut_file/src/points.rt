@@ -12,6 +12,7 @@ pub struct Run {
 /// A point at which bits cross, with a mask for each visit: those of the runs in order, and `rest` at all later visits.
 #[derive(Drop)]
 pub struct CutPoint {
+    /// The place of the values.
     pub point: Point,
     /// The masks of the first visits.
     pub runs: List<Run>,

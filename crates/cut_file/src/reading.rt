@@ -1,154 +1,20 @@
-ghost use Rattle.std.specs.Prelude.{◌≡◌, ◌≢◌, ◌<◌, ◌≤◌, ◌+◌, ◌^◌, length, option_map, Err, IfOk, IfErr, IfSome, OnSome, OnOk, IsTrue, nat_lt, []};
+ghost use Rattle.std.specs.Prelude.{◌≡◌, ◌≢◌, ◌<◌, ◌≤◌, ◌+◌, ◌^◌, length, nat_lt, Err, IfErr, IfOk, IsTrue};
 ghost use Rattle.flow_base.specs.Points.{is_slot};
-ghost use Rattle.cut_file.specs.Cuts.{CutPicture, are_points, have_other_masks, is_cut_point, is_region, is_below as is_point_below, stands_before};
+ghost use Rattle.cut_file.specs.Cuts.{CutPicture, are_points, is_below as is_point_below, is_cut_point, is_region};
+ghost use Rattle.cut_file.specs.Cuts.{stands_before};
 ghost use Rattle.cut_file.specs.Faults.{FirstCutFault};
 ghost use Rattle.cut_file.specs.Pictures.{picture_of};
-ghost use Rattle.cut_file.specs.Reading.{bits_in, cut_in, may_follow, others_of, parts, place_in, point_in, point_in_words, rest_in, runs_in};
-ghost use Rattle.cut_file.specs.Reading.{secret_in, skip_in, head_in, lines_in, with_line as lined, with_point as pointed, with_region as regioned};
+ghost use Rattle.cut_file.specs.Reading.{cut_in, head_in, lines_in, may_follow, parts, with_line as lined};
+ghost use Rattle.cut_file.specs.Reading.{with_point as pointed, with_region as regioned};
 ghost use Rattle.cut_file.specs.Texts.{CutText};
 
 use crate::cuts::Cut;
 use crate::faults::CutFault;
-use crate::line_words::LineWords;
-use crate::points::{CutPoint, Run};
-use crate::words::{after, divide, number, run, slot, word};
-use flow_base::{List, NoMemory, Point, slot_number};
+use crate::line_forms::{bits, cut_point, secret_length, skipped_region};
+use crate::points::CutPoint;
+use crate::words::divide;
+use flow_base::{List, Point, slot_number};
 use std::alloc::Global;
-
-/// The length in bytes that a secret may have at most.
-const LONGEST_SECRET: u32 = 65_536;
-
-/// The highest number of a region.
-const HIGHEST_REGION: u32 = 65_535;
-
-// The secret's length in a line of that form.
-#[tactic(auto, unfolding(crate::specs::Reading::secret_in))]
-fn secret_length(line: &[u8]) -> Option<u32>
-    ensures number { result ≡ secret_in line.now }
-    ensures short { IfSome result (λ length. length ≤ 65536) }
-{
-    let length = number(after(b"secret ", line)?)?;
-    if length <= LONGEST_SECRET {
-        Some(length)
-    } else {
-        None
-    }
-}
-
-// The number of bits in a line of that form.
-#[tactic(auto, unfolding(crate::specs::Reading::bits_in))]
-fn bits(line: &[u8]) -> Option<u32>
-    ensures number { result ≡ bits_in line.now }
-    ensures word { IfSome result (λ bits. bits < 4294967296) }
-{
-    number(after(b"bits ", line)?)
-}
-
-// The skipped region in a line of that form.
-#[tactic(auto, unfolding(crate::specs::Reading::skip_in))]
-fn skipped_region(line: &[u8]) -> Option<u16>
-    ensures number { result ≡ skip_in line.now }
-    ensures region { IfSome result (λ region. IsTrue (is_region region)) }
-{
-    let region = number(after(b"skip ", line)?)?;
-    if 1 <= region && region <= HIGHEST_REGION {
-        Some(region as u16)
-    } else {
-        None
-    }
-}
-
-// The point of the first three words.
-#[tactic(auto, unfolding(crate::specs::Reading::place_in))]
-fn place(words: &mut LineWords) -> Option<Point>
-    ensures point { result ≡ place_in words.old }
-    ensures left { OnSome result (words.new ≡ others_of (others_of (others_of words.old))) }
-{
-    let region = number(words.next()?)?;
-    let address = word(words.next()?)?;
-    let slot = slot(words.next()?)?;
-    if region <= HIGHEST_REGION {
-        Some(Point {
-            region: region as u16,
-            address,
-            slot,
-        })
-    } else {
-        None
-    }
-}
-
-// Whether a run may stand behind runs.
-fn may_follow_runs(runs: &[Run], run: &Run) -> bool
-    ensures { result ≡ may_follow have_other_masks runs.now run.now }
-{
-    match runs {
-        [.., last] => last.mask != run.mask,
-        [] => true,
-    }
-}
-
-// The runs of the words before `rest`.
-#[tactic(auto, unfolding(crate::specs::Reading::runs_in))]
-fn runs(alloc: Global, words: &mut LineWords) -> Result<Option<List<Run>>, NoMemory>
-    ensures { IfOk result (λ found. option_map (λ runs. (runs, words.new)) found ≡ runs_in [] words.old) }
-{
-    let mut runs: List<Run> = List::new(alloc);
-    while let Some(word) = words.next() {
-        if word == b"rest".as_slice() {
-            return Ok(Some(runs));
-        }
-        let Some(run) = run(word) else {
-            return Ok(None);
-        };
-        if !may_follow_runs(runs.as_slice(), &run) {
-            return Ok(None);
-        }
-        runs.push(run)?;
-    }
-    Ok(None)
-}
-
-// The mask of the one word that is left.
-#[tactic(auto, unfolding(crate::specs::Reading::rest_in))]
-fn rest(words: &mut LineWords) -> Option<u32>
-    ensures { result ≡ rest_in words.old }
-{
-    let mask = words.next()?;
-    if words.next().is_some() {
-        return None;
-    }
-    word(mask)
-}
-
-// The point of a line of that form.
-#[tactic(auto, unfolding(crate::specs::Reading::point_in_words))]
-fn point_of_words(alloc: Global, words: &mut LineWords) -> Result<Option<CutPoint>, NoMemory>
-    ensures { IfOk result (λ found. found ≡ point_in_words words.old) }
-{
-    let Some(point) = place(words) else {
-        return Ok(None);
-    };
-    let Some(runs) = runs(alloc, words)? else {
-        return Ok(None);
-    };
-    let Some(rest) = rest(words) else {
-        return Ok(None);
-    };
-    Ok(Some(CutPoint { point, runs, rest }))
-}
-
-// The point in a line of that form.
-#[tactic(auto, unfolding(crate::specs::Reading::point_in))]
-fn cut_point(alloc: Global, line: &[u8]) -> Result<Option<CutPoint>, NoMemory>
-    ensures { IfOk result (λ found. found ≡ point_in line.now) }
-{
-    let Some(words) = after(b"point ", line) else {
-        return Ok(None);
-    };
-    let mut words = LineWords::of(words);
-    point_of_words(alloc, &mut words)
-}
 
 // Whether a region may stand behind regions.
 fn may_follow_regions(regions: &[u16], region: u16) -> bool
@@ -189,7 +55,8 @@ fn may_follow_points(points: &[CutPoint], point: &CutPoint) -> bool
 fn with_region(cut: Cut, number: u32, region: u16) -> Result<Cut, CutFault>
     requires { IsTrue (is_region region) }
     ensures ok { IfOk result (λ longer. regioned number (picture_of cut) region ≡ Ok (picture_of longer)) }
-    ensures err { IfErr result (λ fault. fault ≢ CutFault.Memory → regioned number (picture_of cut) region ≡ Err fault) }
+    ensures err { IfErr result (λ fault. fault ≢ CutFault.Memory
+        → regioned number (picture_of cut) region ≡ Err fault) }
 {
     let Cut {
         secret_length,
@@ -254,8 +121,10 @@ fn with_line(alloc: Global, cut: Cut, number: u32, line: &[u8]) -> Result<Cut, C
 // The cut with what the lines up to `end` add, and the rest of the file behind that line.
 fn with_lines(alloc: Global, cut: Cut, lines: &[u8]) -> Result<(Cut, &[u8]), CutFault>
     requires { length lines.now + 4 < 2 ^ 32 }
-    ensures ok { IfOk result (λ p. lines_in 4 (picture_of cut) (parts 10 lines.now) ≡ Ok (picture_of p.0, parts 10 p.1.now)) }
-    ensures err { IfErr result (λ fault. fault ≢ CutFault.Memory → lines_in 4 (picture_of cut) (parts 10 lines.now) ≡ Err fault) }
+    ensures ok { IfOk result (λ p. lines_in 4 (picture_of cut) (parts 10 lines.now)
+        ≡ Ok (picture_of p.0, parts 10 p.1.now)) }
+    ensures err { IfErr result (λ fault. fault ≢ CutFault.Memory
+        → lines_in 4 (picture_of cut) (parts 10 lines.now) ≡ Err fault) }
     ensures shorter { IfOk result (λ p. length p.1.now ≤ length lines.now) }
 {
     let mut cut = cut;
@@ -314,11 +183,11 @@ fn cut_of(alloc: Global, file: &[u8]) -> Result<Cut, CutFault>
     }
 }
 
-/// The cut whose text the file is. The text has the lines `flowcheck-cut 1`, `secret LENGTH` and `bits NUMBER`, then a line
-/// `skip REGION` for each skipped region and a line `point REGION 0xADDRESS SLOT RUNS rest 0xMASK` for each point, both
-/// strictly ascending, and `end`. RUNS are none or more words `COUNT*0xMASK`, each with another mask than the one before.
-/// Numbers are decimal without leading zeros; addresses and masks have eight hexadecimal digits in lower case; one space
-/// stands between words, and each line ends with a line feed.
+/// The cut whose text the file is. The text has the lines `flowcheck-cut 1`, `secret LENGTH` and `bits NUMBER`, then a
+/// line `skip REGION` for each skipped region and a line `point REGION 0xADDRESS SLOT RUNS rest 0xMASK` for each point,
+/// both strictly ascending, and `end`. RUNS are none or more words `COUNT*0xMASK`, each with another mask than the one
+/// before. Numbers are decimal without leading zeros; addresses and masks have eight hexadecimal digits in lower case; one
+/// space stands between words, and each line ends with a line feed.
 ///
 /// Every other file answers its first fault, as [`CutFault`] tells them; want of memory answers [`CutFault::Memory`]. It
 /// takes time in the length of the file.

@@ -94,6 +94,11 @@ fn other_heads_have_faults(rt: HostRuntime) {
             CutFault::Line { number: 4 },
         ),
         (
+            "flowcheck-cut 1\nsecret 8\nbits 5\nskip 1\npoint 0 0x0001005c rs 1*0x0000000f rest 0x0000000f\n\
+             point 0 0x00010058 rs 1*0x00000001 rest 0x00000001\nend\n",
+            CutFault::Order { number: 6 },
+        ),
+        (
             "flowcheck-cut 1\nsecret 1\nbits 0\nend\nx",
             CutFault::Trailing { offset: 36 },
         ),

@@ -2,7 +2,8 @@ ghost use Rattle.std.specs.Prelude.{◌≡◌, ◌++◌, ◌∷◌, IfOk, OnOk, 
 ghost use Rattle.std.specs.Fmt.{decimal};
 ghost use Rattle.cut_file.specs.Pictures.{picture_of};
 ghost use Rattle.cut_file.specs.Writing.{point_pieces, runs_text};
-ghost use Rattle.cut_file.specs.Texts.{CutText, bits_line, ended, point_line, run_text, secret_line, skip_line, slot_text, version_line};
+ghost use Rattle.cut_file.specs.Texts.{CutText, bits_line, ended, point_line, run_text, secret_line, skip_line};
+ghost use Rattle.cut_file.specs.Texts.{slot_text, version_line};
 
 use crate::cuts::Cut;
 use crate::points::{CutPoint, Run};
@@ -118,7 +119,8 @@ fn put_regions(alloc: Global, text: &mut Vec<u8>, regions: &[u16]) -> Result<(),
 
 // The first three lines of a cut.
 fn head(alloc: Global, secret_length: u32, bits: u32) -> Result<Vec<u8>, NoMemory>
-    ensures { IfOk result (λ text. text.items ≡ ended (version_line ∷ (secret_line secret_length ∷ (bits_line bits ∷ [])))) }
+    ensures { IfOk result (λ text. text.items
+        ≡ ended (version_line ∷ (secret_line secret_length ∷ (bits_line bits ∷ [])))) }
 {
     let mut text = Vec::new(alloc);
     put(&mut text, b"flowcheck-cut 1\nsecret ")?;

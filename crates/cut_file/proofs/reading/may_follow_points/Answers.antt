@@ -8,4 +8,5 @@ pub returns-in-len1-up : goal.returns-in-len1-up
 returns-in-len1-up c =
     c.is_below.ensures
     ∙ ap (λ (p : CutPoint). is_below p.point c.args.point.now.point) c.last-item.is
-    ∙ sym (may_follow-last stands_before c.args.points.now c.args.point.now c.last-item.result c.in-len1-up.len_at_least)
+    ∙ sym (may_follow-last stands_before c.args.points.now c.args.point.now c.last-item.result
+    c.in-len1-up.len_at_least)

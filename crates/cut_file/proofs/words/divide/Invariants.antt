@@ -4,4 +4,5 @@ use Rattle.cut_file.proofs.Parts.{with_front}
 use Rattle.cut_file.proofs.words.divide.Given as goal
 
 abbrev pub invariant-loop-place : goal.invariant-loop-place
-invariant-loop-place l = with_front (take l.place l.bytes) (divided l.separator (drop l.place l.bytes)) ≡ divided l.separator l.bytes
+invariant-loop-place l = with_front (take l.place l.bytes) (divided l.separator
+    (drop l.place l.bytes)) ≡ divided l.separator l.bytes

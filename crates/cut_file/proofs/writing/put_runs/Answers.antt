@@ -6,5 +6,6 @@ use Rattle.cut_file.proofs.writing.put_runs.Goals as goal
 pub loop-run-preserved : goal.loop-run-preserved
 loop-run-preserved c =
     ap (λ (l : List ℕ). l ++ runs_text (drop (c.loop-run.run-index + 1) c.args.runs.now)) c.in_ok-put_run.ensures
-    ∙ runs-step c.args.runs.now c.loop-run.run-index (record { count = 0; mask = 0 }) c.loop-run.text.items _ c.loop-run-test.true
+    ∙ runs-step c.args.runs.now c.loop-run.run-index
+    (record { count = 0; mask = 0 }) c.loop-run.text.items _ c.loop-run-test.true
     c.loop-run.invariant

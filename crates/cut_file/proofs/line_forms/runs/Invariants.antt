@@ -1,6 +1,6 @@
 use Rattle.std.proofs.Common.{◌≡◌, [], length}
 use Rattle.cut_file.specs.Reading.{runs_in}
-use Rattle.cut_file.proofs.reading.runs.Given as goal
+use Rattle.cut_file.proofs.line_forms.runs.Given as goal
 
 abbrev pub decreases-loop-word : goal.decreases-loop-word
 decreases-loop-word l = length l.words
