@@ -6,9 +6,9 @@ use flow_base::List;
 
 /// A cut: the bits that cross in a run, of all its values.
 ///
-/// By its type the secret has at most 65,536 bytes; the skipped regions are numbered 1 to 65,535 and ascend strictly; the
-/// points ascend strictly by region, address and slot number, and each slot is one; each run has a count from 1 on, and
-/// two neighbouring runs have different masks.
+/// By its type the secret has at most 65,536 bytes; the skipped regions are numbered 1 to 65,535 and ascend strictly;
+/// the points ascend strictly by region, address and slot number, and each slot is one; each run has a count from 1
+/// on, and two neighbouring runs have different masks.
 #[derive(Drop)]
 pub struct Cut {
     /// The length in bytes of the secrets that the cut is for.

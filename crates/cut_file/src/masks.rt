@@ -16,8 +16,8 @@ fn width(slot: Slot) -> u32
     }
 }
 
-/// The mask of the bits that cross at a visit of the point, counted from 1: the mask that the runs list for it, or `rest`
-/// behind those, within the width of the point's slot. It takes time in the number of the point's runs.
+/// The mask of the bits that cross at a visit of the point, counted from 1: the mask that the runs list for it, or
+/// `rest` behind those, within the width of the point's slot. It takes time in the number of the point's runs.
 pub fn mask_at(point: &CutPoint, visit: u64) -> u32
     requires { 1 ≤ visit }
     ensures { result ≡ mask_of point.now visit }

@@ -183,14 +183,14 @@ fn cut_of(alloc: Global, file: &[u8]) -> Result<Cut, CutFault>
     }
 }
 
-/// The cut whose text the file is. The text has the lines `flowcheck-cut 1`, `secret LENGTH` and `bits NUMBER`, then a
-/// line `skip REGION` for each skipped region and a line `point REGION 0xADDRESS SLOT RUNS rest 0xMASK` for each point,
-/// both strictly ascending, and `end`. RUNS are none or more words `COUNT*0xMASK`, each with another mask than the one
-/// before. Numbers are decimal without leading zeros; addresses and masks have eight hexadecimal digits in lower case; one
-/// space stands between words, and each line ends with a line feed.
+/// The cut whose text the file is. The text has the lines `flowcheck-cut 1`, `secret LENGTH` and `bits NUMBER`, then
+/// a line `skip REGION` for each skipped region and a line `point REGION 0xADDRESS SLOT RUNS rest 0xMASK` for each
+/// point, both strictly ascending, and `end`. RUNS are none or more words `COUNT*0xMASK`, each with another mask than
+/// the one before. Numbers are decimal without leading zeros; addresses and masks have eight hexadecimal digits in
+/// lower case; one space stands between words, and each line ends with a line feed.
 ///
-/// Every other file answers its first fault, as [`CutFault`] tells them; want of memory answers [`CutFault::Memory`]. It
-/// takes time in the length of the file.
+/// Every other file answers its first fault, as [`CutFault`] tells them; want of memory answers [`CutFault::Memory`].
+/// It takes time in the length of the file.
 pub fn read_cut(alloc: Global, file: &[u8]) -> Result<Cut, CutFault>
     requires { length file.now < 2 ^ 32 }
     ensures text { IfOk result (λ cut. CutText file.now (picture_of cut)) }

@@ -1,6 +1,7 @@
 ghost use Rattle.std.specs.Prelude.{◌≡◌, ◌≤◌, ◌<◌, ◌+◌, length, option_map, IfSome};
 ghost use Rattle.cut_file.specs.Texts.{hex_digit, hex_word};
-ghost use Rattle.cut_file.specs.Reading.{after_text, digit_of, digits_in, divided, has_leading_zero as begins_with_zero};
+ghost use Rattle.cut_file.specs.Reading.{after_text, digit_of, digits_in, divided};
+ghost use Rattle.cut_file.specs.Reading.{has_leading_zero as begins_with_zero};
 ghost use Rattle.cut_file.specs.Reading.{named_slot as slot_named, number_in, numbered_slot as slot_numbered, run_in};
 ghost use Rattle.cut_file.specs.Reading.{slot_in, slot_of as slot_from, word_in, word_of};
 
