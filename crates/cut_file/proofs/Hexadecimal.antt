@@ -4,7 +4,7 @@ use Rattle.std.proofs.Common.{slice_index, if◌then◌else◌, Some, None, refl
 use Rattle.std.specs.Prelude.{map}
 use Rattle.std.specs.Str.{bytes_eq}
 use Rattle.std.proofs.lemmas.Slice.Eq.{bytes_eq-Decides}
-use Rattle.cut_file.specs.Texts.{hex_digit, hex_word}
+use Rattle.flow_base.specs.HexWords.{hex_digit, hex_word}
 use Rattle.cut_file.specs.Reading.{digit_of, word_in, word_of}
 use Rattle.cut_file.proofs.Parts.{has_byte}
 use Rattle.cut_file.proofs.Numbers.{clean-cons, some-same}
@@ -36,7 +36,6 @@ digits-sum word small =
     (word / 16777216 % 16) (word / 268435456 % 16) a b c d e f g h
 
 digits-own : (word : ℕ) → word < 4294967296 → word_of (hex_word word) ≡ word
-unfolding hex_word
 digits-own word small =
     let below : (quotient : ℕ) → quotient % 16 < 16 = λ quotient. omega arith in
     rw (
@@ -66,7 +65,6 @@ word-small bytes =
     (digit-small (slice_index bytes 8)) (digit-small (slice_index bytes 9))
 
 pub length-hex_word : (word : ℕ) → length (hex_word word) ≡ 10
-unfolding hex_word
 length-hex_word word = refl
 
 -- ---- both ways
@@ -111,7 +109,6 @@ digits-clean separator (digit ∷ digits) low =
     (digits-clean separator digits low)
 
 pub hex_word-clean : (separator word : ℕ) → separator < 48 → has_byte separator (hex_word word) ≡ false
-unfolding hex_word
 hex_word-clean separator word low =
     let digits : List ℕ = (word / 268435456 % 16) ∷ (word / 16777216 % 16) ∷ (word / 1048576 % 16) ∷
     (word / 65536 % 16)

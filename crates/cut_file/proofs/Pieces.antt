@@ -7,7 +7,8 @@ use Rattle.std.proofs.lemmas.List.{append-nil}
 use Rattle.cut_file.specs.declared.points.CutPoint.{CutPoint}
 use Rattle.cut_file.specs.declared.points.Run.{Run}
 use Rattle.cut_file.specs.Cuts.{CutPicture}
-use Rattle.cut_file.specs.Texts.{bits_line, cut_text, end_line, ended, hex_word, joined, point_line, run_text}
+use Rattle.flow_base.specs.HexWords.{hex_word}
+use Rattle.cut_file.specs.Texts.{bits_line, cut_text, end_line, ended, joined, point_line, run_text}
 use Rattle.cut_file.specs.Texts.{secret_line, skip_line, slot_text, version_line}
 use Rattle.cut_file.specs.Writing.{point_pieces, runs_text}
 
@@ -35,7 +36,6 @@ ended-append (line ∷ first) second =
 
 -- the line of a point, and what comes behind it, in the pieces that are written
 pub point-pieces : (point : CutPoint) → point_line point ++ codes "\n" ≡ point_pieces point
-unfolding hex_word
 point-pieces point =
     let region = decimal point.point.region in
     let slot = slot_text point.point.slot in

@@ -16,7 +16,8 @@ use Rattle.flow_base.specs.Points.{is_slot}
 use Rattle.cut_file.specs.declared.points.CutPoint.{CutPoint}
 use Rattle.cut_file.specs.declared.points.Run.{Run}
 use Rattle.cut_file.specs.Cuts.{are_runs, have_other_masks, is_cut_point, is_point, is_run, is_word}
-use Rattle.cut_file.specs.Texts.{hex_word, joined, point_line, point_words, run_text, slot_text}
+use Rattle.flow_base.specs.HexWords.{hex_word}
+use Rattle.cut_file.specs.Texts.{joined, point_line, point_words, run_text, slot_text}
 use Rattle.cut_file.specs.Reading.{◌>>=◌, after_text, divided, first_of, may_follow, number_in, others_of, parts}
 use Rattle.cut_file.specs.Reading.{place_in, point_in, point_in_words, rest_in, run_in, runs_in, slot_in, word_in}
 use Rattle.cut_file.proofs.Parts.{clean_words, divided-found, divided-own, has_byte, joined-parts, parts-joined}

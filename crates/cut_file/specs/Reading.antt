@@ -12,7 +12,8 @@ use Rattle.cut_file.specs.declared.points.Run.{Run}
 use Rattle.cut_file.specs.declared.faults.CutFault.{CutFault}
 use Rattle.cut_file.specs.declared.faults.CutFault.TheVariants.{Version, Line, Order, Truncated, Trailing}
 use Rattle.cut_file.specs.Cuts.{CutPicture, have_other_masks, stands_before}
-use Rattle.cut_file.specs.Texts.{hex_word, joined}
+use Rattle.flow_base.specs.HexWords.{hex_word}
+use Rattle.cut_file.specs.Texts.{joined}
 
 -- ---- parts
 

@@ -1,6 +1,7 @@
 -- The one text of a cut: its lines, each of words with one space between them.
-use Rattle.std.specs.Prelude.{◌≡◌, ℕ, ◌+◌, ◌/◌, ◌%◌, nat_lt, true, List, [], ◌∷◌, ◌++◌, codes, map, if◌then◌else◌}
+use Rattle.std.specs.Prelude.{◌≡◌, ℕ, true, List, [], ◌∷◌, ◌++◌, codes, map}
 use Rattle.std.specs.Fmt.{decimal}
+use Rattle.flow_base.specs.HexWords.{hex_word}
 use Rattle.flow_base.specs.declared.points.Slot.{Slot}
 use Rattle.flow_base.specs.declared.points.Slot.TheVariants.{First, Second, Address, Result, Decision, Number, Arg0}
 use Rattle.flow_base.specs.declared.points.Slot.TheVariants.{Arg1, Arg2, SecretIn, ByteOut, Status, OutReg, OutRange}
@@ -22,17 +23,6 @@ spaced words = joined 32 words
 abbrev pub ended : List (List ℕ) → List ℕ
 ended [] = []
 ended (line ∷ lines) = line ++ (10 ∷ ended lines)
-
--- a digit below 16, in lower case
-abbrev pub hex_digit : ℕ → ℕ
-hex_digit digit = if nat_lt digit 10 then 48 + digit else 87 + digit
-
--- 0x and the eight digits of a word
-unfoldable pub hex_word : ℕ → List ℕ
-hex_word word =
-    48 ∷ 120 ∷ hex_digit (word / 268435456 % 16) ∷ hex_digit (word / 16777216 % 16)
-    ∷ hex_digit (word / 1048576 % 16) ∷ hex_digit (word / 65536 % 16) ∷ hex_digit (word / 4096 % 16)
-    ∷ hex_digit (word / 256 % 16) ∷ hex_digit (word / 16 % 16) ∷ hex_digit (word % 16) ∷ []
 
 abbrev pub slot_text : Slot → List ℕ
 slot_text First = codes "u1"

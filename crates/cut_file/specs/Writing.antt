@@ -3,7 +3,8 @@ use Rattle.std.specs.Prelude.{ℕ, List, [], ◌∷◌, ◌++◌, codes}
 use Rattle.std.specs.Fmt.{decimal}
 use Rattle.cut_file.specs.declared.points.CutPoint.{CutPoint}
 use Rattle.cut_file.specs.declared.points.Run.{Run}
-use Rattle.cut_file.specs.Texts.{hex_word, run_text, slot_text}
+use Rattle.flow_base.specs.HexWords.{hex_word}
+use Rattle.cut_file.specs.Texts.{run_text, slot_text}
 
 -- runs, each behind a space
 abbrev pub runs_text : List Run → List ℕ

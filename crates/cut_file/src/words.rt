@@ -1,12 +1,11 @@
 ghost use Rattle.std.specs.Prelude.{◌≡◌, ◌≤◌, ◌<◌, ◌+◌, length, option_map, IfSome};
-ghost use Rattle.cut_file.specs.Texts.{hex_digit, hex_word};
 ghost use Rattle.cut_file.specs.Reading.{after_text, digit_of, digits_in, divided};
 ghost use Rattle.cut_file.specs.Reading.{has_leading_zero as begins_with_zero};
 ghost use Rattle.cut_file.specs.Reading.{named_slot as slot_named, number_in, numbered_slot as slot_numbered, run_in};
 ghost use Rattle.cut_file.specs.Reading.{slot_in, slot_of as slot_from, word_in, word_of};
 
 use crate::points::Run;
-use flow_base::Slot;
+use flow_base::{Slot, hex_word};
 
 /// The bytes in front of the first separator and those behind it; None where there is none.
 pub(crate) fn divide(separator: u8, bytes: &[u8]) -> Option<(&[u8], &[u8])>
@@ -105,37 +104,6 @@ fn word_behind(bytes: &[u8]) -> u32
         + nibble(bytes[9])
 }
 
-// A digit below 16, in lower case.
-fn glyph(digit: u32) -> u8
-    requires { digit < 16 }
-    ensures { result ≡ hex_digit digit }
-{
-    if digit < 10 {
-        48 + digit as u8
-    } else {
-        87 + digit as u8
-    }
-}
-
-/// 0x and the eight hexadecimal digits of a word.
-#[tactic(auto, unfolding(crate::specs::Texts::hex_word))]
-pub(crate) fn hexadecimal(word: u32) -> [u8; 10]
-    ensures { result ≡ hex_word word }
-{
-    [
-        b'0',
-        b'x',
-        glyph(word / 268_435_456 % 16),
-        glyph(word / 16_777_216 % 16),
-        glyph(word / 1_048_576 % 16),
-        glyph(word / 65_536 % 16),
-        glyph(word / 4_096 % 16),
-        glyph(word / 256 % 16),
-        glyph(word / 16 % 16),
-        glyph(word % 16),
-    ]
-}
-
 /// The word that stands as 0x and eight hexadecimal digits in lower case.
 #[tactic(auto, unfolding(crate::specs::Reading::word_in))]
 pub(crate) fn word(bytes: &[u8]) -> Option<u32>
@@ -145,7 +113,7 @@ pub(crate) fn word(bytes: &[u8]) -> Option<u32>
         return None;
     }
     let word = word_behind(bytes);
-    if bytes == hexadecimal(word).as_slice() {
+    if bytes == hex_word(word).as_slice() {
         Some(word)
     } else {
         None

@@ -7,8 +7,7 @@ ghost use Rattle.cut_file.specs.Texts.{slot_text, version_line};
 
 use crate::cuts::Cut;
 use crate::points::{CutPoint, Run};
-use crate::words::hexadecimal;
-use flow_base::{Bytes, List, NoMemory, Slot};
+use flow_base::{Bytes, List, NoMemory, Slot, hex_word};
 use std::alloc::Global;
 
 // Puts bytes at the end of a text.
@@ -64,7 +63,7 @@ fn put_run(alloc: Global, text: &mut Vec<u8>, run: &Run) -> Result<(), NoMemory>
     put(text, b" ")?;
     put_number(alloc, text, run.count)?;
     put(text, b"*")?;
-    put(text, &hexadecimal(run.mask))?;
+    put(text, &hex_word(run.mask))?;
     Ok(())
 }
 
@@ -85,12 +84,12 @@ fn put_point(alloc: Global, text: &mut Vec<u8>, point: &CutPoint) -> Result<(), 
     put(text, b"point ")?;
     put_number(alloc, text, u32::from(point.point.region))?;
     put(text, b" ")?;
-    put(text, &hexadecimal(point.point.address))?;
+    put(text, &hex_word(point.point.address))?;
     put(text, b" ")?;
     put_slot(alloc, text, point.point.slot)?;
     put_runs(alloc, text, point.runs.as_slice())?;
     put(text, b" rest ")?;
-    put(text, &hexadecimal(point.rest))?;
+    put(text, &hex_word(point.rest))?;
     put(text, b"\n")?;
     Ok(())
 }
