@@ -2,13 +2,12 @@
 use Rattle.std.specs.Prelude.{◌≡◌, ℕ, ◌==◌, ◌&&◌, Bool, false, List, [], ◌∷◌, Ok}
 use Rattle.std.specs.Str.{bytes_eq}
 use Rattle.elf32_loader.specs.Pictures.{Picture}
-use Rattle.elf32_loader.specs.Programs.{single}
 use Rattle.elf32_loader.specs.declared.segments.Segment.{Segment}
-use Rattle.rv32im_asm.specs.Assembling.{assembled}
+use Rattle.rv32im_asm.specs.Assembling.{assembled, one_segment}
 
 -- a source assembles to these bytes: they are the one segment, whose address is the entry
 abbrev pub IsAssembledTo : List ℕ → List ℕ → Type 0
-IsAssembledTo source bytes = assembled source ≡ Ok (single 65536 65536 bytes)
+IsAssembledTo source bytes = assembled source ≡ Ok (one_segment bytes)
 
 -- the segments are one, at the start, of these bytes
 abbrev pub has_segment : List Segment → List ℕ → Bool

@@ -7,3 +7,4 @@ pub mod Digits
 pub mod Fronts
 pub mod LabelSteps
 pub mod ProgramSteps
+pub mod Listings

@@ -3,7 +3,6 @@ use Rattle.std.specs.Prelude.{ℕ, ℤ, pos, ◌+◌, ◌-ℤ◌, ◌%◌, ◌==
 use Rattle.std.specs.Prelude.{◌++◌, take, Option, Some, None, Result, Ok, Err, unwrap_or, if◌then◌else◌}
 use Rattle.std.specs.Option.{option_and_then}
 use Rattle.elf32_loader.specs.Pictures.{Picture}
-use Rattle.elf32_loader.specs.Programs.{single}
 use Rattle.rv32im_asm.specs.Lines.{label_of, lines_of}
 use Rattle.rv32im_asm.specs.Statements.{Meaning, said_by}
 use Rattle.rv32im_asm.specs.Sizes.{place_of, size_of, total_size}
@@ -101,11 +100,16 @@ readings lines index [] = Ok []
 readings lines index (line ∷ rest) =
     joined (reading (place_of lines) index (bytes_before lines index) line) (readings lines (index + 1) rest)
 
--- a program has a byte; it is one segment at its start, which is its entry
+-- one segment at the start, which is the entry and a multiple of 4,096
+abbrev pub one_segment : List ℕ → Picture
+one_segment program =
+    record { base = start; entry = start; segments = record { address = start; bytes = program } ∷ [] }
+
+-- a program has a byte
 abbrev pub program_of : Result (List ℕ) AsmFault → Result Picture AsmFault
 program_of (Err fault) = Err fault
 program_of (Ok []) = Err (Line 0 Empty)
-program_of (Ok (byte ∷ bytes)) = Ok (single start start (byte ∷ bytes))
+program_of (Ok (byte ∷ bytes)) = Ok (one_segment (byte ∷ bytes))
 
 abbrev pub assembled : List ℕ → Result Picture AsmFault
 assembled source = program_of (readings (lines_of source) 0 (lines_of source))

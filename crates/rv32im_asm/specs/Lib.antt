@@ -10,3 +10,6 @@ pub mod Pieces
 pub mod Assembling
 pub mod Labels
 pub mod Answers
+pub mod Mnemonics
+pub mod InstructionTexts
+pub mod Listing

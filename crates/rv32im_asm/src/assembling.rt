@@ -3,9 +3,8 @@ ghost use Rattle.std.specs.Prelude.{length, replicate};
 ghost use Rattle.std.specs.Prelude.{ℤ, Some, option_map};
 ghost use Rattle.std.specs.Option.{option_and_then, option_copied};
 ghost use Rattle.elf32_loader.specs.Images.{picture_of};
-ghost use Rattle.elf32_loader.specs.Programs.{single};
 ghost use Rattle.rv32im_asm.specs.Answers.{answer_of};
-ghost use Rattle.rv32im_asm.specs.Assembling.{assembled, bytes_for, is_aligned as stands_aligned, placed_bytes};
+ghost use Rattle.rv32im_asm.specs.Assembling.{one_segment, assembled, bytes_for, is_aligned as stands_aligned, placed_bytes};
 ghost use Rattle.rv32im_asm.specs.Assembling.{unplaced_bytes};
 ghost use Rattle.rv32im_asm.specs.Assembling.{is_taken as is_taken_by, or_range as or_range_fault};
 ghost use Rattle.rv32im_asm.specs.Assembling.{reading as read_as, reading_with};
@@ -25,8 +24,8 @@ use crate::labels::Labels;
 use crate::lines::label;
 use crate::meanings::statement_in;
 use crate::pieces::{Piece, encode_operation, size};
-use crate::placing::place_labels;
 use crate::places::Place;
+use crate::placing::place_labels;
 use crate::statements::{Operation, Statement};
 use elf32_loader::{Image, Segment};
 use flow_base::{Bytes, List, NoMemory};
@@ -245,7 +244,7 @@ fn program(alloc: Global, source: &[u8]) -> Result<Bytes, AsmFault>
 fn image(alloc: Global, program: Bytes) -> Result<Image, NoMemory>
     requires some { 0 < length program }
     requires small { length program ≤ 1048576 }
-    ensures { IfOk result (λ image. picture_of image ≡ single 65536 65536 program) }
+    ensures { IfOk result (λ image. picture_of image ≡ one_segment program) }
 {
     let mut segments = List::new(alloc);
     segments.push(Segment {

@@ -1,4 +1,4 @@
-//! An assembler of RV32IM: sources to images.
+//! An assembler of RV32IM: sources to images, and images to listings.
 #![tactic(auto)]
 
 mod assembling;
@@ -8,16 +8,21 @@ mod first_words;
 mod forms;
 mod labels;
 mod lines;
+mod listing;
 mod meanings;
+mod mnemonics;
 mod numbers;
 mod pieces;
-mod placing;
 mod places;
+mod placing;
 mod registers;
 mod statements;
+mod texts;
 
 pub use assembling::assemble;
 pub use fault::{AsmFault, LineKind};
+pub use listing::list;
+pub use texts::instr_text;
 
 #[cfg(test)]
 mod tests;

@@ -8,13 +8,13 @@ ghost use Rattle.rv32im_asm.specs.declared.statements.Operation.TheVariants.{Imm
 ghost use Rattle.rv32im_decode.specs.declared.instructions.ImmKind.TheVariants.{Addi};
 
 use crate::cutting::cut_word;
+use crate::first_words::mnemonic;
 use crate::forms::{
     no_operand, one_value, plain, register_and, register_and_place, registers_and, three_registers,
     two_registers,
 };
 use crate::lines::body;
 use crate::statements::{Mnemonic, Operation, Statement, Value, Wanted};
-use crate::first_words::mnemonic;
 use rv32im_decode::ImmKind;
 
 /// What a mnemonic or directive says of its operands; None where they are not of its form.

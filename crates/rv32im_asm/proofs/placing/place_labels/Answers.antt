@@ -31,7 +31,7 @@ loop-rest-preserved c =
           (arith, c.loop-rest.invariant.bound, c.requires)))
           (c.loop-rest.invariant.near name));
       small = small_next c.loop-rest.offset
-      (line_size line) c.grown-offset.result c.loop-rest.index c.grown-offset.ensures.exact
+          (line_size line) c.grown-offset.result c.loop-rest.index c.grown-offset.ensures.exact
           c.loop-rest.invariant.small c.grown-offset.ensures.small;
       bound = omega (arith, c.loop-rest.invariant.bound, c.first_line.ensures.nearer);
     }

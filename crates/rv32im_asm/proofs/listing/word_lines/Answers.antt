@@ -1,0 +1,18 @@
+use Rattle.std.proofs.Common.{rules, ◌≡◌, ◌≤◌, ◌<◌, ◌+◌, ◌*◌, ◌++◌, length, ℕ, List, [], sym, ap, ◌∙◌, arith}
+use Rattle.std.proofs.lemmas.List.{append-nil}
+use Rattle.rv32im_asm.specs.Listing.{line as line_of, lines_from}
+use Rattle.rv32im_asm.proofs.Listings.{lines_short, lines_after}
+use Rattle.rv32im_asm.proofs.listing.word_lines.Goals as goal
+
+pub loop-rest-preserved : goal.loop-rest-preserved
+loop-rest-preserved c =
+    record {
+      fits = omega arith;
+      text = lines_after _ _ _ _ _ _ _ _ c.in-len4-up.len_at_least
+          (search rules) c.in_ok-line.ensures (search rules) c.loop-rest.invariant.text;
+    }
+
+pub returns : goal.returns
+returns c =
+    let none = lines_short c.loop-rest.place c.loop-rest.rest.now (omega arith) in
+    sym (append-nil _) ∙ ap (λ (rest : List ℕ). c.loop-rest.text.items ++ rest) (sym none) ∙ c.loop-rest.invariant.text
