@@ -1,13 +1,13 @@
 -- The headline follows from the reply.
-use Rattle.std.proofs.Common.{◌≡◌, inl, inr, ℕ, ◌≤◌, ◌<◌, ◌==◌, List, [], ◌∷◌, length, Bool, true, false, Option, Some, None, Result, Ok, Err, refl, ap, subst, arith, ◌+◌, nat_le, if◌then◌else◌}
+use Rattle.std.proofs.Common.{◌≡◌, inl, inr, ℕ, ◌≤◌, ◌<◌, ◌==◌, List, [], ◌∷◌, length, codes, sym, ◌∙◌, Bool, true, false, Option, Some, None, Result, Ok, Err, refl, ap, subst, arith, ◌+◌, nat_le, if◌then◌else◌}
+use Rattle.std.specs.Fmt.{decimal}
 use Rattle.std.specs.List.{AllByRecursion, list_any}
 use Rattle.flow_base.specs.declared.outputs.Output.{Output}
 use Rattle.flow_base.specs.declared.loading.LoadFault.{LoadFault}
 use Rattle.flow_base.specs.declared.loading.LoadFault.TheVariants.{Failed, TooLarge, Memory}
 use Rattle.flow_base.specs.Loads.{Told, after_load, next_answer, held_answer}
 use Rattle.elf32_loader.specs.Pictures.{Picture}
-use Rattle.elf32_loader.specs.Programs.{IsSingle}
-use Rattle.elf32_loader.proofs.Programs.{image_of_single}
+use Rattle.elf32_loader.specs.Programs.{IsImage}
 use Rattle.lockstep_replay.specs.Cuts.{CutPicture, MaskAt}
 use Rattle.lockstep_replay.specs.Acceptance.{Accept, IsOutput}
 use Rattle.lockstep_replay.specs.Verdicts.{Judgement, Accepts, Rejects, First}
@@ -15,12 +15,12 @@ use Rattle.lockstep_replay.proofs.Bounds.{bound_law}
 use Rattle.lockstep_replay.proofs.Accepting.{accepted_law}
 use Rattle.lockstep_replay.proofs.Judging.{rejected_law}
 use Rattle.lockstep_replay.proofs.Causes.{causes_law}
-use Rattle.flowcheck.specs.CommandLines.{Check, IsCheck}
+use Rattle.flowcheck.specs.CommandLines.{Check, IsCheck, Checks, Assembles, Lists}
 use Rattle.flowcheck.specs.Loading.{Want, LoadRefusal, CannotLoad, IsTooLarge, and_load, loaded_from, wants_of, secret_wants}
 use Rattle.flowcheck.specs.Replies.{Reply, RepliesByTold, turn_limit, Replies, RepliesToLoads, RepliesToFiles, RepliesToCut, judgements_of, load_reply}
 use Rattle.flowcheck.specs.Headline.{HeadlineByTold}
 use Rattle.flowcheck.specs.Replies.{RepliesByTold}
-use Rattle.flowcheck.specs.Headline.{AreHeld, Says, AllSay, IsAmong, AreFew, Headline}
+use Rattle.flowcheck.specs.Headline.{AreHeld, Says, AllSay, IsAmong, AreFewOfAll, AreFew, Headline}
 
 -- ---- each judgement says what it means
 
@@ -149,13 +149,18 @@ refusal-status : (refusal : LoadRefusal) → 1 < (load_reply refusal).status
 refusal-status (CannotLoad name) = omega arith
 refusal-status (IsTooLarge name number) = omega arith
 
+are-few-of-all : (picture : Picture) (public_input : List ℕ) (cut : CutPicture) (budget : ℕ) →
+    AreFewOfAll picture public_input cut budget
+are-few-of-all picture public_input cut budget outputs different each =
+    bound_law picture public_input (MaskAt cut.points) cut.secret_length budget turn_limit outputs each different
+
 from-cut : (told : Told) (words : List (List ℕ)) (check : Check) (picture : Picture) (program_file public_input cut_file : List ℕ) (secrets : List (List ℕ)) (reply : Reply) →
-    IsCheck words check → IsSingle program_file picture →
+    IsCheck words check → IsImage program_file picture →
     AreHeld told (check.program ∷ check.public_input ∷ check.cut ∷ check.secrets) (program_file ∷ public_input ∷ cut_file ∷ secrets) →
     reply.status ≤ 1 → RepliesToCut picture public_input cut_file check.budget secrets reply → Headline told words reply.status reply.text
-from-cut told words check picture program_file public_input cut_file secrets reply is single held low (inl (none, e)) =
+from-cut told words check picture program_file public_input cut_file secrets reply is image held low (inl (none, e)) =
     absurd (low-status reply.status 3 (ap (λ r. r.status) e) low (omega arith))
-from-cut told words check picture program_file public_input cut_file secrets reply is single held low (inr (cut, text, e)) =
+from-cut told words check picture program_file public_input cut_file secrets reply is image held low (inr (cut, text, e)) =
     let judgements : List Judgement = judgements_of picture public_input cut check.budget secrets in
     let say = all-say picture public_input cut check.budget secrets in
     record {
@@ -167,13 +172,14 @@ from-cut told words check picture program_file public_input cut_file secrets rep
       secrets = secrets;
       held = held;
       picture = picture;
-      is_image = image_of_single program_file picture single;
+      is_image = image;
       cut = cut;
       is_cut = text;
       judgements = judgements;
       lines = ap (λ r. r.text) e;
       say = say;
-      bound = are-few picture public_input cut check.budget secrets judgements say;
+      bound = are-few-of-all picture public_input cut check.budget;
+      lines_bound = are-few picture public_input cut check.budget secrets judgements say;
       status_is = ap (λ r. r.status) e;
     }
 
@@ -181,10 +187,10 @@ from-files : (told : Told) (words : List (List ℕ)) (check : Check) (program_fi
     IsCheck words check →
     AreHeld told (check.program ∷ check.public_input ∷ check.cut ∷ check.secrets) (program_file ∷ public_input ∷ cut_file ∷ secrets) →
     reply.status ≤ 1 → RepliesToFiles check.budget program_file public_input cut_file secrets reply → Headline told words reply.status reply.text
-from-files told words check program_file public_input cut_file secrets reply is held low (inl (none, e)) =
+from-files told words check program_file public_input cut_file secrets reply is held low (inl (fault, first, e)) =
     absurd (low-status reply.status 3 (ap (λ r. r.status) e) low (omega arith))
-from-files told words check program_file public_input cut_file secrets reply is held low (inr (picture, single, rest)) =
-    from-cut told words check picture program_file public_input cut_file secrets reply is single held low rest
+from-files told words check program_file public_input cut_file secrets reply is held low (inr (picture, image, rest)) =
+    from-cut told words check picture program_file public_input cut_file secrets reply is image held low rest
 
 from-loads : (told : Told) (words : List (List ℕ)) (check : Check) (loaded : Result (List (List ℕ)) LoadRefusal) (reply : Reply) →
     IsCheck words check → loaded_from told (wants_of check) ≡ loaded → reply.status ≤ 1 →
@@ -200,14 +206,27 @@ from-loads told words check (Ok (program_file ∷ (public_input ∷ (cut_file �
     (secret-names check.secrets) (all-held told (wants_of check) (program_file ∷ public_input ∷ cut_file ∷ secrets) e))
     low h
 
--- a reply with status 0 or 1 carries the headline
-pub headline_of : (told : Told) (words : List (List ℕ)) (reply : Reply) → Replies told words reply → reply.status ≤ 1 →
-    Headline told words reply.status reply.text
-headline_of told words reply (inl (none, e)) low = absurd (low-status reply.status 2 (ap (λ r. r.status) e) low (omega arith))
-headline_of told words reply (inr (check, is, h)) low =
-    from-loads told words check (loaded_from told (wants_of check)) reply is refl low h
+-- words of one command are not those of another
+no-file-command : (words : List (List ℕ)) (check : Check) (name file : List ℕ) → IsCheck words check → words ≡ name ∷ file ∷ [] → ⊥
+no-file-command words check name file is other =
+    let same : codes "check" ∷ check.program ∷ check.public_input ∷ check.cut ∷ decimal check.budget ∷ check.secrets ≡ name ∷ file ∷ [] =
+    sym is.line ∙ other in
+    cc
 
-pub headline_by_told : (told : Option Told) (words : List (List ℕ)) (status : ℕ) (text : List ℕ) →
-    RepliesByTold told words (record { status = status; text = text }) → status ≤ 1 → HeadlineByTold told words status text
-headline_by_told None words status text h low = tt
-headline_by_told (Some told) words status text h low = headline_of told words (record { status = status; text = text }) h low
+-- a reply to a check with status 0 or 1 carries the headline
+pub headline_of : (told : Told) (words : List (List ℕ)) (reply : Reply) (check : Check) → IsCheck words check →
+    Replies told words reply → reply.status ≤ 1 → Headline told words reply.status reply.text
+headline_of told words reply check is (inl (none, e)) low = absurd (none (Checks check) is)
+headline_of told words reply check is (inr (Checks other, named, h)) low =
+    from-loads told words other (loaded_from told (wants_of other)) reply named refl low h
+headline_of told words reply check is (inr (Assembles source, named, h)) low =
+    absurd (no-file-command words check (codes "asm") source is named.0)
+headline_of told words reply check is (inr (Lists program, named, h)) low =
+    absurd (no-file-command words check (codes "list") program is named.0)
+
+pub headline_by_told : (told : Option Told) (words : List (List ℕ)) (status : ℕ) (text : List ℕ) (check : Check) →
+    IsCheck words check → RepliesByTold told words (record { status = status; text = text }) → status ≤ 1 →
+    HeadlineByTold told words status text
+headline_by_told None words status text check is h low = tt
+headline_by_told (Some told) words status text check is h low =
+    headline_of told words (record { status = status; text = text }) check is h low

@@ -1,3 +1,6 @@
+pub mod Answered
+pub mod OneSegment
+pub mod Two
 pub mod Five
 pub mod Secrets
 pub mod Judgements

@@ -1,4 +1,5 @@
--- The command lines that are understood: check PROG PUBLIC CUT BUDGET SECRET.., with 1 to 64 secrets.
+-- The command lines that are understood: check PROG PUBLIC CUT BUDGET SECRET.., with 1 to 64 secrets, asm SOURCE, and
+-- list PROG.
 use Rattle.std.specs.Prelude.{◌≡◌, ℕ, ◌≤◌, ◌==◌, not, List, [], ◌∷◌, length, codes, Bool, true, false}
 use Rattle.std.specs.List.{list_all}
 use Rattle.std.specs.Fmt.{decimal}
@@ -29,3 +30,18 @@ pub record IsCheck (words : List (List ℕ)) (check : Check) : Type 0 where
   pub budget : check.budget ≤ highest_budget
   pub some : 1 ≤ length check.secrets
   pub few : length check.secrets ≤ 64
+
+-- the words are a command of one file
+abbrev pub IsOfOneFile : List ℕ → List (List ℕ) → List ℕ → Type 0
+IsOfOneFile name words file = (words ≡ name ∷ file ∷ []) × (is_name file ≡ true)
+
+-- a command: a check of secrets, the program file of a source, or the listing of a program
+pub data Command : Type 0 where
+  Checks : Check → Command
+  Assembles : List ℕ → Command
+  Lists : List ℕ → Command
+
+abbrev pub IsCommand : List (List ℕ) → Command → Type 0
+IsCommand words (Checks check) = IsCheck words check
+IsCommand words (Assembles source) = IsOfOneFile (codes "asm") words source
+IsCommand words (Lists program) = IsOfOneFile (codes "list") words program

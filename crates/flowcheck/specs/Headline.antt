@@ -9,7 +9,7 @@ use Rattle.crossing_bits.specs.Askers.{AllDifferent}
 use Rattle.lockstep_replay.specs.declared.verdicts.Why.{Why}
 use Rattle.lockstep_replay.specs.Cuts.{CutPicture, IsCutText, MaskAt}
 use Rattle.lockstep_replay.specs.Runs.{real_after}
-use Rattle.lockstep_replay.specs.Acceptance.{Accept, Done, HasExited, guest}
+use Rattle.lockstep_replay.specs.Acceptance.{Accept, Done, HasExited, IsOutput, guest}
 use Rattle.lockstep_replay.specs.Verdicts.{Judgement, Accepts, Rejects}
 use Rattle.lockstep_replay.specs.VerdictLaws.{Cause}
 use Rattle.flowcheck.specs.CommandLines.{Check, IsCheck}
@@ -55,7 +55,15 @@ IsAmong [] output = ⊥
 IsAmong (Accepts bits other ∷ judgements) output = (other ≡ output) ⊎ IsAmong judgements output
 IsAmong (Rejects why ∷ judgements) output = IsAmong judgements output
 
--- at most 2 to the budget different outputs arise of the accepted secrets
+-- At most 2 to the budget different outputs arise of all secrets that are accepted, by this check or any other with the same
+-- program, public input, cut and budget.
+abbrev pub AreFewOfAll : Picture → List ℕ → CutPicture → ℕ → Type 0
+AreFewOfAll picture public_input cut budget =
+    (outputs : List Output) → AllDifferent outputs
+    → AllByRecursion (IsOutput picture public_input (MaskAt cut.points) cut.secret_length budget turn_limit) outputs
+    → length outputs ≤ 2 ^ budget
+
+-- and at most so many of the accepted secrets of one check
 abbrev pub AreFew : List Judgement → ℕ → Type 0
 AreFew judgements budget =
     (outputs : List Output) → AllDifferent outputs → AllByRecursion (IsAmong judgements) outputs → length outputs ≤ 2 ^ budget
@@ -76,7 +84,8 @@ pub record Headline (told : Told) (words : List (List ℕ)) (status : ℕ) (text
   pub judgements : List Judgement
   pub lines : text ≡ check_text judgements check.budget
   pub say : AllSay picture public_input cut check.budget secrets judgements
-  pub bound : AreFew judgements check.budget
+  pub bound : AreFewOfAll picture public_input cut check.budget
+  pub lines_bound : AreFew judgements check.budget
   pub status_is : status ≡ (if accepted_count judgements == length judgements then 0 else 1)
 
 -- where the source tells nothing, nothing is said

@@ -1,5 +1,6 @@
 pub mod CommandLines
 pub mod Loading
+pub mod FaultTexts
 pub mod Texts
 pub mod Replies
 pub mod Words

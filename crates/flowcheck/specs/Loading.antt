@@ -3,7 +3,7 @@ use Rattle.std.specs.Prelude.{ℕ, List, [], ◌∷◌, Result, Ok, Err}
 use Rattle.flow_base.specs.declared.loading.LoadFault.{LoadFault}
 use Rattle.flow_base.specs.declared.loading.LoadFault.TheVariants.{Failed, TooLarge, Memory}
 use Rattle.flow_base.specs.Loads.{Told, after_load, next_answer}
-use Rattle.flowcheck.specs.CommandLines.{Check}
+use Rattle.flowcheck.specs.CommandLines.{Check, Command, Checks, Assembles, Lists}
 
 -- a file by its name, with the number of bytes that it may have
 pub record Want : Type 0 where
@@ -22,6 +22,9 @@ cut_limit = 67108864
 abbrev pub secret_limit : ℕ
 secret_limit = 65536
 
+abbrev pub source_limit : ℕ
+source_limit = 1048576
+
 abbrev pub want : List ℕ → ℕ → Want
 want name limit = record { name = name; limit = limit }
 
@@ -34,6 +37,12 @@ abbrev pub wants_of : Check → List Want
 wants_of check =
     want check.program program_limit ∷ want check.public_input public_limit ∷ want check.cut cut_limit
     ∷ secret_wants check.secrets
+
+-- the files of a command
+abbrev pub command_wants : Command → List Want
+command_wants (Checks check) = wants_of check
+command_wants (Assembles source) = want source source_limit ∷ []
+command_wants (Lists program) = want program program_limit ∷ []
 
 -- the load of a file fails, or the file has more bytes than it may have
 pub data LoadRefusal : Type 0 where

@@ -3,11 +3,18 @@ use Rattle.std.specs.Prelude.{◌≡◌, ◌⊎◌, ℕ, ◌==◌, List, [], ◌
 use Rattle.std.specs.Fmt.{decimal}
 use Rattle.flow_base.specs.Loads.{Told}
 use Rattle.elf32_loader.specs.Pictures.{Picture}
-use Rattle.elf32_loader.specs.Programs.{IsSingle}
+use Rattle.elf32_loader.specs.declared.fault.ElfFault.{ElfFault}
+use Rattle.elf32_loader.specs.FirstFault.{IsFirstFault}
+use Rattle.elf32_loader.specs.Programs.{IsImage}
+use Rattle.elf32_loader.specs.Written.{written}
 use Rattle.lockstep_replay.specs.Cuts.{CutPicture, IsCutText}
 use Rattle.lockstep_replay.specs.Verdicts.{Judgement, First}
-use Rattle.flowcheck.specs.CommandLines.{Check, IsCheck}
-use Rattle.flowcheck.specs.Loading.{LoadRefusal, CannotLoad, IsTooLarge, loaded_from, wants_of}
+use Rattle.rv32im_asm.specs.declared.fault.AsmFault.{AsmFault}
+use Rattle.rv32im_asm.specs.Assembling.{assembled}
+use Rattle.rv32im_asm.specs.Listing.{listing}
+use Rattle.flowcheck.specs.CommandLines.{Command, Checks, Assembles, Lists, IsCommand}
+use Rattle.flowcheck.specs.Loading.{LoadRefusal, CannotLoad, IsTooLarge, loaded_from, command_wants}
+use Rattle.flowcheck.specs.FaultTexts.{program_fault_text, source_fault_text}
 use Rattle.flowcheck.specs.Texts.{check_text, accepted_count}
 
 -- a status and a whole text
@@ -22,8 +29,12 @@ turn_limit = 1000000
 abbrev pub usage_reply : Reply
 usage_reply = record { status = 2; text = codes "refused 2 usage\n" }
 
-abbrev pub program_reply : Reply
-program_reply = record { status = 3; text = codes "refused 3 program unbuilt\n" }
+abbrev pub program_reply : ElfFault → Reply
+program_reply fault =
+    record { status = 3; text = codes "refused 3 program " ++ (program_fault_text fault ++ codes "\n") }
+
+abbrev pub source_reply : AsmFault → Reply
+source_reply fault = record { status = 3; text = codes "refused 3 source " ++ (source_fault_text fault ++ codes "\n") }
 
 abbrev pub cut_reply : Reply
 cut_reply = record { status = 3; text = codes "refused 3 cut unbuilt\n" }
@@ -56,8 +67,8 @@ RepliesToCut picture public_input cut_file budget secrets reply =
 -- the reply once all files are loaded
 abbrev pub RepliesToFiles : ℕ → List ℕ → List ℕ → List ℕ → List (List ℕ) → Reply → Type 0
 RepliesToFiles budget program_file public_input cut_file secrets reply =
-    (((picture : Picture) → ¬ IsSingle program_file picture) × (reply ≡ program_reply))
-    ⊎ ((picture : Picture) × IsSingle program_file picture
+    ((fault : ElfFault) × IsFirstFault program_file fault × (reply ≡ program_reply fault))
+    ⊎ ((picture : Picture) × IsImage program_file picture
     × RepliesToCut picture public_input cut_file budget secrets reply)
 
 abbrev pub RepliesToLoads : ℕ → Result (List (List ℕ)) LoadRefusal → Reply → Type 0
@@ -68,11 +79,40 @@ RepliesToLoads budget (Ok (program_file ∷ (public_input ∷ []))) reply = ⊥
 RepliesToLoads budget (Ok (program_file ∷ (public_input ∷ (cut_file ∷ secrets)))) reply =
     RepliesToFiles budget program_file public_input cut_file secrets reply
 
+-- the reply to a source: the program file of its image, or its fault
+abbrev pub assembled_reply : Result Picture AsmFault → Reply
+assembled_reply (Ok picture) = record { status = 0; text = written picture }
+assembled_reply (Err fault) = source_reply fault
+
+abbrev pub RepliesToSource : List ℕ → Reply → Type 0
+RepliesToSource source reply = reply ≡ assembled_reply (assembled source)
+
+-- the reply to a program that is to be listed
+abbrev pub RepliesToProgram : List ℕ → Reply → Type 0
+RepliesToProgram program_file reply =
+    ((fault : ElfFault) × IsFirstFault program_file fault × (reply ≡ program_reply fault))
+    ⊎ ((picture : Picture) × IsImage program_file picture
+    × (reply ≡ record { status = 0; text = listing picture.segments }))
+
+-- the reply to the load of one file, by the reply to its bytes
+abbrev pub RepliesToFile : (List ℕ → Reply → Type 0) → Result (List (List ℕ)) LoadRefusal → Reply → Type 0
+RepliesToFile RepliesToBytes (Err refusal) reply = reply ≡ load_reply refusal
+RepliesToFile RepliesToBytes (Ok []) reply = ⊥
+RepliesToFile RepliesToBytes (Ok (file ∷ [])) reply = RepliesToBytes file reply
+RepliesToFile RepliesToBytes (Ok (file ∷ (other ∷ files))) reply = ⊥
+
+-- the reply to a command once its files are loaded
+abbrev pub RepliesToCommand : Command → Result (List (List ℕ)) LoadRefusal → Reply → Type 0
+RepliesToCommand (Checks check) loaded reply = RepliesToLoads check.budget loaded reply
+RepliesToCommand (Assembles source) loaded reply = RepliesToFile RepliesToSource loaded reply
+RepliesToCommand (Lists program) loaded reply = RepliesToFile RepliesToProgram loaded reply
+
 -- the reply to words, by what a source tells
 abbrev pub Replies : Told → List (List ℕ) → Reply → Type 0
 Replies told words reply =
-    (((check : Check) → ¬ IsCheck words check) × (reply ≡ usage_reply))
-    ⊎ ((check : Check) × IsCheck words check × RepliesToLoads check.budget (loaded_from told (wants_of check)) reply)
+    (((command : Command) → ¬ IsCommand words command) × (reply ≡ usage_reply))
+    ⊎ ((command : Command) × IsCommand words command
+    × RepliesToCommand command (loaded_from told (command_wants command)) reply)
 
 -- a source that tells nothing leaves the reply open
 abbrev pub RepliesByTold : Option Told → List (List ℕ) → Reply → Type 0

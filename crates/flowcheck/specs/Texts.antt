@@ -6,7 +6,7 @@ use Rattle.rv32im_machine.specs.declared.stepping.Fault.{Fault}
 use Rattle.rv32im_machine.specs.declared.stepping.Fault.TheVariants.{Illegal, FetchOutside, FetchUnaligned, LoadOutside, StoreOutside, Breakpoint, OutputLimit}
 use Rattle.lockstep_replay.specs.declared.verdicts.Why.{Why}
 use Rattle.lockstep_replay.specs.declared.verdicts.Why.TheVariants.{RealFault, BudgetOverrun, TurnLimit, SecretLength, Unequal}
-use Rattle.lockstep_replay.specs.Cuts.{hex_word}
+use Rattle.flow_base.specs.HexWords.{hex_word}
 use Rattle.lockstep_replay.specs.Verdicts.{Judgement, Accepts, Rejects}
 
 -- why a guest is stopped

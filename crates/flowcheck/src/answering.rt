@@ -3,19 +3,20 @@ ghost use Rattle.elf32_loader.specs.Images.{picture_of};
 ghost use Rattle.lockstep_replay.specs.Cuts.{CutPicture};
 ghost use Rattle.lockstep_replay.specs.CutPictures.{cut_picture};
 ghost use Rattle.flow_base.specs.Counts.{Rose};
-ghost use Rattle.flowcheck.specs.Answering.{reply_of, is_one_of, IsNoCheck, LoadsByTold, CheckLoads, RepliesToCheck};
-ghost use Rattle.flowcheck.specs.CommandLines.{IsCheck, highest_budget};
+ghost use Rattle.flowcheck.specs.Answering.{reply_of, is_one_of, Answers, CommandLoads, IsNoCommand, LoadsByTold};
+ghost use Rattle.flowcheck.specs.CommandLines.{Checks, IsCommand, highest_budget};
 ghost use Rattle.flowcheck.specs.Loading.{program_limit, cut_limit};
 ghost use Rattle.flowcheck.specs.Replies.{RepliesToCut, RepliesToFiles, RepliesByTold};
 ghost use Rattle.flowcheck.specs.Stops.{AreShort};
-ghost use Rattle.flowcheck.specs.Words.{check_of};
+ghost use Rattle.flowcheck.specs.Words.{HasBudget, check_of, command_of};
 
 use crate::judging::check_all;
 use crate::loads::{Loaded, load_all};
-use crate::refusals::{cut_reply, program_reply, stop_reply, usage_reply};
+use crate::one_file::{reply_to_program, reply_to_source};
+use crate::refusals::{cut_reply, program_fault, program_reply, stop_reply, usage_reply};
 use crate::replies::Reply;
-use crate::words::{CheckWords, check_words};
-use elf32_loader::{ElfFault, Image, load_image};
+use crate::words::{CheckWords, CommandWords, command_words};
+use elf32_loader::{Image, load_image};
 use flow_base::{Bytes, Files, NoMemory};
 use lockstep_replay::{CutFault, read_in_cut};
 use std::alloc::Global;
@@ -58,8 +59,7 @@ fn reply_to_files(alloc: Global, loaded: &Loaded, budget: u32) -> Result<Reply, 
 {
     match load_image(alloc, loaded.program.as_slice()) {
         Ok(image) => reply_to_cut(alloc, &image, loaded, budget),
-        Err(ElfFault::Unbuilt) => program_reply(alloc),
-        Err(ElfFault::Memory) => Err(NoMemory),
+        Err(fault) => program_reply(alloc, &program_fault(fault)?),
     }
 }
 
@@ -70,8 +70,8 @@ fn reply_to_check<F: Files>(
     check: &CheckWords,
 ) -> Result<Reply, NoMemory>
     requires within { check.now.budget ≤ highest_budget }
-    ensures reply { IfOk result (λ reply. RepliesToCheck (F.told files.old) (check_of check.now) (reply_of reply)) }
-    ensures loads { IfOk result (λ reply. CheckLoads (F.told files.old) (check_of check.now) (F.told files.new)) }
+    ensures reply { IfOk result (λ reply. Answers (F.told files.old) (Checks (check_of check.now)) (reply_of reply)) }
+    ensures loads { IfOk result (λ reply. CommandLoads (F.told files.old) (Checks (check_of check.now)) (F.told files.new)) }
     ensures cause { IfOk result (λ reply. reply.status ≡ 5 → Rose (F.faults files.old) (F.faults files.new)) }
     ensures status { IfOk result (λ reply. IsTrue (is_one_of (0 ∷ 1 ∷ 3 ∷ 5 ∷ 6 ∷ []) reply.status)) }
 {
@@ -81,17 +81,36 @@ fn reply_to_check<F: Files>(
     }
 }
 
+/// The reply to a command.
+fn reply_to_command<F: Files>(
+    alloc: Global,
+    files: &mut F,
+    command: &CommandWords,
+) -> Result<Reply, NoMemory>
+    requires within { HasBudget command.now }
+    ensures reply { IfOk result (λ reply. Answers (F.told files.old) (command_of command.now) (reply_of reply)) }
+    ensures loads { IfOk result (λ reply. CommandLoads (F.told files.old) (command_of command.now) (F.told files.new)) }
+    ensures cause { IfOk result (λ reply. reply.status ≡ 5 → Rose (F.faults files.old) (F.faults files.new)) }
+    ensures status { IfOk result (λ reply. IsTrue (is_one_of (0 ∷ 1 ∷ 3 ∷ 5 ∷ 6 ∷ []) reply.status)) }
+{
+    match command {
+        CommandWords::Check(check) => reply_to_check(alloc, files, check),
+        CommandWords::Assemble { source } => reply_to_source(alloc, files, source),
+        CommandWords::List { program } => reply_to_program(alloc, files, program),
+    }
+}
+
 /// The reply to the words of a command line.
 pub fn reply_to<F: Files>(alloc: Global, files: &mut F, words: &[String]) -> Result<Reply, NoMemory>
     ensures reply { IfOk result (λ reply. RepliesByTold (F.told files.old) (map string_bytes words.now) (reply_of reply)) }
     ensures loads { IfOk result (λ reply. LoadsByTold (F.told files.old) (map string_bytes words.now) (F.told files.new)) }
     ensures cause { IfOk result (λ reply. reply.status ≡ 5 → Rose (F.faults files.old) (F.faults files.new)) }
-    ensures usage { IfOk result (λ reply. reply.status ≡ 2 → IsNoCheck (map string_bytes words.now)) }
-    ensures refused { IfOk result (λ reply. IsNoCheck (map string_bytes words.now) → reply.status ≡ 2) }
+    ensures usage { IfOk result (λ reply. reply.status ≡ 2 → IsNoCommand (map string_bytes words.now)) }
+    ensures refused { IfOk result (λ reply. IsNoCommand (map string_bytes words.now) → reply.status ≡ 2) }
     ensures status { IfOk result (λ reply. IsTrue (is_one_of (0 ∷ 1 ∷ 2 ∷ 3 ∷ 5 ∷ 6 ∷ []) reply.status)) }
 {
-    match check_words(alloc, words) {
-        Ok(Some(check)) => reply_to_check(alloc, files, &check),
+    match command_words(alloc, words) {
+        Ok(Some(command)) => reply_to_command(alloc, files, &command),
         Ok(None) => usage_reply(alloc),
         Err(NoMemory) => Err(NoMemory),
     }

@@ -9,7 +9,7 @@ use crate::words::CheckWords;
 use flow_base::{Bytes, Files, List, LoadFault, NoMemory};
 use std::alloc::Global;
 
-/// Why the files of a check are not loaded.
+/// Why the files of a command are not loaded.
 #[derive(Drop)]
 pub enum LoadStop {
     /// The load of this name failed.
@@ -29,13 +29,15 @@ pub struct Loaded {
     pub secrets: List<Bytes>,
 }
 
-const PROGRAM_LIMIT: u32 = 16_777_216;
+pub const PROGRAM_LIMIT: u32 = 16_777_216;
 
 const PUBLIC_LIMIT: u32 = 1_048_576;
 
 const CUT_LIMIT: u32 = 67_108_864;
 
 const SECRET_LIMIT: u32 = 65_536;
+
+pub const SOURCE_LIMIT: u32 = 1_048_576;
 
 /// The stop of a name whose load was answered by a fault.
 fn stopped(alloc: Global, name: &str, fault: LoadFault) -> LoadStop
@@ -55,7 +57,12 @@ fn stopped(alloc: Global, name: &str, fault: LoadFault) -> LoadStop
 }
 
 /// The bytes of a name, at most `limit` of them.
-fn load<F: Files>(alloc: Global, files: &mut F, name: &str, limit: u32) -> Result<Bytes, LoadStop>
+pub fn load<F: Files>(
+    alloc: Global,
+    files: &mut F,
+    name: &str,
+    limit: u32,
+) -> Result<Bytes, LoadStop>
     requires { limit + 1 < 2 ^ 32 }
     ensures files { LoadsAs (F.told files.old) (want name.now limit ∷ []) (first_file result) }
     ensures counts { F.told files.new ≡ option_map after_load (F.told files.old) }

@@ -2,8 +2,10 @@
 #![tactic(auto)]
 
 mod answering;
+mod fault_texts;
 mod judging;
 mod loads;
+mod one_file;
 mod refusals;
 mod replies;
 #[cfg(test)]

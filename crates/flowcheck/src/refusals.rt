@@ -1,12 +1,17 @@
-ghost use Rattle.std.specs.Prelude.{◌≡◌, ℕ, IfOk};
+ghost use Rattle.std.specs.Prelude.{◌≡◌, ◌≢◌, ℕ, IfOk, OnErr};
+ghost use Rattle.elf32_loader.specs.declared.fault.ElfFault.TheVariants.{Memory as NoRoomForProgram};
+ghost use Rattle.rv32im_asm.specs.declared.fault.AsmFault.TheVariants.{Memory as NoRoomForSource};
 ghost use Rattle.flowcheck.specs.Answering.{reply_of};
 ghost use Rattle.flowcheck.specs.Loading.{CannotLoad, IsTooLarge};
-ghost use Rattle.flowcheck.specs.Replies.{usage_reply as usage_reply_of, program_reply as program_reply_of, cut_reply as cut_reply_of, load_reply};
+ghost use Rattle.flowcheck.specs.Replies.{usage_reply as usage_reply_of, program_reply as program_reply_of, source_reply as source_reply_of, cut_reply as cut_reply_of, load_reply};
 ghost use Rattle.flowcheck.specs.Stops.{RepliesToStop};
 
+use crate::fault_texts::{program_fault_text, source_fault_text};
 use crate::loads::LoadStop;
 use crate::replies::Reply;
+use elf32_loader::ElfFault;
 use flow_base::{Bytes, NoMemory};
+use rv32im_asm::AsmFault;
 use std::alloc::Global;
 
 /// The reply to words that are no command line.
@@ -17,12 +22,54 @@ pub fn usage_reply(alloc: Global) -> Result<Reply, NoMemory>
     Ok(Reply { status: 2, text })
 }
 
-/// The reply to a program file that is not read so far.
-pub fn program_reply(alloc: Global) -> Result<Reply, NoMemory>
-    ensures { IfOk result (λ reply. reply_of reply ≡ program_reply_of) }
+/// A fault of a program file; want of memory is none.
+pub fn program_fault(fault: ElfFault) -> Result<ElfFault, NoMemory>
+    ensures told { IfOk result (λ told. (told ≡ fault) × (fault ≢ NoRoomForProgram)) }
+    ensures none { OnErr result (fault ≡ NoRoomForProgram) }
 {
-    let text = Bytes::from_slice(alloc, b"refused 3 program unbuilt\n")?;
-    Ok(Reply { status: 3, text })
+    match fault {
+        ElfFault::Memory => Err(NoMemory),
+        fault => Ok(fault),
+    }
+}
+
+/// A fault of a source; want of memory is none.
+pub fn source_fault(fault: AsmFault) -> Result<AsmFault, NoMemory>
+    ensures told { IfOk result (λ told. (told ≡ fault) × (fault ≢ NoRoomForSource)) }
+    ensures none { OnErr result (fault ≡ NoRoomForSource) }
+{
+    match fault {
+        AsmFault::Memory => Err(NoMemory),
+        fault => Ok(fault),
+    }
+}
+
+/// The reply to a program file that gives no image.
+pub fn program_reply(alloc: Global, fault: &ElfFault) -> Result<Reply, NoMemory>
+    ensures { IfOk result (λ reply. reply_of reply ≡ program_reply_of fault.now) }
+{
+    let fault = program_fault_text(alloc, fault)?;
+    let mut text = b"refused 3 program ".to_vec(alloc)?;
+    text.extend_from_slice(fault.as_slice())?;
+    text.extend_from_slice(b"\n")?;
+    Ok(Reply {
+        status: 3,
+        text: Bytes::from_vec(text),
+    })
+}
+
+/// The reply to a source that gives no image.
+pub fn source_reply(alloc: Global, fault: &AsmFault) -> Result<Reply, NoMemory>
+    ensures { IfOk result (λ reply. reply_of reply ≡ source_reply_of fault.now) }
+{
+    let fault = source_fault_text(alloc, fault)?;
+    let mut text = b"refused 3 source ".to_vec(alloc)?;
+    text.extend_from_slice(fault.as_slice())?;
+    text.extend_from_slice(b"\n")?;
+    Ok(Reply {
+        status: 3,
+        text: Bytes::from_vec(text),
+    })
 }
 
 /// The reply to a cut file that is not read so far.

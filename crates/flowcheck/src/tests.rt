@@ -251,7 +251,7 @@ fn commands_are_refused(rt: HostRuntime) -> Result<(), Fail> {
             cut: ALL_BITS,
             words: &EIGHT[..6],
             status: 3,
-            text: "refused 3 program unbuilt\n",
+            text: "refused 3 program truncated need 52 have 51\n",
         },
         // a cut at a register
         Row {
@@ -299,5 +299,43 @@ fn words_and_puts_fail(rt: HostRuntime) -> Result<(), Fail> {
         status == 7 && text.as_slice() == b"refus".as_slice(),
         "a put that takes 5 bytes"
     );
+    Ok(())
+}
+
+const SOURCE: &str = "addi a0, x0, 0\naddi a7, x0, 93\necall\n";
+
+const LISTING: &str = "0x00010000 00000513 addi x10, x0, 0\n0x00010004 05d00893 addi x17, x0, 93\n\
+    0x00010008 00000073 ecall\n";
+
+#[test]
+fn sources_are_assembled_and_listed(rt: HostRuntime) -> Result<(), Fail> {
+    let alloc = rt.alloc();
+    let exit = program(alloc, &EXIT)?;
+    let (status, text) = answer(alloc, SOURCE.as_bytes(), NO_BITS, &["asm", "prog"], None)?;
+    assert!(rt; status == 0 && text.as_slice() == exit.as_slice());
+    let rows = [
+        Row {
+            program: exit.as_slice(),
+            cut: NO_BITS,
+            words: &["list", "prog"],
+            status: 0,
+            text: LISTING,
+        },
+        Row {
+            program: b"addi a0, x0, 4096",
+            cut: NO_BITS,
+            words: &["asm", "prog"],
+            status: 3,
+            text: "refused 3 source range 1\n",
+        },
+        Row {
+            program: &HEAD,
+            cut: NO_BITS,
+            words: &["list", "prog"],
+            status: 3,
+            text: "refused 3 program truncated need 84 have 68\n",
+        },
+    ];
+    assert!(rt; all_answer(alloc, &rows)?);
     Ok(())
 }

@@ -1,45 +1,15 @@
 ghost use Rattle.std.specs.Prelude.{◌≡◌, ◌<◌, ◌++◌, ◌+◌, ◌^◌, ℕ, codes, IfOk};
 ghost use Rattle.std.specs.Fmt.{decimal};
-ghost use Rattle.lockstep_replay.specs.Cuts.{hex_digit, hex_word as hex_word_of};
+ghost use Rattle.flow_base.specs.HexWords.{hex_word as hex_word_of};
 ghost use Rattle.lockstep_replay.specs.Judgements.{judgement_of};
 ghost use Rattle.lockstep_replay.specs.Verdicts.{Accepts, Rejects};
 ghost use Rattle.flowcheck.specs.Texts.{counts_line as counts_line_of, fault_text as fault_text_of, why_text as why_text_of, verdict_line as verdict_line_of};
 
 use crossing_bits::Bits;
-use flow_base::{Bytes, NoMemory, Output};
+use flow_base::{Bytes, NoMemory, Output, hex_word};
 use lockstep_replay::{Verdict, Why};
 use rv32im_machine::Fault;
 use std::alloc::Global;
-
-/// A digit below 16, in lower case.
-fn glyph(digit: u32) -> u8
-    requires { digit < 16 }
-    ensures { result ≡ hex_digit digit }
-{
-    if digit < 10 {
-        48 + digit as u8
-    } else {
-        87 + digit as u8
-    }
-}
-
-/// `0x` and the eight digits of a word.
-fn hex_word(word: u32) -> [u8; 10]
-    ensures { result ≡ hex_word_of word }
-{
-    [
-        b'0',
-        b'x',
-        glyph(word / 268_435_456 % 16),
-        glyph(word / 16_777_216 % 16),
-        glyph(word / 1_048_576 % 16),
-        glyph(word / 65_536 % 16),
-        glyph(word / 4_096 % 16),
-        glyph(word / 256 % 16),
-        glyph(word / 16 % 16),
-        glyph(word % 16),
-    ]
-}
 
 /// A text, and a word behind it.
 fn with_word(alloc: Global, head: &str, word: u32) -> Result<Bytes, NoMemory>
@@ -95,7 +65,7 @@ fn fault_text(alloc: Global, fault: Fault) -> Result<Bytes, NoMemory>
 }
 
 /// A text, and another behind it.
-fn joined(alloc: Global, head: &str, rest: &Bytes) -> Result<Bytes, NoMemory>
+pub fn joined(alloc: Global, head: &str, rest: &Bytes) -> Result<Bytes, NoMemory>
     ensures { IfOk result (λ text. text ≡ head.now ++ rest.now) }
 {
     let mut text = head.as_bytes().to_vec(alloc)?;

@@ -1,7 +1,8 @@
-ghost use Rattle.std.specs.Prelude.{◌≡◌, ◌≤◌, ℕ, map, string_bytes, IfOk, IfSome};
+ghost use Rattle.std.specs.Prelude.{◌≡◌, ◌≤◌, ℕ, List as Seq, map, string_bytes, IfNone, IfOk, IfSome};
 ghost use Rattle.std.specs.Fmt.{decimal};
-ghost use Rattle.flowcheck.specs.CommandLines.{Check, IsCheck, highest_budget, is_name as is_name_of, are_names as are_names_of};
-ghost use Rattle.flowcheck.specs.Words.{check_of};
+ghost use Rattle.flowcheck.specs.Answering.{IsNoCommand};
+ghost use Rattle.flowcheck.specs.CommandLines.{Check, IsCheck, IsCommand, IsOfOneFile, highest_budget, is_name as is_name_of, are_names as are_names_of};
+ghost use Rattle.flowcheck.specs.Words.{check_of, command_of};
 
 use flow_base::NoMemory;
 use std::alloc::Global;
@@ -14,6 +15,17 @@ pub struct CheckWords<'a> {
     pub cut: &'a str,
     pub budget: u32,
     pub secrets: &'a [String],
+}
+
+/// The words of a command.
+#[derive(Clone, Copy)]
+pub enum CommandWords<'a> {
+    /// `check PROG PUBLIC CUT BUDGET SECRET..`
+    Check(CheckWords<'a>),
+    /// `asm SOURCE`
+    Assemble { source: &'a str },
+    /// `list PROG`
+    List { program: &'a str },
 }
 
 const HIGHEST_BUDGET: u32 = 1_048_576;
@@ -90,5 +102,39 @@ pub fn check_words<'a>(
         })),
         Ok(None) => Ok(None),
         Err(NoMemory) => Err(NoMemory),
+    }
+}
+
+/// The file that a command of one file names; None exactly where the words are no such command line.
+fn file_words<'a>(command: &str, words: &'a [String]) -> Option<&'a str>
+    ensures is { IfSome result (λ file. IsOfOneFile command.now (map string_bytes words.entry.now) file.now) }
+    ensures none { IfNone result ((file : Seq ℕ) → ¬ IsOfOneFile command.now (map string_bytes words.entry.now) file) }
+{
+    let [name, file] = words else {
+        return None;
+    };
+    if name.as_str() != command || !is_name(file.as_str()) {
+        return None;
+    }
+    Some(file.as_str())
+}
+
+/// The command that words name; None exactly where they are no command line that is understood.
+pub fn command_words<'a>(
+    alloc: Global,
+    words: &'a [String],
+) -> Result<Option<CommandWords<'a>>, NoMemory>
+    ensures is { IfOk result (λ found. IfSome found (λ command. IsCommand (map string_bytes words.entry.now) (command_of command))) }
+    ensures none { result ≡ Ok None → IsNoCommand (map string_bytes words.entry.now) }
+{
+    if let Some(check) = check_words(alloc, words)? {
+        return Ok(Some(CommandWords::Check(check)));
+    }
+    if let Some(source) = file_words("asm", words) {
+        return Ok(Some(CommandWords::Assemble { source }));
+    }
+    match file_words("list", words) {
+        Some(program) => Ok(Some(CommandWords::List { program })),
+        None => Ok(None),
     }
 }

@@ -1,15 +1,14 @@
 ghost use Rattle.std.specs.Prelude.{◌≡◌, IsTrue, ◌↔◌, if◌then◌else◌};
-ghost use Rattle.rv32im_machine.specs.State.{is_inside, byte_of};
+ghost use Rattle.guest_calls.specs.Calls.{is_inside};
+ghost use Rattle.rv32im_machine.specs.State.{byte_of};
 ghost use Rattle.instruction_vectors.specs.Trials.{IsSeenOf};
 
 use crate::cases::{Case, Seen};
 use elf32_loader::load_image;
 use flow_base::Bytes;
+use guest_calls::inside;
 use rv32im_machine::{Machine, Stepped};
 use std::alloc::Global;
-
-/// Guest memory has 16 MiB.
-const MEMORY_SIZE: u64 = 16_777_216;
 
 /// A program file (ELF32, System V ABI) with one segment of four zeros, at 0x10000.
 const FILE: [u8; 88] = [
@@ -32,7 +31,7 @@ pub(crate) fn guest(alloc: Global) -> Option<Machine> {
 fn holds(machine: &Machine, address: u32) -> bool
     ensures { result ≡ is_inside machine.now.setting.base address 1 }
 {
-    machine.base() <= address && u64::from(address) + 1 <= u64::from(machine.base()) + MEMORY_SIZE
+    inside(machine.base(), address, 1)
 }
 
 /// Puts bytes into guest memory from an address on, but for those that are outside it.
