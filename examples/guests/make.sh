@@ -1,11 +1,16 @@
 #!/bin/sh
-# Makes the four program files of guest.c.
+# Makes the program files of the guests in this folder, with gcc 12.2 and GNU ld 2.40 (Debian gcc-riscv64-unknown-elf) and
+# with clang 14 and lld 14. They lie where crates/guest_runs runs them.
 set -e
 cd "$(dirname "$0")"
-common="-march=rv32im -mabi=ilp32 -O1 -static -nostdlib -ffreestanding -fno-asynchronous-unwind-tables -s"
-gcc="riscv64-unknown-elf-gcc $common -nostartfiles -Wl,--no-relax"
-clang="clang --target=riscv32-unknown-elf $common -fuse-ld=lld"
-$gcc guest.c -o gcc-default.elf
-$gcc -T separate.ld guest.c -o gcc-separate.elf
-$clang guest.c -o clang-default.elf
-$clang -Wl,-z,separate-code guest.c -o clang-separate.elf
+data=../../crates/guest_runs/data
+flags="-march=rv32im -mabi=ilp32 -O2 -static -nostdlib -ffreestanding -fno-builtin -s"
+gcc="riscv64-unknown-elf-gcc $flags -nostartfiles -Wl,--no-relax"
+clang="clang --target=riscv32-unknown-elf $flags -fuse-ld=lld"
+$gcc pin.c -lgcc -o $data/pin-gcc.elf
+$clang pin.c -o $data/pin-clang.elf
+$gcc sum.c -o $data/gcc-default.elf
+$gcc -T separate.ld sum.c -o $data/gcc-separate.elf
+$clang sum.c -o $data/clang-default.elf
+$clang -Wl,-z,separate-code sum.c -o $data/clang-separate.elf
+chmod -x $data/*.elf

@@ -1,6 +1,5 @@
 # The guest of this folder: it reads one secret byte, keeps its lowest bit and writes that as one byte.
-# The file `program` is these words in a program file of one segment at 0x00010000, which is also the entry.
-        .globl _start
+# `flowcheck asm program.s >program` makes the program file.
 _start: addi a0, x0, 3          # descriptor 3 is the secret
         lui  a1, 0x11           # to address 0x00011000
         addi a2, x0, 1          # one byte
