@@ -1,0 +1,4 @@
+pub mod Agreement
+pub mod BitRules
+pub mod Shifts
+pub mod Sums

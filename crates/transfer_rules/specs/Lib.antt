@@ -1,0 +1,3 @@
+pub mod Classes
+pub mod Soundness
+pub mod Table1

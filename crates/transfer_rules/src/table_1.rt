@@ -1,0 +1,164 @@
+//! Table 1: for each class the mask of its result, from the operands and their masks. Here "secret" is a bit of either
+//! mask. Each mask is that of the table, and each is sound: whatever the secret bits of the operands are, every operation
+//! of the class gives the same bits outside the mask.
+
+ghost use Rattle.std.specs.Prelude.{◌≡◌, ◌<◌, ◌%◌, ◌==◌, not};
+ghost use Rattle.rv32im_decode.specs.Operations.{shifted_with_sign};
+ghost use Rattle.transfer_rules.specs.Table1.{mask_by_table, either, sum_mask, all_mask, one_mask};
+
+ghost use Rattle.transfer_rules.specs.declared.classes.Class.TheVariants.{Add, Sub, And, Or, Xor, Sll, Srl, Sra, Slt};
+ghost use Rattle.transfer_rules.specs.declared.classes.Class.TheVariants.{Sltu, Equal, Mul, High, Div};
+
+use crate::operands::Operands;
+
+/// The mask of a sum: every bit from the lowest secret bit of the operands upwards.
+pub fn add(operands: Operands) -> u32
+    ensures table { result ≡ mask_by_table Add operands }
+{
+    from_lowest(secret(operands))
+}
+
+/// The mask of a difference: every bit from the lowest secret bit of the operands upwards.
+pub fn sub(operands: Operands) -> u32
+    ensures table { result ≡ mask_by_table Sub operands }
+{
+    from_lowest(secret(operands))
+}
+
+/// The mask of AND: the bits secret in one operand, but for those that are a known zero in the other.
+pub fn and(operands: Operands) -> u32
+    ensures table { result ≡ mask_by_table And operands }
+{
+    secret(operands) & (operands.m1 | operands.v1) & (operands.m2 | operands.v2)
+}
+
+/// The mask of OR: the bits secret in one operand, but for those that are a known one in the other.
+pub fn or(operands: Operands) -> u32
+    ensures table { result ≡ mask_by_table Or operands }
+{
+    secret(operands) & (operands.m1 | !operands.v1) & (operands.m2 | !operands.v2)
+}
+
+/// The mask of XOR: the bits secret in one operand.
+pub fn xor(operands: Operands) -> u32
+    ensures table { result ≡ mask_by_table Xor operands }
+{
+    secret(operands)
+}
+
+/// The mask of a shift to the left: the first mask shifted likewise; all bits where the number of places is secret.
+pub fn sll(operands: Operands) -> u32
+    ensures table { result ≡ mask_by_table Sll operands }
+{
+    if are_places_secret(operands) {
+        u32::MAX
+    } else {
+        operands.m1 << (operands.v2 & 31)
+    }
+}
+
+/// The mask of a shift to the right: the first mask shifted likewise; all bits where the number of places is secret.
+pub fn srl(operands: Operands) -> u32
+    ensures table { result ≡ mask_by_table Srl operands }
+{
+    if are_places_secret(operands) {
+        u32::MAX
+    } else {
+        operands.m1 >> (operands.v2 & 31)
+    }
+}
+
+/// The mask of a shift to the right with the sign: the first mask shifted likewise, its top bit repeated; all bits where
+/// the number of places is secret.
+pub fn sra(operands: Operands) -> u32
+    ensures table { result ≡ mask_by_table Sra operands }
+{
+    if are_places_secret(operands) {
+        u32::MAX
+    } else {
+        shift_with_sign(operands.m1, operands.v2 & 31)
+    }
+}
+
+/// The mask of a signed comparison: its one bit, where any bit of the operands is secret.
+pub fn slt(operands: Operands) -> u32
+    ensures table { result ≡ mask_by_table Slt operands }
+{
+    one_bit(secret(operands))
+}
+
+/// The mask of an unsigned comparison: its one bit, where any bit of the operands is secret.
+pub fn sltu(operands: Operands) -> u32
+    ensures table { result ≡ mask_by_table Sltu operands }
+{
+    one_bit(secret(operands))
+}
+
+/// The mask of a test for equality: its one bit, where any bit of the operands is secret.
+pub fn equal(operands: Operands) -> u32
+    ensures table { result ≡ mask_by_table Equal operands }
+{
+    one_bit(secret(operands))
+}
+
+/// The mask of the lower word of a product: every bit from the lowest secret bit of the operands upwards.
+pub fn mul(operands: Operands) -> u32
+    ensures table { result ≡ mask_by_table Mul operands }
+{
+    from_lowest(secret(operands))
+}
+
+/// The mask of the upper word of a product: all bits, where any bit of the operands is secret.
+pub fn high(operands: Operands) -> u32
+    ensures table { result ≡ mask_by_table High operands }
+{
+    all_bits(secret(operands))
+}
+
+/// The mask of a quotient or remainder: all bits, where any bit of the operands is secret.
+pub fn div(operands: Operands) -> u32
+    ensures table { result ≡ mask_by_table Div operands }
+{
+    all_bits(secret(operands))
+}
+
+fn secret(operands: Operands) -> u32
+    ensures { result ≡ either operands }
+{
+    operands.m1 | operands.m2
+}
+
+fn from_lowest(secret: u32) -> u32
+    ensures { result ≡ sum_mask secret }
+{
+    secret | 0_u32.wrapping_sub(secret)
+}
+
+fn all_bits(secret: u32) -> u32
+    ensures { result ≡ all_mask secret }
+{
+    if secret == 0 { 0 } else { u32::MAX }
+}
+
+fn one_bit(secret: u32) -> u32
+    ensures { result ≡ one_mask secret }
+{
+    if secret == 0 { 0 } else { 1 }
+}
+
+fn are_places_secret(operands: Operands) -> bool
+    ensures { result ≡ not (operands.m2 % 32 == 0) }
+{
+    operands.m2 & 31 != 0
+}
+
+fn shift_with_sign(mask: u32, places: u32) -> u32
+    requires { places < 32 }
+    ensures { result ≡ shifted_with_sign mask places }
+{
+    if mask < 0x8000_0000 {
+        mask >> places
+    } else {
+        !(!mask >> places)
+    }
+}
