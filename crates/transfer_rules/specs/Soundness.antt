@@ -53,16 +53,22 @@ computed (OpImm kind rd rs1 imm) = op_result (operation_of kind)
 computed (Branch kind rs1 rs2 offset) = decision kind
 computed other = λ first second. 0
 
--- the address that a load, a store or JALR computes from the word of its base register
-abbrev pub computed_address : Instr → ℕ → ℕ
-computed_address (Load kind rd rs1 imm) first = address_of first (word_of imm)
-computed_address (Store kind rs1 rs2 imm) first = address_of first (word_of imm)
-computed_address (Jalr rd rs1 imm) first = target_of first (word_of imm)
-computed_address other first = 0
-
--- Whatever word stands in place of the base register's and agrees with it outside its mask, the address agrees with the
--- base register's outside the answered mask.
-abbrev pub IsSoundAddress : Instr → ℕ → ℕ → ℕ → Type 0
-IsSoundAddress instr first mask answer =
+-- Whatever word stands in place of the first and agrees with it outside its mask, its sum with the immediate agrees with
+-- that of the first outside the answered mask.
+abbrev pub IsSoundSum : ℕ → ℕ → ℕ → ℕ → Type 0
+IsSoundSum immediate first mask answer =
     (other : ℕ) → other < 2 ^ 32 → Agree mask first other →
-    Agree answer (computed_address instr first) (computed_address instr other)
+    Agree answer (address_of first immediate) (address_of other immediate)
+
+-- the same of the target of JALR
+abbrev pub IsSoundTarget : ℕ → ℕ → ℕ → ℕ → Type 0
+IsSoundTarget immediate first mask answer =
+    (other : ℕ) → other < 2 ^ 32 → Agree mask first other →
+    Agree answer (target_of first immediate) (target_of other immediate)
+
+-- the same of what a load, a store or JALR computes as address
+abbrev pub IsSoundAddress : Instr → ℕ → ℕ → ℕ → Type 0
+IsSoundAddress (Load kind rd rs1 imm) first mask answer = IsSoundSum (word_of imm) first mask answer
+IsSoundAddress (Store kind rs1 rs2 imm) first mask answer = IsSoundSum (word_of imm) first mask answer
+IsSoundAddress (Jalr rd rs1 imm) first mask answer = IsSoundTarget (word_of imm) first mask answer
+IsSoundAddress other first mask answer = ⊤

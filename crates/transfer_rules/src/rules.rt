@@ -2,6 +2,8 @@
 
 ghost use Rattle.std.specs.Prelude.{◌≡◌, ◌≢◌, None, IfSome, IsTrue};
 ghost use Rattle.transfer_rules.specs.Classes.{instruction_class, has_address};
+ghost use Rattle.rv32im_decode.specs.Operations.{word_of};
+ghost use Rattle.transfer_rules.specs.Soundness.{IsSound, IsSoundAddress, IsSoundSum, KeepsMask, computed};
 ghost use Rattle.transfer_rules.specs.Table1.{mask_by_table, mask_of_sum, mask_of_address};
 
 use crate::classes::{Class, class_of};
@@ -10,9 +12,9 @@ use crate::table_1;
 use rv32im_decode::Instr;
 
 impl Class {
-    /// The mask that table 1 gives to the operations of the class.
-    pub fn mask(self, operands: Operands) -> u32
+    fn mask(self, operands: Operands) -> u32
         ensures table { result ≡ mask_by_table self operands }
+        ensures sound { IsSound self operands result }
     {
         match self {
             Class::Add => table_1::add(operands),
@@ -38,6 +40,7 @@ impl Class {
 pub fn mask_of(instr: &Instr, operands: Operands) -> u32
     requires { instruction_class instr.now ≢ None }
     ensures table { IfSome (instruction_class instr.now) (λ class. result ≡ mask_by_table class operands) }
+    ensures sound { KeepsMask operands result (computed instr.now) }
 {
     match class_of(instr) {
         Some(class) => class.mask(operands),
@@ -50,6 +53,7 @@ pub fn mask_of(instr: &Instr, operands: Operands) -> u32
 pub fn address_mask(instr: &Instr, first: u32, mask: u32) -> u32
     requires { IsTrue (has_address instr.now) }
     ensures table { result ≡ mask_of_address instr.now first mask }
+    ensures sound { IsSoundAddress instr.now first mask result }
 {
     match *instr {
         Instr::Load { imm, .. } => mask_of_sum(first, mask, imm),
@@ -63,7 +67,8 @@ pub fn address_mask(instr: &Instr, first: u32, mask: u32) -> u32
 }
 
 fn mask_of_sum(first: u32, mask: u32, imm: i32) -> u32
-    ensures { result ≡ mask_of_sum first mask imm }
+    ensures table { result ≡ mask_of_sum first mask imm }
+    ensures sound { IsSoundSum (word_of imm) first mask result }
 {
     table_1::add(Operands {
         v1: first,

@@ -2,10 +2,10 @@
 //! mask. Each mask is that of the table, and each is sound: whatever the secret bits of the operands are, every operation
 //! of the class gives the same bits outside the mask.
 
-ghost use Rattle.std.specs.Prelude.{◌≡◌, ◌<◌, ◌%◌, ◌==◌, not};
+ghost use Rattle.std.specs.Prelude.{◌≡◌, ◌<◌};
 ghost use Rattle.rv32im_decode.specs.Operations.{shifted_with_sign};
-ghost use Rattle.transfer_rules.specs.Table1.{mask_by_table, either, sum_mask, all_mask, one_mask};
-
+ghost use Rattle.transfer_rules.specs.Soundness.{IsSound};
+ghost use Rattle.transfer_rules.specs.Table1.{mask_by_table, either, sum_mask, all_mask, one_mask, shift_mask};
 ghost use Rattle.transfer_rules.specs.declared.classes.Class.TheVariants.{Add, Sub, And, Or, Xor, Sll, Srl, Sra, Slt};
 ghost use Rattle.transfer_rules.specs.declared.classes.Class.TheVariants.{Sltu, Equal, Mul, High, Div};
 
@@ -14,6 +14,7 @@ use crate::operands::Operands;
 /// The mask of a sum: every bit from the lowest secret bit of the operands upwards.
 pub fn add(operands: Operands) -> u32
     ensures table { result ≡ mask_by_table Add operands }
+    ensures sound { IsSound Add operands result }
 {
     from_lowest(secret(operands))
 }
@@ -21,6 +22,7 @@ pub fn add(operands: Operands) -> u32
 /// The mask of a difference: every bit from the lowest secret bit of the operands upwards.
 pub fn sub(operands: Operands) -> u32
     ensures table { result ≡ mask_by_table Sub operands }
+    ensures sound { IsSound Sub operands result }
 {
     from_lowest(secret(operands))
 }
@@ -28,6 +30,7 @@ pub fn sub(operands: Operands) -> u32
 /// The mask of AND: the bits secret in one operand, but for those that are a known zero in the other.
 pub fn and(operands: Operands) -> u32
     ensures table { result ≡ mask_by_table And operands }
+    ensures sound { IsSound And operands result }
 {
     secret(operands) & (operands.m1 | operands.v1) & (operands.m2 | operands.v2)
 }
@@ -35,6 +38,7 @@ pub fn and(operands: Operands) -> u32
 /// The mask of OR: the bits secret in one operand, but for those that are a known one in the other.
 pub fn or(operands: Operands) -> u32
     ensures table { result ≡ mask_by_table Or operands }
+    ensures sound { IsSound Or operands result }
 {
     secret(operands) & (operands.m1 | !operands.v1) & (operands.m2 | !operands.v2)
 }
@@ -42,6 +46,7 @@ pub fn or(operands: Operands) -> u32
 /// The mask of XOR: the bits secret in one operand.
 pub fn xor(operands: Operands) -> u32
     ensures table { result ≡ mask_by_table Xor operands }
+    ensures sound { IsSound Xor operands result }
 {
     secret(operands)
 }
@@ -49,40 +54,32 @@ pub fn xor(operands: Operands) -> u32
 /// The mask of a shift to the left: the first mask shifted likewise; all bits where the number of places is secret.
 pub fn sll(operands: Operands) -> u32
     ensures table { result ≡ mask_by_table Sll operands }
+    ensures sound { IsSound Sll operands result }
 {
-    if are_places_secret(operands) {
-        u32::MAX
-    } else {
-        operands.m1 << (operands.v2 & 31)
-    }
+    shifted(operands, operands.m1 << (operands.v2 % 32))
 }
 
 /// The mask of a shift to the right: the first mask shifted likewise; all bits where the number of places is secret.
 pub fn srl(operands: Operands) -> u32
     ensures table { result ≡ mask_by_table Srl operands }
+    ensures sound { IsSound Srl operands result }
 {
-    if are_places_secret(operands) {
-        u32::MAX
-    } else {
-        operands.m1 >> (operands.v2 & 31)
-    }
+    shifted(operands, operands.m1 >> (operands.v2 % 32))
 }
 
 /// The mask of a shift to the right with the sign: the first mask shifted likewise, its top bit repeated; all bits where
 /// the number of places is secret.
 pub fn sra(operands: Operands) -> u32
     ensures table { result ≡ mask_by_table Sra operands }
+    ensures sound { IsSound Sra operands result }
 {
-    if are_places_secret(operands) {
-        u32::MAX
-    } else {
-        shift_with_sign(operands.m1, operands.v2 & 31)
-    }
+    shifted(operands, shift_with_sign(operands.m1, operands.v2 % 32))
 }
 
 /// The mask of a signed comparison: its one bit, where any bit of the operands is secret.
 pub fn slt(operands: Operands) -> u32
     ensures table { result ≡ mask_by_table Slt operands }
+    ensures sound { IsSound Slt operands result }
 {
     one_bit(secret(operands))
 }
@@ -90,6 +87,7 @@ pub fn slt(operands: Operands) -> u32
 /// The mask of an unsigned comparison: its one bit, where any bit of the operands is secret.
 pub fn sltu(operands: Operands) -> u32
     ensures table { result ≡ mask_by_table Sltu operands }
+    ensures sound { IsSound Sltu operands result }
 {
     one_bit(secret(operands))
 }
@@ -97,6 +95,7 @@ pub fn sltu(operands: Operands) -> u32
 /// The mask of a test for equality: its one bit, where any bit of the operands is secret.
 pub fn equal(operands: Operands) -> u32
     ensures table { result ≡ mask_by_table Equal operands }
+    ensures sound { IsSound Equal operands result }
 {
     one_bit(secret(operands))
 }
@@ -104,6 +103,7 @@ pub fn equal(operands: Operands) -> u32
 /// The mask of the lower word of a product: every bit from the lowest secret bit of the operands upwards.
 pub fn mul(operands: Operands) -> u32
     ensures table { result ≡ mask_by_table Mul operands }
+    ensures sound { IsSound Mul operands result }
 {
     from_lowest(secret(operands))
 }
@@ -111,6 +111,7 @@ pub fn mul(operands: Operands) -> u32
 /// The mask of the upper word of a product: all bits, where any bit of the operands is secret.
 pub fn high(operands: Operands) -> u32
     ensures table { result ≡ mask_by_table High operands }
+    ensures sound { IsSound High operands result }
 {
     all_bits(secret(operands))
 }
@@ -118,6 +119,7 @@ pub fn high(operands: Operands) -> u32
 /// The mask of a quotient or remainder: all bits, where any bit of the operands is secret.
 pub fn div(operands: Operands) -> u32
     ensures table { result ≡ mask_by_table Div operands }
+    ensures sound { IsSound Div operands result }
 {
     all_bits(secret(operands))
 }
@@ -146,10 +148,14 @@ fn one_bit(secret: u32) -> u32
     if secret == 0 { 0 } else { 1 }
 }
 
-fn are_places_secret(operands: Operands) -> bool
-    ensures { result ≡ not (operands.m2 % 32 == 0) }
+fn shifted(operands: Operands, mask: u32) -> u32
+    ensures { result ≡ shift_mask operands mask }
 {
-    operands.m2 & 31 != 0
+    if operands.m2 % 32 == 0 {
+        mask
+    } else {
+        u32::MAX
+    }
 }
 
 fn shift_with_sign(mask: u32, places: u32) -> u32

@@ -1,0 +1,89 @@
+-- Each mask of table 1 is sound for its class, for instructions and for addresses.
+use Rattle.std.proofs.Common.{◌≡◌, ℕ, zero, suc, ◌+◌, ◌-◌, ◌*◌, ◌/◌, ◌%◌, ◌^◌, ◌<◌, sym, subst, arith, Bool, refl}
+use Rattle.std.specs.Prelude.{bit_or}
+use Rattle.flow_base.specs.Words.{Agree}
+use Rattle.rv32im_decode.specs.declared.instructions.BranchKind.{BranchKind}
+use Rattle.rv32im_decode.specs.declared.instructions.BranchKind.TheVariants as branch
+use Rattle.rv32im_decode.specs.declared.instructions.OpKind.TheVariants as op
+use Rattle.rv32im_decode.specs.Operations.{decision, is_taken, op_result, shifted_with_sign}
+use Rattle.transfer_rules.specs.declared.classes.Class.{Class}
+use Rattle.transfer_rules.specs.declared.classes.Class.TheVariants.{Add, Sub, And, Or, Xor, Sll, Srl, Sra, Slt, Sltu}
+use Rattle.transfer_rules.specs.declared.classes.Class.TheVariants.{Equal, Mul, High, Div}
+use Rattle.transfer_rules.specs.declared.operands.Operands.{Operands}
+use Rattle.transfer_rules.specs.Soundness.{IsSound, KeepsMask}
+use Rattle.transfer_rules.specs.Table1.{all_mask, either, mask_by_table, one_mask, sum_mask}
+use Rattle.transfer_rules.proofs.Agreement.{by_all, by_one}
+use Rattle.transfer_rules.proofs.BitRules.{agree_and, agree_or, agree_xor}
+use Rattle.transfer_rules.proofs.Results.{div_fits, divu_fits, mulh_fits, mulhsu_fits, mulhu_fits, rem_fits, remu_fits, truth_fits}
+use Rattle.transfer_rules.proofs.Shifts.{agree_left, agree_right, agree_sign, by_places, left_fits, right_fits, signed_fits}
+use Rattle.transfer_rules.proofs.Sums.{by_low_parts, same_difference, same_product, same_sum}
+
+-- the operands and their masks are words
+abbrev pub AreWords : Operands → Type 0
+AreWords o = (o.v1 < 2 ^ 32) × (o.m1 < 2 ^ 32) × (o.v2 < 2 ^ 32) × (o.m2 < 2 ^ 32)
+
+sum_keeps : (o : Operands) → AreWords o → KeepsMask o (sum_mask (either o)) (op_result op.Add)
+sum_keeps o words a b p q h k =
+    by_low_parts (op_result op.Add) o.m1 o.m2 o.v1 o.v2 a b words.1 words.3 (omega arith) (omega arith)
+    (λ places. same_sum o.v1 o.v2 a b places) h k
+
+difference_keeps : (o : Operands) → AreWords o → KeepsMask o (sum_mask (either o)) (op_result op.Sub)
+difference_keeps o words a b p q h k =
+    by_low_parts (op_result op.Sub) o.m1 o.m2 o.v1 o.v2 a b words.1 words.3 (omega arith) (omega arith)
+    (λ places. same_difference o.v1 o.v2 a b places words.2 q) h k
+
+product_keeps : (o : Operands) → AreWords o → KeepsMask o (sum_mask (either o)) (op_result op.Mul)
+product_keeps o words a b p q h k =
+    by_low_parts (op_result op.Mul) o.m1 o.m2 o.v1 o.v2 a b words.1 words.3 (omega arith) (omega arith)
+    (λ places. same_product o.v1 o.v2 a b places) h k
+
+truth_keeps :
+    (o : Operands) (f : ℕ → ℕ → ℕ) → ((x y : ℕ) → f x y < 2) → KeepsMask o (one_mask (either o)) f
+truth_keeps o f fits a b p q h k = by_one f o.m1 o.m2 o.v1 o.v2 a b h k (fits o.v1 o.v2) (fits a b)
+
+decision_keeps : (o : Operands) (kind : BranchKind) → KeepsMask o (one_mask (either o)) (decision kind)
+decision_keeps o kind = truth_keeps o (decision kind) (λ x y. truth_fits (is_taken kind x y))
+
+word_keeps :
+    (o : Operands) → AreWords o → (f : ℕ → ℕ → ℕ) → ((x y : ℕ) → x < 2 ^ 32 → y < 2 ^ 32 → f x y < 2 ^ 32) →
+    KeepsMask o (all_mask (either o)) f
+word_keeps o words f fits a b p q h k =
+    by_all f o.m1 o.m2 o.v1 o.v2 a b h k (fits o.v1 o.v2 words.0 words.2) (fits a b p q)
+
+sound : (class : Class) (o : Operands) → AreWords o → IsSound class o (mask_by_table class o)
+sound Add o words = (sum_keeps o words, (sum_keeps o words, tt))
+sound Sub o words = (difference_keeps o words, tt)
+sound And o words = ((λ a b p q h k. agree_and o.m1 o.m2 o.v1 o.v2 a b h k), tt)
+sound Or o words = ((λ a b p q h k. agree_or o.m1 o.m2 o.v1 o.v2 a b words.0 words.2 p q h k), tt)
+sound Xor o words = ((λ a b p q h k. agree_xor o.m1 o.m2 o.v1 o.v2 a b h k), tt)
+sound Sll o words =
+    ((λ a b p q h k. by_places (λ x places. x * 2 ^ places % 2 ^ 32) o.m1 o.m2 o.v1 o.v2 a b
+        (λ places. agree_left places o.m1 o.v1 a h) left_fits words.0 p k), tt)
+sound Srl o words =
+    ((λ a b p q h k. by_places (λ x places. x / 2 ^ places) o.m1 o.m2 o.v1 o.v2 a b
+        (λ places. agree_right places o.m1 o.v1 a h) right_fits words.0 p k), tt)
+sound Sra o words =
+    ((λ a b p q h k. by_places shifted_with_sign o.m1 o.m2 o.v1 o.v2 a b
+        (λ places. agree_sign places o.m1 o.v1 a words.1 words.0 p h) signed_fits words.0 p k), tt)
+sound Slt o words =
+    (truth_keeps o (op_result op.Slt) (λ x y. truth_fits _),
+    (decision_keeps o branch.Blt, (decision_keeps o branch.Bge, tt)))
+sound Sltu o words =
+    (truth_keeps o (op_result op.Sltu) (λ x y. truth_fits _),
+    (decision_keeps o branch.Bltu, (decision_keeps o branch.Bgeu, tt)))
+sound Equal o words = (decision_keeps o branch.Beq, (decision_keeps o branch.Bne, tt))
+sound Mul o words = (product_keeps o words, tt)
+sound High o words =
+    (word_keeps o words (op_result op.Mulh) mulh_fits,
+    (word_keeps o words (op_result op.Mulhsu) mulhsu_fits,
+    (word_keeps o words (op_result op.Mulhu) mulhu_fits, tt)))
+sound Div o words =
+    (word_keeps o words (op_result op.Div) (λ x y p q. div_fits x y p),
+    (word_keeps o words (op_result op.Divu) (λ x y p q. divu_fits x y p),
+    (word_keeps o words (op_result op.Rem) (λ x y p q. rem_fits x y p),
+    (word_keeps o words (op_result op.Remu) (λ x y p q. remu_fits x y p), tt))))
+
+-- an answer of the table is sound
+pub sound_by_table :
+    (class : Class) (o : Operands) (mask : ℕ) → AreWords o → mask ≡ mask_by_table class o → IsSound class o mask
+sound_by_table class o mask words e = subst (IsSound class o) (sym e) (sound class o words)
