@@ -29,7 +29,7 @@ pub agree_and :
     Agree (bit_and (bit_and (bit_or m n) (bit_or m v)) (bit_or n w)) (bit_and v w) (bit_and a b)
 agree_and m n v w a b h k i none =
     let outer : bit_at (bit_and (bit_and (bit_or m n) (bit_or m v)) (bit_or n w)) i
-        ≡ min (min (max (bit_at m i) (bit_at n i)) (max (bit_at m i) (bit_at v i))) (max (bit_at n i) (bit_at w i)) =
+    ≡ min (min (max (bit_at m i) (bit_at n i)) (max (bit_at m i) (bit_at v i))) (max (bit_at n i) (bit_at w i)) =
     bit_at_and (bit_and (bit_or m n) (bit_or m v)) (bit_or n w) i
     ∙ ap₂ min (bit_at_and (bit_or m n) (bit_or m v) i ∙ ap₂ min (bit_at_or m n i) (bit_at_or m v i)) (bit_at_or n w i) in
     bit_at_and v w i
@@ -47,17 +47,17 @@ pub agree_or :
     Agree (bit_and (bit_and (bit_or m n) (bit_or m (flipped v))) (bit_or n (flipped w))) (bit_or v w) (bit_or a b)
 agree_or m n v w a b fv fw fa fb h k i none = ⊎_elim
     (λ inside.
-        let outer : bit_at (bit_and (bit_and (bit_or m n) (bit_or m (flipped v))) (bit_or n (flipped w))) i
-            ≡ min (min (max (bit_at m i) (bit_at n i)) (max (bit_at m i) (1 - bit_at v i))) (max (bit_at n i) (1 - bit_at w i)) =
-        bit_at_and (bit_and (bit_or m n) (bit_or m (flipped v))) (bit_or n (flipped w)) i
-        ∙ ap₂ min
-            (bit_at_and (bit_or m n) (bit_or m (flipped v)) i
-            ∙ ap₂ min (bit_at_or m n i) (bit_at_or m (flipped v) i ∙ ap (max (bit_at m i)) (bit_flipped v i fv inside)))
-            (bit_at_or n (flipped w) i ∙ ap (max (bit_at n i)) (bit_flipped w i fw inside)) in
-        bit_at_or v w i
-        ∙ or_bit (bit_at m i) (bit_at n i) (bit_at v i) (bit_at w i) (bit_at a i) (bit_at b i)
-            (bit_at-lt v i) (bit_at-lt w i) (bit_at-lt a i) (bit_at-lt b i) (h i) (k i) (sym outer ∙ none)
-        ∙ sym (bit_at_or a b i))
+    let outer : bit_at (bit_and (bit_and (bit_or m n) (bit_or m (flipped v))) (bit_or n (flipped w))) i
+    ≡ min (min (max (bit_at m i) (bit_at n i)) (max (bit_at m i) (1 - bit_at v i))) (max (bit_at n i) (1 - bit_at w i)) =
+    bit_at_and (bit_and (bit_or m n) (bit_or m (flipped v))) (bit_or n (flipped w)) i
+    ∙ ap₂ min
+    (bit_at_and (bit_or m n) (bit_or m (flipped v)) i
+    ∙ ap₂ min (bit_at_or m n i) (bit_at_or m (flipped v) i ∙ ap (max (bit_at m i)) (bit_flipped v i fv inside)))
+    (bit_at_or n (flipped w) i ∙ ap (max (bit_at n i)) (bit_flipped w i fw inside)) in
+    bit_at_or v w i
+    ∙ or_bit (bit_at m i) (bit_at n i) (bit_at v i) (bit_at w i) (bit_at a i) (bit_at b i)
+    (bit_at-lt v i) (bit_at-lt w i) (bit_at-lt a i) (bit_at-lt b i) (h i) (k i) (sym outer ∙ none)
+    ∙ sym (bit_at_or a b i))
     (λ above. or_above v w i fv fw above ∙ sym (or_above a b i fa fb above))
     (cases_lt i 32)
 

@@ -1,18 +1,18 @@
 -- From the classes to the instructions, and from sums to the targets of JALR.
-use Rattle.std.proofs.Common.{◌≡◌, ℕ, zero, suc, ◌-◌, ◌/◌, ◌%◌, ◌^◌, ◌<◌, refl, sym, ap, subst, ◌∙◌, arith, IfSome, Some, Option}
+use Rattle.std.proofs.Common.{◌≡◌, ℕ, zero, suc, ◌-◌, ◌/◌, ◌%◌, refl, sym, ap, subst, ◌∙◌, arith, IfSome, Some}
 use Rattle.std.specs.Int.{bit_at}
 use Rattle.std.proofs.lemmas.Nat.Bits.{bit_at_lowest, bit_at-suc}
 use Rattle.flow_base.specs.Words.{Agree}
 use Rattle.rv32im_decode.specs.declared.instructions.BranchKind.{BranchKind}
 use Rattle.rv32im_decode.specs.declared.instructions.BranchKind.TheVariants.{Beq, Bne, Blt, Bge, Bltu, Bgeu}
 use Rattle.rv32im_decode.specs.declared.instructions.Instr.{Instr}
-use Rattle.rv32im_decode.specs.declared.instructions.Instr.TheVariants.{Lui, Auipc, Jal, Jalr, Branch, Load, Store}
-use Rattle.rv32im_decode.specs.declared.instructions.Instr.TheVariants.{OpImm, Op, Fence, Ecall, Ebreak}
+use Rattle.rv32im_decode.specs.declared.instructions.Instr.TheVariants.{Branch}
+use Rattle.rv32im_decode.specs.declared.instructions.Instr.TheVariants.{OpImm, Op}
 use Rattle.rv32im_decode.specs.declared.instructions.OpKind.{OpKind}
 use Rattle.rv32im_decode.specs.declared.instructions.OpKind.TheVariants.{Add, Sub, Sll, Slt, Sltu, Xor, Srl, Sra, Or}
 use Rattle.rv32im_decode.specs.declared.instructions.OpKind.TheVariants.{And, Mul, Mulh, Mulhsu, Mulhu, Div, Divu}
 use Rattle.rv32im_decode.specs.declared.instructions.OpKind.TheVariants.{Rem, Remu}
-use Rattle.rv32im_decode.specs.Operations.{address_of, decision, op_result, operation_of, target_of}
+use Rattle.rv32im_decode.specs.Operations.{address_of, decision, op_result, operation_of}
 use Rattle.transfer_rules.specs.declared.classes.Class.{Class}
 use Rattle.transfer_rules.specs.declared.operands.Operands.{Operands}
 use Rattle.transfer_rules.specs.Classes.{branch_class, instruction_class, operation_class}

@@ -1,7 +1,5 @@
 -- Each mask of table 1 is sound for its class, for instructions and for addresses.
-use Rattle.std.proofs.Common.{◌≡◌, ℕ, zero, suc, ◌+◌, ◌-◌, ◌*◌, ◌/◌, ◌%◌, ◌^◌, ◌<◌, sym, subst, arith, Bool, refl}
-use Rattle.std.specs.Prelude.{bit_or}
-use Rattle.flow_base.specs.Words.{Agree}
+use Rattle.std.proofs.Common.{◌≡◌, ℕ, ◌*◌, ◌/◌, ◌%◌, ◌^◌, ◌<◌, sym, subst, arith}
 use Rattle.rv32im_decode.specs.declared.instructions.BranchKind.{BranchKind}
 use Rattle.rv32im_decode.specs.declared.instructions.BranchKind.TheVariants as branch
 use Rattle.rv32im_decode.specs.declared.instructions.OpKind.TheVariants as op
@@ -56,32 +54,48 @@ sound Sub o words = (difference_keeps o words, tt)
 sound And o words = ((λ a b p q h k. agree_and o.m1 o.m2 o.v1 o.v2 a b h k), tt)
 sound Or o words = ((λ a b p q h k. agree_or o.m1 o.m2 o.v1 o.v2 a b words.0 words.2 p q h k), tt)
 sound Xor o words = ((λ a b p q h k. agree_xor o.m1 o.m2 o.v1 o.v2 a b h k), tt)
-sound Sll o words =
-    ((λ a b p q h k. by_places (λ x places. x * 2 ^ places % 2 ^ 32) o.m1 o.m2 o.v1 o.v2 a b
-        (λ places. agree_left places o.m1 o.v1 a h) left_fits words.0 p k), tt)
-sound Srl o words =
-    ((λ a b p q h k. by_places (λ x places. x / 2 ^ places) o.m1 o.m2 o.v1 o.v2 a b
-        (λ places. agree_right places o.m1 o.v1 a h) right_fits words.0 p k), tt)
-sound Sra o words =
-    ((λ a b p q h k. by_places shifted_with_sign o.m1 o.m2 o.v1 o.v2 a b
-        (λ places. agree_sign places o.m1 o.v1 a words.1 words.0 p h) signed_fits words.0 p k), tt)
-sound Slt o words =
-    (truth_keeps o (op_result op.Slt) (λ x y. truth_fits _),
-    (decision_keeps o branch.Blt, (decision_keeps o branch.Bge, tt)))
-sound Sltu o words =
-    (truth_keeps o (op_result op.Sltu) (λ x y. truth_fits _),
-    (decision_keeps o branch.Bltu, (decision_keeps o branch.Bgeu, tt)))
+sound Sll o words = (
+  (λ a b p q h k. by_places (λ x places. x * 2 ^ places % 2 ^ 32) o.m1 o.m2 o.v1 o.v2 a b
+      (λ places. agree_left places o.m1 o.v1 a h) left_fits words.0 p k),
+  tt,
+)
+sound Srl o words = (
+  (λ a b p q h k. by_places (λ x places. x / 2 ^ places) o.m1 o.m2 o.v1 o.v2 a b
+      (λ places. agree_right places o.m1 o.v1 a h) right_fits words.0 p k),
+  tt,
+)
+sound Sra o words = (
+  (λ a b p q h k. by_places shifted_with_sign o.m1 o.m2 o.v1 o.v2 a b
+      (λ places. agree_sign places o.m1 o.v1 a words.1 words.0 p h) signed_fits words.0 p k),
+  tt,
+)
+sound Slt o words = (
+  truth_keeps o (op_result op.Slt) (λ x y. truth_fits _),
+  (decision_keeps o branch.Blt, (decision_keeps o branch.Bge, tt)),
+)
+sound Sltu o words = (
+  truth_keeps o (op_result op.Sltu) (λ x y. truth_fits _),
+  (decision_keeps o branch.Bltu, (decision_keeps o branch.Bgeu, tt)),
+)
 sound Equal o words = (decision_keeps o branch.Beq, (decision_keeps o branch.Bne, tt))
 sound Mul o words = (product_keeps o words, tt)
-sound High o words =
-    (word_keeps o words (op_result op.Mulh) mulh_fits,
-    (word_keeps o words (op_result op.Mulhsu) mulhsu_fits,
-    (word_keeps o words (op_result op.Mulhu) mulhu_fits, tt)))
-sound Div o words =
-    (word_keeps o words (op_result op.Div) (λ x y p q. div_fits x y p),
-    (word_keeps o words (op_result op.Divu) (λ x y p q. divu_fits x y p),
-    (word_keeps o words (op_result op.Rem) (λ x y p q. rem_fits x y p),
-    (word_keeps o words (op_result op.Remu) (λ x y p q. remu_fits x y p), tt))))
+sound High o words = (
+  word_keeps o words (op_result op.Mulh) mulh_fits,
+  (
+    word_keeps o words (op_result op.Mulhsu) mulhsu_fits,
+    (word_keeps o words (op_result op.Mulhu) mulhu_fits, tt),
+  ),
+)
+sound Div o words = (
+  word_keeps o words (op_result op.Div) (λ x y p q. div_fits x y p),
+  (
+    word_keeps o words (op_result op.Divu) (λ x y p q. divu_fits x y p),
+    (
+      word_keeps o words (op_result op.Rem) (λ x y p q. rem_fits x y p),
+      (word_keeps o words (op_result op.Remu) (λ x y p q. remu_fits x y p), tt),
+    ),
+  ),
+)
 
 -- an answer of the table is sound
 pub sound_by_table :

@@ -1,5 +1,5 @@
 -- Every operation gives a word.
-use Rattle.std.proofs.Common.{◌≡◌, ℕ, zero, suc, ◌+◌, ◌-◌, ◌*◌, ◌/◌, ◌%◌, ◌^◌, ◌<◌, ◌≤◌, Bool, true, false, ℤ, pos, negsuc, ◌*ℤ◌, neg_ℤ, nat_abs, int_div, int_rem, refl, sym, subst, ⊎_elim, arith, w32, div-le_self}
+use Rattle.std.proofs.Common.{◌≡◌, ℕ, zero, suc, ◌+◌, ◌-◌, ◌*◌, ◌/◌, ◌%◌, ◌^◌, ◌<◌, Bool, true, false, ℤ, pos, negsuc, ◌*ℤ◌, neg_ℤ, nat_abs, int_div, int_rem, sym, subst, ⊎_elim, arith, w32, div-le_self}
 use Rattle.std.specs.Prelude.{if◌then◌else◌, ◌==◌}
 use Rattle.std.specs.Int.{cast_unsigned}
 use Rattle.std.proofs.Math.Nat.{mod-le}
@@ -16,8 +16,8 @@ signed_is_small : (n : ℕ) → n < 2 ^ 32 → IsSmall (signed n)
 signed_is_small n fits = ⊎_elim
     (λ low. subst IsSmall (sym (to_z_pos w32 n low)) low)
     (λ high.
-        let below : signed n ≡ negsuc (2 ^ 32 - suc n) = grind (arith, ints) in
-        subst IsSmall (sym below) (omega (arith, high, fits)))
+    let below : signed n ≡ negsuc (2 ^ 32 - suc n) = grind (arith, ints) in
+    subst IsSmall (sym below) (omega (arith, high, fits)))
     (cases_lt n (2 ^ 31))
 
 pub truth_fits : (truth : Bool) → word_of_truth truth < 2

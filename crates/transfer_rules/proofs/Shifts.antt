@@ -1,12 +1,11 @@
 -- The rules of the shifts.
-use Rattle.std.proofs.Common.{◌≡◌, ℕ, zero, suc, ◌+◌, ◌-◌, ◌*◌, ◌/◌, ◌%◌, ◌^◌, ◌<◌, ◌≤◌, min, refl, sym, ap, ap₂, subst, ◌∙◌, ⊎_elim, arith, w32, pow_pos, shr-shr, add-zero, div-le_self}
+use Rattle.std.proofs.Common.{◌≡◌, ℕ, zero, suc, ◌+◌, ◌-◌, ◌*◌, ◌/◌, ◌%◌, ◌^◌, ◌<◌, ◌≤◌, min, refl, sym, ap, subst, ◌∙◌, ⊎_elim, arith, pow_pos, shr-shr, add-zero, div-le_self}
 use Rattle.transfer_rules.specs.Table1.{flipped}
 use Rattle.transfer_rules.proofs.BitRules.{bit_flipped}
 use Rattle.std.specs.Prelude.{◌==◌, if◌then◌else◌}
 use Rattle.std.specs.Int.{bit_at}
 use Rattle.std.proofs.lemmas.Bool.{cases_lt}
-use Rattle.std.proofs.lemmas.Nat.{mod_below}
-use Rattle.std.proofs.lemmas.Nat.Bits.{bit_at-zero, bit_at_above, bit_at_not, bit_at-lt, bit_at_cat_low, bit_at_cat_high}
+use Rattle.std.proofs.lemmas.Nat.Bits.{bit_at-zero, bit_at_above, bit_at-lt, bit_at_cat_low, bit_at_cat_high}
 use Rattle.flow_base.specs.Words.{Agree}
 use Rattle.rv32im_decode.specs.Operations.{shifted_with_sign}
 use Rattle.transfer_rules.proofs.Agreement.{agree_all, bit_low, same_low}
@@ -67,7 +66,9 @@ clear_bit word places i low = right_bit word places i ∙ ⊎_elim
 quotient_fits : (word places : ℕ) → word < 2 ^ 32 → word / 2 ^ places < 2 ^ 32
 quotient_fits word places fits = omega (arith, div-le_self word (2 ^ places))
 
-flipped_bit : (word places i : ℕ) → word < 2 ^ 32 → i < 32 → bit_at (flipped (flipped word / 2 ^ places)) i ≡ 1 - bit_at (flipped word) (places + i)
+flipped_bit :
+    (word places i : ℕ) → word < 2 ^ 32 → i < 32 →
+    bit_at (flipped (flipped word / 2 ^ places)) i ≡ 1 - bit_at (flipped word) (places + i)
 flipped_bit word places i fits inside =
     bit_flipped (flipped word / 2 ^ places) i (quotient_fits (flipped word) places (omega arith)) inside
     ∙ ap (λ x. 1 - x) (right_bit (flipped word) places i)
@@ -80,14 +81,14 @@ set_bit :
     bit_at (flipped (flipped word / 2 ^ places)) i ≡ bit_at word (min (places + i) 31)
 set_bit word places i high fits inside = flipped_bit word places i fits inside ∙ ⊎_elim
     (λ below.
-        let turned : bit_at (flipped word) (places + i) ≡ 1 - bit_at word (places + i) = bit_flipped word (places + i) fits below in
-        let back : 1 - bit_at (flipped word) (places + i) ≡ bit_at word (places + i) =
-        ap (λ x. 1 - x) turned ∙ twice (bit_at word (places + i)) (bit_at-lt word (places + i)) in
-        back ∙ ap (bit_at word) (omega arith))
+    let turned : bit_at (flipped word) (places + i) ≡ 1 - bit_at word (places + i) = bit_flipped word (places + i) fits below in
+    let back : 1 - bit_at (flipped word) (places + i) ≡ bit_at word (places + i) =
+    ap (λ x. 1 - x) turned ∙ twice (bit_at word (places + i)) (bit_at-lt word (places + i)) in
+    back ∙ ap (bit_at word) (omega arith))
     (λ from.
-        let gone : bit_at (flipped word) (places + i) ≡ 0 = bit_at_above (flipped word) 32 (places + i) (omega arith) from in
-        let last : min (places + i) 31 ≡ 31 = omega arith in
-        ap (λ x. 1 - x) gone ∙ sym (ap (bit_at word) last ∙ top_bit word high fits))
+    let gone : bit_at (flipped word) (places + i) ≡ 0 = bit_at_above (flipped word) 32 (places + i) (omega arith) from in
+    let last : min (places + i) 31 ≡ 31 = omega arith in
+    ap (λ x. 1 - x) gone ∙ sym (ap (bit_at word) last ∙ top_bit word high fits))
     (cases_lt (places + i) 32)
   where
     twice : (b : ℕ) → b < 2 → 1 - (1 - b) ≡ b
@@ -112,11 +113,11 @@ pub agree_sign :
     Agree (shifted_with_sign m places) (shifted_with_sign v places) (shifted_with_sign a places)
 agree_sign places m v a fm fv fa h i none = ⊎_elim
     (λ inside.
-        sign_bit v places i fv inside ∙ h (min (places + i) 31) (sym (sign_bit m places i fm inside) ∙ none)
-        ∙ sym (sign_bit a places i fa inside))
+    sign_bit v places i fv inside ∙ h (min (places + i) 31) (sym (sign_bit m places i fm inside) ∙ none)
+    ∙ sym (sign_bit a places i fa inside))
     (λ above.
-        bit_at_above (shifted_with_sign v places) 32 i (sign_fits v places fv) above
-        ∙ sym (bit_at_above (shifted_with_sign a places) 32 i (sign_fits a places fa) above))
+    bit_at_above (shifted_with_sign v places) 32 i (sign_fits v places fv) above
+    ∙ sym (bit_at_above (shifted_with_sign a places) 32 i (sign_fits a places fa) above))
     (cases_lt i 32)
 
 -- ---- where the number of places is known or not
@@ -138,8 +139,8 @@ pub by_places :
 by_places f m n v w a b agree fits fv fa k =
     shift_by (n % 32) (f m (w % 32)) (f v (w % 32)) (f a (b % 32))
     (λ none.
-        let same : w % 32 ≡ b % 32 = same_low 5 n w b k none in
-        subst (λ p. Agree (f m (w % 32)) (f v (w % 32)) (f a p)) same (agree (w % 32)))
+    let same : w % 32 ≡ b % 32 = same_low 5 n w b k none in
+    subst (λ p. Agree (f m (w % 32)) (f v (w % 32)) (f a p)) same (agree (w % 32)))
     (fits v (w % 32) fv)
     (fits a (b % 32) fa)
 

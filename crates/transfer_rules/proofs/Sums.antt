@@ -1,5 +1,5 @@
 -- The rule of sums, differences and products: every bit from the lowest secret bit upwards.
-use Rattle.std.proofs.Common.{◌≡◌, ℕ, zero, suc, ◌+◌, ◌-◌, ◌*◌, ◌/◌, ◌%◌, ◌^◌, ◌<◌, ◌≤◌, max, refl, sym, ap, ap₂, subst, ◌∙◌, ⊎_elim, arith, pow_pos, pow-add, mod-eq_of_lt}
+use Rattle.std.proofs.Common.{◌≡◌, ℕ, ◌+◌, ◌-◌, ◌*◌, ◌%◌, ◌^◌, ◌<◌, ◌≤◌, max, sym, ap, ap₂, ◌∙◌, ⊎_elim, arith, pow_pos, pow-add, mod-eq_of_lt}
 use Rattle.std.specs.Prelude.{bit_or}
 use Rattle.std.specs.Int.{bit_at}
 use Rattle.std.proofs.Math.Nat.{mul-mod_left, add-mod-mod, mod-add-mod, add-mod_left}
@@ -25,13 +25,13 @@ once s k from below =
 cancel : (x y r k : ℕ) → x < k → y < k → r < k → (x + r) % k ≡ (y + r) % k → x ≡ y
 cancel x y r k p q l e = ⊎_elim
     (λ low. let first : (x + r) % k ≡ x + r = mod-eq_of_lt low in ⊎_elim
-        (λ low'. let second : (y + r) % k ≡ y + r = mod-eq_of_lt low' in omega (arith, e, first, second))
-        (λ high'. let second : (y + r) % k ≡ y + r - k = once (y + r) k high' (omega arith) in omega (arith, e, first, second))
-        (cases_lt (y + r) k))
+    (λ low'. let second : (y + r) % k ≡ y + r = mod-eq_of_lt low' in omega (arith, e, first, second))
+    (λ high'. let second : (y + r) % k ≡ y + r - k = once (y + r) k high' (omega arith) in omega (arith, e, first, second))
+    (cases_lt (y + r) k))
     (λ high. let first : (x + r) % k ≡ x + r - k = once (x + r) k high (omega arith) in ⊎_elim
-        (λ low'. let second : (y + r) % k ≡ y + r = mod-eq_of_lt low' in omega (arith, e, first, second))
-        (λ high'. let second : (y + r) % k ≡ y + r - k = once (y + r) k high' (omega arith) in omega (arith, e, first, second))
-        (cases_lt (y + r) k))
+    (λ low'. let second : (y + r) % k ≡ y + r = mod-eq_of_lt low' in omega (arith, e, first, second))
+    (λ high'. let second : (y + r) % k ≡ y + r - k = once (y + r) k high' (omega arith) in omega (arith, e, first, second))
+    (cases_lt (y + r) k))
     (cases_lt (x + r) k)
 
 -- ---- the lowest secret bit
@@ -68,6 +68,7 @@ secret_low t i fits inside none =
   where
     none_left : (x y : ℕ) → max x y ≡ 0 → x ≡ 0
     none_left x y e = omega arith
+
     none_right : (x y : ℕ) → max x y ≡ 0 → y ≡ 0
     none_right x y e = omega arith
 
@@ -79,13 +80,13 @@ pub by_low_parts :
     Agree m v a → Agree n w b → Agree (sum_mask (bit_or m n)) (f v w) (f a b)
 by_low_parts f m n v w a b fm fn fits fits' same h k i none = ⊎_elim
     (λ inside.
-        let low : bit_or m n % 2 ^ (1 + i) ≡ 0 = secret_low (bit_or m n) i (or_lt 32 m n fm fn) inside none in
-        let apart : bit_or (m % 2 ^ (1 + i)) (n % 2 ^ (1 + i)) ≡ 0 = sym (or_mod m n (1 + i)) ∙ low in
-        let no_m : m % 2 ^ (1 + i) ≡ 0 = omega (arith, apart, le_or_l (m % 2 ^ (1 + i)) (n % 2 ^ (1 + i))) in
-        let no_n : n % 2 ^ (1 + i) ≡ 0 = omega (arith, apart, le_or_r (m % 2 ^ (1 + i)) (n % 2 ^ (1 + i))) in
-        let equal : f v w % 2 ^ (1 + i) ≡ f a b % 2 ^ (1 + i) =
-        same (1 + i) (omega arith) (same_low (1 + i) m v a h no_m) (same_low (1 + i) n w b k no_n) in
-        sym (bit_low (1 + i) (f v w) i (omega arith)) ∙ ap (λ x. bit_at x i) equal ∙ bit_low (1 + i) (f a b) i (omega arith))
+    let low : bit_or m n % 2 ^ (1 + i) ≡ 0 = secret_low (bit_or m n) i (or_lt 32 m n fm fn) inside none in
+    let apart : bit_or (m % 2 ^ (1 + i)) (n % 2 ^ (1 + i)) ≡ 0 = sym (or_mod m n (1 + i)) ∙ low in
+    let no_m : m % 2 ^ (1 + i) ≡ 0 = omega (arith, apart, le_or_l (m % 2 ^ (1 + i)) (n % 2 ^ (1 + i))) in
+    let no_n : n % 2 ^ (1 + i) ≡ 0 = omega (arith, apart, le_or_r (m % 2 ^ (1 + i)) (n % 2 ^ (1 + i))) in
+    let equal : f v w % 2 ^ (1 + i) ≡ f a b % 2 ^ (1 + i) =
+    same (1 + i) (omega arith) (same_low (1 + i) m v a h no_m) (same_low (1 + i) n w b k no_n) in
+    sym (bit_low (1 + i) (f v w) i (omega arith)) ∙ ap (λ x. bit_at x i) equal ∙ bit_low (1 + i) (f a b) i (omega arith))
     (λ above. bit_at_above (f v w) 32 i fits above ∙ sym (bit_at_above (f a b) 32 i fits' above))
     (cases_lt i 32)
 

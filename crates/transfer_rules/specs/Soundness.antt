@@ -53,8 +53,8 @@ computed (OpImm kind rd rs1 imm) = op_result (operation_of kind)
 computed (Branch kind rs1 rs2 offset) = decision kind
 computed other = λ first second. 0
 
--- Whatever word stands in place of the first and agrees with it outside its mask, its sum with the immediate agrees with
--- that of the first outside the answered mask.
+-- Whatever word stands in place of the first and agrees with it outside its mask, its sum with the immediate agrees
+-- with that of the first outside the answered mask.
 abbrev pub IsSoundSum : ℕ → ℕ → ℕ → ℕ → Type 0
 IsSoundSum immediate first mask answer =
     (other : ℕ) → other < 2 ^ 32 → Agree mask first other →

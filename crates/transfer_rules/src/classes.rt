@@ -45,14 +45,14 @@ pub fn class_of(instr: &Instr) -> Option<Class>
     ensures { result ≡ instruction_class instr.now }
 {
     match *instr {
-        Instr::Op { kind, .. } => Some(operation(kind)),
-        Instr::OpImm { kind, .. } => Some(operation(kind.operation())),
-        Instr::Branch { kind, .. } => Some(branch(kind)),
+        Instr::Op { kind, .. } => Some(class_of_operation(kind)),
+        Instr::OpImm { kind, .. } => Some(class_of_operation(kind.operation())),
+        Instr::Branch { kind, .. } => Some(class_of_branch(kind)),
         _ => None,
     }
 }
 
-fn operation(kind: OpKind) -> Class
+fn class_of_operation(kind: OpKind) -> Class
     ensures { result ≡ operation_class kind }
 {
     match kind {
@@ -72,7 +72,7 @@ fn operation(kind: OpKind) -> Class
     }
 }
 
-fn branch(kind: BranchKind) -> Class
+fn class_of_branch(kind: BranchKind) -> Class
     ensures { result ≡ branch_class kind }
 {
     match kind {

@@ -35,8 +35,8 @@ impl Class {
     }
 }
 
-/// The mask of what an instruction of a class (see [`class_of`]) computes from its operands, of which an immediate is the
-/// second, sign-extended and with mask 0; of a branch it is the mask of whether it is taken.
+/// The mask of what an instruction of a class (see [`class_of`]) computes from its operands; for a branch, of whether it
+/// is taken. An immediate is the second operand, sign-extended and with mask 0.
 pub fn mask_of(instr: &Instr, operands: Operands) -> u32
     requires { instruction_class instr.now ≢ None }
     ensures table { IfSome (instruction_class instr.now) (λ class. result ≡ mask_by_table class operands) }

@@ -1,15 +1,15 @@
-//! Table 1: for each class the mask of its result, from the operands and their masks. Here "secret" is a bit of either
-//! mask. Each mask is that of the table, and each is sound: whatever the secret bits of the operands are, every operation
-//! of the class gives the same bits outside the mask.
+//! Table 1: for each class of operations the mask of the result, from the operands and their masks. A bit of an operand
+//! is secret where its mask has a 1. Each mask is that of the table, and each is sound: whatever the secret bits of the
+//! operands are, every operation of the class gives the same bits outside the mask.
 
-ghost use Rattle.std.specs.Prelude.{◌≡◌, ◌<◌};
-ghost use Rattle.rv32im_decode.specs.Operations.{shifted_with_sign};
+ghost use Rattle.std.specs.Prelude.{◌≡◌};
 ghost use Rattle.transfer_rules.specs.Soundness.{IsSound};
 ghost use Rattle.transfer_rules.specs.Table1.{mask_by_table, either, sum_mask, all_mask, one_mask, shift_mask};
 ghost use Rattle.transfer_rules.specs.declared.classes.Class.TheVariants.{Add, Sub, And, Or, Xor, Sll, Srl, Sra, Slt};
 ghost use Rattle.transfer_rules.specs.declared.classes.Class.TheVariants.{Sltu, Equal, Mul, High, Div};
 
 use crate::operands::Operands;
+use rv32im_decode::OpKind;
 
 /// The mask of a sum: every bit from the lowest secret bit of the operands upwards.
 pub fn add(operands: Operands) -> u32
@@ -56,7 +56,7 @@ pub fn sll(operands: Operands) -> u32
     ensures table { result ≡ mask_by_table Sll operands }
     ensures sound { IsSound Sll operands result }
 {
-    shifted(operands, operands.m1 << (operands.v2 % 32))
+    shifted(operands, OpKind::Sll)
 }
 
 /// The mask of a shift to the right: the first mask shifted likewise; all bits where the number of places is secret.
@@ -64,16 +64,16 @@ pub fn srl(operands: Operands) -> u32
     ensures table { result ≡ mask_by_table Srl operands }
     ensures sound { IsSound Srl operands result }
 {
-    shifted(operands, operands.m1 >> (operands.v2 % 32))
+    shifted(operands, OpKind::Srl)
 }
 
-/// The mask of a shift to the right with the sign: the first mask shifted likewise, its top bit repeated; all bits where
-/// the number of places is secret.
+/// The mask of a shift to the right with the sign: the first mask shifted likewise, its top bit repeated; all bits
+/// where the number of places is secret.
 pub fn sra(operands: Operands) -> u32
     ensures table { result ≡ mask_by_table Sra operands }
     ensures sound { IsSound Sra operands result }
 {
-    shifted(operands, shift_with_sign(operands.m1, operands.v2 % 32))
+    shifted(operands, OpKind::Sra)
 }
 
 /// The mask of a signed comparison: its one bit, where any bit of the operands is secret.
@@ -148,23 +148,12 @@ fn one_bit(secret: u32) -> u32
     if secret == 0 { 0 } else { 1 }
 }
 
-fn shifted(operands: Operands, mask: u32) -> u32
-    ensures { result ≡ shift_mask operands mask }
+fn shifted(operands: Operands, shift: OpKind) -> u32
+    ensures { result ≡ shift_mask operands shift }
 {
     if operands.m2 % 32 == 0 {
-        mask
+        shift.result(operands.m1, operands.v2)
     } else {
         u32::MAX
-    }
-}
-
-fn shift_with_sign(mask: u32, places: u32) -> u32
-    requires { places < 32 }
-    ensures { result ≡ shifted_with_sign mask places }
-{
-    if mask < 0x8000_0000 {
-        mask >> places
-    } else {
-        !(!mask >> places)
     }
 }
