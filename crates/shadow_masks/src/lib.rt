@@ -1,0 +1,11 @@
+//! The labels of a measured run: which bits of its registers and bytes the secret may reach, and where they last passed.
+//! A shadow is a map from registers and addresses to labels, whose default is the clean label.
+#![tactic(auto)]
+
+mod labels;
+mod shadows;
+#[cfg(test)]
+mod tests;
+
+pub use labels::Label;
+pub use shadows::Shadow;
