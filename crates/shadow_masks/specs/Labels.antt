@@ -1,6 +1,9 @@
 -- The labels of a run's registers and bytes: the mask of the bits that the secret may reach, and the point where they passed.
-use Rattle.std.specs.Prelude.{◌≡◌, ℕ, ◌+◌, ◌≤◌, ◌<◌, ◌==◌, ◌&&◌, nat_lt, nat_le, Bool, true, List, ◌×◌, Option, Some, None, if◌then◌else◌, slice_index_or, list_any, unwrap_or}
+use Rattle.std.specs.Prelude.{◌≡◌, ℕ, ◌+◌, ◌≤◌, ◌<◌, ◌==◌, ◌&&◌, nat_lt, nat_le, Bool, true, List, Option, Some, None, if◌then◌else◌, slice_index_or, unwrap_or}
+use Rattle.std.specs.BTreeMap.{is_at}
+use Rattle.std.specs.List.{list_any}
 use Rattle.std.specs.Map.{lookup}
+use Rattle.std.specs.Ordering.{nat_cmp}
 use Rattle.flow_base.specs.declared.points.Point.{Point}
 use Rattle.flow_base.specs.declared.points.Slot.TheVariants.{First}
 use Rattle.shadow_masks.specs.declared.labels.Label.{Label}
@@ -15,7 +18,7 @@ IsLabel label = label.mask ≡ 0 → label ≡ clean
 
 -- the label of a byte: its mask has 8 bits
 pub record IsByteLabel (label : Label) : Type 0 where
-  pub label : IsLabel label
+  pub is_label : IsLabel label
   pub mask : label.mask ≤ 255
 
 -- the labels of the 32 registers, those that were kept, and the labels of the bytes whose mask is not 0, by address
@@ -34,7 +37,7 @@ kept_label shades register = slice_index_or shades.kept register clean
 
 -- the label that is held for an address
 abbrev pub held_label : List (ℕ × Label) → ℕ → Option Label
-held_label bytes address = lookup (λ key. address == key) bytes
+held_label bytes address = lookup (is_at (nat_cmp address)) bytes
 
 -- the label of the byte at an address: the clean one where none is held
 abbrev pub byte_label : Shades → ℕ → Label

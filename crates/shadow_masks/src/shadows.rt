@@ -1,4 +1,4 @@
-ghost use Rattle.std.specs.Prelude.{◌≡◌, ℕ, ◌+◌, ◌^◌, ◌<◌, ◌≤◌, ◌==◌, All, OnOk, OnErr, [], replicate};
+ghost use Rattle.std.specs.Prelude.{◌≡◌, ℕ, ◌+◌, ◌^◌, ◌<◌, ◌≤◌, ◌==◌, All, OnOk, OnErr, [], ◌∷◌, replicate};
 ghost use Rattle.shadow_masks.specs.Labels.{
     clean, IsLabel, IsByteLabel, register_label, byte_label, SetsRegister, SetsByte, SetsRange, SetsFirstPart, Saves, Restores
 };
@@ -112,10 +112,16 @@ impl Shadow {
         requires { All (λ register. register < 32) registers.now }
         ensures { Restores registers.now self.old self.new }
     {
-        let mut rest = registers.as_slice();
-        while let [register, more @ ..] = rest {
-            self.registers[*register as usize] = self.kept[*register as usize];
-            rest = more;
+        for register in registers.as_slice() {
+            self.give_back(*register);
         }
+    }
+
+    /// Gives one register the label that was kept.
+    fn give_back(&mut self, register: u8)
+        requires { register < 32 }
+        ensures { Restores (register ∷ []) self.old self.new }
+    {
+        self.registers[register as usize] = self.kept[register as usize];
     }
 }
