@@ -1,7 +1,7 @@
 -- What the loops over a range of bytes and over listed registers keep.
-use Rattle.std.proofs.Common.{◌≡◌, ℕ, ◌+◌, ◌<◌, ◌≤◌, ◌==◌, nat_lt, nat_le, cond, Bool, true, false, List, [], ◌∷◌, if◌then◌else◌, sym, refl, ap, ◌∙◌, subst, arith}
+use Rattle.std.proofs.Common.{◌≡◌, ℕ, zero, suc, replicate, slice_index_or, ◌+◌, ◌<◌, ◌≤◌, ◌==◌, nat_lt, nat_le, cond, Bool, true, false, List, [], ◌∷◌, if◌then◌else◌, sym, refl, ap, ◌∙◌, subst, arith}
 use Rattle.shadow_masks.specs.declared.labels.Label.{Label}
-use Rattle.shadow_masks.specs.Labels.{Shades, register_label, kept_label, byte_label, is_listed, is_in_range, SetsByte, SetsRange, Restores}
+use Rattle.shadow_masks.specs.Labels.{clean, AreRegisterLabels, Shades, register_label, kept_label, byte_label, is_listed, is_in_range, SetsByte, SetsRange, Restores}
 
 -- no byte of a range of no bytes is set
 pub sets_range_start : (first : ℕ) (label : Label) (shades : Shades) → SetsRange first 0 label shades shades
@@ -14,10 +14,10 @@ longer_range first length a value old mid new before sets = grind (arith, before
 -- one byte more at the end of the range
 pub sets_range_next : {first length : ℕ} {label : Label} {old mid new : Shades} → SetsRange first length label old mid → SetsByte (first + length) label mid new → SetsRange first (length + 1) label old new
 sets_range_next {first} {length} {label} {old} {mid} {new} before sets = record {
-    bytes = λ a. longer_range first length a label (byte_label old a) (byte_label mid a) (byte_label new a) (before.bytes a) (sets.bytes a);
-    registers = sets.registers ∙ before.registers;
-    kept = sets.kept ∙ before.kept;
-  }
+  bytes = λ a. longer_range first length a label (byte_label old a) (byte_label mid a) (byte_label new a) (before.bytes a) (sets.bytes a);
+  registers = sets.registers ∙ before.registers;
+  kept = sets.kept ∙ before.kept;
+}
 
 -- now, with the kept labels at the registers that are left, is old with those at all listed ones
 pub record RestoresRest (listed rest : List ℕ) (old now : Shades) : Type 0 where
@@ -28,7 +28,16 @@ pub record RestoresRest (listed rest : List ℕ) (old now : Shades) : Type 0 whe
 -- one register more is given back
 pub restores_next : {listed rest : List ℕ} {register : ℕ} {old mid new : Shades} → RestoresRest listed (register ∷ rest) old mid → Restores (register ∷ []) mid new → RestoresRest listed rest old new
 restores_next {listed} {rest} {register} {old} {mid} {new} before gives = record {
-    registers = λ r. grind (arith, before.registers r, gives.registers r, gives.kept);
-    kept = gives.kept ∙ before.kept;
-    bytes = gives.bytes ∙ before.bytes;
-  }
+  registers = λ r. grind (arith, before.registers r, gives.registers r, gives.kept);
+  kept = gives.kept ∙ before.kept;
+  bytes = gives.bytes ∙ before.bytes;
+}
+
+-- an item of a list of clean labels, or past its end
+clean_at : (n r : ℕ) → slice_index_or (replicate n clean) r clean ≡ clean
+clean_at zero r = refl
+clean_at (suc n) zero = refl
+clean_at (suc n) (suc r) = clean_at n r
+
+pub clean_are_register_labels : (labels : List Label) → labels ≡ replicate 32 clean → AreRegisterLabels labels
+clean_are_register_labels labels same = subst AreRegisterLabels (sym same) (record { zero = clean_at 32 0; each = λ r _. clean_at 32 r })

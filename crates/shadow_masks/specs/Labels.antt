@@ -21,6 +21,11 @@ pub record IsByteLabel (label : Label) : Type 0 where
   pub is_label : IsLabel label
   pub mask : label.mask ≤ 255
 
+-- the labels of registers: each is a label, and that of x0 is clean
+pub record AreRegisterLabels (labels : List Label) : Type 0 where
+  pub zero : slice_index_or labels 0 clean ≡ clean
+  pub each : (register : ℕ) → IsLabel (slice_index_or labels register clean)
+
 -- the labels of the 32 registers, those that were kept, and the labels of the bytes whose mask is not 0, by address
 pub record Shades : Type 0 where
   pub registers : List Label

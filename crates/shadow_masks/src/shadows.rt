@@ -1,6 +1,16 @@
 ghost use Rattle.std.specs.Prelude.{◌≡◌, ℕ, ◌+◌, ◌^◌, ◌<◌, ◌≤◌, ◌==◌, All, OnOk, OnErr, [], ◌∷◌, replicate};
 ghost use Rattle.shadow_masks.specs.Labels.{
-    clean, IsLabel, IsByteLabel, register_label, byte_label, SetsRegister, SetsByte, SetsRange, SetsFirstPart, Saves, Restores
+  clean,
+  IsLabel,
+  IsByteLabel,
+  register_label,
+  byte_label,
+  SetsRegister,
+  SetsByte,
+  SetsRange,
+  SetsFirstPart,
+  Saves,
+  Restores,
 };
 
 use crate::labels::Label;
@@ -20,15 +30,22 @@ pub struct Shadow {
 }
 
 impl Model for Shadow {
-    ghost use Rattle.std.specs.Prelude.{◌≡◌, ℕ, true, slice_index_or};
-    ghost use Rattle.shadow_masks.specs.Labels.{Shades, clean, held_label, is_worth_holding};
+    ghost use Rattle.std.specs.Prelude.{◌≡◌, ℕ, true};
+    ghost use Rattle.shadow_masks.specs.Labels.{Shades, AreRegisterLabels, held_label, is_worth_holding};
 
     ghost Value = { Shades };
 
     ghost view = { λ s. record { registers = s.registers; kept = s.kept; bytes = s.bytes.entries } };
 
-    ghost invariant = { λ s. (slice_index_or s.registers 0 clean ≡ clean) × (slice_index_or s.kept 0 clean ≡ clean)
+    ghost invariant = { λ s. AreRegisterLabels s.registers × AreRegisterLabels s.kept
         × ((address : ℕ) → is_worth_holding (held_label s.bytes.entries address) ≡ true) };
+}
+
+/// The clean label for each register.
+fn clean_labels() -> [Label; 32]
+    ensures { result ≡ replicate 32 clean }
+{
+    [Label::clean(); 32]
 }
 
 impl Shadow {
@@ -38,8 +55,8 @@ impl Shadow {
         ensures { result ≡ record { registers = replicate 32 clean; kept = replicate 32 clean; bytes = [] } }
     {
         Shadow {
-            registers: [Label::clean(); 32],
-            kept: [Label::clean(); 32],
+            registers: clean_labels(),
+            kept: clean_labels(),
             bytes: BTreeMap::new(alloc),
         }
     }
@@ -47,7 +64,9 @@ impl Shadow {
     /// The label of a register, 0 to 31.
     pub fn reg(&self, register: u8) -> Label
         requires { register < 32 }
-        ensures { result ≡ register_label self.now register }
+        ensures label { result ≡ register_label self.now register }
+        ensures is_label { IsLabel result }
+        ensures zero { register ≡ 0 → result ≡ clean }
     {
         self.registers[register as usize]
     }
