@@ -34,7 +34,7 @@ restores_next {listed} {rest} {register} {old} {mid} {new} before gives = record
 }
 
 -- an item of a list of clean labels, or past its end
-clean_at : (n r : ℕ) → slice_index_or (replicate n clean) r clean ≡ clean
+pub clean_at : (n r : ℕ) → slice_index_or (replicate n clean) r clean ≡ clean
 clean_at zero r = refl
 clean_at (suc n) zero = refl
 clean_at (suc n) (suc r) = clean_at n r

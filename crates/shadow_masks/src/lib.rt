@@ -3,9 +3,11 @@
 #![tactic(auto)]
 
 mod labels;
+mod laws;
 mod shadows;
 #[cfg(test)]
 mod tests;
 
 pub use labels::Label;
+pub use laws::shadow_reads_as_a_map;
 pub use shadows::Shadow;

@@ -1,4 +1,5 @@
 ghost use Rattle.std.specs.Prelude.{◌≡◌, ℕ, ◌+◌, ◌^◌, ◌<◌, ◌≤◌, ◌==◌, All, OnOk, OnErr, [], ◌∷◌, replicate};
+ghost use Rattle.shadow_masks.specs.Writes.{new_shades};
 ghost use Rattle.shadow_masks.specs.Labels.{
   clean,
   IsLabel,
@@ -52,7 +53,7 @@ impl Shadow {
     /// All labels clean, those that are kept too. It takes no memory. The run's memory begins at `base`, on which no
     /// label depends.
     pub fn new(alloc: Global, _base: u32) -> Shadow
-        ensures { result ≡ record { registers = replicate 32 clean; kept = replicate 32 clean; bytes = [] } }
+        ensures { result ≡ new_shades }
     {
         Shadow {
             registers: clean_labels(),

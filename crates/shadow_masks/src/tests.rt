@@ -1,8 +1,12 @@
-use crate::{Label, Shadow};
-use flow_base::{List, NoMemory, Point, Slot};
-use std::alloc::Global;
+ghost use Rattle.std.specs.Prelude.{◌≡◌};
 
-fn mark(mask: u32) -> Label {
+use crate::{Label, Shadow};
+use flow_base::{List, Point, Slot};
+use std::test::Fail;
+
+fn label(mask: u32) -> Label
+    ensures { result.mask ≡ mask }
+{
     Label {
         mask,
         point: Point {
@@ -13,43 +17,55 @@ fn mark(mask: u32) -> Label {
     }
 }
 
-fn bytes_are_a_map(alloc: Global) -> Result<bool, NoMemory> {
-    let mut shadow = Shadow::new(alloc, 0x10000);
-    shadow.set_byte(0x11000, mark(0xff))?;
-    shadow.set_range(0x11004, 3, mark(1))?;
-    let first = shadow.byte(0x11000) == mark(0xff) && shadow.byte(0x11001) == Label::clean();
-    let before = shadow.byte(0x11003) == Label::clean() && shadow.byte(0x11004) == mark(1);
-    let last = shadow.byte(0x11006) == mark(1) && shadow.byte(0x11007) == Label::clean();
-    shadow.set_range(0x11004, 2, Label::clean())?;
-    let cleaned = shadow.byte(0x11005) == Label::clean() && shadow.byte(0x11006) == mark(1);
-    shadow.set_range(0xffff_fffe, 2, mark(2))?;
-    let end = shadow.byte(0xffff_ffff) == mark(2);
-    Ok(first && before && last && cleaned && end)
+#[test]
+fn bytes_have_the_label_that_was_set_last(rt: HostRuntime) -> Result<(), Fail> {
+    let mut shadow = Shadow::new(rt.alloc(), 0x10000);
+    assert_eq!(rt; shadow.byte(0x11000), Label::clean());
+    shadow.set_byte(0x11000, label(0xff))?;
+    shadow.set_byte(0x11001, label(0x80))?;
+    shadow.set_byte(0x11000, label(0x01))?;
+    assert_eq!(rt; shadow.byte(0x11000), label(0x01));
+    assert_eq!(rt; shadow.byte(0x11001), label(0x80));
+    shadow.set_byte(0x11000, Label::clean())?;
+    assert_eq!(rt; shadow.byte(0x11000), Label::clean());
+    assert_eq!(rt; shadow.byte(0x11001), label(0x80));
+    Ok(())
 }
 
-fn registers_are_kept(alloc: Global) -> Result<bool, NoMemory> {
-    let mut shadow = Shadow::new(alloc, 0x10000);
-    shadow.set_reg(0, mark(1));
-    shadow.set_reg(5, mark(2));
-    shadow.set_reg(31, mark(4));
+#[test]
+fn a_range_is_set_from_its_first_byte_to_its_last(rt: HostRuntime) -> Result<(), Fail> {
+    let mut shadow = Shadow::new(rt.alloc(), 0x10000);
+    shadow.set_range(0x11004, 3, label(0x01))?;
+    assert_eq!(rt; shadow.byte(0x11003), Label::clean());
+    assert_eq!(rt; shadow.byte(0x11004), label(0x01));
+    assert_eq!(rt; shadow.byte(0x11006), label(0x01));
+    assert_eq!(rt; shadow.byte(0x11007), Label::clean());
+    shadow.set_range(0x11004, 2, Label::clean())?;
+    assert_eq!(rt; shadow.byte(0x11005), Label::clean());
+    assert_eq!(rt; shadow.byte(0x11006), label(0x01));
+    shadow.set_range(0xffff_ffff, 1, label(0x02))?;
+    assert_eq!(rt; shadow.byte(0xffff_ffff), label(0x02));
+    assert_eq!(rt; shadow.byte(0), Label::clean());
+    Ok(())
+}
+
+#[test]
+fn listed_registers_get_the_label_that_was_kept(rt: HostRuntime) -> Result<(), Fail> {
+    let mut shadow = Shadow::new(rt.alloc(), 0x10000);
+    shadow.set_reg(0, label(1));
+    shadow.set_reg(5, label(2));
+    shadow.set_reg(31, label(4));
     shadow.save();
     shadow.set_reg(5, Label::clean());
-    shadow.set_reg(6, mark(8));
-    shadow.set_reg(31, mark(16));
-    let mut listed = List::new(alloc);
+    shadow.set_reg(6, label(8));
+    shadow.set_reg(31, label(16));
+    let mut listed = List::new(rt.alloc());
     listed.push(5)?;
     listed.push(6)?;
     shadow.restore(&listed);
-    let given_back = shadow.reg(5) == mark(2) && shadow.reg(6) == Label::clean();
-    Ok(given_back && shadow.reg(0) == Label::clean() && shadow.reg(31) == mark(16))
-}
-
-#[test]
-fn bytes_have_the_label_that_was_set_last(rt: HostRuntime) {
-    assert!(rt; bytes_are_a_map(rt.alloc()) == Ok(true));
-}
-
-#[test]
-fn listed_registers_get_what_was_kept(rt: HostRuntime) {
-    assert!(rt; registers_are_kept(rt.alloc()) == Ok(true));
+    assert_eq!(rt; shadow.reg(0), Label::clean());
+    assert_eq!(rt; shadow.reg(5), label(2));
+    assert_eq!(rt; shadow.reg(6), Label::clean());
+    assert_eq!(rt; shadow.reg(31), label(16));
+    Ok(())
 }

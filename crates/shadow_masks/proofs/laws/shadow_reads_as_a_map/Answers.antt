@@ -1,0 +1,5 @@
+use Rattle.shadow_masks.proofs.Reading.{reads_as_map}
+use Rattle.shadow_masks.proofs.laws.shadow_reads_as_a_map.Goals as goal
+
+pub returns : goal.returns
+returns c writes shades leads = reads_as_map writes shades leads
