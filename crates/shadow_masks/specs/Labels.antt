@@ -1,10 +1,10 @@
--- The labels of a run's registers and bytes: the mask of the bits that the secret may reach, and the point where they passed.
-use Rattle.std.specs.Prelude.{◌≡◌, ℕ, ◌+◌, ◌≤◌, ◌<◌, ◌==◌, ◌&&◌, nat_lt, nat_le, Bool, true, List, Option, Some, None, if◌then◌else◌, slice_index_or, unwrap_or}
+-- The labels of a run's registers and bytes: the bits that the secret may reach, and the point where they last passed.
+use Rattle.std.specs.Prelude.{◌≡◌, ℕ, ◌+◌, ◌≤◌, ◌<◌, ◌==◌, ◌&&◌, nat_lt, nat_le, Bool, true, List, Option, Some}
+use Rattle.std.specs.Prelude.{None, if◌then◌else◌, slice_index_or, unwrap_or}
 use Rattle.std.specs.BTreeMap.{is_at}
 use Rattle.std.specs.List.{list_any}
 use Rattle.std.specs.Map.{lookup}
 use Rattle.std.specs.Ordering.{nat_cmp}
-use Rattle.flow_base.specs.declared.points.Point.{Point}
 use Rattle.flow_base.specs.declared.points.Slot.TheVariants.{First}
 use Rattle.shadow_masks.specs.declared.labels.Label.{Label}
 
@@ -93,6 +93,7 @@ pub record Saves (old new : Shades) : Type 0 where
 
 -- new has the kept labels at the listed registers; all else is as in old
 pub record Restores (listed : List ℕ) (old new : Shades) : Type 0 where
-  pub registers : (r : ℕ) → register_label new r ≡ (if is_listed listed r then kept_label old r else register_label old r)
+  pub registers : (r : ℕ) →
+      register_label new r ≡ (if is_listed listed r then kept_label old r else register_label old r)
   pub kept : new.kept ≡ old.kept
   pub bytes : new.bytes ≡ old.bytes

@@ -1,9 +1,11 @@
 -- A shadow after any list of writes, saves and restores, beside a map with a default.
 use Rattle.std.specs.Prelude.{◌≡◌, ℕ, ◌==◌, ◌&&◌, nat_lt, List, [], ◌∷◌, if◌then◌else◌, replicate}
 use Rattle.shadow_masks.specs.declared.labels.Label.{Label}
-use Rattle.shadow_masks.specs.Labels.{clean, Shades, register_label, kept_label, byte_label, is_listed, is_in_range, SetsRegister, SetsByte, SetsRange, Saves, Restores}
+use Rattle.shadow_masks.specs.Labels.{clean, Shades, register_label, kept_label, byte_label, is_listed}
+use Rattle.shadow_masks.specs.Labels.{is_in_range, SetsRegister, SetsByte, SetsRange, Saves, Restores}
 
--- a call that changes labels; a refused call on a range is a write to the first part that was set, any other refused call is none
+-- a call that changes labels; a refused call on a range is a write to the first part that was set, and a refused call
+-- on a byte is none
 pub data Write : Type 0 where
   ToRegister : ℕ → Label → Write
   ToByte : ℕ → Label → Write
@@ -75,4 +77,6 @@ pub record ReadsAs (map : LabelMap) (shades : Shades) : Type 0 where
 
 -- after any list of calls, a shadow that was new reads as the map that had the default everywhere
 abbrev pub MapLaw : Type 0
-MapLaw = (writes : List Write) (shades : Shades) → Leads writes new_shades shades → ReadsAs (after_all writes default_map) shades
+MapLaw =
+    (writes : List Write) (shades : Shades) → Leads writes new_shades shades →
+    ReadsAs (after_all writes default_map) shades

@@ -1,5 +1,5 @@
-//! The labels of a measured run: which bits of its registers and bytes the secret may reach, and where they last passed.
-//! A shadow is a map from registers and addresses to labels, whose default is the clean label.
+//! The labels of a measured run: which bits of its registers and bytes the secret may reach, and where those bits last
+//! passed. A shadow is a map from registers and addresses to labels, whose default is the clean label.
 #![tactic(auto)]
 
 mod labels;

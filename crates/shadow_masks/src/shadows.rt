@@ -1,18 +1,7 @@
-ghost use Rattle.std.specs.Prelude.{◌≡◌, ℕ, ◌+◌, ◌^◌, ◌<◌, ◌≤◌, ◌==◌, All, OnOk, OnErr, [], ◌∷◌, replicate};
+ghost use Rattle.std.specs.Prelude.{◌≡◌, ◌+◌, ◌^◌, ◌<◌, ◌≤◌, All, OnOk, OnErr, [], ◌∷◌, replicate};
+ghost use Rattle.shadow_masks.specs.Labels.{clean, IsLabel, IsByteLabel, register_label, byte_label};
+ghost use Rattle.shadow_masks.specs.Labels.{SetsRegister, SetsByte, SetsRange, SetsFirstPart, Saves, Restores};
 ghost use Rattle.shadow_masks.specs.Writes.{new_shades};
-ghost use Rattle.shadow_masks.specs.Labels.{
-  clean,
-  IsLabel,
-  IsByteLabel,
-  register_label,
-  byte_label,
-  SetsRegister,
-  SetsByte,
-  SetsRange,
-  SetsFirstPart,
-  Saves,
-  Restores,
-};
 
 use crate::labels::Label;
 use flow_base::{List, NoMemory};
@@ -91,7 +80,7 @@ impl Shadow {
         }
     }
 
-    /// Sets the label of the byte at an address; where memory is short all stays as it was. The clean label takes none.
+    /// Sets the label of the byte at an address; where memory is short all stays as it was.
     pub fn set_byte(&mut self, address: u32, label: Label) -> Result<(), NoMemory>
         requires { IsByteLabel label }
         ensures ok { OnOk result (SetsByte address label self.old self.new) }

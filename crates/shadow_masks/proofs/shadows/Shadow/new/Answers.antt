@@ -2,6 +2,5 @@ use Rattle.std.proofs.Common.{refl}
 use Rattle.shadow_masks.proofs.Steps.{clean_are_register_labels}
 use Rattle.shadow_masks.proofs.shadows.Shadow.new.Goals as goal
 
--- src/shadows.rt:44:5
 pub invariant_of-result : goal.invariant_of-result
 invariant_of-result c = (clean_are_register_labels _ c.clean_labels.ensures, clean_are_register_labels _ c.clean_labels-2.ensures, λ address. rw c.new.ensures.empty refl)
