@@ -9,7 +9,8 @@ use Rattle.cut_file.specs.Texts.{CutText}
 use Rattle.cut_file.specs.Faults.{FirstCutFault}
 use Rattle.cut_file.specs.Pictures.{picture_of}
 use Rattle.cut_file.specs.Reading.{cut_in}
-use Rattle.cut_file.proofs.FileFaults.{cut-found, fault-found, faulty, faulty-same, fine}
+use Rattle.cut_file.proofs.FileFaults.{fault-found}
+use Rattle.cut_file.proofs.FileReads.{cut-found, faulty, faulty-same, fine}
 use Rattle.cut_file.proofs.FileTexts.{cut-own, fault-own}
 
 abbrev pub ReadsFile : List ℕ → Result Cut CutFault → Type 0

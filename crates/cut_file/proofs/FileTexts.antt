@@ -29,8 +29,8 @@ use Rattle.cut_file.proofs.Lines.{bits-found, bits-own, secret-found, secret-own
 use Rattle.cut_file.proofs.PointLines.{point-found, point-own, point_line-clean}
 use Rattle.cut_file.proofs.LineSteps.{cons-end, cons-fault, cons-next, more_err, more_ok, parts-some, read_err}
 use Rattle.cut_file.proofs.Pieces.{ended-append}
-use Rattle.cut_file.proofs.FileFaults.{Head, faulty, faulty-same, feed-byte, fine, fine-same, head_bits, head_first}
-use Rattle.cut_file.proofs.FileFaults.{head_second, head_secret, head_third, listed}
+use Rattle.cut_file.proofs.FileReads.{Head, faulty, faulty-same, feed-byte, fine, fine-same, head_bits, head_first}
+use Rattle.cut_file.proofs.FileReads.{head_second, head_secret, head_third, listed}
 
 -- ---- lines without line feeds
 

@@ -8,6 +8,7 @@ pub mod Slots
 pub mod Lines
 pub mod PointLines
 pub mod LineSteps
+pub mod FileReads
 pub mod FileFaults
 pub mod FileTexts
 pub mod Answering

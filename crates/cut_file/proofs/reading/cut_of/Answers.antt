@@ -1,6 +1,6 @@
 use Rattle.std.proofs.Common.{sym, ◌∙◌}
 use Rattle.cut_file.specs.Pictures.{picture_of}
-use Rattle.cut_file.proofs.FileFaults.{some-length, trailing-read}
+use Rattle.cut_file.proofs.FileReads.{some-length, trailing-read}
 use Rattle.cut_file.proofs.reading.cut_of.Goals as goal
 
 pub returns-else-is_empty-clause-err : goal.returns-else-is_empty-clause-err
