@@ -346,7 +346,7 @@ impl Machine {
     }
 
     /// How many bytes were written so far.
-    pub(crate) fn written(&self) -> u32
+    pub fn written(&self) -> u32
         ensures { result ≡ length self.now.control.output }
     {
         let written = self.output.len();
