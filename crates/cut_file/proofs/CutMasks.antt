@@ -18,13 +18,13 @@ use Rattle.cut_file.specs.Masks.{MaskAt, is_same_point, listed_mask, mask_of}
 
 -- ---- the order of points
 
-abbrev Below : ℕ → ℕ → ℕ → ℕ → ℕ → ℕ → Type 0
+abbrev pub Below : ℕ → ℕ → ℕ → ℕ → ℕ → ℕ → Type 0
 Below a b c d e f = (a < b) ⊎ ((a ≡ b) × ((c < d) ⊎ ((c ≡ d) × (e < f))))
 
-abbrev IsBelow : Point → Point → Type 0
+abbrev pub IsBelow : Point → Point → Type 0
 IsBelow a b = Below a.region b.region a.address b.address (number_of a.slot) (number_of b.slot)
 
-below-cases : (a b : Point) → is_below a b ≡ true → IsBelow a b
+pub below-cases : (a b : Point) → is_below a b ≡ true → IsBelow a b
 below-cases a b known =
     elim (or_cases (nat_lt a.region b.region) _ known) [
       | inl region ↦ inl (ltb-true _ _ region)
@@ -41,7 +41,7 @@ below-cases a b known =
           )
     ]
 
-below-from : (a b : Point) → IsBelow a b → is_below a b ≡ true
+pub below-from : (a b : Point) → IsBelow a b → is_below a b ≡ true
 below-from a b known =
     elim known [
       | inl region ↦ or_left (nat_lt a.region b.region) _ (lt-ltb _ _ region)
@@ -94,7 +94,7 @@ first-below first (second ∷ before) after cut_point known =
     let both = and_parts (is_below first.point second.point) _ known in
     below-trans first.point second.point cut_point.point both.0 (first-below second before after cut_point both.1)
 
-neighbours-behind : (first : CutPoint) (others : List CutPoint) →
+pub neighbours-behind : (first : CutPoint) (others : List CutPoint) →
     neighbours_pass stands_before (first ∷ others) ≡ true →
     neighbours_pass stands_before others ≡ true
 neighbours-behind first [] known = refl
@@ -144,11 +144,11 @@ width-number Status known = refl
 width-number (OutReg register) known = grind arith
 width-number (OutRange range) known = grind arith
 
-same-width : (first second : Slot) → is_slot first ≡ true → is_slot second ≡ true →
+pub same-width : (first second : Slot) → is_slot first ≡ true → is_slot second ≡ true →
     number_of first ≡ number_of second → width_of first ≡ width_of second
 same-width first second known other e = width-number first known ∙ ap width_at e ∙ sym (width-number second other)
 
-same-slot : (first second : Point) → is_same_point first second ≡ true → number_of first.slot ≡ number_of second.slot
+pub same-slot : (first second : Point) → is_same_point first second ≡ true → number_of first.slot ≡ number_of second.slot
 same-slot first second same =
     let rest = and_parts (first.region == second.region) _ same in
     let slots = and_parts (first.address == second.address) (number_of first.slot == number_of second.slot) rest.1 in
@@ -157,7 +157,7 @@ same-slot first second same =
 within : (mask width : ℕ) → bit_and (bit_and mask width) width ≡ bit_and mask width
 within mask width = and_assoc width mask width ∙ ap (bit_and mask) (and_self width)
 
-slot-known : (cut_point : CutPoint) → is_cut_point cut_point ≡ true → is_slot cut_point.point.slot ≡ true
+pub slot-known : (cut_point : CutPoint) → is_cut_point cut_point ≡ true → is_slot cut_point.point.slot ≡ true
 slot-known cut_point known =
     let place = and_parts (is_point cut_point.point) _ known in
     let address = and_parts (nat_le cut_point.point.region 65535) _ place.0 in

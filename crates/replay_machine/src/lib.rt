@@ -1,0 +1,20 @@
+//! The replay of a program: a run that never sees the secret, and is given the bits that cross.
+#![tactic(auto)]
+
+mod copies;
+mod cursors;
+mod machines;
+mod marking;
+mod marks;
+mod replaying;
+mod replays;
+mod search;
+#[cfg(test)]
+mod tests;
+mod turns;
+mod visit_masks;
+
+pub use machines::Replay;
+pub use marks::Mark;
+pub use turns::ReplayTurn;
+pub use visit_masks::VisitMasks;

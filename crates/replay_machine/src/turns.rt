@@ -1,0 +1,14 @@
+use rv32im_machine::Fault;
+
+/// How a turn of a replay ends.
+#[derive(Clone, Copy, Debug, PartialEq, Eq)]
+pub enum ReplayTurn {
+    /// The replay runs on.
+    Ran,
+    /// A mask of this turn needs so many bits more than are left.
+    Wants(u8),
+    /// The guest has exited with this status.
+    Exited(u8),
+    /// The guest is stopped.
+    Stopped(Fault),
+}
