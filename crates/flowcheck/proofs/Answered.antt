@@ -13,10 +13,10 @@ ok-loaded (Ok other) files e = cc
 ok-loaded (Err refusal) files e = cc
 
 pub answers_check : (told : Option Told) (check : Check) (files : List (List ℕ)) (reply : Reply) →
-    LoadsAs told (wants_of check) (Ok files) → RepliesToLoads check.budget (Ok files) reply → Answers told (Checks check) reply
+    LoadsAs told (wants_of check) (Ok files) → RepliesToLoads check.limits (Ok files) reply → Answers told (Checks check) reply
 answers_check None check files reply loads replies = tt
 answers_check (Some told) check files reply loads replies =
-    subst (λ loaded. RepliesToLoads check.budget loaded reply)
+    subst (λ loaded. RepliesToLoads check.limits loaded reply)
     (ok-loaded (loaded_from told (wants_of check)) files (loads (λ e. cc))) replies
 
 pub answers_program : (told : Option Told) (name file : List ℕ) (reply : Reply) →

@@ -8,72 +8,74 @@ use Rattle.flow_base.specs.declared.loading.LoadFault.TheVariants.{Failed, TooLa
 use Rattle.flow_base.specs.Loads.{Told, after_load, next_answer, held_answer}
 use Rattle.elf32_loader.specs.Pictures.{Picture}
 use Rattle.elf32_loader.specs.Programs.{IsImage}
-use Rattle.lockstep_replay.specs.Cuts.{CutPicture, MaskAt}
+use Rattle.cut_file.specs.Cuts.{CutPicture}
+use Rattle.cut_file.specs.Masks.{MaskAt}
 use Rattle.lockstep_replay.specs.Acceptance.{Accept, IsOutput}
 use Rattle.lockstep_replay.specs.Verdicts.{Judgement, Accepts, Rejects, First}
 use Rattle.lockstep_replay.proofs.Bounds.{bound_law}
 use Rattle.lockstep_replay.proofs.Accepting.{accepted_law}
 use Rattle.lockstep_replay.proofs.Judging.{rejected_law}
 use Rattle.lockstep_replay.proofs.Causes.{causes_law}
+use Rattle.flowcheck.specs.declared.limits.Limits.{Limits}
 use Rattle.flowcheck.specs.CommandLines.{Check, IsCheck, Checks, Assembles, Lists}
 use Rattle.flowcheck.specs.Loading.{Want, LoadRefusal, CannotLoad, IsTooLarge, and_load, loaded_from, wants_of, secret_wants}
-use Rattle.flowcheck.specs.Replies.{Reply, RepliesByTold, turn_limit, Replies, RepliesToLoads, RepliesToFiles, RepliesToCut, judgements_of, load_reply}
+use Rattle.flowcheck.specs.Replies.{Reply, RepliesByTold, Replies, RepliesToLoads, RepliesToFiles, RepliesToCut, judgements_of, load_reply}
 use Rattle.flowcheck.specs.Headline.{HeadlineByTold}
 use Rattle.flowcheck.specs.Replies.{RepliesByTold}
 use Rattle.flowcheck.specs.Headline.{AreHeld, Says, AllSay, IsAmong, AreFewOfAll, AreFew, Headline}
 
 -- ---- each judgement says what it means
 
-says : (picture : Picture) (public_input : List ℕ) (cut : CutPicture) (budget : ℕ) (secret : List ℕ) (judgement : Judgement) →
-    First picture public_input secret cut budget turn_limit ≡ judgement → Says picture public_input cut budget secret judgement
-says picture public_input cut budget secret (Accepts bits output) e =
-    let law = accepted_law picture public_input secret cut budget turn_limit bits output e in
+says : (picture : Picture) (public_input : List ℕ) (cut : CutPicture) (limits : Limits) (secret : List ℕ) (judgement : Judgement) →
+    First picture public_input secret cut limits.budget limits.turns ≡ judgement → Says picture public_input cut limits secret judgement
+says picture public_input cut limits secret (Accepts bits output) e =
+    let law = accepted_law picture public_input secret cut limits.budget limits.turns bits output e in
     record {
       accept = law.0;
       few = rw law.1 law.0.within;
       replay = rw law.1 law.0.replay;
       real = law.0.exits;
     }
-says picture public_input cut budget secret (Rejects why) e = record {
-  refused = rejected_law picture public_input secret cut budget turn_limit why e;
-  cause = causes_law picture public_input secret cut budget turn_limit why e;
+says picture public_input cut limits secret (Rejects why) e = record {
+  refused = rejected_law picture public_input secret cut limits.budget limits.turns why e;
+  cause = causes_law picture public_input secret cut limits.budget limits.turns why e;
 }
 
-all-say : (picture : Picture) (public_input : List ℕ) (cut : CutPicture) (budget : ℕ) (secrets : List (List ℕ)) →
-    AllSay picture public_input cut budget secrets (judgements_of picture public_input cut budget secrets)
-all-say picture public_input cut budget [] = tt
-all-say picture public_input cut budget (secret ∷ secrets) =
-    (says picture public_input cut budget secret (First picture public_input secret cut budget turn_limit) refl, all-say picture public_input cut budget secrets)
+all-say : (picture : Picture) (public_input : List ℕ) (cut : CutPicture) (limits : Limits) (secrets : List (List ℕ)) →
+    AllSay picture public_input cut limits secrets (judgements_of picture public_input cut limits secrets)
+all-say picture public_input cut limits [] = tt
+all-say picture public_input cut limits (secret ∷ secrets) =
+    (says picture public_input cut limits secret (First picture public_input secret cut limits.budget limits.turns) refl, all-say picture public_input cut limits secrets)
 
 -- ---- the bound
 
-among-output : (picture : Picture) (public_input : List ℕ) (cut : CutPicture) (budget : ℕ) (secrets : List (List ℕ)) (judgements : List Judgement) (output : Output) →
-    AllSay picture public_input cut budget secrets judgements → IsAmong judgements output →
-    IsOutput picture public_input (MaskAt cut.points) cut.secret_length budget turn_limit output
-among-output picture public_input cut budget [] [] output say among = absurd among
-among-output picture public_input cut budget [] (judgement ∷ judgements) output say among = absurd say
-among-output picture public_input cut budget (secret ∷ secrets) [] output say among = absurd say
-among-output picture public_input cut budget (secret ∷ secrets) (Accepts bits other ∷ judgements) output say (inl same) =
-    (secret, subst (λ o. Accept picture public_input (MaskAt cut.points) cut.secret_length budget turn_limit secret o) same say.0.accept)
-among-output picture public_input cut budget (secret ∷ secrets) (Accepts bits other ∷ judgements) output say (inr among) =
-    among-output picture public_input cut budget secrets judgements output say.1 among
-among-output picture public_input cut budget (secret ∷ secrets) (Rejects why ∷ judgements) output say among =
-    among-output picture public_input cut budget secrets judgements output say.1 among
+among-output : (picture : Picture) (public_input : List ℕ) (cut : CutPicture) (limits : Limits) (secrets : List (List ℕ)) (judgements : List Judgement) (output : Output) →
+    AllSay picture public_input cut limits secrets judgements → IsAmong judgements output →
+    IsOutput picture public_input (MaskAt cut.points) cut.secret_length limits.budget limits.turns output
+among-output picture public_input cut limits [] [] output say among = absurd among
+among-output picture public_input cut limits [] (judgement ∷ judgements) output say among = absurd say
+among-output picture public_input cut limits (secret ∷ secrets) [] output say among = absurd say
+among-output picture public_input cut limits (secret ∷ secrets) (Accepts bits other ∷ judgements) output say (inl same) =
+    (secret, subst (λ o. Accept picture public_input (MaskAt cut.points) cut.secret_length limits.budget limits.turns secret o) same say.0.accept)
+among-output picture public_input cut limits (secret ∷ secrets) (Accepts bits other ∷ judgements) output say (inr among) =
+    among-output picture public_input cut limits secrets judgements output say.1 among
+among-output picture public_input cut limits (secret ∷ secrets) (Rejects why ∷ judgements) output say among =
+    among-output picture public_input cut limits secrets judgements output say.1 among
 
-all-outputs : (picture : Picture) (public_input : List ℕ) (cut : CutPicture) (budget : ℕ) (secrets : List (List ℕ)) (judgements : List Judgement) (outputs : List Output) →
-    AllSay picture public_input cut budget secrets judgements → AllByRecursion (IsAmong judgements) outputs →
-    AllByRecursion (IsOutput picture public_input (MaskAt cut.points) cut.secret_length budget turn_limit) outputs
-all-outputs picture public_input cut budget secrets judgements [] say among = tt
-all-outputs picture public_input cut budget secrets judgements (output ∷ outputs) say among = (
-  among-output picture public_input cut budget secrets judgements output say among.0,
-  all-outputs picture public_input cut budget secrets judgements outputs say among.1,
+all-outputs : (picture : Picture) (public_input : List ℕ) (cut : CutPicture) (limits : Limits) (secrets : List (List ℕ)) (judgements : List Judgement) (outputs : List Output) →
+    AllSay picture public_input cut limits secrets judgements → AllByRecursion (IsAmong judgements) outputs →
+    AllByRecursion (IsOutput picture public_input (MaskAt cut.points) cut.secret_length limits.budget limits.turns) outputs
+all-outputs picture public_input cut limits secrets judgements [] say among = tt
+all-outputs picture public_input cut limits secrets judgements (output ∷ outputs) say among = (
+  among-output picture public_input cut limits secrets judgements output say among.0,
+  all-outputs picture public_input cut limits secrets judgements outputs say among.1,
 )
 
-are-few : (picture : Picture) (public_input : List ℕ) (cut : CutPicture) (budget : ℕ) (secrets : List (List ℕ)) (judgements : List Judgement) →
-    AllSay picture public_input cut budget secrets judgements → AreFew judgements budget
-are-few picture public_input cut budget secrets judgements say outputs different among =
-    bound_law picture public_input (MaskAt cut.points) cut.secret_length budget turn_limit outputs
-    (all-outputs picture public_input cut budget secrets judgements outputs say among) different
+are-few : (picture : Picture) (public_input : List ℕ) (cut : CutPicture) (limits : Limits) (secrets : List (List ℕ)) (judgements : List Judgement) →
+    AllSay picture public_input cut limits secrets judgements → AreFew judgements limits.budget
+are-few picture public_input cut limits secrets judgements say outputs different among =
+    bound_law picture public_input (MaskAt cut.points) cut.secret_length limits.budget limits.turns outputs
+    (all-outputs picture public_input cut limits secrets judgements outputs say among) different
 
 -- ---- what is loaded is held
 
@@ -149,20 +151,20 @@ refusal-status : (refusal : LoadRefusal) → 1 < (load_reply refusal).status
 refusal-status (CannotLoad name) = omega arith
 refusal-status (IsTooLarge name number) = omega arith
 
-are-few-of-all : (picture : Picture) (public_input : List ℕ) (cut : CutPicture) (budget : ℕ) →
-    AreFewOfAll picture public_input cut budget
-are-few-of-all picture public_input cut budget outputs different each =
-    bound_law picture public_input (MaskAt cut.points) cut.secret_length budget turn_limit outputs each different
+are-few-of-all : (picture : Picture) (public_input : List ℕ) (cut : CutPicture) (limits : Limits) →
+    AreFewOfAll picture public_input cut limits
+are-few-of-all picture public_input cut limits outputs different each =
+    bound_law picture public_input (MaskAt cut.points) cut.secret_length limits.budget limits.turns outputs each different
 
 from-cut : (told : Told) (words : List (List ℕ)) (check : Check) (picture : Picture) (program_file public_input cut_file : List ℕ) (secrets : List (List ℕ)) (reply : Reply) →
     IsCheck words check → IsImage program_file picture →
     AreHeld told (check.program ∷ check.public_input ∷ check.cut ∷ check.secrets) (program_file ∷ public_input ∷ cut_file ∷ secrets) →
-    reply.status ≤ 1 → RepliesToCut picture public_input cut_file check.budget secrets reply → Headline told words reply.status reply.text
-from-cut told words check picture program_file public_input cut_file secrets reply is image held low (inl (none, e)) =
+    reply.status ≤ 1 → RepliesToCut picture public_input cut_file check.limits secrets reply → Headline told words reply.status reply.text
+from-cut told words check picture program_file public_input cut_file secrets reply is image held low (inl (fault, first, room, e)) =
     absurd (low-status reply.status 3 (ap (λ r. r.status) e) low (omega arith))
 from-cut told words check picture program_file public_input cut_file secrets reply is image held low (inr (cut, text, e)) =
-    let judgements : List Judgement = judgements_of picture public_input cut check.budget secrets in
-    let say = all-say picture public_input cut check.budget secrets in
+    let judgements : List Judgement = judgements_of picture public_input cut check.limits secrets in
+    let say = all-say picture public_input cut check.limits secrets in
     record {
       check = check;
       is_check = is;
@@ -178,15 +180,15 @@ from-cut told words check picture program_file public_input cut_file secrets rep
       judgements = judgements;
       lines = ap (λ r. r.text) e;
       say = say;
-      bound = are-few-of-all picture public_input cut check.budget;
-      lines_bound = are-few picture public_input cut check.budget secrets judgements say;
+      bound = are-few-of-all picture public_input cut check.limits;
+      lines_bound = are-few picture public_input cut check.limits secrets judgements say;
       status_is = ap (λ r. r.status) e;
     }
 
 from-files : (told : Told) (words : List (List ℕ)) (check : Check) (program_file public_input cut_file : List ℕ) (secrets : List (List ℕ)) (reply : Reply) →
     IsCheck words check →
     AreHeld told (check.program ∷ check.public_input ∷ check.cut ∷ check.secrets) (program_file ∷ public_input ∷ cut_file ∷ secrets) →
-    reply.status ≤ 1 → RepliesToFiles check.budget program_file public_input cut_file secrets reply → Headline told words reply.status reply.text
+    reply.status ≤ 1 → RepliesToFiles check.limits program_file public_input cut_file secrets reply → Headline told words reply.status reply.text
 from-files told words check program_file public_input cut_file secrets reply is held low (inl (fault, first, e)) =
     absurd (low-status reply.status 3 (ap (λ r. r.status) e) low (omega arith))
 from-files told words check program_file public_input cut_file secrets reply is held low (inr (picture, image, rest)) =
@@ -194,7 +196,7 @@ from-files told words check program_file public_input cut_file secrets reply is 
 
 from-loads : (told : Told) (words : List (List ℕ)) (check : Check) (loaded : Result (List (List ℕ)) LoadRefusal) (reply : Reply) →
     IsCheck words check → loaded_from told (wants_of check) ≡ loaded → reply.status ≤ 1 →
-    RepliesToLoads check.budget loaded reply → Headline told words reply.status reply.text
+    RepliesToLoads check.limits loaded reply → Headline told words reply.status reply.text
 from-loads told words check (Err refusal) reply is e low h =
     absurd (low-status reply.status (load_reply refusal).status (ap (λ r. r.status) h) low (refusal-status refusal))
 from-loads told words check (Ok []) reply is e low h = absurd h
@@ -209,7 +211,7 @@ from-loads told words check (Ok (program_file ∷ (public_input ∷ (cut_file �
 -- words of one command are not those of another
 no-file-command : (words : List (List ℕ)) (check : Check) (name file : List ℕ) → IsCheck words check → words ≡ name ∷ file ∷ [] → ⊥
 no-file-command words check name file is other =
-    let same : codes "check" ∷ check.program ∷ check.public_input ∷ check.cut ∷ decimal check.budget ∷ check.secrets ≡ name ∷ file ∷ [] =
+    let same : codes "check" ∷ check.program ∷ check.public_input ∷ check.cut ∷ decimal check.limits.budget ∷ is.others ≡ name ∷ file ∷ [] =
     sym is.line ∙ other in
     cc
 

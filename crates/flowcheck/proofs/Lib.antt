@@ -2,6 +2,7 @@ pub mod Answered
 pub mod OneSegment
 pub mod Two
 pub mod Five
+pub mod Plain
 pub mod Secrets
 pub mod Judgements
 pub mod Headlines

@@ -1,10 +1,12 @@
--- The texts of what is wrong with a program file and with a source. Numbers are decimal; an address is 0x and eight
+-- The texts of what is wrong with a program file, a cut file and a source. Numbers are decimal; an address is 0x and eight
 -- digits in lower case, a byte 0x and two.
 use Rattle.std.specs.Prelude.{ℕ, ◌/◌, ◌%◌, List, [], ◌∷◌, ◌++◌, codes}
 use Rattle.std.specs.Fmt.{decimal}
 use Rattle.flow_base.specs.HexWords.{hex_digit, hex_word}
 use Rattle.elf32_loader.specs.declared.fault.ElfFault.{ElfFault}
 use Rattle.elf32_loader.specs.declared.fault.ElfFault.TheVariants as elf
+use Rattle.cut_file.specs.declared.faults.CutFault.{CutFault}
+use Rattle.cut_file.specs.declared.faults.CutFault.TheVariants as cut
 use Rattle.rv32im_asm.specs.declared.fault.AsmFault.{AsmFault}
 use Rattle.rv32im_asm.specs.declared.fault.AsmFault.TheVariants as source
 use Rattle.rv32im_asm.specs.Kinds.{number_of}
@@ -28,6 +30,14 @@ program_fault_text (elf.SegmentRange index) = codes "segment " ++ decimal index
 program_fault_text (elf.Overlap first second) = codes "overlap " ++ (decimal first ++ (codes " " ++ decimal second))
 program_fault_text (elf.EntryOutside entry) = codes "entry " ++ hex_word entry
 program_fault_text elf.Memory = codes "memory"
+
+abbrev pub cut_fault_text : CutFault → List ℕ
+cut_fault_text cut.Version = codes "version"
+cut_fault_text (cut.Line number) = codes "line " ++ decimal number
+cut_fault_text (cut.Order number) = codes "order " ++ decimal number
+cut_fault_text cut.Truncated = codes "truncated"
+cut_fault_text (cut.Trailing offset) = codes "trailing " ++ decimal offset
+cut_fault_text cut.Memory = codes "memory"
 
 abbrev pub source_fault_text : AsmFault → List ℕ
 source_fault_text (source.Line number kind) =

@@ -1,5 +1,5 @@
 -- The reply to a command line, given what the file source holds: words first, then loads, forms, and the run.
-use Rattle.std.specs.Prelude.{◌≡◌, ◌⊎◌, ℕ, ◌==◌, List, [], ◌∷◌, ◌++◌, length, codes, Option, Some, None, Result, Ok, Err, if◌then◌else◌}
+use Rattle.std.specs.Prelude.{◌≡◌, ◌≢◌, ◌⊎◌, ℕ, ◌==◌, List, [], ◌∷◌, ◌++◌, length, codes, Option, Some, None, Result, Ok, Err, if◌then◌else◌}
 use Rattle.std.specs.Fmt.{decimal}
 use Rattle.flow_base.specs.Loads.{Told}
 use Rattle.elf32_loader.specs.Pictures.{Picture}
@@ -7,24 +7,25 @@ use Rattle.elf32_loader.specs.declared.fault.ElfFault.{ElfFault}
 use Rattle.elf32_loader.specs.FirstFault.{IsFirstFault}
 use Rattle.elf32_loader.specs.Programs.{IsImage}
 use Rattle.elf32_loader.specs.Written.{written}
-use Rattle.lockstep_replay.specs.Cuts.{CutPicture, IsCutText}
+use Rattle.cut_file.specs.declared.faults.CutFault.{CutFault}
+use Rattle.cut_file.specs.declared.faults.CutFault.TheVariants.{Memory as NoRoomForCut}
+use Rattle.cut_file.specs.Cuts.{CutPicture}
+use Rattle.cut_file.specs.Faults.{FirstCutFault}
+use Rattle.cut_file.specs.Texts.{CutText}
 use Rattle.lockstep_replay.specs.Verdicts.{Judgement, First}
 use Rattle.rv32im_asm.specs.declared.fault.AsmFault.{AsmFault}
 use Rattle.rv32im_asm.specs.Assembling.{assembled}
 use Rattle.rv32im_asm.specs.Listing.{listing}
+use Rattle.flowcheck.specs.declared.limits.Limits.{Limits}
 use Rattle.flowcheck.specs.CommandLines.{Command, Checks, Assembles, Lists, IsCommand}
 use Rattle.flowcheck.specs.Loading.{LoadRefusal, CannotLoad, IsTooLarge, loaded_from, command_wants}
-use Rattle.flowcheck.specs.FaultTexts.{program_fault_text, source_fault_text}
+use Rattle.flowcheck.specs.FaultTexts.{cut_fault_text, program_fault_text, source_fault_text}
 use Rattle.flowcheck.specs.Texts.{check_text, accepted_count}
 
 -- a status and a whole text
 pub record Reply : Type 0 where
   pub status : ℕ
   pub text : List ℕ
-
--- so far every run has at most 1,000,000 turns
-abbrev pub turn_limit : ℕ
-turn_limit = 1000000
 
 abbrev pub usage_reply : Reply
 usage_reply = record { status = 2; text = codes "refused 2 usage\n" }
@@ -36,8 +37,8 @@ program_reply fault =
 abbrev pub source_reply : AsmFault → Reply
 source_reply fault = record { status = 3; text = codes "refused 3 source " ++ (source_fault_text fault ++ codes "\n") }
 
-abbrev pub cut_reply : Reply
-cut_reply = record { status = 3; text = codes "refused 3 cut unbuilt\n" }
+abbrev pub cut_reply : CutFault → Reply
+cut_reply fault = record { status = 3; text = codes "refused 3 cut " ++ (cut_fault_text fault ++ codes "\n") }
 
 abbrev pub load_reply : LoadRefusal → Reply
 load_reply (CannotLoad name) = record { status = 5; text = codes "refused 5 load " ++ (name ++ codes "\n") }
@@ -52,32 +53,32 @@ check_reply judgements budget = record {
 }
 
 -- each secret is judged from a fresh start
-abbrev pub judgements_of : Picture → List ℕ → CutPicture → ℕ → List (List ℕ) → List Judgement
-judgements_of picture public_input cut budget [] = []
-judgements_of picture public_input cut budget (secret ∷ secrets) =
-    First picture public_input secret cut budget turn_limit ∷ judgements_of picture public_input cut budget secrets
+abbrev pub judgements_of : Picture → List ℕ → CutPicture → Limits → List (List ℕ) → List Judgement
+judgements_of picture public_input cut limits [] = []
+judgements_of picture public_input cut limits (secret ∷ secrets) =
+    First picture public_input secret cut limits.budget limits.turns ∷ judgements_of picture public_input cut limits secrets
 
--- the reply once the program is read: the cut has a form that is taken, or it has none
-abbrev pub RepliesToCut : Picture → List ℕ → List ℕ → ℕ → List (List ℕ) → Reply → Type 0
-RepliesToCut picture public_input cut_file budget secrets reply =
-    (((cut : CutPicture) → ¬ IsCutText cut_file cut) × (reply ≡ cut_reply))
-    ⊎ ((cut : CutPicture) × IsCutText cut_file cut
-    × (reply ≡ check_reply (judgements_of picture public_input cut budget secrets) budget))
+-- the reply once the program is read: to the first fault of the cut file, or to the cut of which it is the text
+abbrev pub RepliesToCut : Picture → List ℕ → List ℕ → Limits → List (List ℕ) → Reply → Type 0
+RepliesToCut picture public_input cut_file limits secrets reply =
+    ((fault : CutFault) × FirstCutFault cut_file fault × (fault ≢ NoRoomForCut) × (reply ≡ cut_reply fault))
+    ⊎ ((cut : CutPicture) × CutText cut_file cut
+    × (reply ≡ check_reply (judgements_of picture public_input cut limits secrets) limits.budget))
 
 -- the reply once all files are loaded
-abbrev pub RepliesToFiles : ℕ → List ℕ → List ℕ → List ℕ → List (List ℕ) → Reply → Type 0
-RepliesToFiles budget program_file public_input cut_file secrets reply =
+abbrev pub RepliesToFiles : Limits → List ℕ → List ℕ → List ℕ → List (List ℕ) → Reply → Type 0
+RepliesToFiles limits program_file public_input cut_file secrets reply =
     ((fault : ElfFault) × IsFirstFault program_file fault × (reply ≡ program_reply fault))
     ⊎ ((picture : Picture) × IsImage program_file picture
-    × RepliesToCut picture public_input cut_file budget secrets reply)
+    × RepliesToCut picture public_input cut_file limits secrets reply)
 
-abbrev pub RepliesToLoads : ℕ → Result (List (List ℕ)) LoadRefusal → Reply → Type 0
-RepliesToLoads budget (Err refusal) reply = reply ≡ load_reply refusal
-RepliesToLoads budget (Ok []) reply = ⊥
-RepliesToLoads budget (Ok (program_file ∷ [])) reply = ⊥
-RepliesToLoads budget (Ok (program_file ∷ (public_input ∷ []))) reply = ⊥
-RepliesToLoads budget (Ok (program_file ∷ (public_input ∷ (cut_file ∷ secrets)))) reply =
-    RepliesToFiles budget program_file public_input cut_file secrets reply
+abbrev pub RepliesToLoads : Limits → Result (List (List ℕ)) LoadRefusal → Reply → Type 0
+RepliesToLoads limits (Err refusal) reply = reply ≡ load_reply refusal
+RepliesToLoads limits (Ok []) reply = ⊥
+RepliesToLoads limits (Ok (program_file ∷ [])) reply = ⊥
+RepliesToLoads limits (Ok (program_file ∷ (public_input ∷ []))) reply = ⊥
+RepliesToLoads limits (Ok (program_file ∷ (public_input ∷ (cut_file ∷ secrets)))) reply =
+    RepliesToFiles limits program_file public_input cut_file secrets reply
 
 -- the reply to a source: the program file of its image, or its fault
 abbrev pub assembled_reply : Result Picture AsmFault → Reply
@@ -103,7 +104,7 @@ RepliesToFile RepliesToBytes (Ok (file ∷ (other ∷ files))) reply = ⊥
 
 -- the reply to a command once its files are loaded
 abbrev pub RepliesToCommand : Command → Result (List (List ℕ)) LoadRefusal → Reply → Type 0
-RepliesToCommand (Checks check) loaded reply = RepliesToLoads check.budget loaded reply
+RepliesToCommand (Checks check) loaded reply = RepliesToLoads check.limits loaded reply
 RepliesToCommand (Assembles source) loaded reply = RepliesToFile RepliesToSource loaded reply
 RepliesToCommand (Lists program) loaded reply = RepliesToFile RepliesToProgram loaded reply
 

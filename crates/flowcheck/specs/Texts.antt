@@ -1,11 +1,14 @@
 -- The texts that are printed. Numbers are decimal; addresses and words are 0x and eight digits in lower case.
-use Rattle.std.specs.Prelude.{ℕ, ◌+◌, List, [], ◌∷◌, ◌++◌, length, codes}
+use Rattle.std.specs.Prelude.{ℕ, ◌+◌, List, [], ◌∷◌, ◌++◌, length, codes, Bool, true, false}
 use Rattle.std.specs.Fmt.{decimal}
 use Rattle.crossing_bits.specs.HexText.{hex_of}
 use Rattle.rv32im_machine.specs.declared.stepping.Fault.{Fault}
 use Rattle.rv32im_machine.specs.declared.stepping.Fault.TheVariants.{Illegal, FetchOutside, FetchUnaligned, LoadOutside, StoreOutside, Breakpoint, OutputLimit}
 use Rattle.lockstep_replay.specs.declared.verdicts.Why.{Why}
-use Rattle.lockstep_replay.specs.declared.verdicts.Why.TheVariants.{RealFault, BudgetOverrun, TurnLimit, SecretLength, Unequal}
+use Rattle.lockstep_replay.specs.declared.verdicts.Why.TheVariants.{RealFault, BudgetOverrun, ReplayFault, Parted, OutputDiffers, TurnLimit, SecretLength}
+use Rattle.lockstep_replay.specs.declared.verdicts.ReplayStop.{ReplayStop}
+use Rattle.lockstep_replay.specs.declared.verdicts.ReplayStop.TheVariants as stops
+use Rattle.replay_machine.specs.declared.marks.Mark.{Mark}
 use Rattle.flow_base.specs.HexWords.{hex_word}
 use Rattle.lockstep_replay.specs.Verdicts.{Judgement, Accepts, Rejects}
 
@@ -19,13 +22,31 @@ fault_text (StoreOutside pc address) = codes "store-outside " ++ (hex_word pc ++
 fault_text (Breakpoint pc) = codes "breakpoint " ++ hex_word pc
 fault_text (OutputLimit pc) = codes "output-limit " ++ hex_word pc
 
+-- why a replay is stopped
+abbrev pub stop_text : ReplayStop → List ℕ
+stop_text (stops.Guest fault) = codes "guest " ++ fault_text fault
+stop_text (stops.Short missing) = codes "short " ++ decimal missing
+
+abbrev pub ended_text : Bool → List ℕ
+ended_text true = codes "exited"
+ended_text false = codes "running"
+
+-- where a run stands
+abbrev pub mark_text : Mark → List ℕ
+mark_text mark =
+    hex_word mark.address ++ (codes " bits " ++ (decimal mark.bits ++ (codes " output " ++ (decimal mark.output
+    ++ (codes " " ++ ended_text mark.exited)))))
+
 -- why a secret is rejected
 abbrev pub why_text : Why → List ℕ
 why_text (RealFault fault) = codes "guest " ++ fault_text fault
 why_text (BudgetOverrun budget needed) = codes "budget " ++ (decimal budget ++ (codes " needed " ++ decimal needed))
+why_text (ReplayFault stop) = codes "replay " ++ stop_text stop
+why_text (Parted real replay) = codes "parted real " ++ (mark_text real ++ (codes " replay " ++ mark_text replay))
+why_text (OutputDiffers index real replay) =
+    codes "output index " ++ (decimal index ++ (codes " real " ++ (decimal real ++ (codes " replay " ++ decimal replay))))
 why_text (TurnLimit limit) = codes "turns " ++ decimal limit
 why_text (SecretLength cut got) = codes "secret-length cut " ++ (decimal cut ++ (codes " got " ++ decimal got))
-why_text Unequal = codes "unequal"
 
 -- the line of the secret with this number
 abbrev pub verdict_line : ℕ → Judgement → List ℕ

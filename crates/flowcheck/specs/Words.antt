@@ -1,5 +1,5 @@
 -- The command that words name.
-use Rattle.std.specs.Prelude.{◌≤◌, map, string_bytes}
+use Rattle.std.specs.Prelude.{ℕ, suc, ◌==◌, ◌≤◌, List, [], ◌∷◌, Bool, false, map, string_bytes, if◌then◌else◌}
 use Rattle.flowcheck.specs.declared.words.CheckWords.{CheckWords}
 use Rattle.flowcheck.specs.declared.words.CommandWords.{CommandWords}
 use Rattle.flowcheck.specs.declared.words.CommandWords.TheVariants as words
@@ -10,8 +10,8 @@ check_of words = record {
   program = words.program.now;
   public_input = words.public_input.now;
   cut = words.cut.now;
-  budget = words.budget;
   secrets = map string_bytes words.secrets.now;
+  limits = words.limits;
 }
 
 abbrev pub command_of : CommandWords → Command
@@ -19,8 +19,18 @@ command_of (words.Check check) = Checks (check_of check)
 command_of (words.Assemble source) = Assembles source.now
 command_of (words.List program) = Lists program.now
 
+-- a word that begins with a dash
+abbrev pub has_dash : List ℕ → Bool
+has_dash [] = false
+has_dash (byte ∷ bytes) = byte == 45
+
+-- how many words stand before the first that begins with a dash
+abbrev pub plain_count : List (List ℕ) → ℕ
+plain_count [] = 0
+plain_count (word ∷ words) = if has_dash word then 0 else suc (plain_count words)
+
 -- the budget of a check is within its limit
 abbrev pub HasBudget : CommandWords → Type 0
-HasBudget (words.Check check) = check.budget ≤ highest_budget
+HasBudget (words.Check check) = check.limits.budget ≤ highest_budget
 HasBudget (words.Assemble source) = Unit {0}
 HasBudget (words.List program) = Unit {0}

@@ -1,7 +1,6 @@
 ghost use Rattle.std.specs.Prelude.{◌≡◌, ◌≤◌, ◌<◌, ◌^◌, ℕ, length, map, string_bytes, IfOk, IsTrue, ◌∷◌, []};
 ghost use Rattle.elf32_loader.specs.Images.{picture_of};
-ghost use Rattle.lockstep_replay.specs.Cuts.{CutPicture};
-ghost use Rattle.lockstep_replay.specs.CutPictures.{cut_picture};
+ghost use Rattle.cut_file.specs.Pictures.{picture_of as cut_of};
 ghost use Rattle.flow_base.specs.Counts.{Rose};
 ghost use Rattle.flowcheck.specs.Answering.{reply_of, is_one_of, Answers, CommandLoads, IsNoCommand, LoadsByTold};
 ghost use Rattle.flowcheck.specs.CommandLines.{Checks, IsCommand, highest_budget};
@@ -11,14 +10,17 @@ ghost use Rattle.flowcheck.specs.Stops.{AreShort};
 ghost use Rattle.flowcheck.specs.Words.{HasBudget, check_of, command_of};
 
 use crate::judging::check_all;
+use crate::limits::Limits;
 use crate::loads::{Loaded, load_all};
 use crate::one_file::{reply_to_program, reply_to_source};
-use crate::refusals::{cut_reply, program_fault, program_reply, stop_reply, usage_reply};
+use crate::refusals::{
+    cut_fault, cut_reply, program_fault, program_reply, stop_reply, usage_reply,
+};
 use crate::replies::Reply;
 use crate::words::{CheckWords, CommandWords, command_words};
+use cut_file::read_cut;
 use elf32_loader::{Image, load_image};
 use flow_base::{Bytes, Files, NoMemory};
-use lockstep_replay::{CutFault, read_in_cut};
 use std::alloc::Global;
 
 /// The reply once the program is read: to the cut file, and to the secrets by its cut.
@@ -26,39 +28,38 @@ fn reply_to_cut(
     alloc: Global,
     image: &Image,
     loaded: &Loaded,
-    budget: u32,
+    limits: Limits,
 ) -> Result<Reply, NoMemory>
     requires cut { length loaded.now.cut ≤ cut_limit }
     requires short { AreShort loaded.now.secrets }
-    requires within { budget ≤ highest_budget }
-    ensures reply { IfOk result (λ reply. RepliesToCut (picture_of image.now) loaded.now.public_input loaded.now.cut budget loaded.now.secrets (reply_of reply)) }
+    requires within { limits.budget ≤ highest_budget }
+    ensures reply { IfOk result (λ reply. RepliesToCut (picture_of image.now) loaded.now.public_input loaded.now.cut limits loaded.now.secrets (reply_of reply)) }
     ensures status { IfOk result (λ reply. IsTrue (is_one_of (0 ∷ 1 ∷ 3 ∷ []) reply.status)) }
 {
-    match read_in_cut(alloc, loaded.cut.as_slice()) {
+    match read_cut(alloc, loaded.cut.as_slice()) {
         Ok(cut) => check_all(
             alloc,
             image,
             &loaded.public_input,
             &cut,
-            budget,
+            limits,
             loaded.secrets.as_slice(),
         ),
-        Err(CutFault::Unbuilt) => cut_reply(alloc),
-        Err(CutFault::Memory) => Err(NoMemory),
+        Err(fault) => cut_reply(alloc, &cut_fault(fault)?),
     }
 }
 
 /// The reply once all files are loaded.
-fn reply_to_files(alloc: Global, loaded: &Loaded, budget: u32) -> Result<Reply, NoMemory>
+fn reply_to_files(alloc: Global, loaded: &Loaded, limits: Limits) -> Result<Reply, NoMemory>
     requires program { length loaded.now.program ≤ program_limit }
     requires cut { length loaded.now.cut ≤ cut_limit }
     requires short { AreShort loaded.now.secrets }
-    requires within { budget ≤ highest_budget }
-    ensures reply { IfOk result (λ reply. RepliesToFiles budget loaded.now.program loaded.now.public_input loaded.now.cut loaded.now.secrets (reply_of reply)) }
+    requires within { limits.budget ≤ highest_budget }
+    ensures reply { IfOk result (λ reply. RepliesToFiles limits loaded.now.program loaded.now.public_input loaded.now.cut loaded.now.secrets (reply_of reply)) }
     ensures status { IfOk result (λ reply. IsTrue (is_one_of (0 ∷ 1 ∷ 3 ∷ []) reply.status)) }
 {
     match load_image(alloc, loaded.program.as_slice()) {
-        Ok(image) => reply_to_cut(alloc, &image, loaded, budget),
+        Ok(image) => reply_to_cut(alloc, &image, loaded, limits),
         Err(fault) => program_reply(alloc, &program_fault(fault)?),
     }
 }
@@ -69,14 +70,14 @@ fn reply_to_check<F: Files>(
     files: &mut F,
     check: &CheckWords,
 ) -> Result<Reply, NoMemory>
-    requires within { check.now.budget ≤ highest_budget }
+    requires within { check.now.limits.budget ≤ highest_budget }
     ensures reply { IfOk result (λ reply. Answers (F.told files.old) (Checks (check_of check.now)) (reply_of reply)) }
     ensures loads { IfOk result (λ reply. CommandLoads (F.told files.old) (Checks (check_of check.now)) (F.told files.new)) }
     ensures cause { IfOk result (λ reply. reply.status ≡ 5 → Rose (F.faults files.old) (F.faults files.new)) }
     ensures status { IfOk result (λ reply. IsTrue (is_one_of (0 ∷ 1 ∷ 3 ∷ 5 ∷ 6 ∷ []) reply.status)) }
 {
     match load_all(alloc, files, check) {
-        Ok(loaded) => reply_to_files(alloc, &loaded, check.budget),
+        Ok(loaded) => reply_to_files(alloc, &loaded, check.limits),
         Err(stop) => stop_reply(alloc, &stop),
     }
 }

@@ -1,8 +1,9 @@
 ghost use Rattle.std.specs.Prelude.{◌≡◌, IfOk};
 ghost use Rattle.elf32_loader.specs.declared.fault.ElfFault.TheVariants.{NotElf32 as TheNotElf32, EntryOutside as TheEntryOutside};
-ghost use Rattle.flowcheck.specs.FaultTexts.{hex_byte as hex_byte_of, program_fault_text as program_fault_text_of, source_fault_text as source_fault_text_of};
+ghost use Rattle.flowcheck.specs.FaultTexts.{cut_fault_text as cut_fault_text_of, hex_byte as hex_byte_of, program_fault_text as program_fault_text_of, source_fault_text as source_fault_text_of};
 
 use crate::texts::joined;
+use cut_file::CutFault;
 use elf32_loader::ElfFault;
 use flow_base::{Bytes, NoMemory, hex_digits, hex_word};
 use rv32im_asm::AsmFault;
@@ -57,6 +58,21 @@ pub fn program_fault_text(alloc: Global, fault: &ElfFault) -> Result<Bytes, NoMe
         ElfFault::Overlap { first, second } => format!(in alloc; "overlap {first} {second}")?,
         ElfFault::EntryOutside { entry } => return entry_text(alloc, entry),
         ElfFault::Memory => return Bytes::from_slice(alloc, b"memory"),
+    };
+    Ok(Bytes::from_vec(text.into_bytes()))
+}
+
+/// What is wrong with a cut file.
+pub fn cut_fault_text(alloc: Global, fault: &CutFault) -> Result<Bytes, NoMemory>
+    ensures { IfOk result (λ text. text ≡ cut_fault_text_of fault.now) }
+{
+    let text = match *fault {
+        CutFault::Version => return Bytes::from_slice(alloc, b"version"),
+        CutFault::Line { number } => format!(in alloc; "line {number}")?,
+        CutFault::Order { number } => format!(in alloc; "order {number}")?,
+        CutFault::Truncated => return Bytes::from_slice(alloc, b"truncated"),
+        CutFault::Trailing { offset } => format!(in alloc; "trailing {offset}")?,
+        CutFault::Memory => return Bytes::from_slice(alloc, b"memory"),
     };
     Ok(Bytes::from_vec(text.into_bytes()))
 }

@@ -1,23 +1,23 @@
 ghost use Rattle.std.specs.Prelude.{◌≡◌, ◌==◌, ◌≤◌, length, IfOk, [], ◌∷◌, if◌then◌else◌};
 ghost use Rattle.elf32_loader.specs.Images.{picture_of};
-ghost use Rattle.lockstep_replay.specs.CutPictures.{cut_picture};
+ghost use Rattle.cut_file.specs.Pictures.{picture_of as cut_of};
 ghost use Rattle.lockstep_replay.specs.Judgements.{judgement_of};
 ghost use Rattle.lockstep_replay.specs.Verdicts.{First};
 ghost use Rattle.flowcheck.specs.Answering.{reply_of};
 ghost use Rattle.flowcheck.specs.CommandLines.{highest_budget};
-ghost use Rattle.flowcheck.specs.Replies.{check_reply, judgements_of, turn_limit};
+ghost use Rattle.flowcheck.specs.Replies.{check_reply, judgements_of};
 ghost use Rattle.flowcheck.specs.Stops.{AreShort};
 ghost use Rattle.flowcheck.specs.Loading.{secret_limit};
 ghost use Rattle.flowcheck.specs.Texts.{accepted_count, verdict_lines};
 
+use crate::limits::Limits;
 use crate::replies::Reply;
 use crate::texts::{counts_line, verdict_line};
+use cut_file::Cut;
 use elf32_loader::Image;
 use flow_base::{Bytes, NoMemory};
-use lockstep_replay::{InCut, Lockstep, Verdict};
+use lockstep_replay::{Lockstep, Verdict};
 use std::alloc::Global;
-
-const TURN_LIMIT: u32 = 1_000_000;
 
 /// The verdict on a secret, from a fresh start of the program.
 fn judge(
@@ -25,14 +25,22 @@ fn judge(
     image: &Image,
     public_input: &Bytes,
     secret: &Bytes,
-    cut: &InCut,
-    budget: u32,
+    cut: &Cut,
+    limits: Limits,
 ) -> Result<Verdict, NoMemory>
     requires short { length secret.now ≤ secret_limit }
-    requires within { budget ≤ highest_budget }
-    ensures { IfOk result (λ verdict. judgement_of verdict ≡ First (picture_of image.now) public_input.now secret.now (cut_picture cut.now) budget turn_limit) }
+    requires within { limits.budget ≤ highest_budget }
+    ensures { IfOk result (λ verdict. judgement_of verdict ≡ First (picture_of image.now) public_input.now secret.now (cut_of cut.now) limits.budget limits.turns) }
 {
-    let lockstep = Lockstep::new(alloc, image, public_input, secret, cut, budget, TURN_LIMIT)?;
+    let lockstep = Lockstep::new(
+        alloc,
+        image,
+        public_input,
+        secret,
+        cut,
+        limits.budget,
+        limits.turns,
+    )?;
     Ok(lockstep.run())
 }
 
@@ -67,21 +75,21 @@ fn lines_of(
     alloc: Global,
     image: &Image,
     public_input: &Bytes,
-    cut: &InCut,
-    budget: u32,
+    cut: &Cut,
+    limits: Limits,
     secrets: &[Bytes],
 ) -> Result<Lines, NoMemory>
     requires short { AreShort secrets.now }
-    requires within { budget ≤ highest_budget }
-    ensures text { IfOk result (λ lines. lines.text.items ≡ verdict_lines 1 (judgements_of (picture_of image.now) public_input.now (cut_picture cut.now) budget secrets.now)) }
-    ensures accepted { IfOk result (λ lines. lines.accepted ≡ accepted_count (judgements_of (picture_of image.now) public_input.now (cut_picture cut.now) budget secrets.now)) }
+    requires within { limits.budget ≤ highest_budget }
+    ensures text { IfOk result (λ lines. lines.text.items ≡ verdict_lines 1 (judgements_of (picture_of image.now) public_input.now (cut_of cut.now) limits secrets.now)) }
+    ensures accepted { IfOk result (λ lines. lines.accepted ≡ accepted_count (judgements_of (picture_of image.now) public_input.now (cut_of cut.now) limits secrets.now)) }
 {
     let mut text = Vec::new(alloc);
     let mut number = 0;
     let mut accepted = 0;
     for secret in secrets {
         number += 1;
-        let verdict = judge(alloc, image, public_input, secret, cut, budget)?;
+        let verdict = judge(alloc, image, public_input, secret, cut, limits)?;
         let line = verdict_line(alloc, number, &verdict)?;
         text.extend_from_slice(line.as_slice())?;
         accepted += accepted_by(&verdict);
@@ -95,17 +103,17 @@ pub fn check_all(
     alloc: Global,
     image: &Image,
     public_input: &Bytes,
-    cut: &InCut,
-    budget: u32,
+    cut: &Cut,
+    limits: Limits,
     secrets: &[Bytes],
 ) -> Result<Reply, NoMemory>
     requires short { AreShort secrets.now }
-    requires within { budget ≤ highest_budget }
-    ensures reply { IfOk result (λ reply. reply_of reply ≡ check_reply (judgements_of (picture_of image.now) public_input.now (cut_picture cut.now) budget secrets.now) budget) }
+    requires within { limits.budget ≤ highest_budget }
+    ensures reply { IfOk result (λ reply. reply_of reply ≡ check_reply (judgements_of (picture_of image.now) public_input.now (cut_of cut.now) limits secrets.now) limits.budget) }
     ensures status { IfOk result (λ reply. reply.status ≤ 1) }
 {
-    let lines = lines_of(alloc, image, public_input, cut, budget, secrets)?;
-    let counts = counts_line(alloc, secrets.len(), lines.accepted, budget)?;
+    let lines = lines_of(alloc, image, public_input, cut, limits, secrets)?;
+    let counts = counts_line(alloc, secrets.len(), lines.accepted, limits.budget)?;
     let status = status_of(lines.accepted, secrets.len());
     let mut text = lines.text;
     text.extend_from_slice(counts.as_slice())?;

@@ -1,14 +1,16 @@
 ghost use Rattle.std.specs.Prelude.{◌≡◌, ◌≢◌, ℕ, IfOk, OnErr};
 ghost use Rattle.elf32_loader.specs.declared.fault.ElfFault.TheVariants.{Memory as NoRoomForProgram};
+ghost use Rattle.cut_file.specs.declared.faults.CutFault.TheVariants.{Memory as NoRoomForCut};
 ghost use Rattle.rv32im_asm.specs.declared.fault.AsmFault.TheVariants.{Memory as NoRoomForSource};
 ghost use Rattle.flowcheck.specs.Answering.{reply_of};
 ghost use Rattle.flowcheck.specs.Loading.{CannotLoad, IsTooLarge};
 ghost use Rattle.flowcheck.specs.Replies.{usage_reply as usage_reply_of, program_reply as program_reply_of, source_reply as source_reply_of, cut_reply as cut_reply_of, load_reply};
 ghost use Rattle.flowcheck.specs.Stops.{RepliesToStop};
 
-use crate::fault_texts::{program_fault_text, source_fault_text};
+use crate::fault_texts::{cut_fault_text, program_fault_text, source_fault_text};
 use crate::loads::LoadStop;
 use crate::replies::Reply;
+use cut_file::CutFault;
 use elf32_loader::ElfFault;
 use flow_base::{Bytes, NoMemory};
 use rv32im_asm::AsmFault;
@@ -29,6 +31,17 @@ pub fn program_fault(fault: ElfFault) -> Result<ElfFault, NoMemory>
 {
     match fault {
         ElfFault::Memory => Err(NoMemory),
+        fault => Ok(fault),
+    }
+}
+
+/// A fault of a cut file; want of memory is none.
+pub fn cut_fault(fault: CutFault) -> Result<CutFault, NoMemory>
+    ensures told { IfOk result (λ told. (told ≡ fault) × (fault ≢ NoRoomForCut)) }
+    ensures none { OnErr result (fault ≡ NoRoomForCut) }
+{
+    match fault {
+        CutFault::Memory => Err(NoMemory),
         fault => Ok(fault),
     }
 }
@@ -72,12 +85,18 @@ pub fn source_reply(alloc: Global, fault: &AsmFault) -> Result<Reply, NoMemory>
     })
 }
 
-/// The reply to a cut file that is not read so far.
-pub fn cut_reply(alloc: Global) -> Result<Reply, NoMemory>
-    ensures { IfOk result (λ reply. reply_of reply ≡ cut_reply_of) }
+/// The reply to a cut file that gives no cut.
+pub fn cut_reply(alloc: Global, fault: &CutFault) -> Result<Reply, NoMemory>
+    ensures { IfOk result (λ reply. reply_of reply ≡ cut_reply_of fault.now) }
 {
-    let text = Bytes::from_slice(alloc, b"refused 3 cut unbuilt\n")?;
-    Ok(Reply { status: 3, text })
+    let fault = cut_fault_text(alloc, fault)?;
+    let mut text = b"refused 3 cut ".to_vec(alloc)?;
+    text.extend_from_slice(fault.as_slice())?;
+    text.extend_from_slice(b"\n")?;
+    Ok(Reply {
+        status: 3,
+        text: Bytes::from_vec(text),
+    })
 }
 
 /// The reply to a load that fails.

@@ -54,6 +54,12 @@ const ALL_BITS: &str =
 
 const NO_BITS: &str = "flowcheck-cut 1\nsecret 1\nbits 0\nend\n";
 
+const TRAILING: &str = "flowcheck-cut 1\nsecret 1\nbits 0\nend\n ";
+
+/// Half of a written byte.
+const OUT: &str = "flowcheck-cut 1\nsecret 1\nbits 4\npoint 0 0x0001001c ou rest 0x0000000f\nend\n";
+
+/// The lowest bit, where it is masked.
 const REGISTER: &str =
     "flowcheck-cut 1\nsecret 1\nbits 1\npoint 0 0x00010018 rs 1*0x00000001 rest 0x00000001\nend\n";
 
@@ -148,6 +154,16 @@ const ABSENT: [&str; 6] = ["check", "prog", "public", "cut", "8", "s9"];
 
 const LARGE: [&str; 6] = ["check", "prog", "large", "cut", "8", "s3"];
 
+const TURNS_0: [&str; 8] = ["check", "prog", "public", "cut", "8", "s3", "--turns", "0"];
+
+const TURNS_2: [&str; 8] = ["check", "prog", "public", "cut", "0", "s3", "--turns", "2"];
+
+const TURNS_3: [&str; 8] = ["check", "prog", "public", "cut", "0", "s3", "--turns", "3"];
+
+const FOUR: [&str; 6] = ["check", "prog", "public", "cut", "4", "s65"];
+
+const ONE: [&str; 7] = ["check", "prog", "public", "cut", "1", "s3", "s4"];
+
 const LONG: [&str; 7] = ["check", "prog", "public", "cut", "8", "s3", "s34"];
 
 #[test]
@@ -171,6 +187,15 @@ fn secrets_are_judged(rt: HostRuntime) -> Result<(), Fail> {
             status: 0,
             text: "accepted 1 bits 8 crossing 03 output 1 status 0\naccepted 2 bits 8 crossing 05 output 1 status 0\n\
                 accepted 3 bits 8 crossing 04 output 1 status 0\nchecked 3 accepted 3 budget 8\n",
+        },
+        // one bit crosses, behind the mask
+        Row {
+            program: low.as_slice(),
+            cut: REGISTER,
+            words: &ONE,
+            status: 0,
+            text: "accepted 1 bits 1 crossing 01 output 1 status 0\naccepted 2 bits 1 crossing 00 output 1 status 0\n\
+                checked 2 accepted 2 budget 1\n",
         },
         // a secret of another length
         Row {
@@ -207,7 +232,7 @@ fn runs_are_rejected(rt: HostRuntime) -> Result<(), Fail> {
             cut: NO_BITS,
             words: &ZERO[..6],
             status: 1,
-            text: "rejected 1 unequal\nchecked 1 accepted 0 budget 0\n",
+            text: "rejected 1 output index 0 real 65 replay 0\nchecked 1 accepted 0 budget 0\n",
         },
         // the guest is stopped
         Row {
@@ -216,6 +241,29 @@ fn runs_are_rejected(rt: HostRuntime) -> Result<(), Fail> {
             words: &ZERO[..6],
             status: 1,
             text: "rejected 1 guest load-outside 0x00010000 address 0x00000000\nchecked 1 accepted 0 budget 0\n",
+        },
+        // half of the written byte crosses
+        Row {
+            program: echo.as_slice(),
+            cut: OUT,
+            words: &FOUR,
+            status: 1,
+            text: "rejected 1 output index 0 real 65 replay 1\nchecked 1 accepted 0 budget 4\n",
+        },
+        // one turn too few, and just enough
+        Row {
+            program: exit.as_slice(),
+            cut: NO_BITS,
+            words: &TURNS_2,
+            status: 1,
+            text: "rejected 1 turns 2\nchecked 1 accepted 0 budget 0\n",
+        },
+        Row {
+            program: exit.as_slice(),
+            cut: NO_BITS,
+            words: &TURNS_3,
+            status: 0,
+            text: "accepted 1 bits 0 crossing - output 0 status 0\nchecked 1 accepted 1 budget 0\n",
         },
         // no bit crosses
         Row {
@@ -253,13 +301,29 @@ fn commands_are_refused(rt: HostRuntime) -> Result<(), Fail> {
             status: 3,
             text: "refused 3 program truncated need 52 have 51\n",
         },
-        // a cut at a register
+        // a cut with a byte behind it
         Row {
             program: low.as_slice(),
-            cut: REGISTER,
+            cut: TRAILING,
             words: &EIGHT[..6],
             status: 3,
-            text: "refused 3 cut unbuilt\n",
+            text: "refused 3 cut trailing 36\n",
+        },
+        // a cut that is not whole
+        Row {
+            program: low.as_slice(),
+            cut: "flowcheck-cut 1\n",
+            words: &EIGHT[..6],
+            status: 3,
+            text: "refused 3 cut truncated\n",
+        },
+        // a limit of no turns
+        Row {
+            program: low.as_slice(),
+            cut: ALL_BITS,
+            words: &TURNS_0,
+            status: 2,
+            text: "refused 2 usage\n",
         },
         // a name that is not held
         Row {

@@ -3,11 +3,13 @@ ghost use Rattle.std.specs.Fmt.{decimal};
 ghost use Rattle.flow_base.specs.HexWords.{hex_word as hex_word_of};
 ghost use Rattle.lockstep_replay.specs.Judgements.{judgement_of};
 ghost use Rattle.lockstep_replay.specs.Verdicts.{Accepts, Rejects};
-ghost use Rattle.flowcheck.specs.Texts.{counts_line as counts_line_of, fault_text as fault_text_of, why_text as why_text_of, verdict_line as verdict_line_of};
+ghost use Rattle.lockstep_replay.specs.declared.verdicts.Why.TheVariants.{Parted};
+ghost use Rattle.flowcheck.specs.Texts.{counts_line as counts_line_of, fault_text as fault_text_of, why_text as why_text_of, verdict_line as verdict_line_of, mark_text as mark_text_of, stop_text as stop_text_of};
 
 use crossing_bits::Bits;
 use flow_base::{Bytes, NoMemory, Output, hex_word};
-use lockstep_replay::{Verdict, Why};
+use lockstep_replay::{ReplayStop, Verdict, Why};
+use replay_machine::Mark;
 use rv32im_machine::Fault;
 use std::alloc::Global;
 
@@ -73,6 +75,44 @@ pub fn joined(alloc: Global, head: &str, rest: &Bytes) -> Result<Bytes, NoMemory
     Ok(Bytes::from_vec(text))
 }
 
+/// Why a replay is stopped.
+fn stop_text(alloc: Global, stop: ReplayStop) -> Result<Bytes, NoMemory>
+    ensures { IfOk result (λ text. text ≡ stop_text_of stop) }
+{
+    match stop {
+        ReplayStop::Guest(fault) => joined(alloc, "guest ", &fault_text(alloc, fault)?),
+        ReplayStop::Short { missing } => {
+            let text = format!(in alloc; "short {missing}")?;
+            Ok(Bytes::from_vec(text.into_bytes()))
+        }
+    }
+}
+
+/// Where a run stands.
+fn mark_text(alloc: Global, mark: Mark) -> Result<Bytes, NoMemory>
+    ensures { IfOk result (λ text. text ≡ mark_text_of mark) }
+{
+    let bits = mark.bits;
+    let output = mark.output;
+    let ended = if mark.exited { "exited" } else { "running" };
+    let tail = format!(in alloc; " bits {bits} output {output} {ended}")?;
+    let mut text = hex_word(mark.address).to_vec(alloc)?;
+    text.extend_from_slice(tail.as_bytes())?;
+    Ok(Bytes::from_vec(text))
+}
+
+/// The marks of a real run and its replay that parted.
+fn parted_text(alloc: Global, real: Mark, replay: Mark) -> Result<Bytes, NoMemory>
+    ensures { IfOk result (λ text. text ≡ why_text_of (Parted real replay)) }
+{
+    let real = mark_text(alloc, real)?;
+    let replay = mark_text(alloc, replay)?;
+    let replay = joined(alloc, " replay ", &replay)?;
+    let mut both = real.as_slice().to_vec(alloc)?;
+    both.extend_from_slice(replay.as_slice())?;
+    joined(alloc, "parted real ", &Bytes::from_vec(both))
+}
+
 /// Why a secret is rejected.
 fn why_text(alloc: Global, why: Why) -> Result<Bytes, NoMemory>
     ensures { IfOk result (λ text. text ≡ why_text_of why) }
@@ -83,6 +123,16 @@ fn why_text(alloc: Global, why: Why) -> Result<Bytes, NoMemory>
             let text = format!(in alloc; "budget {budget} needed {needed}")?;
             Ok(Bytes::from_vec(text.into_bytes()))
         }
+        Why::ReplayFault(stop) => joined(alloc, "replay ", &stop_text(alloc, stop)?),
+        Why::Parted { real, replay } => parted_text(alloc, real, replay),
+        Why::OutputDiffers {
+            index,
+            real,
+            replay,
+        } => {
+            let text = format!(in alloc; "output index {index} real {real} replay {replay}")?;
+            Ok(Bytes::from_vec(text.into_bytes()))
+        }
         Why::TurnLimit { limit } => {
             let text = format!(in alloc; "turns {limit}")?;
             Ok(Bytes::from_vec(text.into_bytes()))
@@ -91,7 +141,6 @@ fn why_text(alloc: Global, why: Why) -> Result<Bytes, NoMemory>
             let text = format!(in alloc; "secret-length cut {cut} got {got}")?;
             Ok(Bytes::from_vec(text.into_bytes()))
         }
-        Why::Unequal => Bytes::from_slice(alloc, b"unequal"),
     }
 }
 

@@ -3,7 +3,8 @@ use Rattle.std.specs.Prelude.{◌≡◌, ℕ, List, Bool, length}
 use Rattle.flow_base.specs.declared.outputs.Output.{Output}
 use Rattle.elf32_loader.specs.Pictures.{Picture}
 use Rattle.elf32_loader.specs.Programs.{IsImage}
-use Rattle.lockstep_replay.specs.Cuts.{CutPicture, IsCutText}
+use Rattle.cut_file.specs.Cuts.{CutPicture}
+use Rattle.cut_file.specs.Texts.{CutText}
 use Rattle.lockstep_replay.specs.Verdicts.{Judgement, Accepts, First}
 
 -- the most bits that may cross, and the most turns of a run
@@ -16,7 +17,7 @@ turns = 1000000
 -- the judgement of a secret, by a program file and the text of a cut
 abbrev pub IsJudgement : List ℕ → List ℕ → List ℕ → List ℕ → Judgement → Type 0
 IsJudgement program text public_input secret judgement =
-    (picture : Picture) × (cut : CutPicture) × IsImage program picture × IsCutText text cut
+    (picture : Picture) × (cut : CutPicture) × IsImage program picture × CutText text cut
     × (judgement ≡ First picture public_input secret cut budget turns)
 
 -- the number of bytes and the status are those of the output of a run that is accepted

@@ -1,13 +1,14 @@
 ghost use Rattle.std.specs.Prelude.{◌≡◌, ◌<◌, ◌^◌, length, IfSome};
 ghost use Rattle.lockstep_replay.specs.Judgements.{judgement_of};
-ghost use Rattle.lockstep_replay.specs.CutPictures.{cut_picture};
+ghost use Rattle.cut_file.specs.Pictures.{picture_of as cut_of};
 ghost use Rattle.lockstep_replay.specs.Verdicts.{First};
 ghost use Rattle.elf32_loader.specs.Images.{picture_of};
 ghost use Rattle.guest_runs.specs.Accepted.{IsAccepted, IsJudgement, budget, turns};
 
+use cut_file::{Cut, read_cut};
 use elf32_loader::{Image, load_image};
 use flow_base::{Bytes, Files};
-use lockstep_replay::{InCut, Lockstep, Verdict, read_in_cut};
+use lockstep_replay::{Lockstep, Verdict};
 use std::alloc::Global;
 
 /// Every bit of a secret may cross.
@@ -64,10 +65,10 @@ fn judge(
     image: &Image,
     public_input: &Bytes,
     secret: &Bytes,
-    cut: &InCut,
+    cut: &Cut,
 ) -> Option<Verdict>
     requires short { length secret.now < 2 ^ 32 }
-    ensures { IfSome result (λ verdict. judgement_of verdict ≡ First (picture_of image.now) public_input.now secret.now (cut_picture cut.now) budget turns) }
+    ensures { IfSome result (λ verdict. judgement_of verdict ≡ First (picture_of image.now) public_input.now secret.now (cut_of cut.now) budget turns) }
 {
     let Ok(lockstep) = Lockstep::new(alloc, image, public_input, secret, cut, BUDGET, TURNS) else {
         return None;
@@ -84,7 +85,7 @@ fn verdict(alloc: Global, program: &[u8], cut: &[u8], run: &Run) -> Option<Verdi
     let Ok(image) = load_image(alloc, program) else {
         return None;
     };
-    let Ok(cut) = read_in_cut(alloc, cut) else {
+    let Ok(cut) = read_cut(alloc, cut) else {
         return None;
     };
     let public_input = bytes_of(alloc, run.public_input)?;

@@ -9,12 +9,16 @@ use Rattle.crossing_bits.proofs.Feeding.{le_or_lt}
 use Rattle.rv32im_machine.specs.declared.stepping.Stepped.{Stepped}
 use Rattle.rv32im_machine.specs.declared.stepping.Stepped.TheVariants.{Ran, Exited, Stopped}
 use Rattle.lockstep_replay.specs.declared.verdicts.Why.{Why}
-use Rattle.lockstep_replay.specs.Cuts.{CutPicture, MaskAt}
-use Rattle.lockstep_replay.specs.Runs.{Place, Masks, fresh, real_after, Cross, Replay}
-use Rattle.lockstep_replay.specs.Acceptance.{guest, replay_guest, HasExited, Follows, Accept}
+use Rattle.cut_file.specs.Cuts.{CutPicture}
+use Rattle.cut_file.specs.Masks.{MaskAt}
+use Rattle.replay_machine.specs.Runs.{Place, Masks, fresh, real_after, Replay}
+use Rattle.lockstep_replay.specs.Crossing.{Cross}
+use Rattle.replay_machine.specs.Starts.{guest, replay_guest}
+use Rattle.lockstep_replay.specs.Acceptance.{HasExited, Follows, Accept}
 use Rattle.lockstep_replay.specs.Verdicts.{Judgement, Accepts, Rejects, Task, task_of, why_after, judged_mode, judged_after, judged_from}
 use Rattle.lockstep_replay.specs.VerdictLaws.{AcceptedLaw}
-use Rattle.lockstep_replay.proofs.Stillness.{IsOver, cross_later}
+use Rattle.replay_machine.proofs.Stillness.{IsOver}
+use Rattle.lockstep_replay.proofs.Stillness.{cross_later}
 use Rattle.lockstep_replay.proofs.Bounds.{over_exited, more_turns_law}
 use Rattle.lockstep_replay.proofs.Fine.{Fine, fine_of, alike_same, same_status}
 
@@ -23,7 +27,7 @@ abbrev pub real_at : Task → ℕ → Place
 real_at task turns = real_after turns (fresh task.real)
 
 abbrev pub cross_at : Task → ℕ → List Bool
-cross_at task turns = Cross (MaskAt task.points) turns (fresh task.real)
+cross_at task turns = Cross task.masks turns (fresh task.real)
 
 -- the output of these bytes and this exit status
 abbrev pub exit_output : List ℕ → ℕ → Output
@@ -119,10 +123,9 @@ pub fine_at :
 fine_at picture public_input secret cut budget turns j n =
     fine_of budget (real_after j (guest picture public_input secret)).state
     (Cross (MaskAt cut.points) j (guest picture public_input secret))
-    (feed (Replay (MaskAt cut.points) j (replay_guest picture public_input cut.secret_length))
-    (Cross (MaskAt cut.points) j (guest picture public_input secret))) n
+    (Replay (MaskAt cut.points) j (replay_guest picture public_input cut.secret_length)) n
 
-follows_fine :
+pub follows_fine :
     (picture : Picture) (public_input secret : List ℕ) (cut : CutPicture) (budget j : ℕ) →
     FineAt picture public_input secret cut budget j →
     Follows picture public_input (MaskAt cut.points) cut.secret_length secret j

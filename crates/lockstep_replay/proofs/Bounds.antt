@@ -10,9 +10,12 @@ use Rattle.crossing_bits.proofs.Outputs.{outputs_few, reached_through, strings_f
 use Rattle.crossing_bits.proofs.Weighing.{kraft}
 use Rattle.rv32im_machine.specs.declared.stepping.Stepped.{Stepped}
 use Rattle.rv32im_machine.specs.declared.stepping.Stepped.TheVariants.{Ran, Exited, Stopped}
-use Rattle.lockstep_replay.specs.Runs.{Place, Masks, real_after, Cross, Replay}
-use Rattle.lockstep_replay.specs.Acceptance.{guest, replay_guest, HasExited, EndAlike, SameMark, Done, Follows, PrefixesLaw, IsCross, CrossesLaw, IsOutput, BoundLaw, MoreTurnsLaw}
-use Rattle.lockstep_replay.proofs.Stillness.{IsOver, real_later, cross_later, replay_later}
+use Rattle.replay_machine.specs.Runs.{Place, Masks, real_after, Replay}
+use Rattle.lockstep_replay.specs.Crossing.{Cross}
+use Rattle.replay_machine.specs.Starts.{guest, replay_guest}
+use Rattle.lockstep_replay.specs.Acceptance.{HasExited, EndAlike, SameMark, Done, Follows, PrefixesLaw, IsCross, CrossesLaw, IsOutput, BoundLaw, MoreTurnsLaw}
+use Rattle.replay_machine.proofs.Stillness.{IsOver}
+use Rattle.lockstep_replay.proofs.Stillness.{real_later, cross_later, replay_later}
 
 pub prefixes_law : PrefixesLaw
 prefixes_law picture public_input masks secret_length turns first second output other p q h =

@@ -1,20 +1,29 @@
 -- What holds after a turn in which no condition fails, and what the condition that fails says.
-use Rattle.std.proofs.Common.{◌≡◌, ℕ, ◌==◌, ◌≤◌, ◌<◌, List, [], ◌∷◌, length, refl, ap, subst, ◌∙◌, Bool, true, false}
+use Rattle.std.proofs.Common.{◌≡◌, ℕ, suc, ◌-◌, ◌==◌, ◌≤◌, ◌<◌, inl, inr, List, [], ◌∷◌, length, length-drop, take, drop, refl, ap, sym, subst, ◌∙◌, Bool, true, false, arith, Option, Some, None, if◌then◌else◌}
+use Rattle.std.proofs.Math.Bool.{beq}
 use Rattle.std.proofs.lemmas.Bool.{ltb-true, ltb-false, le-ltb}
 use Rattle.std.proofs.lemmas.Bool.Decides.{Decides-eqb}
-use Rattle.std.proofs.lemmas.Slice.Eq.{bytes_eq-Decides}
-use Rattle.std.specs.Prelude.{◌&&◌, nat_lt, Some, None}
-use Rattle.std.specs.Str.{bytes_eq}
-use Rattle.crossing_bits.specs.Askers.{Fed, Fed', Short}
+use Rattle.std.proofs.lemmas.List.{nil_from_length}
+use Rattle.std.specs.Cmp.{booleans_Decides}
+use Rattle.std.specs.Prelude.{◌&&◌, nat_lt}
+use Rattle.crossing_bits.specs.Askers.{Asker, Asks, Over, Fed, Fed', Short, feed}
+use Rattle.crossing_bits.proofs.Feeding.{le_or_lt, feed_enough, feed_few}
 use Rattle.rv32im_machine.specs.declared.stepping.Fault.{Fault}
 use Rattle.rv32im_machine.specs.declared.stepping.Stepped.{Stepped}
 use Rattle.rv32im_machine.specs.declared.stepping.Stepped.TheVariants.{Ran, Exited, Stopped}
 use Rattle.rv32im_machine.specs.State.{State}
+use Rattle.replay_machine.specs.declared.marks.Mark.{Mark}
+use Rattle.replay_machine.specs.Runs.{Place}
+use Rattle.lockstep_replay.specs.declared.differences.Difference.{Difference}
+use Rattle.lockstep_replay.specs.declared.verdicts.ReplayStop.TheVariants.{Guest, Short as TooShort}
 use Rattle.lockstep_replay.specs.declared.verdicts.Why.{Why}
-use Rattle.lockstep_replay.specs.declared.verdicts.Why.TheVariants.{RealFault, BudgetOverrun, TurnLimit, SecretLength, Unequal}
-use Rattle.lockstep_replay.specs.Runs.{Place}
+use Rattle.lockstep_replay.specs.declared.verdicts.Why.TheVariants.{RealFault, BudgetOverrun, ReplayFault, Parted, OutputDiffers}
 use Rattle.lockstep_replay.specs.Acceptance.{EndAlike}
-use Rattle.lockstep_replay.specs.Verdicts.{is_same_mode, is_same_run, is_equal, counted_bits, why_unequal, why_budget, why_mode, why_of}
+use Rattle.replay_machine.specs.Standing.{has_exited}
+use Rattle.lockstep_replay.specs.Marks.{mark_of, is_same_mark}
+use Rattle.lockstep_replay.specs.Differences.{byte_difference, status_difference, first_of, difference_of}
+use Rattle.lockstep_replay.specs.Verdicts.{counted_bits, why_output, why_marks, why_copy, why_replay, why_budget, why_mode, why_of}
+use Rattle.lockstep_replay.specs.VerdictLaws.{Holds}
 
 and_parts : (a b : Bool) → (a && b) ≡ true → (a ≡ true) × (b ≡ true)
 and_parts true true e = (refl, refl)
@@ -27,6 +36,16 @@ and_both true b p q = q
 and_both false b p q = absurd (cc)
 
 -- ---- modes
+
+-- both run on, or both have exited with one status
+abbrev pub is_same_mode : Stepped → Stepped → Bool
+is_same_mode Ran Ran = true
+is_same_mode Ran (Exited status) = false
+is_same_mode Ran (Stopped fault) = false
+is_same_mode (Exited status) Ran = false
+is_same_mode (Exited status) (Exited other) = status == other
+is_same_mode (Exited status) (Stopped fault) = false
+is_same_mode (Stopped fault) other = false
 
 pub alike_same : (real copy : Stepped) → is_same_mode real copy ≡ true → EndAlike real copy
 alike_same Ran Ran e = tt
@@ -57,7 +76,117 @@ same_alike (Exited status) (Exited other) h s = (Decides-eqb status other).1 (s 
 same_alike (Exited status) (Stopped fault) h s = absurd h
 same_alike (Stopped fault) copy h s = absurd h
 
+abbrev pub NotStopped : Stepped → Type 0
+NotStopped mode = (fault : Fault) → mode ≡ Stopped fault → ⊥
+
+-- where no condition fails the real run is not stopped
+pub not_stopped : (real copy : Stepped) (fault : Fault) → is_same_mode real copy ≡ true → real ≡ Stopped fault → ⊥
+not_stopped Ran copy fault e h = cc
+not_stopped (Exited status) copy fault e h = cc
+not_stopped (Stopped other) copy fault e h = cc
+
+-- ---- differences
+
+if_none : (test : Bool) (difference : Difference) (first : Option Difference) →
+    (if test then first else Some difference) ≡ None → (test ≡ true) × (first ≡ None)
+if_none true difference first e = (refl, e)
+if_none false difference first e = absurd (cc)
+
+pub no_byte : (index : ℕ) (real copy : List ℕ) → length real ≡ length copy → byte_difference index real copy ≡ None →
+    real ≡ copy
+no_byte index [] [] h e = refl
+no_byte index [] (other ∷ copy) h e = absurd (omega (arith, h))
+no_byte index (byte ∷ real) [] h e = absurd (omega (arith, h))
+no_byte index (byte ∷ real) (other ∷ copy) h e =
+    let parts : (byte == other ≡ true) × (byte_difference (suc index) real copy ≡ None) =
+    if_none (byte == other) (record { index = index; real = byte; replay = other })
+    (byte_difference (suc index) real copy) e in
+    let heads : byte ≡ other = (Decides-eqb byte other).0 parts.0 in
+    let long : length real ≡ length copy = omega (arith, h) in
+    let tails : real ≡ copy = no_byte (suc index) real copy long parts.1 in cc
+
+pub no_byte_self : (index : ℕ) (bytes : List ℕ) → byte_difference index bytes bytes ≡ None
+no_byte_self index [] = refl
+no_byte_self index (byte ∷ bytes) =
+    let test : (byte == byte) ≡ true = (Decides-eqb byte byte).1 refl in rw test (no_byte_self (suc index) bytes)
+
+same_ends :
+    (real copy : Stepped) (index : ℕ) → NotStopped real → NotStopped copy → has_exited real ≡ has_exited copy →
+    status_difference index real copy ≡ None → is_same_mode real copy ≡ true
+same_ends Ran Ran index p q e n = refl
+same_ends Ran (Exited status) index p q e n = absurd (cc)
+same_ends Ran (Stopped fault) index p q e n = absurd (q fault refl)
+same_ends (Exited status) Ran index p q e n = absurd (cc)
+same_ends (Exited status) (Exited other) index p q e n =
+    (if_none (status == other) (record { index = index; real = status; replay = other }) None n).0
+same_ends (Exited status) (Stopped fault) index p q e n = absurd (q fault refl)
+same_ends (Stopped fault) copy index p q e n = absurd (p fault refl)
+
+no_status : (real copy : Stepped) (index : ℕ) → is_same_mode real copy ≡ true →
+    (status_difference index real copy ≡ None) × (has_exited real ≡ has_exited copy)
+no_status Ran Ran index e = (refl, refl)
+no_status Ran (Exited status) index e = absurd (cc)
+no_status Ran (Stopped fault) index e = absurd (cc)
+no_status (Exited status) Ran index e = absurd (cc)
+no_status (Exited status) (Exited other) index e = (rw e refl, refl)
+no_status (Exited status) (Stopped fault) index e = absurd (cc)
+no_status (Stopped fault) copy index e = absurd (cc)
+
+pub first_none : (first second : Option Difference) → first_of first second ≡ None → (first ≡ None) × (second ≡ None)
+first_none None second e = (refl, e)
+first_none (Some difference) second e = absurd (cc)
+
+-- ---- marks
+
+pub record SameMarks (first second : Mark) : Type 0 where
+  pub address : first.address ≡ second.address
+  pub bits : first.bits ≡ second.bits
+  pub output : first.output ≡ second.output
+  pub exited : first.exited ≡ second.exited
+
+pub marks_same : (first second : Mark) → is_same_mark first second ≡ true → SameMarks first second
+marks_same first second e =
+    let one : (first.address == second.address ≡ true) × (((first.bits == second.bits)
+    && ((first.output == second.output) && beq first.exited second.exited)) ≡ true) = and_parts _ _ e in
+    let two : (first.bits == second.bits ≡ true)
+    × (((first.output == second.output) && beq first.exited second.exited) ≡ true) = and_parts _ _ one.1 in
+    let three : (first.output == second.output ≡ true) × (beq first.exited second.exited ≡ true) = and_parts _ _ two.1 in
+    record {
+      address = (Decides-eqb first.address second.address).0 one.0;
+      bits = (Decides-eqb first.bits second.bits).0 two.0;
+      output = (Decides-eqb first.output second.output).0 three.0;
+      exited = (booleans_Decides first.exited second.exited).0 three.1;
+    }
+
+pub same_marks : (first second : Mark) → SameMarks first second → is_same_mark first second ≡ true
+same_marks first second same =
+    and_both (first.address == second.address) _ ((Decides-eqb first.address second.address).1 same.address)
+    (and_both (first.bits == second.bits) _ ((Decides-eqb first.bits second.bits).1 same.bits)
+    (and_both (first.output == second.output) _ ((Decides-eqb first.output second.output).1 same.output)
+    ((booleans_Decides first.exited second.exited).1 same.exited)))
+
+other_marks : (first second : Mark) → is_same_mark first second ≡ false → first ≡ second → ⊥
+other_marks first second e h =
+    let same : is_same_mark first second ≡ true = same_marks first second (record {
+      address = ap (λ (m : Mark). m.address) h;
+      bits = ap (λ (m : Mark). m.bits) h;
+      output = ap (λ (m : Mark). m.output) h;
+      exited = ap (λ (m : Mark). m.exited) h;
+    }) in cc
+
 -- ---- no condition fails
+
+-- what is left of a string was in it
+pub feed_rest : {A : Type 0} (asker : Asker A) (bits : List Bool) (x : A) (rest : List Bool) →
+    feed asker bits ≡ Fed' x rest → length rest ≤ length bits
+feed_rest (Over y) bits x rest h = let same : bits ≡ rest = cc in omega (arith, ap length same)
+feed_rest (Asks n go) bits x rest h = elim (le_or_lt n (length bits)) [
+  | inl enough ↦
+      let shorter : length rest ≤ length (drop n bits) =
+      feed_rest (go (take n bits)) (drop n bits) x rest (sym (feed_enough n go bits enough) ∙ h) in
+      omega (arith, shorter, length-drop n bits)
+  | inr few ↦ let short : feed (Asks n go) bits ≡ Short (n - length bits) = feed_few n go bits few in absurd (cc)
+]
 
 pub record Fine (budget : ℕ) (real : State) (cross : List Bool) (fed : Fed Place) : Type 0 where
   pub place : Place
@@ -67,109 +196,194 @@ pub record Fine (budget : ℕ) (real : State) (cross : List Bool) (fed : Fed Pla
   pub mode : is_same_mode real.control.mode place.state.control.mode ≡ true
   pub output : real.control.output ≡ place.state.control.output
 
-equal_fed :
-    (real : State) (fed : Fed Place) → is_equal real fed ≡ true →
-    (place : Place) × ((fed ≡ Fed' place []) × (is_same_run real place.state ≡ true))
-equal_fed real (Short missing) e = absurd (cc)
-equal_fed real (Fed' place []) e = (place, (refl, e))
-equal_fed real (Fed' place (bit ∷ rest)) e = absurd (cc)
-
 none_budget :
-    (test : Bool) (budget needed : ℕ) (equal : Bool) → why_budget test budget needed equal ≡ None →
-    (test ≡ false) × (equal ≡ true)
-none_budget true budget needed equal e = absurd (cc)
-none_budget false budget needed true e = (refl, refl)
-none_budget false budget needed false e = absurd (cc)
+    (test : Bool) (budget needed : ℕ) (later : Option Why) → why_budget test budget needed later ≡ None →
+    (test ≡ false) × (later ≡ None)
+none_budget true budget needed later e = absurd (cc)
+none_budget false budget needed later e = (refl, e)
 
 none_mode :
-    (mode : Stepped) (budget needed : ℕ) (equal : Bool) → why_mode mode budget needed equal ≡ None →
-    (nat_lt budget needed ≡ false) × (equal ≡ true)
-none_mode Ran budget needed equal e = none_budget (nat_lt budget needed) budget needed equal e
-none_mode (Exited status) budget needed equal e = none_budget (nat_lt budget needed) budget needed equal e
-none_mode (Stopped fault) budget needed equal e = absurd (cc)
+    (mode : Stepped) (budget needed : ℕ) (later : Option Why) → why_mode mode budget needed later ≡ None →
+    NotStopped mode × ((nat_lt budget needed ≡ false) × (later ≡ None))
+none_mode Ran budget needed later e = (λ fault stopped. cc, none_budget (nat_lt budget needed) budget needed later e)
+none_mode (Exited status) budget needed later e =
+    (λ fault stopped. cc, none_budget (nat_lt budget needed) budget needed later e)
+none_mode (Stopped fault) budget needed later e = absurd (cc)
 
-pub fine_of : (budget : ℕ) (real : State) (cross : List Bool) (fed : Fed Place) → why_of budget real cross fed ≡ None →
+pub none_output : (difference : Option Difference) → why_output difference ≡ None → difference ≡ None
+none_output None e = refl
+none_output (Some difference) e = absurd (cc)
+
+pub none_marks :
+    (test : Bool) (real copy : Mark) (later : Option Why) →
+    (if test then later else Some (Parted real copy)) ≡ None → (test ≡ true) × (later ≡ None)
+none_marks true real copy later e = (refl, e)
+none_marks false real copy later e = absurd (cc)
+
+pub none_copy :
+    (mode : Stepped) (real copy : Mark) (difference : Option Difference) → why_copy mode real copy difference ≡ None →
+    NotStopped mode × ((is_same_mark real copy ≡ true) × (difference ≡ None))
+none_copy Ran real copy difference e =
+    let parts : (is_same_mark real copy ≡ true) × (why_output difference ≡ None) =
+    none_marks (is_same_mark real copy) real copy (why_output difference) e in
+    (λ fault stopped. cc, (parts.0, none_output difference parts.1))
+none_copy (Exited status) real copy difference e =
+    let parts : (is_same_mark real copy ≡ true) × (why_output difference ≡ None) =
+    none_marks (is_same_mark real copy) real copy (why_output difference) e in
+    (λ fault stopped. cc, (parts.0, none_output difference parts.1))
+none_copy (Stopped fault) real copy difference e = absurd (cc)
+
+fine_fed :
+    (budget : ℕ) (real : State) (cross : List Bool) (fed : Fed Place) →
+    ((place : Place) (rest : List Bool) → fed ≡ Fed' place rest → length rest ≤ length cross) →
+    NotStopped real.control.mode → nat_lt budget (length cross) ≡ false → why_replay real (length cross) fed ≡ None →
     Fine budget real cross fed
-fine_of budget real cross fed e =
-    let parts : (nat_lt budget (length cross) ≡ false) × (is_equal real fed ≡ true) =
-    none_mode real.control.mode budget (length cross) (is_equal real fed) e in
-    let equal : (place : Place) × ((fed ≡ Fed' place []) × (is_same_run real place.state ≡ true)) = equal_fed real fed parts.1 in
-    let first : (real.control.pc == equal.0.state.control.pc ≡ true)
-    × ((is_same_mode real.control.mode equal.0.state.control.mode && bytes_eq real.control.output equal.0.state.control.output) ≡ true) =
-    and_parts (real.control.pc == equal.0.state.control.pc)
-    (is_same_mode real.control.mode equal.0.state.control.mode && bytes_eq real.control.output equal.0.state.control.output) equal.1.1 in
-    let second : (is_same_mode real.control.mode equal.0.state.control.mode ≡ true)
-    × (bytes_eq real.control.output equal.0.state.control.output ≡ true) =
-    and_parts (is_same_mode real.control.mode equal.0.state.control.mode)
-    (bytes_eq real.control.output equal.0.state.control.output) first.1 in record {
-      place = equal.0;
-      uses = equal.1.0;
-      within = ltb-false budget (length cross) parts.0;
-      address = (Decides-eqb real.control.pc equal.0.state.control.pc).0 first.0;
-      mode = second.0;
-      output = (bytes_eq-Decides real.control.output equal.0.state.control.output).0 second.1;
+fine_fed budget real cross (Short missing) shorter running within e = absurd (cc)
+fine_fed budget real cross (Fed' place rest) shorter running within e =
+    let parts : NotStopped place.state.control.mode
+    × ((is_same_mark (mark_of real (length cross)) (mark_of place.state (length cross - length rest)) ≡ true)
+    × (difference_of real place.state ≡ None)) =
+    none_copy place.state.control.mode (mark_of real (length cross)) (mark_of place.state (length cross - length rest))
+    (difference_of real place.state) e in
+    let marks : SameMarks (mark_of real (length cross)) (mark_of place.state (length cross - length rest)) =
+    marks_same _ _ parts.1.0 in
+    let none : (byte_difference 0 real.control.output place.state.control.output ≡ None)
+    × (status_difference (length real.control.output) real.control.mode place.state.control.mode ≡ None) =
+    first_none _ _ parts.1.1 in
+    let all : length rest ≡ 0 = omega (arith, marks.bits, shorter place rest refl) in
+    let empty : rest ≡ [] = nil_from_length rest all in record {
+      place = place;
+      uses = ap (λ r. Fed' place r) empty;
+      within = ltb-false budget (length cross) within;
+      address = marks.address;
+      mode = same_ends real.control.mode place.state.control.mode (length real.control.output) running parts.0 marks.exited none.1;
+      output = no_byte 0 real.control.output place.state.control.output marks.output none.0;
     }
 
+pub fine_of :
+    (budget : ℕ) (real : State) (cross : List Bool) (asker : Asker Place) →
+    why_of budget real cross (feed asker cross) ≡ None → Fine budget real cross (feed asker cross)
+fine_of budget real cross asker e =
+    let parts : NotStopped real.control.mode × ((nat_lt budget (length cross) ≡ false)
+    × (why_replay real (length cross) (feed asker cross) ≡ None)) =
+    none_mode real.control.mode budget (length cross) (why_replay real (length cross) (feed asker cross)) e in
+    fine_fed budget real cross (feed asker cross) (λ place rest fed. feed_rest asker cross place rest fed)
+    parts.0 parts.1.0 parts.1.1
+
 some_none :
-    (mode copy : Stepped) (budget needed : ℕ) (equal : Bool) → is_same_mode mode copy ≡ true →
-    nat_lt budget needed ≡ false →
-    equal ≡ true → why_mode mode budget needed equal ≡ None
-some_none Ran copy budget needed equal m e f =
-    ap (λ test. why_budget test budget needed equal) e ∙ ap (λ b. why_unequal b) f
-some_none (Exited status) copy budget needed equal m e f =
-    ap (λ test. why_budget test budget needed equal) e ∙ ap (λ b. why_unequal b) f
-some_none (Stopped fault) copy budget needed equal m e f = absurd (cc)
+    (mode copy : Stepped) (budget needed : ℕ) (later : Option Why) → is_same_mode mode copy ≡ true →
+    nat_lt budget needed ≡ false → later ≡ None → why_mode mode budget needed later ≡ None
+some_none Ran copy budget needed later m e f = ap (λ test. why_budget test budget needed later) e ∙ f
+some_none (Exited status) copy budget needed later m e f = ap (λ test. why_budget test budget needed later) e ∙ f
+some_none (Stopped fault) copy budget needed later m e f = absurd (cc)
+
+copy_none :
+    (real mode : Stepped) (first second : Mark) (difference : Option Difference) → is_same_mode real mode ≡ true →
+    is_same_mark first second ≡ true → difference ≡ None → why_copy mode first second difference ≡ None
+copy_none real Ran first second difference m e f = rw (e, f) refl
+copy_none real (Exited status) first second difference m e f = rw (e, f) refl
+copy_none Ran (Stopped fault) first second difference m e f = absurd (cc)
+copy_none (Exited status) (Stopped fault) first second difference m e f = absurd (cc)
+copy_none (Stopped other) (Stopped fault) first second difference m e f = absurd (cc)
 
 pub none_of : (budget : ℕ) (real : State) (cross : List Bool) (fed : Fed Place) → Fine budget real cross fed →
     why_of budget real cross fed ≡ None
 none_of budget real cross fed fine =
-    let same : is_same_run real fine.place.state ≡ true =
-    and_both (real.control.pc == fine.place.state.control.pc)
-    (is_same_mode real.control.mode fine.place.state.control.mode && bytes_eq real.control.output fine.place.state.control.output)
-    ((Decides-eqb real.control.pc fine.place.state.control.pc).1 fine.address)
-    (and_both (is_same_mode real.control.mode fine.place.state.control.mode)
-    (bytes_eq real.control.output fine.place.state.control.output) fine.mode
-    ((bytes_eq-Decides real.control.output fine.place.state.control.output).1 fine.output)) in
-    some_none real.control.mode fine.place.state.control.mode budget (length cross) (is_equal real fed) fine.mode
-    (le-ltb budget (length cross) fine.within) (ap (λ f. is_equal real f) fine.uses ∙ same)
+    let ends : (status_difference (length real.control.output) real.control.mode fine.place.state.control.mode ≡ None)
+    × (has_exited real.control.mode ≡ has_exited fine.place.state.control.mode) =
+    no_status real.control.mode fine.place.state.control.mode (length real.control.output) fine.mode in
+    let marks : is_same_mark (mark_of real (length cross)) (mark_of fine.place.state (length cross - 0)) ≡ true =
+    same_marks (mark_of real (length cross)) (mark_of fine.place.state (length cross - 0)) (record {
+      address = fine.address;
+      bits = omega arith;
+      output = ap length fine.output;
+      exited = ends.1;
+    }) in
+    let bytes : byte_difference 0 real.control.output fine.place.state.control.output ≡ None =
+    subst (λ o. byte_difference 0 real.control.output o ≡ None) fine.output (no_byte_self 0 real.control.output) in
+    let same : difference_of real fine.place.state ≡ None = ap
+    (λ first. first_of first (status_difference (length real.control.output) real.control.mode fine.place.state.control.mode)) bytes ∙ ends.0 in
+    let beside : why_replay real (length cross) (Fed' fine.place []) ≡ None =
+    copy_none real.control.mode fine.place.state.control.mode (mark_of real (length cross))
+    (mark_of fine.place.state (length cross - 0)) (difference_of real fine.place.state) fine.mode marks same in
+    some_none real.control.mode fine.place.state.control.mode budget (length cross) (why_replay real (length cross) fed) fine.mode
+    (le-ltb budget (length cross) fine.within) (ap (λ f. why_replay real (length cross) f) fine.uses ∙ beside)
 
 -- ---- a condition fails
 
-abbrev pub Told : Stepped → ℕ → ℕ → Bool → Why → Type 0
-Told mode budget needed equal (RealFault fault) = mode ≡ Stopped fault
-Told mode budget needed equal (BudgetOverrun limit count) =
-    (limit ≡ budget) × ((budget < needed) × (count ≡ counted_bits needed))
-Told mode budget needed equal (TurnLimit limit) = ⊥
-Told mode budget needed equal (SecretLength wanted got) = ⊥
-Told mode budget needed equal Unequal = equal ≡ false
+output_holds :
+    (budget : ℕ) (real : State) (cross rest : List Bool) (place : Place) (why : Why) (difference : Option Difference) →
+    rest ≡ [] → difference_of real place.state ≡ difference → why_output difference ≡ Some why →
+    Holds budget real cross (Fed' place rest) why
+output_holds budget real cross rest place why None empty d e = absurd (cc)
+output_holds budget real cross rest place why (Some difference) empty d e =
+    let same : OutputDiffers difference.index difference.real difference.replay ≡ why = cc in
+    subst (λ w. Holds budget real cross (Fed' place rest) w) same (place, (ap (λ r. Fed' place r) empty, d))
 
-told_budget :
-    (mode : Stepped) (test : Bool) (budget needed : ℕ) (equal : Bool) (why : Why) → nat_lt budget needed ≡ test →
-    why_budget test budget needed equal ≡ Some why → Told mode budget needed equal why
-told_budget mode true budget needed equal why t e =
-    let same : BudgetOverrun budget (counted_bits needed) ≡ why = cc in
-    subst (λ w. Told mode budget needed equal w) same (refl, (ltb-true budget needed t, refl))
-told_budget mode false budget needed true why t e = absurd (cc)
-told_budget mode false budget needed false why t e =
-    let same : Unequal ≡ why = cc in subst (λ w. Told mode budget needed false w) same refl
+marks_hold :
+    (budget : ℕ) (real : State) (cross rest : List Bool) (place : Place) (why : Why) (test : Bool) →
+    length rest ≤ length cross →
+    is_same_mark (mark_of real (length cross)) (mark_of place.state (length cross - length rest)) ≡ test →
+    (if test then why_output (difference_of real place.state)
+    else Some (Parted (mark_of real (length cross)) (mark_of place.state (length cross - length rest)))) ≡ Some why →
+    Holds budget real cross (Fed' place rest) why
+marks_hold budget real cross rest place why true shorter t e =
+    let marks : SameMarks (mark_of real (length cross)) (mark_of place.state (length cross - length rest)) = marks_same _ _ t in
+    let all : length rest ≡ 0 = omega (arith, marks.bits, shorter) in
+    output_holds budget real cross rest place why (difference_of real place.state) (nil_from_length rest all) refl e
+marks_hold budget real cross rest place why false shorter t e =
+    let same : Parted (mark_of real (length cross)) (mark_of place.state (length cross - length rest)) ≡ why = cc in
+    subst (λ w. Holds budget real cross (Fed' place rest) w) same
+    (place, (rest, (refl, refl, refl, other_marks _ _ t)))
 
-told_mode :
-    (mode : Stepped) (budget needed : ℕ) (equal : Bool) (why : Why) → why_mode mode budget needed equal ≡ Some why →
-    Told mode budget needed equal why
-told_mode Ran budget needed equal why e = told_budget Ran (nat_lt budget needed) budget needed equal why refl e
-told_mode (Exited status) budget needed equal why e =
-    told_budget (Exited status) (nat_lt budget needed) budget needed equal why refl e
-told_mode (Stopped fault) budget needed equal why e =
-    let same : RealFault fault ≡ why = cc in subst (λ w. Told (Stopped fault) budget needed equal w) same refl
+copy_holds :
+    (budget : ℕ) (real : State) (cross rest : List Bool) (place : Place) (why : Why) (mode : Stepped) →
+    length rest ≤ length cross → place.state.control.mode ≡ mode →
+    why_copy mode (mark_of real (length cross)) (mark_of place.state (length cross - length rest))
+    (difference_of real place.state) ≡ Some why →
+    Holds budget real cross (Fed' place rest) why
+copy_holds budget real cross rest place why Ran shorter m e = marks_hold budget real cross rest place why _ shorter refl e
+copy_holds budget real cross rest place why (Exited status) shorter m e =
+    marks_hold budget real cross rest place why _ shorter refl e
+copy_holds budget real cross rest place why (Stopped fault) shorter m e =
+    let same : ReplayFault (Guest fault) ≡ why = cc in
+    subst (λ w. Holds budget real cross (Fed' place rest) w) same (place, (rest, (refl, m)))
 
-pub told_of :
+replay_holds :
     (budget : ℕ) (real : State) (cross : List Bool) (fed : Fed Place) (why : Why) →
-    why_of budget real cross fed ≡ Some why →
-    Told real.control.mode budget (length cross) (is_equal real fed) why
-told_of budget real cross fed why e = told_mode real.control.mode budget (length cross) (is_equal real fed) why e
+    ((place : Place) (rest : List Bool) → fed ≡ Fed' place rest → length rest ≤ length cross) →
+    why_replay real (length cross) fed ≡ Some why → Holds budget real cross fed why
+replay_holds budget real cross (Short missing) why shorter e =
+    let same : ReplayFault (TooShort missing) ≡ why = cc in
+    subst (λ w. Holds budget real cross (Short missing) w) same refl
+replay_holds budget real cross (Fed' place rest) why shorter e =
+    copy_holds budget real cross rest place why place.state.control.mode (shorter place rest refl) refl e
 
--- where no condition fails the real run is not stopped
-pub not_stopped : (real copy : Stepped) (fault : Fault) → is_same_mode real copy ≡ true → real ≡ Stopped fault → ⊥
-not_stopped Ran copy fault e h = cc
-not_stopped (Exited status) copy fault e h = cc
-not_stopped (Stopped other) copy fault e h = cc
+budget_holds :
+    (test : Bool) (budget : ℕ) (real : State) (cross : List Bool) (fed : Fed Place) (why : Why) →
+    (why_replay real (length cross) fed ≡ Some why → Holds budget real cross fed why) →
+    nat_lt budget (length cross) ≡ test →
+    why_budget test budget (length cross) (why_replay real (length cross) fed) ≡ Some why →
+    Holds budget real cross fed why
+budget_holds true budget real cross fed why later t e =
+    let same : BudgetOverrun budget (counted_bits (length cross)) ≡ why = cc in
+    subst (λ w. Holds budget real cross fed w) same (refl, (ltb-true budget (length cross) t, refl))
+budget_holds false budget real cross fed why later t e = later e
+
+mode_holds :
+    (mode : Stepped) (budget : ℕ) (real : State) (cross : List Bool) (fed : Fed Place) (why : Why) →
+    (why_replay real (length cross) fed ≡ Some why → Holds budget real cross fed why) →
+    real.control.mode ≡ mode →
+    why_mode mode budget (length cross) (why_replay real (length cross) fed) ≡ Some why →
+    Holds budget real cross fed why
+mode_holds Ran budget real cross fed why later m e = budget_holds _ budget real cross fed why later refl e
+mode_holds (Exited status) budget real cross fed why later m e = budget_holds _ budget real cross fed why later refl e
+mode_holds (Stopped fault) budget real cross fed why later m e =
+    let same : RealFault fault ≡ why = cc in subst (λ w. Holds budget real cross fed w) same m
+
+pub holds_of :
+    (budget : ℕ) (real : State) (cross : List Bool) (asker : Asker Place) (why : Why) →
+    why_of budget real cross (feed asker cross) ≡ Some why → Holds budget real cross (feed asker cross) why
+holds_of budget real cross asker why e =
+    mode_holds real.control.mode budget real cross (feed asker cross) why
+    (replay_holds budget real cross (feed asker cross) why (λ place rest fed. feed_rest asker cross place rest fed)) refl e

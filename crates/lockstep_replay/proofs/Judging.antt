@@ -8,14 +8,17 @@ use Rattle.crossing_bits.specs.Askers.{Uses, feed}
 use Rattle.rv32im_machine.specs.declared.stepping.Stepped.{Stepped}
 use Rattle.rv32im_machine.specs.declared.stepping.Stepped.TheVariants.{Ran, Exited, Stopped}
 use Rattle.lockstep_replay.specs.declared.verdicts.Why.TheVariants.{SecretLength}
-use Rattle.lockstep_replay.specs.Cuts.{CutPicture, MaskAt}
-use Rattle.lockstep_replay.specs.Runs.{Place, Masks, real_after, Cross, Replay}
-use Rattle.lockstep_replay.specs.Acceptance.{guest, replay_guest, HasExited, Follows, Accept}
+use Rattle.cut_file.specs.Cuts.{CutPicture}
+use Rattle.cut_file.specs.Masks.{MaskAt}
+use Rattle.replay_machine.specs.Runs.{Place, Masks, real_after, Replay}
+use Rattle.lockstep_replay.specs.Crossing.{Cross}
+use Rattle.replay_machine.specs.Starts.{guest, replay_guest}
+use Rattle.lockstep_replay.specs.Acceptance.{HasExited, Follows, Accept}
 use Rattle.lockstep_replay.specs.Verdicts.{Judgement, Accepts, Rejects, task_of, why_after, judged_mode, judged_after, judged_from}
 use Rattle.lockstep_replay.specs.VerdictLaws.{AcceptsLaw, RejectedLaw}
 use Rattle.lockstep_replay.proofs.Stillness.{real_later, cross_later, replay_later}
 use Rattle.lockstep_replay.proofs.Bounds.{over_exited}
-use Rattle.lockstep_replay.proofs.Growth.{Longer}
+use Rattle.replay_machine.proofs.Growth.{Longer}
 use Rattle.lockstep_replay.proofs.Runs.{cross_grows, written, real_run_grows, replay_run_grows, same_beginning}
 use Rattle.lockstep_replay.proofs.Fine.{none_of, same_alike, not_stopped}
 use Rattle.lockstep_replay.proofs.Accepting.{FineAt, exit_output}

@@ -2,8 +2,9 @@
 use Rattle.std.proofs.Common.{◌≡◌, ℕ, zero, suc, ◌≤◌, inl, inr, List, [], ◌∷◌, ◌++◌, length, refl, ap, subst, sym, ◌∙◌, length-append, arith}
 use Rattle.crossing_bits.specs.Askers.{Uses, Fed', feed}
 use Rattle.crossing_bits.proofs.Feeding.{le_or_lt, feed_after}
-use Rattle.lockstep_replay.specs.Runs.{Place, Masks, real_turn, real_after, crossing_of, Cross, replay_turn, Replay}
-use Rattle.lockstep_replay.proofs.Growth.{Longer, longer_self, longer_more, real_grows, replay_grows}
+use Rattle.replay_machine.specs.Runs.{Place, Masks, real_turn, real_after, replay_turn, Replay}
+use Rattle.lockstep_replay.specs.Crossing.{crossing_of, Cross}
+use Rattle.replay_machine.proofs.Growth.{Longer, longer_self, longer_more, real_grows, replay_grows}
 
 pub cross_grows :
     (masks : Masks) (place : Place) (j n : ℕ) → j ≤ n →

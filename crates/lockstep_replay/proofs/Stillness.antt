@@ -9,25 +9,9 @@ use Rattle.rv32im_machine.specs.State.{State, Setting, Control}
 use Rattle.rv32im_machine.specs.Language.{Ends, Ended, walked, none_held}
 use Rattle.rv32im_machine.specs.Rows.{turn_in, walk_of}
 use Rattle.rv32im_machine.specs.Folds.{real_end, Step}
-use Rattle.lockstep_replay.specs.Runs.{Place, Masks, passed, crossing, real_turn, real_after, crossing_of, Cross, replayed, replay_turn, Replay}
-
--- it has exited, or is stopped
-abbrev pub IsOver : Stepped → Type 0
-IsOver Ran = ⊥
-IsOver (Exited status) = Unit {0}
-IsOver (Stopped fault) = Unit {0}
-
-still_turn : (mode : Stepped) (setting : Setting) (control : Control) → IsOver mode →
-    turn_in mode setting control ≡ Ends control
-still_turn Ran setting control h = absurd h
-still_turn (Exited status) setting control h = refl
-still_turn (Stopped fault) setting control h = refl
-
-pub still_walk : (state : State) → IsOver state.control.mode → walk_of state ≡ Ended state
-unfolding walked
-still_walk state h =
-    ap (λ t. walked state.setting state.secret t state.store none_held)
-    (still_turn state.control.mode state.setting state.control h)
+use Rattle.replay_machine.specs.Runs.{Place, Masks, passed, real_turn, real_after, replayed, replay_turn, Replay}
+use Rattle.replay_machine.proofs.Stillness.{IsOver, still_walk, still_replay}
+use Rattle.lockstep_replay.specs.Crossing.{crossing, crossing_of, Cross}
 
 pub still_step : (state : State) → IsOver state.control.mode → Step state ≡ state
 unfolding real_end
@@ -54,11 +38,6 @@ same_place first second before after e f = cc
 pub still_real : (place : Place) → IsOver place.state.control.mode → real_turn place ≡ place
 still_real place h = same_place (Step place.state) place.state (passed place.past (walk_of place.state)) place.past
     (still_step place.state h) (still_passed place.past place.state h)
-
-pub still_replay : (masks : Masks) (place : Place) → IsOver place.state.control.mode →
-    replay_turn masks place ≡ Over place
-unfolding replayed
-still_replay masks place h = ap (λ w. replayed masks place.past w) (still_walk place.state h)
 
 -- ---- whole runs, from the turn on after which it is over
 

@@ -8,20 +8,9 @@ use Rattle.crossing_bits.specs.Weights.{IsPrefixFree, weight}
 use Rattle.rv32im_machine.specs.declared.stepping.Stepped.{Stepped}
 use Rattle.rv32im_machine.specs.declared.stepping.Stepped.TheVariants.{Ran, Exited, Stopped}
 use Rattle.rv32im_machine.specs.State.{State}
-use Rattle.rv32im_machine.specs.Start.{start, zeros}
-use Rattle.lockstep_replay.specs.Runs.{Place, Masks, fresh, real_after, Cross, Replay}
-
--- the output has at most 1 MiB
-abbrev pub output_limit : ℕ
-output_limit = 1048576
-
--- a program with its public input, started on a secret
-abbrev pub guest : Picture → List ℕ → List ℕ → Place
-guest picture public_input secret = fresh (start picture public_input secret output_limit)
-
--- the replay knows the length of the secret alone: it starts on zeros
-abbrev pub replay_guest : Picture → List ℕ → ℕ → Place
-replay_guest picture public_input secret_length = guest picture public_input (zeros secret_length)
+use Rattle.replay_machine.specs.Runs.{Place, Masks, real_after, Replay}
+use Rattle.replay_machine.specs.Starts.{guest, replay_guest}
+use Rattle.lockstep_replay.specs.Crossing.{Cross}
 
 -- a run has exited with an output, which is the bytes that were written and the status
 pub record HasExited (state : State) (output : Output) : Type 0 where
@@ -45,31 +34,39 @@ pub record SameMark (real copy : State) : Type 0 where
   pub ended : EndAlike real.control.mode copy.control.mode
 
 -- Done: the replay of a string exits with an output, and uses the string up exactly
-pub record Done (picture : Picture) (public_input : List ℕ) (masks : Masks) (secret_length turns : ℕ) (bits : List Bool) (output : Output) : Type 0 where
+pub record Done (picture : Picture) (public_input : List ℕ) (masks : Masks) (secret_length turns : ℕ)
+    (bits : List Bool) (output : Output) : Type 0 where
   pub place : Place
   pub uses : Uses (Replay masks turns (replay_guest picture public_input secret_length)) bits place
   pub exited : HasExited place.state output
 
--- after so many turns the replay of the real run's crossing bits so far has used them up, is not stopped, and has the real mark
-pub record Follows (picture : Picture) (public_input : List ℕ) (masks : Masks) (secret_length : ℕ) (secret : List ℕ) (turns : ℕ) : Type 0 where
+-- after so many turns the replay of the real run's crossing bits so far has used them up, is not stopped, and has the
+-- real mark
+pub record Follows (picture : Picture) (public_input : List ℕ) (masks : Masks) (secret_length : ℕ)
+    (secret : List ℕ) (turns : ℕ) : Type 0 where
   pub place : Place
-  pub uses : Uses (Replay masks turns (replay_guest picture public_input secret_length)) (Cross masks turns (guest picture public_input secret)) place
+  pub uses :
+      Uses (Replay masks turns (replay_guest picture public_input secret_length))
+      (Cross masks turns (guest picture public_input secret)) place
   pub mark : SameMark (real_after turns (guest picture public_input secret)).state place.state
 
 -- Accept: a secret is accepted within a budget of bits and a limit of turns, with this output
-pub record Accept (picture : Picture) (public_input : List ℕ) (masks : Masks) (secret_length budget turns : ℕ) (secret : List ℕ) (output : Output) : Type 0 where
+pub record Accept (picture : Picture) (public_input : List ℕ) (masks : Masks) (secret_length budget turns : ℕ)
+    (secret : List ℕ) (output : Output) : Type 0 where
   pub has_length : length secret ≡ secret_length
   pub exits : HasExited (real_after turns (guest picture public_input secret)).state output
   pub within : length (Cross masks turns (guest picture public_input secret)) ≤ budget
   pub follows : (j : ℕ) → j ≤ turns → Follows picture public_input masks secret_length secret j
-  pub replay : Done picture public_input masks secret_length turns (Cross masks turns (guest picture public_input secret)) output
+  pub replay :
+      Done picture public_input masks secret_length turns (Cross masks turns (guest picture public_input secret)) output
 
 -- ---- the laws of the bound
 
 -- two strings on which the replay is done are equal, or neither is a prefix of the other
 abbrev pub PrefixesLaw : Type 0
 PrefixesLaw =
-    (picture : Picture) (public_input : List ℕ) (masks : Masks) (secret_length turns : ℕ) (first second : List Bool) (output other : Output) →
+    (picture : Picture) (public_input : List ℕ) (masks : Masks) (secret_length turns : ℕ)
+    (first second : List Bool) (output other : Output) →
     Done picture public_input masks secret_length turns first output →
     Done picture public_input masks secret_length turns second other → IsPrefix first second → first ≡ second
 
@@ -87,20 +84,23 @@ IsOutput picture public_input masks secret_length budget turns output =
 -- different crossing strings of accepted secrets are prefix-free, and their weight is at most 2 to the budget
 abbrev pub CrossesLaw : Type 0
 CrossesLaw =
-    (picture : Picture) (public_input : List ℕ) (masks : Masks) (secret_length budget turns : ℕ) (strings : List (List Bool)) →
+    (picture : Picture) (public_input : List ℕ) (masks : Masks) (secret_length budget turns : ℕ)
+    (strings : List (List Bool)) →
     AllByRecursion (IsCross picture public_input masks secret_length budget turns) strings → AllDifferent strings →
     IsPrefixFree strings × (weight budget strings ≤ 2 ^ budget)
 
 -- at most 2 to the budget different outputs arise of accepted secrets
 abbrev pub BoundLaw : Type 0
 BoundLaw =
-    (picture : Picture) (public_input : List ℕ) (masks : Masks) (secret_length budget turns : ℕ) (outputs : List Output) →
+    (picture : Picture) (public_input : List ℕ) (masks : Masks) (secret_length budget turns : ℕ)
+    (outputs : List Output) →
     AllByRecursion (IsOutput picture public_input masks secret_length budget turns) outputs → AllDifferent outputs →
     length outputs ≤ 2 ^ budget
 
 -- what is accepted within a limit of turns is accepted within every greater one
 abbrev pub MoreTurnsLaw : Type 0
 MoreTurnsLaw =
-    (picture : Picture) (public_input : List ℕ) (masks : Masks) (secret_length budget turns more : ℕ) (secret : List ℕ) (output : Output) →
+    (picture : Picture) (public_input : List ℕ) (masks : Masks) (secret_length budget turns more : ℕ)
+    (secret : List ℕ) (output : Output) →
     turns ≤ more → Accept picture public_input masks secret_length budget turns secret output →
     Accept picture public_input masks secret_length budget more secret output

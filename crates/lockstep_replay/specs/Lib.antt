@@ -1,12 +1,12 @@
-pub mod Cuts
-pub mod CutPictures
-pub mod Reading
-pub mod Runs
+pub mod Crossing
 pub mod Acceptance
+pub mod Marks
+pub mod Differences
 pub mod Verdicts
 pub mod Judgements
+pub mod VerdictLaws
 pub mod Tapes
 pub mod Sides
 pub mod Ends
 pub mod Turning
-pub mod VerdictLaws
+pub mod Tasks

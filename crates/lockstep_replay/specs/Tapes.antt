@@ -1,14 +1,18 @@
--- What a turn of either side leaves of the string of bits.
-use Rattle.std.specs.Prelude.{◌≡◌, ℕ, ◌+◌, ◌≤◌, List, ◌++◌, length, Bool, true, false}
-use Rattle.crossing_bits.specs.Askers.{Fed, Fed', Short}
-use Rattle.crossing_bits.specs.Streams.{Stream, left_of}
+-- What a turn of the real side leaves of the string of bits.
+use Rattle.std.specs.Prelude.{◌≡◌, ℕ, ◌+◌, ◌≤◌, List, ◌++◌, length, Bool}
+use Rattle.flow_base.specs.declared.points.Point.{Point}
+use Rattle.crossing_bits.specs.Streams.{Stream}
+use Rattle.cut_file.specs.declared.points.CutPoint.{CutPoint}
 use Rattle.rv32im_machine.specs.State.{State}
 use Rattle.rv32im_machine.specs.Playing.{Played, Finished, Halted}
-use Rattle.lockstep_replay.specs.Runs.{Place}
+use Rattle.replay_machine.specs.Runs.{Masks}
+use Rattle.replay_machine.specs.Visits.{IsAhead}
 use Rattle.lockstep_replay.specs.Verdicts.{counted_bits}
 
--- the real side: the string so far, the number of crossing bits so far, and the budget up to which they are kept
+-- the real side: the masks that are ahead, the string so far, the number of crossing bits so far, and the budget up to
+-- which they are kept
 pub record Tally : Type 0 where
+  pub ahead : List CutPoint
   pub stream : Stream
   pub needed : ℕ
   pub budget : ℕ
@@ -20,19 +24,8 @@ pub record Tallies (before : Tally) (bits : List Bool) (after : Tally) : Type 0 
   pub kept : before.needed + length bits ≤ before.budget → after.stream.bits ≡ before.stream.bits ++ bits
   pub taken : after.stream.taken ≡ before.stream.taken
 
-abbrev pub Crosses : {Stop : Type 0} → Tally → List Bool → State → Played Stop Tally → Type 0
-Crosses before bits state (Finished reached after) = (state ≡ reached) × Tallies before bits after
-Crosses before bits state (Halted stop) = ⊥
-
--- the replay's side: it takes bits from the front of what is left, and is halted where too few are left
-abbrev pub Replays : {Stop : Type 0} → Stream → Fed Place → Played Stop Stream → Type 0
-Replays before (Fed' place rest) (Finished reached after) =
-    (place.state ≡ reached) × (left_of after ≡ rest) × (after.bits ≡ before.bits) × (after.room ≡ before.room)
-Replays before (Fed' place rest) (Halted stop) = ⊥
-Replays before (Short missing) (Finished reached after) = ⊥
-Replays before (Short missing) (Halted stop) = Unit {0}
-
--- the end of a turn of the replay, by whether there were enough bits
-abbrev pub played : Bool → State → Stream → Played (Unit {0}) Stream
-played true reached after = Finished reached after
-played false reached after = Halted tt
+-- the turn has reached this state, these points have been passed, and these bits have crossed
+abbrev pub Crosses : {Stop : Type 0} → Tally → Masks → List Point → List Bool → State → Played Stop Tally → Type 0
+Crosses before masks past bits state (Finished reached after) =
+    (state ≡ reached) × (IsAhead after.ahead masks past × Tallies before bits after)
+Crosses before masks past bits state (Halted stop) = ⊥

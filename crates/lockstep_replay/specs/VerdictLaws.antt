@@ -1,16 +1,25 @@
 -- What a verdict says of the two whole runs: it accepts what is accepted and nothing else, and each reason holds.
-use Rattle.std.specs.Prelude.{◌≡◌, ℕ, ◌≤◌, ◌<◌, List, length, Bool, false}
+use Rattle.std.specs.Prelude.{◌≡◌, ◌≢◌, ℕ, ◌-◌, ◌≤◌, ◌<◌, List, [], length, Bool, Some}
 use Rattle.flow_base.specs.declared.outputs.Output.{Output}
 use Rattle.elf32_loader.specs.Pictures.{Picture}
-use Rattle.crossing_bits.specs.Askers.{feed}
-use Rattle.rv32im_machine.specs.declared.stepping.Fault.{Fault}
+use Rattle.crossing_bits.specs.Askers.{Fed, Fed', Short, feed}
+use Rattle.cut_file.specs.Cuts.{CutPicture}
+use Rattle.cut_file.specs.Masks.{MaskAt}
 use Rattle.rv32im_machine.specs.declared.stepping.Stepped.TheVariants.{Ran, Stopped}
+use Rattle.rv32im_machine.specs.State.{State}
+use Rattle.replay_machine.specs.declared.marks.Mark.{Mark}
+use Rattle.replay_machine.specs.Runs.{Place, Masks, real_after, Replay}
+use Rattle.replay_machine.specs.Starts.{guest, replay_guest}
+use Rattle.lockstep_replay.specs.declared.differences.Difference.{Difference}
+use Rattle.lockstep_replay.specs.declared.verdicts.ReplayStop.{ReplayStop}
+use Rattle.lockstep_replay.specs.declared.verdicts.ReplayStop.TheVariants.{Guest, Short as TooShort}
 use Rattle.lockstep_replay.specs.declared.verdicts.Why.{Why}
-use Rattle.lockstep_replay.specs.declared.verdicts.Why.TheVariants.{RealFault, BudgetOverrun, TurnLimit, SecretLength, Unequal}
-use Rattle.lockstep_replay.specs.Cuts.{CutPicture, MaskAt}
-use Rattle.lockstep_replay.specs.Runs.{Place, Masks, real_after, Cross, Replay}
-use Rattle.lockstep_replay.specs.Acceptance.{guest, replay_guest, Accept}
-use Rattle.lockstep_replay.specs.Verdicts.{Accepts, Rejects, First, is_equal, counted_bits}
+use Rattle.lockstep_replay.specs.declared.verdicts.Why.TheVariants.{RealFault, BudgetOverrun, ReplayFault, Parted, OutputDiffers, TurnLimit, SecretLength}
+use Rattle.lockstep_replay.specs.Crossing.{Cross}
+use Rattle.lockstep_replay.specs.Marks.{mark_of}
+use Rattle.lockstep_replay.specs.Differences.{difference_of}
+use Rattle.lockstep_replay.specs.Acceptance.{Follows, Accept}
+use Rattle.lockstep_replay.specs.Verdicts.{Accepts, Rejects, First, counted_bits}
 
 -- a verdict that accepts names an accepted secret's crossing bits and output
 abbrev pub AcceptedLaw : Type 0
@@ -37,39 +46,84 @@ RejectedLaw =
     (output : Output) →
     Accept picture public_input (MaskAt cut.points) cut.secret_length budget turns secret output → ⊥
 
--- ---- the reasons, each a fact of the real run from its start, of the replay from its own, and of the limits
+-- ---- the reasons
 
--- the real run is stopped by this fault within the limit of turns
-abbrev pub IsRealFault : Place → ℕ → Fault → Type 0
-IsRealFault real turns fault = (j : ℕ) × ((j ≤ turns) × ((real_after j real).state.control.mode ≡ Stopped fault))
+-- the replay stops so
+abbrev pub StopsBy : Fed Place → ReplayStop → Type 0
+StopsBy fed (Guest fault) =
+    (place : Place) × ((rest : List Bool) × ((fed ≡ Fed' place rest) × (place.state.control.mode ≡ Stopped fault)))
+StopsBy fed (TooShort missing) = fed ≡ Short missing
 
--- the crossing bits exceed the budget within the limit of turns, by this count
-abbrev pub IsOverrun : Masks → Place → ℕ → ℕ → ℕ → Type 0
-IsOverrun masks real turns budget needed =
-    (j : ℕ) × ((j ≤ turns) × (budget < length (Cross masks j real))
-    × (needed ≡ counted_bits (length (Cross masks j real))))
+-- the marks of the two runs are these, and differ
+abbrev pub PartsBy : State → ℕ → Fed Place → Mark → Mark → Type 0
+PartsBy real crossed fed mark other =
+    (place : Place) × ((rest : List Bool) × ((fed ≡ Fed' place rest) × (mark ≡ mark_of real crossed)
+    × (other ≡ mark_of place.state (crossed - length rest)) × (mark ≢ other)))
 
--- after some turn within the limit the replay of the crossing bits does not stand as the real run does
-abbrev pub IsUnequal : Masks → Place → Place → ℕ → Type 0
-IsUnequal masks real copy turns =
-    (j : ℕ) × ((j ≤ turns)
-    × (is_equal (real_after j real).state (feed (Replay masks j copy) (Cross masks j real)) ≡ false))
+-- the replay uses the bits up, and the first difference of the outputs is this one
+abbrev pub DiffersBy : State → Fed Place → Difference → Type 0
+DiffersBy real fed difference =
+    (place : Place) × ((fed ≡ Fed' place []) × (difference_of real place.state ≡ Some difference))
+
+-- what a reason says of its turn: of the state that the real run reaches, of the crossing bits so far, and of the
+-- replay of these
+abbrev pub Holds : ℕ → State → List Bool → Fed Place → Why → Type 0
+Holds budget real cross fed (RealFault fault) = real.control.mode ≡ Stopped fault
+Holds budget real cross fed (BudgetOverrun limit needed) =
+    (limit ≡ budget) × ((budget < length cross) × (needed ≡ counted_bits (length cross)))
+Holds budget real cross fed (ReplayFault stop) = StopsBy fed stop
+Holds budget real cross fed (Parted mark other) = PartsBy real (length cross) fed mark other
+Holds budget real cross fed (OutputDiffers index byte other) =
+    DiffersBy real fed (record { index = index; real = byte; replay = other })
+Holds budget real cross fed (TurnLimit limit) = ⊥
+Holds budget real cross fed (SecretLength wanted got) = ⊥
+
+-- no condition fails after so many turns
+pub record Agrees (picture : Picture) (public_input : List ℕ) (masks : Masks) (secret_length budget : ℕ)
+    (secret : List ℕ) (turns : ℕ) : Type 0 where
+  pub follows : Follows picture public_input masks secret_length secret turns
+  pub output :
+      (real_after turns (guest picture public_input secret)).state.control.output ≡ follows.place.state.control.output
+  pub within : length (Cross masks turns (guest picture public_input secret)) ≤ budget
+
+-- a reason holds of a turn within the limit, and no condition fails at an earlier turn
+pub record Arises (picture : Picture) (public_input : List ℕ) (masks : Masks) (secret_length budget turns : ℕ)
+    (secret : List ℕ) (why : Why) : Type 0 where
+  pub turn : ℕ
+  pub within : turn ≤ turns
+  pub earlier : (i : ℕ) → i < turn → Agrees picture public_input masks secret_length budget secret i
+  pub holds :
+      Holds budget (real_after turn (guest picture public_input secret)).state
+      (Cross masks turn (guest picture public_input secret))
+      (feed (Replay masks turn (replay_guest picture public_input secret_length))
+      (Cross masks turn (guest picture public_input secret))) why
+
+-- the limit of turns is this, no condition fails at any turn, and the real run goes on
+pub record RunsOut (picture : Picture) (public_input : List ℕ) (masks : Masks) (secret_length budget turns : ℕ)
+    (secret : List ℕ) (limit : ℕ) : Type 0 where
+  pub limit_is : limit ≡ turns
+  pub earlier : (i : ℕ) → i ≤ turns → Agrees picture public_input masks secret_length budget secret i
+  pub runs : (real_after turns (guest picture public_input secret)).state.control.mode ≡ Ran
 
 -- what the reason of a rejection says
 abbrev pub Cause : Picture → List ℕ → List ℕ → CutPicture → ℕ → ℕ → Why → Type 0
 Cause picture public_input secret cut budget turns (RealFault fault) =
-    IsRealFault (guest picture public_input secret) turns fault
+    Arises picture public_input (MaskAt cut.points) cut.secret_length budget turns secret (RealFault fault)
 Cause picture public_input secret cut budget turns (BudgetOverrun limit needed) =
-    (limit ≡ budget) × IsOverrun (MaskAt cut.points) (guest picture public_input secret) turns budget needed
+    Arises picture public_input (MaskAt cut.points) cut.secret_length budget turns secret (BudgetOverrun limit needed)
+Cause picture public_input secret cut budget turns (ReplayFault stop) =
+    Arises picture public_input (MaskAt cut.points) cut.secret_length budget turns secret (ReplayFault stop)
+Cause picture public_input secret cut budget turns (Parted mark other) =
+    Arises picture public_input (MaskAt cut.points) cut.secret_length budget turns secret (Parted mark other)
+Cause picture public_input secret cut budget turns (OutputDiffers index byte other) =
+    Arises picture public_input (MaskAt cut.points) cut.secret_length budget turns secret
+    (OutputDiffers index byte other)
 Cause picture public_input secret cut budget turns (TurnLimit limit) =
-    (limit ≡ turns) × ((real_after turns (guest picture public_input secret)).state.control.mode ≡ Ran)
+    RunsOut picture public_input (MaskAt cut.points) cut.secret_length budget turns secret limit
 Cause picture public_input secret cut budget turns (SecretLength wanted got) =
-    (wanted ≡ cut.secret_length) × (got ≡ length secret) × (wanted ≡ got → ⊥)
-Cause picture public_input secret cut budget turns Unequal =
-    IsUnequal (MaskAt cut.points) (guest picture public_input secret)
-    (replay_guest picture public_input cut.secret_length) turns
+    (wanted ≡ cut.secret_length) × ((got ≡ length secret) × (wanted ≢ got))
 
--- the reason of a rejection holds
+-- the reason of a rejection holds, and at no earlier turn does a condition fail
 abbrev pub CausesLaw : Type 0
 CausesLaw =
     (picture : Picture) (public_input secret : List ℕ) (cut : CutPicture) (budget turns : ℕ) (why : Why) →

@@ -1,13 +1,13 @@
 ghost use Rattle.std.specs.Prelude.{◌≡◌, ◌+◌, ◌≤◌, ◌<◌, length};
 
-use crate::cuts::InCut;
 use crossing_bits::Bits;
+use replay_machine::VisitMasks;
 
-/// The real side of a lockstep: each value goes on as it is, and its bits under the cut's mask are counted, and are kept as
-/// long as the budget holds.
+/// The real side of a lockstep: each value goes on as it is, and its bits under the mask of its visit are counted, and
+/// are kept as long as the budget holds.
 #[derive(Drop)]
-pub(crate) struct Tallying<'a> {
-    pub cut: &'a InCut,
+pub(crate) struct Tallying {
+    pub masks: VisitMasks,
     pub bits: Bits,
     pub needed: u32,
     pub budget: u32,

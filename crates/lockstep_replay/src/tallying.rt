@@ -1,6 +1,9 @@
-ghost use Rattle.std.specs.Prelude.{◌≡◌, ℕ, ◌+◌, ◌≤◌, ◌<◌, ◌^◌, ◌++◌, length, IsTrue};
+ghost use Rattle.std.specs.Prelude.{◌≡◌, ℕ, ◌+◌, ◌≤◌, ◌<◌, ◌^◌, ◌++◌, ◌∷◌, List, length, IsTrue};
+ghost use Rattle.flow_base.specs.declared.points.Point.{Point as APoint};
+ghost use Rattle.flow_base.specs.Points.{is_slot};
 ghost use Rattle.flow_base.specs.Words.{bits_under};
-ghost use Rattle.lockstep_replay.specs.Cuts.{mask_of};
+ghost use Rattle.replay_machine.specs.Runs.{Masks, mask_at};
+ghost use Rattle.replay_machine.specs.Visits.{IsAhead};
 ghost use Rattle.lockstep_replay.specs.Verdicts.{counted_bits};
 ghost use Rattle.lockstep_replay.specs.Tapes.{Tally, Tallies};
 ghost use Rattle.lockstep_replay.specs.Sides.{tally_of};
@@ -11,14 +14,16 @@ use flow_base::Point;
 use rv32im_machine::{Passer, Place, Seen, Shape, Source, Sources, Work};
 use std::convert::Infallible;
 
-/// Counts the bits of a value under a mask, and keeps them as long as the budget holds; the answer is the number so far.
+/// Counts the bits of a value under a mask, and keeps them as long as the budget holds; the answer is the number so
+/// far.
 #[tactic(auto, using(crossing_bits::proofs::Places::length_bits_under, crossing_bits::proofs::Places::count_bound))]
 fn keep(bits: &mut Bits, needed: u32, budget: u32, value: u32, mask: u32) -> u32
     requires room { budget ≤ length bits.old.bits + bits.old.room }
     requires kept { length bits.old.bits ≤ needed }
     requires small { budget < 4294967295 }
     ensures needed { result ≡ counted_bits (needed + length (bits_under value mask)) }
-    ensures pushed { needed + length (bits_under value mask) ≤ budget → bits.new.bits ≡ bits.old.bits ++ bits_under value mask }
+    ensures pushed { needed + length (bits_under value mask) ≤ budget →
+        bits.new.bits ≡ bits.old.bits ++ bits_under value mask }
     ensures taken { bits.new.taken ≡ bits.old.taken }
     ensures room { budget ≤ length bits.new.bits + bits.new.room }
     ensures kept { length bits.new.bits ≤ result }
@@ -43,24 +48,28 @@ fn push_fitting(bits: &mut Bits, value: u32, mask: u32)
     let _ = bits.push_masked(value, mask);
 }
 
-impl Tallying<'_> {
-    /// The bits of a value under the mask of its point cross.
+impl Tallying {
+    /// The bits of a value under the mask of the next visit of its point cross.
     fn cross(&mut self, point: Point, value: u32)
-        ensures cut { self.new.cut ≡ self.old.cut }
-        ensures tally { Tallies (tally_of self.old) (bits_under value (mask_of self.old.cut.now.points point)) (tally_of self.new) }
+        requires { IsTrue (is_slot point.slot) }
+        ensures tally { (masks : Masks) (past : List APoint) → IsAhead self.old.masks masks past →
+            Tallies (tally_of self.old) (bits_under value (mask_at masks past point)) (tally_of self.new) }
+        ensures ahead { (masks : Masks) (past : List APoint) → IsAhead self.old.masks masks past →
+            IsAhead self.new.masks masks (point ∷ past) }
     {
-        let mask = self.cut.mask(point);
+        let mask = self.masks.next(point);
         self.needed = keep(&mut self.bits, self.needed, self.budget, value, mask);
     }
 }
 
-#[tactic(auto, unfolding(crate::specs::Runs::crossing, rv32im_machine::specs::Folds::real_end))]
-impl<'a> Passer for Tallying<'a> {
+#[tactic(auto, unfolding(crate::specs::Crossing::crossing, replay_machine::specs::Runs::passed, rv32im_machine::specs::Folds::real_end))]
+impl Passer for Tallying {
     ghost use Rattle.std.specs.Prelude.{◌≡◌, ℕ, List};
     ghost use Rattle.flow_base.specs.declared.points.Point.{Point as ThePoint};
     ghost use Rattle.rv32im_machine.specs.Folds.{real_end};
-    ghost use Rattle.lockstep_replay.specs.Cuts.{MaskAt};
-    ghost use Rattle.lockstep_replay.specs.Runs.{crossing};
+    ghost use Rattle.replay_machine.specs.Runs.{Masks, passed};
+    ghost use Rattle.replay_machine.specs.Visits.{IsAhead};
+    ghost use Rattle.lockstep_replay.specs.Crossing.{crossing};
     ghost use Rattle.lockstep_replay.specs.Tapes.{Tally, Crosses};
     ghost use Rattle.lockstep_replay.specs.Sides.{tally_of};
     ghost use Rattle.lockstep_replay.specs.Ends.{crosses-Ended};
@@ -72,7 +81,8 @@ impl<'a> Passer for Tallying<'a> {
 
     ghost tape = { λ side. tally_of side };
 
-    ghost Plays = { λ side walk out. (past : List ThePoint) → Crosses (tally_of side) (crossing (MaskAt side.cut.now.points) past walk) (real_end walk) out };
+    ghost Plays = { λ side walk out. (masks : Masks) (past : List ThePoint) → IsAhead side.masks masks past →
+        Crosses (tally_of side) masks (passed past walk) (crossing masks past walk) (real_end walk) out };
 
     fn look(&mut self, _seen: Seen, _value: u32) -> Result<(), Infallible> {
         Ok(())
@@ -124,5 +134,6 @@ impl<'a> Passer for Tallying<'a> {
         Ok(false)
     }
 
-    ghost at_end = { λ side state past. crosses-Ended Never (tally_of side) (MaskAt side.cut.now.points) past state side.word };
+    ghost at_end = { λ side state masks past ahead.
+        crosses-Ended Never (tally_of side) masks past state side.word ahead };
 }

@@ -1,8 +1,19 @@
 use crossing_bits::Bits;
 use flow_base::Output;
+use replay_machine::Mark;
 use rv32im_machine::Fault;
 
-/// Why a secret is rejected: the first condition that fails, by turn, and within a turn in this order.
+/// Why a replay stops.
+#[derive(Clone, Copy, Debug, PartialEq, Eq)]
+pub enum ReplayStop {
+    /// The replayed guest is stopped.
+    Guest(Fault),
+    /// A mask needs so many bits more than are left.
+    Short { missing: u8 },
+}
+
+/// Why a secret is rejected: the first condition that fails, by turn, and within a turn in this order; but the last one
+/// is tested before the first turn.
 #[derive(Clone, Copy, Debug, PartialEq, Eq)]
 pub enum Why {
     /// The real run is stopped in this turn.
@@ -10,12 +21,17 @@ pub enum Why {
     /// The crossing bits up to and with this turn exceed the budget; `needed` is their number, or 4,294,967,295 where
     /// there are more.
     BudgetOverrun { budget: u32, needed: u32 },
+    /// The replay stops in this turn.
+    ReplayFault(ReplayStop),
+    /// The marks of the two runs differ after this turn.
+    Parted { real: Mark, replay: Mark },
+    /// After this turn the outputs differ, at this index first, where they have these bytes. Where only the exit
+    /// statuses differ, the index is the length of the output, and the two are the statuses.
+    OutputDiffers { index: u32, real: u8, replay: u8 },
     /// So many turns of the real run were made without exit.
     TurnLimit { limit: u32 },
-    /// The secret does not have the cut's length, in bytes; this is tested before the first turn.
+    /// The secret does not have the cut's length, in bytes.
     SecretLength { cut: u32, got: u32 },
-    /// The replay is stopped, or stands elsewhere than the real run, or has another output.
-    Unequal,
 }
 
 /// The verdict on one secret.

@@ -1,6 +1,6 @@
 use Rattle.guest_runs.proofs.Options.{some_weaker}
 use Rattle.elf32_loader.specs.Images.{picture_of}
-use Rattle.lockstep_replay.specs.CutPictures.{cut_picture}
+use Rattle.cut_file.specs.Pictures.{picture_of as cut_of}
 use Rattle.guest_runs.proofs.runs.verdict.Goals as goal
 
 pub returns : goal.returns
@@ -8,9 +8,9 @@ returns c =
     some_weaker c.judge.result _ _
     (λ verdict. λ is. (
       picture_of c.in-Ok.image,
-      cut_picture c.in-Ok-read_in_cut.cut,
+      cut_of c.in-Ok-read_cut.cut,
       c.in-Ok.ensures.loaded,
-      c.in-Ok-read_in_cut.ensures.text,
+      c.in-Ok-read_cut.ensures.text,
       rw c.in_ok-secret.ensures.same at rw c.in_ok-public_input.ensures.same at is,
     ))
     c.judge.ensures
