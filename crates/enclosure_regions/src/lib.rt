@@ -1,0 +1,19 @@
+//! Enclosure regions: pieces of a program whose writes are declared, read from a file, and a monitor of a run that
+//! says where it enters and leaves them and whether it breaks what they declare.
+#![tactic(auto)]
+
+mod break_kinds;
+mod copying;
+mod monitors;
+mod ranges_of_regions;
+mod region_checks;
+mod region_lists;
+mod region_parts;
+mod turn_kinds;
+mod turning;
+
+pub use break_kinds::{Break, WrittenPlace};
+pub use monitors::Monitor;
+pub use region_lists::Regions;
+pub use region_parts::{Range, Region};
+pub use turn_kinds::TurnKind;

@@ -1,0 +1,60 @@
+ghost use Rattle.std.specs.Prelude.{◌≡◌, ◌<◌, length, option_copied, IsTrue, IfSome};
+ghost use Rattle.enclosure_regions.specs.Breaks.{declares_byte, is_in_memory, outside_range};
+ghost use Rattle.enclosure_regions.specs.Regions.{is_range, is_region};
+ghost use Rattle.enclosure_regions.specs.Turns.{start_of};
+
+use crate::region_parts::{Range, Region};
+use flow_base::{MEMORY_SIZE, Registers};
+
+/// Where a range starts, by the registers at the region's entry.
+pub fn start(registers: &Registers, range: Range) -> u32
+    requires { IsTrue (is_range range) }
+    ensures { result ≡ start_of registers.now range }
+{
+    match range.base {
+        Some(register) => registers.get(register).wrapping_add(range.offset),
+        None => range.offset,
+    }
+}
+
+// Whether each byte is one of guest memory, whose lowest address is the base.
+fn is_inside(base: u32, start: u32, length: u32) -> bool
+    ensures { result ≡ is_in_memory base start length }
+{
+    let end = u64::from(start) + u64::from(length);
+    let memory_end = u64::from(base) + u64::from(MEMORY_SIZE);
+    base <= start && end <= memory_end && end <= 0x1_0000_0000
+}
+
+/// The first range that is not inside guest memory at the entry, counted from 0.
+pub fn first_outside(region: &Region, registers: &Registers, base: u32) -> Option<u32>
+    requires { IsTrue (is_region region.now) }
+    ensures { result ≡ outside_range region.now registers.now base }
+{
+    let mut place: u32 = 0;
+    let mut rest = region.ranges.as_slice();
+    while let [range, more @ ..] = rest {
+        if !is_inside(base, start(registers, *range), range.length) {
+            return Some(place);
+        }
+        place += 1;
+        rest = more;
+    }
+    None
+}
+
+/// Whether a range of the region has the byte at an address, by the registers at the region's entry.
+pub fn has_byte(region: &Region, registers: &Registers, address: u32) -> bool
+    requires { IsTrue (is_region region.now) }
+    ensures { result ≡ declares_byte region.now registers.now address }
+{
+    let mut rest = region.ranges.as_slice();
+    while let [range, more @ ..] = rest {
+        let start = start(registers, *range);
+        if start <= address && u64::from(address) < u64::from(start) + u64::from(range.length) {
+            return true;
+        }
+        rest = more;
+    }
+    false
+}
