@@ -2,3 +2,10 @@ pub mod Regions
 pub mod Turns
 pub mod Breaks
 pub mod Watching
+pub mod RegisterNames
+pub mod Words
+pub mod Shapes
+pub mod RangeItems
+pub mod RegionItems
+pub mod Orders
+pub mod Reading

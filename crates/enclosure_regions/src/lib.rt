@@ -7,13 +7,17 @@ mod copying;
 mod monitors;
 mod ranges_of_regions;
 mod region_checks;
+mod region_faults;
 mod region_lists;
 mod region_parts;
+mod register_names;
 mod turn_kinds;
 mod turning;
+mod words;
 
 pub use break_kinds::{Break, WrittenPlace};
 pub use monitors::Monitor;
+pub use region_faults::RegionFault;
 pub use region_lists::Regions;
 pub use region_parts::{Range, Region};
 pub use turn_kinds::TurnKind;
