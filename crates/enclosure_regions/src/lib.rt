@@ -11,6 +11,7 @@ mod region_faults;
 mod region_lists;
 mod region_parts;
 mod register_names;
+mod shapes;
 mod turn_kinds;
 mod turning;
 mod words;
