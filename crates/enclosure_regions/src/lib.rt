@@ -5,6 +5,8 @@
 mod break_kinds;
 mod copying;
 mod monitors;
+mod object_keys;
+mod range_items;
 mod ranges_of_regions;
 mod region_checks;
 mod region_faults;
