@@ -1,5 +1,5 @@
 -- Registers in order, and registers that stand twice.
-use Rattle.std.specs.Prelude.{ℕ, ◌==◌, ◌++◌, nat_le, Bool, List, [], ◌∷◌, count_by, Option}
+use Rattle.std.specs.Prelude.{ℕ, ◌+◌, ◌==◌, nat_le, Bool, List, [], ◌∷◌, count_by, Option}
 use Rattle.std.specs.List.{filter, find}
 use Rattle.enclosure_regions.specs.declared.region_parts.Region.{Region}
 use Rattle.enclosure_regions.specs.Regions.{stands_in}
@@ -14,13 +14,17 @@ all_registers =
 abbrev pub in_order : List ℕ → List ℕ
 in_order registers = filter (λ register. stands_in registers register) all_registers
 
--- a register stands twice in a list
-abbrev pub stands_twice : List ℕ → ℕ → Bool
-stands_twice registers register = nat_le 2 (count_by (λ other. other == register) registers)
+-- how often a register stands in a list
+abbrev pub times : List ℕ → ℕ → ℕ
+times registers register = count_by (λ other. other == register) registers
 
--- the lowest register that stands twice in the two lists together
+-- a register stands twice in two lists together
+abbrev pub stands_twice : List ℕ → List ℕ → ℕ → Bool
+stands_twice outs keep register = nat_le 2 (times outs register + times keep register)
+
+-- the lowest register that does
 abbrev pub lowest_twice : List ℕ → List ℕ → Option ℕ
-lowest_twice outs keep = find (stands_twice (outs ++ keep)) all_registers
+lowest_twice outs keep = find (stands_twice outs keep) all_registers
 
 -- a region with its registers in order
 abbrev pub ordered : Region → Region

@@ -1,11 +1,13 @@
 -- The regions of a region file as they are written.
-use Rattle.std.specs.Prelude.{ℕ, ◌||◌, Bool, List, codes, Option, Some, None, option_and_then, if◌then◌else◌}
+use Rattle.std.specs.Prelude.{ℕ, ◌&&◌, ◌||◌, Bool, List, codes, Option, Some, None, option_and_then, if◌then◌else◌}
+use Rattle.std.specs.List.{list_all}
 use Rattle.std.specs.Str.{bytes_eq}
 use Rattle.serde_json.specs.Data.{Data}
 use Rattle.serde_json.specs.Find.{get}
 use Rattle.enclosure_regions.specs.declared.region_parts.Range.{Range}
 use Rattle.enclosure_regions.specs.declared.region_parts.Region.{Region}
 use Rattle.enclosure_regions.specs.RangeItems.{ranges_if}
+use Rattle.enclosure_regions.specs.Regions.{are_ranges, is_place, is_region_number, is_register}
 use Rattle.enclosure_regions.specs.Shapes.{has_keys, number_within, place_at, registers_if}
 
 abbrev pub is_region_key : List ℕ → Bool
@@ -18,6 +20,13 @@ id_if d = option_and_then (number_within 1 65535) d
 
 abbrev pub place_if : Option Data → Option ℕ
 place_if d = option_and_then place_at d
+
+-- what is known of a region as it is written
+abbrev pub is_written : Region → Bool
+is_written region =
+    is_region_number region.id
+    && (is_place region.enter && (is_place region.leave && (list_all is_register region.outs
+    && (list_all is_register region.keep && are_ranges region.ranges))))
 
 infixl 10 ◌>>=◌
 abbrev pub ◌>>=◌ : {A B : Type 0} → Option A → (A → Option B) → Option B
