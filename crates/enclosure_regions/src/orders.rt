@@ -72,3 +72,29 @@ pub fn lowest_twice(outs: &[u8], keep: &[u8]) -> Option<u8>
 {
     first_twice(&ALL_REGISTERS, outs, keep)
 }
+
+/// A region that is written with the registers in any order, with its registers ascending.
+pub fn ordered(alloc: Global, region: Region) -> Result<Region, NoMemory>
+    requires written { IsTrue (is_written region) }
+    requires addresses { region.enter ≢ region.leave }
+    requires registers { lowest_twice_of region.outs region.keep ≡ None }
+    ensures exact { IfOk result (λ other. other ≡ ordered_of region) }
+    ensures rules { IfOk result (λ other. IsTrue (is_region other)) }
+{
+    let Region {
+        id,
+        enter,
+        leave,
+        outs,
+        keep,
+        ranges,
+    } = region;
+    Ok(Region {
+        id,
+        enter,
+        leave,
+        outs: in_order(alloc, outs.as_slice())?,
+        keep: in_order(alloc, keep.as_slice())?,
+        ranges,
+    })
+}
