@@ -1,5 +1,5 @@
 -- A region file: its regions, or its first fault.
-use Rattle.std.specs.Prelude.{◌≡◌, ℕ, suc, ◌+◌, ◌==◌, min, nat_le, Bool, List, [], ◌∷◌, ◌++◌, codes, length, IsUtf8, Option, Some, None, option_and_then, Result, Ok, Err, if◌then◌else◌}
+use Rattle.std.specs.Prelude.{◌≡◌, ◌≢◌, ℕ, suc, ◌+◌, ◌==◌, min, nat_le, Bool, List, [], ◌∷◌, ◌++◌, codes, length, IsUtf8, Option, Some, None, option_and_then, Result, Ok, Err, if◌then◌else◌}
 use Rattle.std.specs.Str.{bytes_eq}
 use Rattle.serde_json.specs.Data.{Data, Items, no_items, item}
 use Rattle.serde_json.specs.Find.{as_array, get}
@@ -16,6 +16,10 @@ infixl 10 ◌>>◌
 abbrev pub ◌>>◌ : {A B : Type 0} → Result A RegionFault → (A → Result B RegionFault) → Result B RegionFault
 (Ok x) >> f = f x
 (Err fault) >> f = Err fault
+
+-- the answer is this one, unless memory is short
+abbrev pub UnlessMemory : Result Region RegionFault → Result Region RegionFault → Type 0
+UnlessMemory result answer = result ≢ Err Memory → result ≡ answer
 
 -- ---- one region behind others, which are counted from 1
 

@@ -9,6 +9,7 @@ mod object_keys;
 mod orders;
 mod range_items;
 mod ranges_of_regions;
+mod reading;
 mod region_checks;
 mod region_faults;
 mod region_items;

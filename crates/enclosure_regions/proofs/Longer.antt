@@ -1,0 +1,45 @@
+-- Regions with one more keep the rules where the new one does and its number and enter address are new.
+use Rattle.std.proofs.Common.{◌≡◌, ◌==◌, ◌+◌, ◌<◌, ℕ, suc, Bool, true, false, not, List, [], ◌∷◌, ◌++◌, length, map, IsTrue, refl, arith, ap, sym, ◌∙◌, length-append}
+use Rattle.std.proofs.lemmas.Grind.{common_steps}
+use Rattle.std.specs.List.{list_all}
+use Rattle.serde_json.specs.View.{items_of, items_view}
+use Rattle.serde_json.specs.Data.{Data}
+use Rattle.enclosure_regions.specs.declared.region_parts.Region.{Region}
+use Rattle.enclosure_regions.specs.Regions.{are_distinct, are_regions, enters_of, ids_of, is_region, stands_in}
+use Rattle.enclosure_regions.specs.Reading.{count_of}
+
+stands-longer : (xs : List ℕ) (x y : ℕ) → stands_in xs x ≡ false → (y == x) ≡ false → stands_in (xs ++ y ∷ []) x ≡ false
+stands-longer [] x y none other = grind (arith, common_steps)
+stands-longer (z ∷ xs) x y none other = grind (arith, common_steps, stands-longer xs x y)
+
+distinct-longer : (xs : List ℕ) (y : ℕ) → IsTrue (are_distinct xs) → stands_in xs y ≡ false
+    → IsTrue (are_distinct (xs ++ y ∷ []))
+distinct-longer [] y h none = refl
+distinct-longer (x ∷ xs) y h none = grind (arith, common_steps, stands-longer xs x y, distinct-longer xs y)
+
+all-longer : (regions : List Region) (region : Region) → IsTrue (list_all is_region regions) → IsTrue (is_region region)
+    → IsTrue (list_all is_region (regions ++ region ∷ []))
+all-longer [] region h one = grind (arith, common_steps)
+all-longer (other ∷ regions) region h one = grind (arith, common_steps, all-longer regions region)
+
+ids-longer : (regions : List Region) (region : Region)
+    → ids_of (regions ++ region ∷ []) ≡ ids_of regions ++ region.id ∷ []
+ids-longer [] region = refl
+ids-longer (other ∷ regions) region = ap (λ ids. other.id ∷ ids) (ids-longer regions region)
+
+enters-longer : (regions : List Region) (region : Region)
+    → enters_of (regions ++ region ∷ []) ≡ enters_of regions ++ region.enter ∷ []
+enters-longer [] region = refl
+enters-longer (other ∷ regions) region = ap (λ enters. other.enter ∷ enters) (enters-longer regions region)
+
+pub longer : (regions : List Region) (region : Region) → length regions < 256 → IsTrue (are_regions regions)
+    → IsTrue (is_region region) → stands_in (ids_of regions) region.id ≡ false
+    → stands_in (enters_of regions) region.enter ≡ false → IsTrue (are_regions (regions ++ region ∷ []))
+longer regions region few h one new_id new_enter =
+    grind (arith, common_steps, length-append regions (region ∷ []), all-longer regions region,
+    ids-longer regions region, enters-longer regions region, distinct-longer (ids_of regions) region.id,
+    distinct-longer (enters_of regions) region.enter)
+
+pub counted : (ds : List Data) → count_of (items_of ds) ≡ length ds
+counted [] = refl
+counted (d ∷ ds) = ap suc (counted ds)

@@ -1,0 +1,82 @@
+ghost use Rattle.std.specs.Prelude.{◌≡◌, ◌≢◌, ◌<◌, ◌≤◌, [], length, false, Err, IfErr, IfOk, IsTrue, OnOk};
+ghost use Rattle.serde_json.specs.View.{items_view, view};
+ghost use Rattle.enclosure_regions.specs.Reading.{FirstRegionFault, Spells, UnlessMemory, items_in, placed_behind};
+ghost use Rattle.enclosure_regions.specs.Reading.{regions_onto, written_behind};
+ghost use Rattle.enclosure_regions.specs.RegionItems.{is_written, written_in};
+ghost use Rattle.enclosure_regions.specs.Regions.{enters_of, ids_of, is_region, stands_in};
+
+use crate::orders::{lowest_twice, ordered};
+use crate::region_faults::RegionFault;
+use crate::region_items::written;
+use crate::region_parts::Region;
+use serde_json::Value;
+use std::alloc::Global;
+
+// Whether one of the regions has a number.
+fn has_id(regions: &[Region], id: u16) -> bool
+    ensures { result ≡ stands_in (ids_of regions.now) id }
+{
+    let mut rest = regions;
+    while let [region, more @ ..] = rest {
+        if region.id == id {
+            return true;
+        }
+        rest = more;
+    }
+    false
+}
+
+// Whether one of the regions has an enter address.
+fn has_enter(regions: &[Region], enter: u32) -> bool
+    ensures { result ≡ stands_in (enters_of regions.now) enter }
+{
+    let mut rest = regions;
+    while let [region, more @ ..] = rest {
+        if region.enter == enter {
+            return true;
+        }
+        rest = more;
+    }
+    false
+}
+
+// A written region, in order, behind those that were found.
+fn placed(alloc: Global, found: &[Region], region: Region) -> Result<Region, RegionFault>
+    requires few { length found.now < 256 }
+    requires written { IsTrue (is_written region) }
+    ensures exact { UnlessMemory result (placed_behind found.now region) }
+    ensures rules { IfOk result (λ other. IsTrue (is_region other)) }
+    ensures new_id { IfOk result (λ other. stands_in (ids_of found.now) other.id ≡ false) }
+    ensures new_enter { IfOk result (λ other. stands_in (enters_of found.now) other.enter ≡ false) }
+{
+    let index = found.len() as u32 + 1;
+    if has_id(found, region.id) {
+        return Err(RegionFault::Shape { index });
+    }
+    if region.enter == region.leave {
+        return Err(RegionFault::SameAddress { index });
+    }
+    if let Some(register) = lowest_twice(region.outs.as_slice(), region.keep.as_slice()) {
+        return Err(RegionFault::RegisterTwice { index, register });
+    }
+    if has_enter(found, region.enter) {
+        return Err(RegionFault::EnterTwice { index });
+    }
+    Ok(ordered(alloc, region)?)
+}
+
+// The region of an item behind those that were found.
+fn behind(alloc: Global, found: &[Region], item: &Value) -> Result<Region, RegionFault>
+    requires { length found.now < 256 }
+    ensures exact { UnlessMemory result (written_behind found.now (written_in (view item.now))) }
+    ensures rules { IfOk result (λ other. IsTrue (is_region other)) }
+    ensures new_id { IfOk result (λ other. stands_in (ids_of found.now) other.id ≡ false) }
+    ensures new_enter { IfOk result (λ other. stands_in (enters_of found.now) other.enter ≡ false) }
+{
+    match written(alloc, item)? {
+        Some(region) => placed(alloc, found, region),
+        None => Err(RegionFault::Shape {
+            index: found.len() as u32 + 1,
+        }),
+    }
+}
