@@ -2,8 +2,8 @@
 use Rattle.std.proofs.Common.{◌≡◌, ◌==◌, ◌+◌, ◌<◌, ℕ, suc, Bool, true, false, not, List, [], ◌∷◌, ◌++◌, length, map, IsTrue, refl, arith, ap, sym, ◌∙◌, length-append}
 use Rattle.std.proofs.lemmas.Grind.{common_steps}
 use Rattle.std.specs.List.{list_all}
-use Rattle.serde_json.specs.View.{items_of, items_view}
-use Rattle.serde_json.specs.Data.{Data}
+use Rattle.serde_json.specs.View.{items_view}
+use Rattle.serde_json.specs.declared.value.Value.{Value}
 use Rattle.enclosure_regions.specs.declared.region_parts.Region.{Region}
 use Rattle.enclosure_regions.specs.Regions.{are_distinct, are_regions, enters_of, ids_of, is_region, stands_in}
 use Rattle.enclosure_regions.specs.Reading.{count_of}
@@ -40,6 +40,7 @@ longer regions region few h one new_id new_enter =
     ids-longer regions region, enters-longer regions region, distinct-longer (ids_of regions) region.id,
     distinct-longer (enters_of regions) region.enter)
 
-pub counted : (ds : List Data) → count_of (items_of ds) ≡ length ds
-counted [] = refl
-counted (d ∷ ds) = ap suc (counted ds)
+
+pub counted_view : (values : List Value) → count_of (items_view values) ≡ length values
+counted_view [] = refl
+counted_view (value ∷ values) = ap suc (counted_view values)

@@ -1,5 +1,5 @@
 -- A region file: its regions, or its first fault.
-use Rattle.std.specs.Prelude.{◌≡◌, ◌≢◌, ℕ, suc, ◌+◌, ◌==◌, min, nat_le, Bool, List, [], ◌∷◌, ◌++◌, codes, length, IsUtf8, Option, Some, None, option_and_then, Result, Ok, Err, if◌then◌else◌}
+use Rattle.std.specs.Prelude.{◌≡◌, ◌≢◌, ◌⊎◌, ℕ, suc, ◌+◌, ◌==◌, min, nat_le, Bool, List, [], ◌∷◌, ◌++◌, codes, length, IsUtf8, Option, Some, None, option_and_then, Result, Ok, Err, if◌then◌else◌}
 use Rattle.std.specs.Str.{bytes_eq}
 use Rattle.serde_json.specs.Data.{Data, Items, no_items, item}
 use Rattle.serde_json.specs.Find.{as_array, get}
@@ -82,13 +82,7 @@ HasNoReading file = IsUtf8 file → read file ≡ None
 abbrev pub Spells : List ℕ → List Region → Type 0
 Spells file regions = (d : Data) × ReadsAs file d × (regions_in d ≡ Ok regions)
 
--- a fault other than want of memory is the first of the file
+-- the first fault of a file: it is no JSON, or its value gives this fault
 abbrev pub FirstRegionFault : List ℕ → RegionFault → Type 0
-FirstRegionFault file Json = HasNoReading file
-FirstRegionFault file Memory = Unit {0}
-FirstRegionFault file (Shape index) = (d : Data) × ReadsAs file d × (regions_in d ≡ Err (Shape index))
-FirstRegionFault file (SameAddress index) = (d : Data) × ReadsAs file d × (regions_in d ≡ Err (SameAddress index))
-FirstRegionFault file (EnterTwice index) = (d : Data) × ReadsAs file d × (regions_in d ≡ Err (EnterTwice index))
-FirstRegionFault file (RegisterTwice index register) =
-    (d : Data) × ReadsAs file d × (regions_in d ≡ Err (RegisterTwice index register))
-FirstRegionFault file (TooMany count) = (d : Data) × ReadsAs file d × (regions_in d ≡ Err (TooMany count))
+FirstRegionFault file fault =
+    ((fault ≡ Json) × HasNoReading file) ⊎ ((d : Data) × ReadsAs file d × (regions_in d ≡ Err fault))

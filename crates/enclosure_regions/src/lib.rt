@@ -4,6 +4,7 @@
 
 mod break_kinds;
 mod copying;
+mod item_lists;
 mod monitors;
 mod object_keys;
 mod orders;
@@ -12,6 +13,7 @@ mod ranges_of_regions;
 mod reading;
 mod region_checks;
 mod region_faults;
+mod region_files;
 mod region_items;
 mod region_lists;
 mod region_parts;
@@ -24,6 +26,7 @@ mod words;
 pub use break_kinds::{Break, WrittenPlace};
 pub use monitors::Monitor;
 pub use region_faults::RegionFault;
+pub use region_files::read_regions;
 pub use region_lists::Regions;
 pub use region_parts::{Range, Region};
 pub use turn_kinds::TurnKind;

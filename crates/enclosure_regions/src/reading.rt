@@ -65,8 +65,8 @@ fn placed(alloc: Global, found: &[Region], region: Region) -> Result<Region, Reg
     Ok(ordered(alloc, region)?)
 }
 
-// The region of an item behind those that were found.
-fn behind(alloc: Global, found: &[Region], item: &Value) -> Result<Region, RegionFault>
+/// The region of an item behind those that were found.
+pub fn behind(alloc: Global, found: &[Region], item: &Value) -> Result<Region, RegionFault>
     requires { length found.now < 256 }
     ensures exact { UnlessMemory result (written_behind found.now (written_in (view item.now))) }
     ensures rules { IfOk result (λ other. IsTrue (is_region other)) }
