@@ -1,5 +1,5 @@
 -- Regions with one more keep the rules where the new one does and its number and enter address are new.
-use Rattle.std.proofs.Common.{◌≡◌, ◌==◌, ◌+◌, ◌<◌, ℕ, suc, Bool, true, false, not, List, [], ◌∷◌, ◌++◌, length, map, IsTrue, refl, arith, ap, sym, ◌∙◌, length-append}
+use Rattle.std.proofs.Common.{◌≡◌, ◌==◌, ◌<◌, ℕ, suc, false, List, [], ◌∷◌, ◌++◌, length, IsTrue, refl, arith, ap, length-append}
 use Rattle.std.proofs.lemmas.Grind.{common_steps}
 use Rattle.std.specs.List.{list_all}
 use Rattle.serde_json.specs.View.{items_view}
@@ -36,10 +36,16 @@ pub longer : (regions : List Region) (region : Region) → length regions < 256 
     → IsTrue (is_region region) → stands_in (ids_of regions) region.id ≡ false
     → stands_in (enters_of regions) region.enter ≡ false → IsTrue (are_regions (regions ++ region ∷ []))
 longer regions region few h one new_id new_enter =
-    grind (arith, common_steps, length-append regions (region ∷ []), all-longer regions region,
-    ids-longer regions region, enters-longer regions region, distinct-longer (ids_of regions) region.id,
-    distinct-longer (enters_of regions) region.enter)
-
+    grind (
+      arith,
+      common_steps,
+      length-append regions (region ∷ []),
+      all-longer regions region,
+      ids-longer regions region,
+      enters-longer regions region,
+      distinct-longer (ids_of regions) region.id,
+      distinct-longer (enters_of regions) region.enter,
+    )
 
 pub counted_view : (values : List Value) → count_of (items_view values) ≡ length values
 counted_view [] = refl

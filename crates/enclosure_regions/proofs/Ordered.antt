@@ -1,5 +1,5 @@
 -- Registers that are picked from all registers ascend, and where none stands twice the two lists are apart.
-use Rattle.std.proofs.Common.{◌≡◌, ◌≤◌, ◌<◌, ◌==◌, ℕ, Bool, true, false, not, List, [], ◌∷◌, None, IsTrue, refl, arith, ◌≢◌, ap, sym, ◌∙◌, subst}
+use Rattle.std.proofs.Common.{◌≡◌, ◌≤◌, ℕ, Bool, List, [], ◌∷◌, None, IsTrue, refl, arith, ◌≢◌}
 use Rattle.std.proofs.lemmas.Grind.{common_steps}
 use Rattle.std.specs.List.{filter, find, list_all}
 use Rattle.enclosure_regions.specs.declared.orders.TheConstants.{ALL_REGISTERS}

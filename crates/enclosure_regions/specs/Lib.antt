@@ -9,3 +9,4 @@ pub mod RangeItems
 pub mod RegionItems
 pub mod Orders
 pub mod Reading
+pub mod FileLaws

@@ -4,7 +4,6 @@ use Rattle.std.specs.List.{list_all}
 use Rattle.std.specs.Str.{bytes_eq}
 use Rattle.serde_json.specs.Data.{Data}
 use Rattle.serde_json.specs.Find.{get}
-use Rattle.enclosure_regions.specs.declared.region_parts.Range.{Range}
 use Rattle.enclosure_regions.specs.declared.region_parts.Region.{Region}
 use Rattle.enclosure_regions.specs.RangeItems.{ranges_if}
 use Rattle.enclosure_regions.specs.Regions.{are_ranges, is_place, is_region_number, is_register}

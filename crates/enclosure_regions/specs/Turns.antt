@@ -1,5 +1,5 @@
 -- What kind of turn a guest with regions makes, and where the ranges of a region start.
-use Rattle.std.specs.Prelude.{ℕ, ◌+◌, ◌%◌, ◌^◌, ◌==◌, Bool, false, List, map, slice_get, slice_index, Option, Some, None, if◌then◌else◌}
+use Rattle.std.specs.Prelude.{ℕ, ◌+◌, ◌%◌, ◌^◌, ◌==◌, Bool, false, List, slice_get, slice_index, Option, Some, None, if◌then◌else◌}
 use Rattle.std.specs.List.{position_from}
 use Rattle.enclosure_regions.specs.declared.region_parts.Range.{Range}
 use Rattle.enclosure_regions.specs.declared.region_parts.Region.{Region}
@@ -29,7 +29,3 @@ base_value registers (Some register) = slice_index registers register
 -- where a range starts: at the value of its base register, if any, plus its offset, modulo 2^32
 abbrev pub start_of : List ℕ → Range → ℕ
 start_of registers range = (base_value registers range.base + range.offset) % 2 ^ 32
-
--- where the ranges of a region start
-abbrev pub starts_of : List ℕ → Region → List ℕ
-starts_of registers region = map (start_of registers) region.ranges

@@ -4,6 +4,7 @@
 
 mod break_kinds;
 mod copying;
+mod file_laws;
 mod item_lists;
 mod monitors;
 mod object_keys;
@@ -24,6 +25,7 @@ mod turning;
 mod words;
 
 pub use break_kinds::{Break, WrittenPlace};
+pub use file_laws::region_files_are_one;
 pub use monitors::Monitor;
 pub use region_faults::RegionFault;
 pub use region_files::read_regions;

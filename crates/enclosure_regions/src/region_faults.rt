@@ -8,13 +8,22 @@ pub enum RegionFault {
     Json,
     /// The file is not an object with the one key `regions`, an array (index 0), or a region is not an object of the
     /// form that regions have, or has the number of an earlier region, or more than 64 ranges or 65,536 bytes of them.
-    Shape { index: u32 },
+    Shape {
+        index: u32,
+    },
     /// A region's enter and leave addresses are equal.
-    SameAddress { index: u32 },
+    SameAddress {
+        index: u32,
+    },
     /// An earlier region has the enter address.
-    EnterTwice { index: u32 },
+    EnterTwice {
+        index: u32,
+    },
     /// A register stands twice in `outs` and `keep` together: the lowest.
-    RegisterTwice { index: u32, register: u8 },
+    RegisterTwice {
+        index: u32,
+        register: u8,
+    },
     /// There are more than 256 regions.
     TooMany {
         /// The number of regions.

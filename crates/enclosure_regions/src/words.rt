@@ -73,8 +73,16 @@ pub fn offset(number: i64) -> Option<u32>
     ensures { result ≡ word_of number }
 {
     if number >= 0 {
-        if number < 0x1_0000_0000 { Some(number as u32) } else { None }
+        if number < 0x1_0000_0000 {
+            Some(number as u32)
+        } else {
+            None
+        }
     } else {
-        if number >= -0x8000_0000 { Some((number + 0x1_0000_0000) as u32) } else { None }
+        if number >= -0x8000_0000 {
+            Some((number + 0x1_0000_0000) as u32)
+        } else {
+            None
+        }
     }
 }

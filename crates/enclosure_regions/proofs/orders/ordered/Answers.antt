@@ -1,6 +1,5 @@
-use Rattle.std.proofs.Common.{◌≡◌, ℕ, List, IsTrue, ap, sym, ◌∙◌, subst}
-use Rattle.enclosure_regions.specs.Orders.{in_order, ordered}
-use Rattle.enclosure_regions.specs.Regions.{is_region}
+use Rattle.std.proofs.Common.{◌≡◌, ap, ◌∙◌}
+use Rattle.enclosure_regions.specs.Orders.{in_order}
 use Rattle.enclosure_regions.proofs.Ordered.{ordered-rules}
 use Rattle.enclosure_regions.proofs.orders.ordered.Goals as goal
 

@@ -1,4 +1,4 @@
-use Rattle.std.proofs.Common.{◌≡◌, inr}
+use Rattle.std.proofs.Common.{inr}
 use Rattle.std.proofs.lemmas.Result.{IfErr-weaker}
 use Rattle.serde_json.specs.View.{view}
 use Rattle.enclosure_regions.proofs.region_files.read_regions.Goals as goal
