@@ -1,0 +1,3 @@
+mod files;
+mod limits;
+mod monitoring;
