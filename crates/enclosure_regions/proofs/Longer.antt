@@ -1,5 +1,6 @@
 -- Regions with one more keep the rules where the new one does and its number and enter address are new.
-use Rattle.std.proofs.Common.{◌≡◌, ◌==◌, ◌<◌, ℕ, suc, false, List, [], ◌∷◌, ◌++◌, length, IsTrue, refl, arith, ap, length-append}
+use Rattle.std.proofs.Common.{◌≡◌, ◌==◌, ◌<◌, ℕ, suc, false, List, [], ◌∷◌, ◌++◌, length, IsTrue, refl, arith, ap}
+use Rattle.std.proofs.Common.{length-append}
 use Rattle.std.proofs.lemmas.Grind.{common_steps}
 use Rattle.std.specs.List.{list_all}
 use Rattle.serde_json.specs.View.{items_view}

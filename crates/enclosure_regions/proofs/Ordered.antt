@@ -32,7 +32,14 @@ ascends pick lowest [] h = refl
 ascends pick lowest (x ∷ xs) h = grind (arith, common_steps, lower, ascends pick lowest xs, ascends pick x xs)
 
 pub picked : (registers : List ℕ) → IsTrue (are_registers (in_order registers))
-picked registers = grind (arith, common_steps, all-are, filter-all is_register (stands_in registers) all_registers, ascends (stands_in registers) 0 all_registers)
+picked registers =
+    grind (
+      arith,
+      common_steps,
+      all-are,
+      filter-all is_register (stands_in registers) all_registers,
+      ascends (stands_in registers) 0 all_registers,
+    )
 
 -- ---- twice
 
@@ -47,7 +54,15 @@ stands-picked pick r (x ∷ xs) h = grind (arith, common_steps, stands-picked pi
 apart-of : (outs keep ys xs : List ℕ) → find (stands_twice outs keep) xs ≡ None
     → IsTrue (are_apart (filter (stands_in outs) xs) (filter (stands_in keep) ys))
 apart-of outs keep ys [] h = refl
-apart-of outs keep ys (x ∷ xs) h = grind (arith, common_steps, stands-times x outs, stands-times x keep, stands-picked (stands_in keep) x ys, apart-of outs keep ys xs)
+apart-of outs keep ys (x ∷ xs) h =
+    grind (
+      arith,
+      common_steps,
+      stands-times x outs,
+      stands-times x keep,
+      stands-picked (stands_in keep) x ys,
+      apart-of outs keep ys xs,
+    )
 
 pub apart : (outs keep : List ℕ) → lowest_twice outs keep ≡ None → IsTrue (are_apart (in_order outs) (in_order keep))
 apart outs keep h = apart-of outs keep all_registers all_registers h

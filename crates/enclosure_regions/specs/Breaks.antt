@@ -1,10 +1,12 @@
 -- What breaks a region, each as a function of the region and of registers and addresses.
-use Rattle.std.specs.Prelude.{ℕ, ◌+◌, ◌^◌, ◌==◌, ◌&&◌, ◌||◌, nat_le, nat_lt, not, Bool, List, slice_index, Option, Some, None, option_map, if◌then◌else◌}
+use Rattle.std.specs.Prelude.{ℕ, ◌+◌, ◌^◌, ◌==◌, ◌&&◌, ◌||◌, nat_le, nat_lt, not, Bool, List, slice_index, Option, Some}
+use Rattle.std.specs.Prelude.{None, option_map, if◌then◌else◌}
 use Rattle.std.specs.List.{find, list_any, position_from}
 use Rattle.flow_base.specs.Guests.{memory_size}
 use Rattle.enclosure_regions.specs.declared.region_parts.Region.{Region}
 use Rattle.enclosure_regions.specs.declared.break_kinds.Break.{Break}
-use Rattle.enclosure_regions.specs.declared.break_kinds.Break.TheVariants.{UndeclaredWrite, KeepBroken, CallInRegion, RangeOutside}
+use Rattle.enclosure_regions.specs.declared.break_kinds.Break.TheVariants.{UndeclaredWrite, KeepBroken, CallInRegion}
+use Rattle.enclosure_regions.specs.declared.break_kinds.Break.TheVariants.{RangeOutside}
 use Rattle.enclosure_regions.specs.declared.break_kinds.WrittenPlace.TheVariants.{Reg, Byte}
 use Rattle.enclosure_regions.specs.Regions.{stands_in}
 use Rattle.enclosure_regions.specs.Turns.{start_of}
@@ -13,7 +15,8 @@ use Rattle.enclosure_regions.specs.Turns.{start_of}
 
 -- the region declares a register among its outputs or its kept registers; a write to x0 is none
 abbrev pub declares_register : Region → ℕ → Bool
-declares_register region register = (register == 0) || (stands_in region.outs register || stands_in region.keep register)
+declares_register region register =
+    (register == 0) || (stands_in region.outs register || stands_in region.keep register)
 
 -- a range that starts there has the byte
 abbrev pub has_byte : ℕ → ℕ → ℕ → Bool
@@ -41,8 +44,7 @@ has_changed before after register = not (slice_index before register == slice_in
 
 -- the lowest kept register whose values at the entry and now differ; the kept registers ascend
 abbrev pub changed_register : Region → List ℕ → List ℕ → Option ℕ
-changed_register region before after =
-    find (λ register. has_changed before after register) region.keep
+changed_register region before after = find (λ register. has_changed before after register) region.keep
 
 abbrev pub register_changed : Region → List ℕ → List ℕ → ℕ → Break
 register_changed region before after register =
@@ -71,4 +73,5 @@ outside_range region registers base =
     position_from (λ range. not (is_in_memory base (start_of registers range) range.length)) 0 region.ranges
 
 abbrev pub range_break : Region → List ℕ → ℕ → Option Break
-range_break region registers base = option_map (λ range. RangeOutside region.id range) (outside_range region registers base)
+range_break region registers base =
+    option_map (λ range. RangeOutside region.id range) (outside_range region registers base)

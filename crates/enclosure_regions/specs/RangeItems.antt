@@ -1,5 +1,6 @@
 -- The ranges of a region file.
-use Rattle.std.specs.Prelude.{ℕ, ◌&&◌, ◌||◌, nat_le, Bool, List, [], ◌∷◌, ◌++◌, codes, length, sum_by, Option, Some, None, option_map, option_and_then, if◌then◌else◌}
+use Rattle.std.specs.Prelude.{ℕ, ◌&&◌, ◌||◌, nat_le, Bool, List, [], ◌∷◌, ◌++◌, codes, length, sum_by, Option, Some}
+use Rattle.std.specs.Prelude.{None, option_map, option_and_then, if◌then◌else◌}
 use Rattle.std.specs.Str.{bytes_eq}
 use Rattle.serde_json.specs.Data.{Data, null, boolean, number, string, array, object, Items, no_items, item}
 use Rattle.serde_json.specs.Find.{as_array, get}
@@ -47,7 +48,8 @@ with_base (Some base) offset count = with_offset base offset count
 abbrev pub range_at : Data → Option Range
 range_at d =
     if has_keys is_range_key d
-    then with_base (base_if (get (codes "base") d)) (offset_if (get (codes "offset") d)) (length_if (get (codes "length") d))
+    then with_base (base_if (get (codes "base") d)) (offset_if (get (codes "offset") d))
+    (length_if (get (codes "length") d))
     else None
 
 -- the ranges of the items behind those found

@@ -1,12 +1,14 @@
 -- A region file: its regions, or its first fault.
-use Rattle.std.specs.Prelude.{◌≡◌, ◌≢◌, ◌⊎◌, ℕ, suc, ◌==◌, min, nat_le, Bool, List, [], ◌∷◌, ◌++◌, codes, length, IsUtf8, Option, Some, None, option_and_then, Result, Ok, Err, if◌then◌else◌}
+use Rattle.std.specs.Prelude.{◌≡◌, ◌≢◌, ◌⊎◌, ℕ, suc, ◌==◌, min, nat_le, Bool, List, [], ◌∷◌, ◌++◌, codes, length}
+use Rattle.std.specs.Prelude.{IsUtf8, Option, Some, None, option_and_then, Result, Ok, Err, if◌then◌else◌}
 use Rattle.std.specs.Str.{bytes_eq}
 use Rattle.serde_json.specs.Data.{Data, Items, no_items, item}
 use Rattle.serde_json.specs.Find.{as_array, get}
 use Rattle.serde_json.specs.Read.{read}
 use Rattle.enclosure_regions.specs.declared.region_parts.Region.{Region}
 use Rattle.enclosure_regions.specs.declared.region_faults.RegionFault.{RegionFault}
-use Rattle.enclosure_regions.specs.declared.region_faults.RegionFault.TheVariants.{Json, Shape, SameAddress, EnterTwice, RegisterTwice, TooMany, Memory}
+use Rattle.enclosure_regions.specs.declared.region_faults.RegionFault.TheVariants.{Json, Shape, SameAddress, EnterTwice}
+use Rattle.enclosure_regions.specs.declared.region_faults.RegionFault.TheVariants.{RegisterTwice, TooMany, Memory}
 use Rattle.enclosure_regions.specs.Orders.{lowest_twice, ordered}
 use Rattle.enclosure_regions.specs.RegionItems.{written_in}
 use Rattle.enclosure_regions.specs.Regions.{enters_of, ids_of, stands_in}

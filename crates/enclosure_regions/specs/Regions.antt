@@ -1,5 +1,6 @@
 -- Regions of a program, and the rules that a list of them keeps.
-use Rattle.std.specs.Prelude.{ℕ, ◌%◌, ◌^◌, ◌==◌, ◌&&◌, nat_le, nat_lt, not, Bool, true, List, [], ◌∷◌, length, map, sum_by, Option, Some, None}
+use Rattle.std.specs.Prelude.{ℕ, ◌%◌, ◌^◌, ◌==◌, ◌&&◌, nat_le, nat_lt, not, Bool, true, List, [], ◌∷◌, length, map}
+use Rattle.std.specs.Prelude.{sum_by, Option, Some, None}
 use Rattle.std.specs.List.{list_all, list_any}
 use Rattle.enclosure_regions.specs.declared.region_parts.Range.{Range}
 use Rattle.enclosure_regions.specs.declared.region_parts.Region.{Region}
@@ -36,7 +37,9 @@ is_base (Some register) = is_register register
 
 -- a range has from 1 to 65,536 bytes
 abbrev pub is_range : Range → Bool
-is_range range = is_base range.base && (nat_lt range.offset (2 ^ 32) && (nat_le 1 range.length && nat_le range.length 65536))
+is_range range =
+    is_base range.base
+    && (nat_lt range.offset (2 ^ 32) && (nat_le 1 range.length && nat_le range.length 65536))
 
 -- at most 64 ranges, of at most 65,536 bytes together
 abbrev pub are_ranges : List Range → Bool

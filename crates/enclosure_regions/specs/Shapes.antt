@@ -1,5 +1,6 @@
 -- Parts of a region file as values of JSON.
-use Rattle.std.specs.Prelude.{ℕ, ◌&&◌, nat_le, Bool, true, false, List, [], ◌∷◌, ◌++◌, Option, Some, None, option_and_then, if◌then◌else◌}
+use Rattle.std.specs.Prelude.{ℕ, ◌&&◌, nat_le, Bool, true, false, List, [], ◌∷◌, ◌++◌, Option, Some, None}
+use Rattle.std.specs.Prelude.{option_and_then, if◌then◌else◌}
 use Rattle.serde_json.specs.Data.{Data, Items, no_items, item, Members, no_members, member}
 use Rattle.serde_json.specs.Find.{as_array, as_i64, as_number, as_object, as_str, as_u64}
 use Rattle.enclosure_regions.specs.RegisterNames.{register_named}
@@ -48,7 +49,8 @@ register_at d = option_and_then register_named (as_str d)
 -- the registers of the items behind those found, in the order of the file
 abbrev pub registers_onto : List ℕ → Items → Option (List ℕ)
 registers_onto found no_items = Some found
-registers_onto found (item d items) = option_and_then (λ register. registers_onto (found ++ register ∷ []) items) (register_at d)
+registers_onto found (item d items) =
+    option_and_then (λ register. registers_onto (found ++ register ∷ []) items) (register_at d)
 
 abbrev pub registers_at : Data → Option (List ℕ)
 registers_at d = option_and_then (registers_onto []) (as_array d)

@@ -1,5 +1,6 @@
 -- A monitor of a run: what it holds and what it answers.
-use Rattle.std.specs.Prelude.{ℕ, ◌<◌, nat_lt, Bool, true, List, replicate, length, slice_get, Option, Some, None, option_map, option_and_then, Result, Ok, Err}
+use Rattle.std.specs.Prelude.{ℕ, ◌<◌, nat_lt, Bool, true, List, replicate, length, slice_get, Option, Some, None}
+use Rattle.std.specs.Prelude.{option_map, option_and_then, Result, Ok, Err}
 use Rattle.enclosure_regions.specs.declared.region_parts.Range.{Range}
 use Rattle.enclosure_regions.specs.declared.region_parts.Region.{Region}
 use Rattle.enclosure_regions.specs.declared.break_kinds.Break.{Break}

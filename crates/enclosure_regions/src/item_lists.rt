@@ -14,7 +14,8 @@ use std::alloc::Global;
 pub fn regions_of(alloc: Global, items: &[Value]) -> Result<Regions, RegionFault>
     requires { length items.now ≤ 256 }
     ensures ok { IfOk result (λ regions. regions_onto [] (items_view items.now) ≡ Ok regions.items) }
-    ensures err { IfErr result (λ fault. fault ≢ RegionFault.Memory → regions_onto [] (items_view items.now) ≡ Err fault) }
+    ensures err { IfErr result (λ fault. fault ≢ RegionFault.Memory
+        → regions_onto [] (items_view items.now) ≡ Err fault) }
 {
     let mut found = List::new(alloc);
     let mut rest = items;

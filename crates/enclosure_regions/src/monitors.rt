@@ -1,10 +1,12 @@
-ghost use Rattle.std.specs.Prelude.{◌≡◌, ◌<◌, length, option_map, slice_get, None, Some, Ok, IsSome, IsTrue, IfOk, OnErr, OnOk};
+ghost use Rattle.std.specs.Prelude.{◌≡◌, ◌<◌, length, option_map, slice_get, None, Some, Ok, IsSome, IsTrue, IfOk};
+ghost use Rattle.std.specs.Prelude.{OnErr, OnOk};
 ghost use Rattle.std.specs.Prelude.{replicate, List as Seq};
 ghost use Rattle.std.specs.List.{list_all};
 ghost use Rattle.enclosure_regions.specs.Breaks.{byte_break, call_break, keep_break, range_break, register_break};
 ghost use Rattle.enclosure_regions.specs.Regions.{is_range, is_region};
 ghost use Rattle.enclosure_regions.specs.Turns.{turn_kind as kind_of_turn};
-ghost use Rattle.enclosure_regions.specs.Watching.{EntersOneOf, Watch, after_entry, after_leave, break_of, entry_answer};
+ghost use Rattle.enclosure_regions.specs.Watching.{EntersOneOf, Watch, after_entry, after_leave, break_of};
+ghost use Rattle.enclosure_regions.specs.Watching.{entry_answer};
 ghost use Rattle.enclosure_regions.specs.Watching.{last_start, new_watch, unless_break};
 
 use crate::break_kinds::Break;

@@ -1,6 +1,7 @@
 ghost use Rattle.std.specs.Prelude.{◌≡◌, ◌≢◌, ◌==◌, count_by, None, IfOk, IsTrue};
 ghost use Rattle.std.specs.List.{filter, find, list_all};
-ghost use Rattle.enclosure_regions.specs.Orders.{all_registers, in_order as in_order_of, lowest_twice as lowest_twice_of};
+ghost use Rattle.enclosure_regions.specs.Orders.{all_registers, in_order as in_order_of};
+ghost use Rattle.enclosure_regions.specs.Orders.{lowest_twice as lowest_twice_of};
 ghost use Rattle.enclosure_regions.specs.Orders.{ordered as ordered_of, stands_twice as stands_twice_in, times};
 ghost use Rattle.enclosure_regions.specs.RegionItems.{is_written};
 ghost use Rattle.enclosure_regions.specs.Regions.{are_registers, is_region, stands_in};

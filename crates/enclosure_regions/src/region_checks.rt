@@ -1,6 +1,8 @@
-ghost use Rattle.std.specs.Prelude.{◌≡◌, ◌<◌, slice_index, IsTrue, IfSome};
+ghost use Rattle.std.specs.Prelude.{◌≡◌, ◌<◌, IsTrue, IfSome};
 ghost use Rattle.std.specs.List.{find, list_all};
-ghost use Rattle.enclosure_regions.specs.Breaks.{byte_break, declares_register, has_changed, keep_break, range_break, register_break};
+ghost use Rattle.enclosure_regions.specs.Breaks.{byte_break, declares_register, has_changed, keep_break};
+ghost use Rattle.enclosure_regions.specs.Breaks.{register_changed, range_break};
+ghost use Rattle.enclosure_regions.specs.Breaks.{register_break};
 ghost use Rattle.enclosure_regions.specs.Regions.{is_region, is_register};
 
 use crate::break_kinds::{Break, WrittenPlace};
@@ -67,7 +69,7 @@ fn first_changed(registers: &[u8], before: &Registers, after: &Registers) -> Opt
 // A kept register whose values differ.
 fn broken_keep(region: &Region, register: u8, before: &Registers, after: &Registers) -> Break
     requires { register < 32 }
-    ensures { result ≡ Break.KeepBroken region.now.id register (slice_index before.now register) (slice_index after.now register) }
+    ensures { result ≡ register_changed region.now before.now after.now register }
 {
     Break::KeepBroken {
         region: region.id,

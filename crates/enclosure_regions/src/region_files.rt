@@ -1,6 +1,7 @@
 ghost use Rattle.std.specs.Prelude.{◌≡◌, ◌≢◌, ◌≤◌, [], length, option_map, Err, Ok, IfErr, IfOk};
 ghost use Rattle.serde_json.specs.View.{items_view, view};
-ghost use Rattle.enclosure_regions.specs.Reading.{FirstRegionFault, HasNoReading, ReadsAs, Spells, few_regions, items_in};
+ghost use Rattle.enclosure_regions.specs.Reading.{FirstRegionFault, HasNoReading, ReadsAs, Spells, few_regions};
+ghost use Rattle.enclosure_regions.specs.Reading.{items_in};
 ghost use Rattle.enclosure_regions.specs.Reading.{regions_in};
 
 use crate::item_lists::regions_of;
@@ -13,7 +14,8 @@ use std::alloc::Global;
 // The value of JSON that the file is.
 fn value(alloc: Global, file: &[u8]) -> Result<Value, RegionFault>
     ensures ok { IfOk result (λ value. ReadsAs file.now (view value)) }
-    ensures err { IfErr result (λ fault. fault ≢ RegionFault.Memory → (fault ≡ RegionFault.Json) × HasNoReading file.now) }
+    ensures err { IfErr result (λ fault. fault ≢ RegionFault.Memory
+        → (fault ≡ RegionFault.Json) × HasNoReading file.now) }
 {
     match Value::from_slice(alloc, file) {
         Ok(value) => Ok(value),
@@ -65,11 +67,12 @@ fn regions(alloc: Global, value: &Value) -> Result<Regions, RegionFault>
 }
 
 /// The regions of a file of JSON (RFC 8259), as `serde_json` reads it: an object with the one key `regions`, an array
-/// of objects. Each has `id`, a number from 1 to 65,535 that no other has, `enter` and `leave`, texts of `0x` and one to
-/// eight hexadecimal digits of a multiple of 4, and may have `outs` and `keep`, arrays of register names, and `ranges`,
-/// an array of objects with `length` and perhaps `offset` and `base`. The error is the first fault: no JSON, the outer
-/// object, too many regions, and then for each region in order its form, equal addresses, a register that stands twice,
-/// an enter address that an earlier region has.
+/// of objects. Each has `id`, a number from 1 to 65,535 that no other has, and `enter` and `leave`, texts of `0x` and
+/// one to eight hexadecimal digits of a multiple of 4. It may have `outs` and `keep`, arrays of register names, and
+/// `ranges`, an array of objects with `length` and perhaps `offset` and `base`.
+///
+/// The error is the first fault: no JSON, the outer object, too many regions, and then for each region in order its
+/// form, equal addresses, a register that stands twice, an enter address that an earlier region has.
 pub fn read_regions(alloc: Global, file: &[u8]) -> Result<Regions, RegionFault>
     ensures ok { IfOk result (λ regions. Spells file.now regions.items) }
     ensures err { IfErr result (λ fault. fault ≢ RegionFault.Memory → FirstRegionFault file.now fault) }

@@ -9,7 +9,7 @@ use std::alloc::Global;
 ///
 /// By its type there are at most 256; their numbers, 1 to 65,535, are distinct, and so are their enter addresses; enter
 /// and leave are multiples of 4 and differ; the registers are 1 to 31 and ascend strictly, and none stands both in
-/// `outs` and in `keep`; a region has at most 64 ranges, each of 1 to 65,536 bytes, and of at most 65,536 bytes together.
+/// `outs` and in `keep`; a region has at most 64 ranges, each of at least 1 byte, and of at most 65,536 bytes together.
 #[derive(Drop)]
 pub struct Regions {
     /// The regions in order.

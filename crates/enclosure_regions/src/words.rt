@@ -1,6 +1,7 @@
 ghost use Rattle.std.specs.Prelude.{◌≡◌, ◌≤◌, ◌<◌, IfSome, IsTrue};
 ghost use Rattle.enclosure_regions.specs.Regions.{is_place};
-ghost use Rattle.enclosure_regions.specs.Words.{aligned as aligned_word, digit_of, digits_after, digits_in, place_in, word_in, word_of};
+ghost use Rattle.enclosure_regions.specs.Words.{aligned as aligned_word, digit_of, digits_after, digits_in, place_in};
+ghost use Rattle.enclosure_regions.specs.Words.{word_in, word_of};
 
 // The value of a hexadecimal digit of either case; 16 for every other byte.
 fn digit(byte: u8) -> u32

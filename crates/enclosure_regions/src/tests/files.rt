@@ -55,15 +55,19 @@ fn reads_regions(rt: HostRuntime) -> Result<(), Fail> {
             "1 65536 65580 outs keep ranges;",
         ),
         (
-            r#"{"regions":[{"id":65535,"enter":"0x0","leave":"0xFffffFfC","outs":["t0","x1"],"keep":["a1","s0","ra2"]}]}"#,
+            r#"{"regions":[{"id":65535,"enter":"0x0","leave":"0xFffffFfC",
+                "outs":["t0","x1"],"keep":["a1","s0","ra2"]}]}"#,
             "shape 1",
         ),
         (
-            r#"{"regions":[{"id":65535,"enter":"0x0","leave":"0xFffffFfC","outs":["t0","x1"],"keep":["a1","s0","sp"]}]}"#,
+            r#"{"regions":[{"id":65535,"enter":"0x0","leave":"0xFffffFfC",
+                "outs":["t0","x1"],"keep":["a1","s0","sp"]}]}"#,
             "65535 0 4294967292 outs x1 x5 keep x2 x8 x11 ranges;",
         ),
         (
-            r#"{"regions":[{"id":7,"enter":"0x4","leave":"0x8","ranges":[{"length":1},{"base":null,"length":2,"offset":4294967295},{"base":"fp","offset":-1,"length":65533}]},{"id":3,"enter":"0x8","leave":"0x4"}]}"#,
+            r#"{"regions":[{"id":7,"enter":"0x4","leave":"0x8","ranges":[{"length":1},
+                {"base":null,"length":2,"offset":4294967295},{"base":"fp","offset":-1,"length":65533}]},
+                {"id":3,"enter":"0x8","leave":"0x4"}]}"#,
             "7 4 8 outs keep ranges 0:1 4294967295:2 x8+4294967295:65533;3 8 4 outs keep ranges;",
         ),
         (
@@ -114,7 +118,8 @@ fn answers_the_first_fault(rt: HostRuntime) -> Result<(), Fail> {
             "register-twice 1 x31",
         ),
         (
-            r#"{"regions":[{"id":1,"enter":"0x4","leave":"0x8"},{"id":2,"enter":"0x4","leave":"0xc","outs":["x9","s1"]}]}"#,
+            r#"{"regions":[{"id":1,"enter":"0x4","leave":"0x8"},
+                {"id":2,"enter":"0x4","leave":"0xc","outs":["x9","s1"]}]}"#,
             "register-twice 2 x9",
         ),
         (
@@ -126,7 +131,8 @@ fn answers_the_first_fault(rt: HostRuntime) -> Result<(), Fail> {
             "shape 2",
         ),
         (
-            r#"{"regions":[{"id":1,"enter":"0x4","leave":"0x8"},{"id":2,"enter":"0xc","leave":"0xc"},{"id":2,"enter":"0xc","leave":"0xc"}]}"#,
+            r#"{"regions":[{"id":1,"enter":"0x4","leave":"0x8"},
+                {"id":2,"enter":"0xc","leave":"0xc"},{"id":2,"enter":"0xc","leave":"0xc"}]}"#,
             "same-address 2",
         ),
     ] {

@@ -28,14 +28,16 @@ ok-err a b r s h p q = cc
 
 pub returns-clause-regions : goal.returns-clause-regions
 returns-clause-regions c = λ file first second one other.
-    same-ok first second (regions_in one.0) (regions_in other.0) (same-data file one.0 other.0 one.1 other.1) one.2 other.2
+    same-ok first second (regions_in one.0) (regions_in other.0) (same-data file one.0 other.0 one.1 other.1) one.2
+    other.2
 
 faults : FaultsAreOne
 faults file first second (inl one) (inl other) = one.0 ∙ sym other.0
 faults file first second (inl one) (inr other) = absurd (unread file other.0 one.1 other.1)
 faults file first second (inr one) (inl other) = absurd (unread file one.0 other.1 one.1)
 faults file first second (inr one) (inr other) =
-    same-err first second (regions_in one.0) (regions_in other.0) (same-data file one.0 other.0 one.1 other.1) one.2 other.2
+    same-err first second (regions_in one.0) (regions_in other.0) (same-data file one.0 other.0 one.1 other.1) one.2
+    other.2
 
 pub returns-clause-faults : goal.returns-clause-faults
 returns-clause-faults c = faults
@@ -43,7 +45,8 @@ returns-clause-faults c = faults
 neither : SpelledHaveNoFault
 neither file regions fault one (inl other) = unread file one.0 other.1 one.1
 neither file regions fault one (inr other) =
-    ok-err regions fault (regions_in one.0) (regions_in other.0) (same-data file one.0 other.0 one.1 other.1) one.2 other.2
+    ok-err regions fault (regions_in one.0) (regions_in other.0) (same-data file one.0 other.0 one.1 other.1) one.2
+    other.2
 
 pub returns-clause-neither : goal.returns-clause-neither
 returns-clause-neither c = neither

@@ -10,7 +10,8 @@ loop-rest-preserved c =
     let found : List Region = c.loop-rest.found in
     let region = c.in_ok-region.region in
     let pushed : c.push.new.self ≡ found ++ region ∷ [] = c.in_ok-push.ensures.ok in
-    let few : length found < 256 = omega (arith, c.loop-rest.invariant.counted, c.requires, c.in-len1-up.len_at_least) in
+    let few : length found < 256 = omega
+    (arith, c.loop-rest.invariant.counted, c.requires, c.in-len1-up.len_at_least) in
     let new_id : stands_in (ids_of found) region.id ≡ false =
     ap (λ (l : List Region). stands_in (ids_of l) region.id) (sym c.as_slice.ensures) ∙ c.in_ok-region.ensures.new_id in
     let new_enter : stands_in (enters_of found) region.enter ≡ false =
@@ -18,6 +19,7 @@ loop-rest-preserved c =
     ∙ c.in_ok-region.ensures.new_enter in
     record {
       counted = rw pushed (grind (arith, common_steps, c.loop-rest.invariant.counted));
-      rules = rw pushed (longer found region few c.loop-rest.invariant.rules c.in_ok-region.ensures.rules new_id new_enter);
+      rules = rw pushed
+          (longer found region few c.loop-rest.invariant.rules c.in_ok-region.ensures.rules new_id new_enter);
       same = rw pushed (grind (arith, common_steps, c.loop-rest.invariant.same));
     }
