@@ -1,11 +1,10 @@
 -- The reply to what a source tells, from the reply to what was loaded.
-use Rattle.std.proofs.Common.{◌≡◌, ◌≢◌, ℕ, List, [], ◌∷◌, Option, Some, None, Result, Ok, Err, subst, sym}
+use Rattle.std.proofs.Common.{◌≡◌, ℕ, List, [], ◌∷◌, Option, Some, None, Result, Ok, Err, subst}
 use Rattle.flow_base.specs.Loads.{Told}
 use Rattle.flowcheck.specs.CommandLines.{Check, Checks, Assembles, Lists}
 use Rattle.flowcheck.specs.Loading.{LoadRefusal, want, wants_of, loaded_from, program_limit, source_limit}
 use Rattle.flowcheck.specs.Replies.{Reply, RepliesToLoads, RepliesToFile, RepliesToProgram, RepliesToSource}
 use Rattle.flowcheck.specs.Stops.{LoadsAs, or_stop}
-use Rattle.flowcheck.specs.declared.loads.LoadStop.TheVariants.{Memory}
 use Rattle.flowcheck.specs.Answering.{Answers}
 
 ok-loaded : (loaded : Result (List (List ℕ)) LoadRefusal) (files : List (List ℕ)) → Ok files ≡ or_stop loaded → Ok files ≡ loaded

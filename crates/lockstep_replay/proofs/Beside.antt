@@ -1,5 +1,5 @@
 -- A turn of the replay beside a real run.
-use Rattle.std.proofs.Common.{◌≡◌, ℕ, zero, suc, ◌+◌, ◌-◌, ◌≤◌, ◌<◌, List, [], length, length-drop, drop, ap, sym, subst, refl, ◌∙◌, Bool, true, arith, Option, Some, None}
+use Rattle.std.proofs.Common.{◌≡◌, ℕ, zero, suc, ◌+◌, ◌-◌, ◌≤◌, ◌<◌, List, length, length-drop, ap, sym, refl, ◌∙◌, Bool, true, arith, Option, Some, None}
 use Rattle.std.proofs.lemmas.List.{nil_from_length}
 use Rattle.crossing_bits.specs.Askers.{Asker, Fed, Fed', Short, feed}
 use Rattle.crossing_bits.specs.Streams.{Stream, left_of}
@@ -16,7 +16,6 @@ use Rattle.cut_file.specs.Masks.{MaskAt}
 use Rattle.replay_machine.specs.Runs.{Place, Masks, fresh}
 use Rattle.lockstep_replay.specs.declared.differences.Difference.{Difference}
 use Rattle.lockstep_replay.specs.declared.verdicts.ReplayStop.TheVariants.{Guest, Short as TooShort}
-use Rattle.lockstep_replay.specs.declared.verdicts.Why.{Why}
 use Rattle.lockstep_replay.specs.declared.verdicts.Why.TheVariants.{ReplayFault}
 use Rattle.lockstep_replay.specs.Differences.{byte_difference, status_difference, first_of, difference_of}
 use Rattle.lockstep_replay.specs.Turning.{why_compared, Joins, InStep}

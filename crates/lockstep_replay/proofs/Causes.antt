@@ -1,23 +1,22 @@
 -- A verdict that rejects: its reason holds of the two runs, and no condition fails at an earlier turn.
-use Rattle.std.proofs.Common.{◌≡◌, ℕ, zero, suc, ◌+◌, ◌==◌, ◌≤◌, ◌<◌, ◌⊎◌, inl, inr, List, [], length, refl, ap, subst, sym, ◌∙◌, Bool, true, false, arith}
+use Rattle.std.proofs.Common.{◌≡◌, ℕ, zero, suc, ◌+◌, ◌==◌, ◌≤◌, ◌⊎◌, inl, inr, List, length, refl, ap, subst, sym, ◌∙◌, Bool, true, false, arith}
 use Rattle.std.proofs.lemmas.Bool.Decides.{Decides-eqb}
 use Rattle.std.specs.Prelude.{if◌then◌else◌, Option, Some, None}
 use Rattle.elf32_loader.specs.Pictures.{Picture}
-use Rattle.crossing_bits.specs.Askers.{feed}
 use Rattle.crossing_bits.proofs.Feeding.{le_or_lt}
 use Rattle.cut_file.specs.Cuts.{CutPicture}
 use Rattle.cut_file.specs.Masks.{MaskAt}
 use Rattle.rv32im_machine.specs.declared.stepping.Stepped.{Stepped}
 use Rattle.rv32im_machine.specs.declared.stepping.Stepped.TheVariants.{Ran, Exited, Stopped}
-use Rattle.replay_machine.specs.Runs.{Masks, real_after, Replay}
+use Rattle.replay_machine.specs.Runs.{real_after, Replay}
 use Rattle.replay_machine.specs.Starts.{guest, replay_guest}
 use Rattle.lockstep_replay.specs.declared.verdicts.Why.{Why}
 use Rattle.lockstep_replay.specs.declared.verdicts.Why.TheVariants.{RealFault, BudgetOverrun, ReplayFault, Parted, OutputDiffers, TurnLimit, SecretLength}
 use Rattle.lockstep_replay.specs.Crossing.{Cross}
 use Rattle.lockstep_replay.specs.Verdicts.{Judgement, Rejects, task_of, why_after, judged_mode, judged_after, judged_from}
-use Rattle.lockstep_replay.specs.VerdictLaws.{Agrees, Arises, RunsOut, Cause, CausesLaw}
+use Rattle.lockstep_replay.specs.VerdictLaws.{Agrees, Arises, Cause, CausesLaw}
 use Rattle.lockstep_replay.proofs.Fine.{alike_same, holds_of, not_stopped}
-use Rattle.lockstep_replay.proofs.Accepting.{FineAt, fine_at, follows_start}
+use Rattle.lockstep_replay.proofs.Accepting.{FineAt, fine_at}
 
 -- ---- no condition fails
 

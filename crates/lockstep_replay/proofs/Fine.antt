@@ -1,5 +1,5 @@
 -- What holds after a turn in which no condition fails, and what the condition that fails says.
-use Rattle.std.proofs.Common.{◌≡◌, ℕ, suc, ◌-◌, ◌==◌, ◌≤◌, ◌<◌, inl, inr, List, [], ◌∷◌, length, length-drop, take, drop, refl, ap, sym, subst, ◌∙◌, Bool, true, false, arith, Option, Some, None, if◌then◌else◌}
+use Rattle.std.proofs.Common.{◌≡◌, ℕ, suc, ◌-◌, ◌==◌, ◌≤◌, inl, inr, List, [], ◌∷◌, length, length-drop, take, drop, refl, ap, sym, subst, ◌∙◌, Bool, true, false, arith, Option, Some, None, if◌then◌else◌}
 use Rattle.std.proofs.Math.Bool.{beq}
 use Rattle.std.proofs.lemmas.Bool.{ltb-true, ltb-false, le-ltb}
 use Rattle.std.proofs.lemmas.Bool.Decides.{Decides-eqb}
@@ -22,7 +22,7 @@ use Rattle.lockstep_replay.specs.Acceptance.{EndAlike}
 use Rattle.replay_machine.specs.Standing.{has_exited}
 use Rattle.lockstep_replay.specs.Marks.{mark_of, is_same_mark}
 use Rattle.lockstep_replay.specs.Differences.{byte_difference, status_difference, first_of, difference_of}
-use Rattle.lockstep_replay.specs.Verdicts.{counted_bits, why_output, why_marks, why_copy, why_replay, why_budget, why_mode, why_of}
+use Rattle.lockstep_replay.specs.Verdicts.{counted_bits, why_output, why_copy, why_replay, why_budget, why_mode, why_of}
 use Rattle.lockstep_replay.specs.VerdictLaws.{Holds}
 
 and_parts : (a b : Bool) → (a && b) ≡ true → (a ≡ true) × (b ≡ true)

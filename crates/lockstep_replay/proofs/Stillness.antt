@@ -1,15 +1,12 @@
 -- A guest that has exited or is stopped stands still.
-use Rattle.std.proofs.Common.{◌≡◌, ℕ, zero, suc, ◌≤◌, inl, inr, List, [], ◌++◌, refl, ap, ◌∙◌, append-nil, Bool, arith}
+use Rattle.std.proofs.Common.{◌≡◌, ℕ, zero, suc, ◌≤◌, inl, inr, List, [], ◌++◌, ap, ◌∙◌, append-nil, Bool, arith}
 use Rattle.flow_base.specs.declared.points.Point.{Point}
-use Rattle.crossing_bits.specs.Askers.{Over, Fed', feed}
+use Rattle.crossing_bits.specs.Askers.{Fed', feed}
 use Rattle.crossing_bits.proofs.Feeding.{le_or_lt, feed_then}
-use Rattle.rv32im_machine.specs.declared.stepping.Stepped.{Stepped}
-use Rattle.rv32im_machine.specs.declared.stepping.Stepped.TheVariants.{Ran, Exited, Stopped}
-use Rattle.rv32im_machine.specs.State.{State, Setting, Control}
-use Rattle.rv32im_machine.specs.Language.{Ends, Ended, walked, none_held}
-use Rattle.rv32im_machine.specs.Rows.{turn_in, walk_of}
+use Rattle.rv32im_machine.specs.State.{State}
+use Rattle.rv32im_machine.specs.Rows.{walk_of}
 use Rattle.rv32im_machine.specs.Folds.{real_end, Step}
-use Rattle.replay_machine.specs.Runs.{Place, Masks, passed, real_turn, real_after, replayed, replay_turn, Replay}
+use Rattle.replay_machine.specs.Runs.{Place, Masks, passed, real_turn, real_after, replay_turn, Replay}
 use Rattle.replay_machine.proofs.Stillness.{IsOver, still_walk, still_replay}
 use Rattle.lockstep_replay.specs.Crossing.{crossing, crossing_of, Cross}
 

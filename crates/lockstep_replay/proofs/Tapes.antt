@@ -1,5 +1,5 @@
 -- One passing on the real side.
-use Rattle.std.proofs.Common.{◌≡◌, ℕ, ◌+◌, ◌≤◌, ◌<◌, List, ◌++◌, length, Bool, ◌∙◌, ap, arith, append_assoc, length-append}
+use Rattle.std.proofs.Common.{◌+◌, ◌≤◌, ◌<◌, List, ◌++◌, length, Bool, ◌∙◌, ap, arith, append_assoc, length-append}
 use Rattle.flow_base.specs.declared.points.Point.{Point}
 use Rattle.rv32im_machine.specs.State.{State}
 use Rattle.rv32im_machine.specs.Playing.{Played, Finished, Halted}

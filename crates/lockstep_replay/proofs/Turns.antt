@@ -1,11 +1,9 @@
 -- What the two sides of a common turn come to.
-use Rattle.std.proofs.Common.{◌≡◌, ℕ, ◌+◌, ◌≤◌, ◌<◌, List, [], ◌++◌, length, Bool, ap, refl, arith, Result, Ok, Err, Option, Some}
+use Rattle.std.proofs.Common.{◌≡◌, ℕ, ◌+◌, ◌≤◌, ◌<◌, List, ◌++◌, length, Bool, refl, arith, Result, Ok, Err, Option, Some}
 use Rattle.std.proofs.lemmas.Bool.{le-ltb, lt-ltb}
 use Rattle.std.proofs.Math.Seq.{drop-append_seam}
 use Rattle.flow_base.specs.declared.points.Point.{Point}
 use Rattle.crossing_bits.specs.Streams.{left_of}
-use Rattle.cut_file.specs.declared.points.CutPoint.{CutPoint}
-use Rattle.cut_file.specs.Masks.{MaskAt}
 use Rattle.rv32im_machine.specs.declared.stepping.Stepped.{Stepped}
 use Rattle.rv32im_machine.specs.declared.stepping.Stepped.TheVariants.{Ran, Exited, Stopped}
 use Rattle.rv32im_machine.specs.State.{State}

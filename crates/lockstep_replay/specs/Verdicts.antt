@@ -1,5 +1,5 @@
 -- The verdict on a secret: accepted, or the first condition that fails, by turn and within a turn in a fixed order.
-use Rattle.std.specs.Prelude.{ℕ, zero, suc, ◌-◌, ◌==◌, min, nat_lt, List, [], ◌∷◌, length, Bool, true, false, Option, Some, None, if◌then◌else◌}
+use Rattle.std.specs.Prelude.{ℕ, zero, suc, ◌-◌, ◌==◌, min, nat_lt, List, length, Bool, true, false, Option, Some, None, if◌then◌else◌}
 use Rattle.flow_base.specs.declared.outputs.Output.{Output}
 use Rattle.elf32_loader.specs.Pictures.{Picture}
 use Rattle.crossing_bits.specs.Askers.{Fed, Fed', Short, feed}

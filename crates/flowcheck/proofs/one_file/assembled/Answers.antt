@@ -1,4 +1,4 @@
-use Rattle.std.proofs.Common.{arith, sym, ◌∙◌}
+use Rattle.std.proofs.Common.{arith, sym}
 use Rattle.elf32_loader.specs.Images.{picture_of}
 use Rattle.rv32im_asm.specs.Assembling.{readings}
 use Rattle.rv32im_asm.specs.Lines.{lines_of}

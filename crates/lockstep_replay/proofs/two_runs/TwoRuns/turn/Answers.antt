@@ -1,9 +1,6 @@
-use Rattle.std.proofs.Common.{◌≡◌, ◌∙◌, ◌+◌, ◌++◌, [], length, sym, ap, arith, length-append, List}
+use Rattle.std.proofs.Common.{◌∙◌, ◌+◌, ◌++◌, [], length, sym, ap, arith, length-append}
 use Rattle.cut_file.specs.Masks.{MaskAt}
-use Rattle.flow_base.specs.declared.points.Point.{Point}
 use Rattle.crossing_bits.specs.Streams.{left_of}
-use Rattle.replay_machine.specs.Runs.{Masks}
-use Rattle.replay_machine.specs.Visits.{IsAhead}
 use Rattle.lockstep_replay.specs.Sides.{tally_of}
 use Rattle.lockstep_replay.specs.Turning.{crossed, fed_turn}
 use Rattle.lockstep_replay.specs.Verdicts.{why_replay}
