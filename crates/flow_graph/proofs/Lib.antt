@@ -1,0 +1,9 @@
+pub mod Bits
+pub mod Points
+pub mod Adding
+pub mod Indices
+pub mod Naming
+pub mod Regions
+pub mod Kept
+pub mod Relays
+pub mod Few

@@ -1,0 +1,32 @@
+-- Points that are the same are found alike.
+use Rattle.std.proofs.Common.{◌≡◌, ℕ, Bool, true, false, cond, List, [], ◌∷◌, Option, Some, None, refl, sym, ap, ◌∙◌}
+use Rattle.std.specs.BTreeMap as tree
+use Rattle.std.specs.BTreeMap.{BTreeMap, is_at}
+use Rattle.std.specs.Map.{lookup}
+use Rattle.std.specs.Cmp.{IsTotalOrder}
+use Rattle.std.specs.Ordering.{is_eq, eq_by_cmp}
+use Rattle.std.specs.declared.cmp.Ordering.{Ordering}
+use Rattle.std.specs.declared.cmp.Ordering.TheVariants.{Less, Equal, Greater}
+use Rattle.flow_base.specs.declared.points.Point.{Point}
+use Rattle.flow_base.specs.contracts.points.PointOrd.TheImpl.Laws.{total-law}
+use Rattle.flow_graph.specs.Graphs.{point_cmp}
+use Rattle.flow_graph.specs.EventGraphs.{is_same}
+
+pub point_total : IsTotalOrder point_cmp
+point_total = total-law
+
+pub is_equal : (o : Ordering) → is_eq o ≡ true → o ≡ Equal
+is_equal Less e = absurd (cc)
+is_equal Equal e = refl
+is_equal Greater e = absurd (cc)
+
+lookup_alike : {X : Type 0} (p q : Point) → point_cmp p q ≡ Equal → (es : List (Point × X)) →
+    lookup (is_at (point_cmp p)) es ≡ lookup (is_at (point_cmp q)) es
+lookup_alike p q e [] = refl
+lookup_alike p q e (x ∷ xs) =
+    ap (λ o. cond (is_eq o) (Some x.1) (lookup (is_at (point_cmp p)) xs)) (point_total.congr p q x.0 e)
+    ∙ ap (λ r. cond (is_eq (point_cmp q x.0)) (Some x.1) r) (lookup_alike p q e xs)
+
+pub get_alike : {X : Type 0} (m : BTreeMap Point X) (p q : Point) → is_same p q ≡ true → tree.get point_cmp m p ≡
+    tree.get point_cmp m q
+get_alike m p q e = lookup_alike p q (is_equal (point_cmp p q) e) m.entries

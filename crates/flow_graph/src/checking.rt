@@ -1,0 +1,179 @@
+ghost use Rattle.std.specs.Prelude.{◌≡◌, true, length, IfSome};
+ghost use Rattle.std.specs.List.{list_all};
+ghost use Rattle.std.specs.Option.{is_some};
+ghost use Rattle.flow_graph.specs.Graphs.{are_arcs, are_links, are_points, are_relays, ascend, has_capacity, is_graph};
+ghost use Rattle.flow_graph.specs.Graphs.{is_link, is_origin, is_relay, is_target, leads_on, node_cmp};
+
+use crate::ends::{Arc, End};
+use crate::graphs::Graph;
+use crate::nodes::Node;
+use flow_base::List;
+use std::cmp::Ordering;
+
+/// Whether each point has a capacity other than 0.
+fn have_capacities(points: &[Node]) -> bool
+    ensures { result ≡ list_all has_capacity points.now }
+{
+    let mut rest = points;
+    while let [node, more @ ..] = rest {
+        if node.capacity == 0 {
+            return false;
+        }
+        rest = more;
+    }
+    true
+}
+
+/// Whether points ascend strictly.
+fn do_points_ascend(points: &[Node]) -> bool
+    ensures { result ≡ ascend node_cmp points.now }
+{
+    let [first, others @ ..] = points else {
+        return true;
+    };
+    let mut last = first;
+    let mut rest = others;
+    while let [next, more @ ..] = rest {
+        if !matches!(last.point.cmp(&next.point), Ordering::Less) {
+            return false;
+        }
+        last = next;
+        rest = more;
+    }
+    true
+}
+
+/// Whether numbers ascend strictly.
+fn do_relays_ascend(relays: &[u16]) -> bool
+    ensures { result ≡ are_relays relays.now }
+{
+    let [first, others @ ..] = relays else {
+        return true;
+    };
+    let mut last = *first;
+    let mut rest = others;
+    while let [next, more @ ..] = rest {
+        if !matches!(last.cmp(next), Ordering::Less) {
+            return false;
+        }
+        last = *next;
+        rest = more;
+    }
+    true
+}
+
+/// Whether links ascend strictly.
+fn do_links_ascend(links: &[Arc]) -> bool
+    ensures { result ≡ are_arcs links.now }
+{
+    let [first, others @ ..] = links else {
+        return true;
+    };
+    let mut last = first;
+    let mut rest = others;
+    while let [next, more @ ..] = rest {
+        if !matches!(last.cmp(next), Ordering::Less) {
+            return false;
+        }
+        last = next;
+        rest = more;
+    }
+    true
+}
+
+/// Whether a region is one of ascending relays.
+fn has_relay(relays: &[u16], region: u16) -> bool
+    requires { are_relays relays.now ≡ true }
+    ensures { result ≡ is_relay relays.now region }
+{
+    match relays.binary_search(&region) {
+        Ok(_) => true,
+        Err(_) => false,
+    }
+}
+
+/// Whether a link may lead from an end.
+fn is_source(count: usize, relays: &[u16], end: End) -> bool
+    requires { are_relays relays.now ≡ true }
+    ensures { result ≡ is_origin count relays.now end }
+{
+    match end {
+        End::Source => true,
+        End::Point(index) => (index as usize) < count,
+        End::Relay(region) => has_relay(relays, region),
+        End::Sink => false,
+    }
+}
+
+/// Whether a link may lead to an end.
+fn is_goal(count: usize, relays: &[u16], end: End) -> bool
+    requires { are_relays relays.now ≡ true }
+    ensures { result ≡ is_target count relays.now end }
+{
+    match end {
+        End::Source => false,
+        End::Point(index) => (index as usize) < count,
+        End::Relay(region) => has_relay(relays, region),
+        End::Sink => true,
+    }
+}
+
+/// Whether the source leads to a point alone.
+fn leads_well(source: End, target: End) -> bool
+    ensures { result ≡ leads_on source target }
+{
+    match source {
+        End::Source => matches!(target, End::Point(_)),
+        _ => true,
+    }
+}
+
+/// Whether a link joins ends that there are.
+fn joins_ends(count: usize, relays: &[u16], link: &Arc) -> bool
+    requires { are_relays relays.now ≡ true }
+    ensures { result ≡ is_link count relays.now link.now }
+{
+    is_source(count, relays, link.source)
+        && is_goal(count, relays, link.target)
+        && leads_well(link.source, link.target)
+}
+
+/// Whether each link joins ends that there are.
+fn do_links_join(count: usize, relays: &[u16], links: &[Arc]) -> bool
+    requires { are_relays relays.now ≡ true }
+    ensures { result ≡ are_links count relays.now links.now }
+{
+    let mut rest = links;
+    while let [link, more @ ..] = rest {
+        if !joins_ends(count, relays, link) {
+            return false;
+        }
+        rest = more;
+    }
+    true
+}
+
+impl Graph {
+    /// The graph of these lists; None exactly where they break what a graph keeps.
+    pub fn from_lists(points: List<Node>, relays: List<u16>, links: List<Arc>) -> Option<Graph>
+        ensures some { is_some result ≡ is_graph points relays links }
+        ensures points { IfSome result (λ graph. graph.points ≡ points) }
+        ensures relays { IfSome result (λ graph. graph.relays ≡ relays) }
+        ensures links { IfSome result (λ graph. graph.links ≡ links) }
+    {
+        if !have_capacities(points.as_slice()) || !do_points_ascend(points.as_slice()) {
+            return None;
+        }
+        if !do_relays_ascend(relays.as_slice()) || !do_links_ascend(links.as_slice()) {
+            return None;
+        }
+        if !do_links_join(points.len(), relays.as_slice(), links.as_slice()) {
+            return None;
+        }
+        Some(Graph {
+            points,
+            relays,
+            links,
+        })
+    }
+}

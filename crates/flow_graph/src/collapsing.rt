@@ -1,0 +1,29 @@
+ghost use Rattle.std.specs.Prelude.{◌≡◌, ◌^◌, IfOk, length, nat_lt, true};
+ghost use Rattle.flow_graph.specs.EventGraphs.{HasFewPoints, IsGraphOf};
+
+use crate::builders::Builder;
+use crate::event_lists::EventList;
+use crate::graphs::Graph;
+use flow_base::NoMemory;
+use std::alloc::Global;
+
+/// Whether there are fewer than 2^32 events, so that their points are fewer than 2^32 in number.
+pub fn has_few_events(events: &EventList) -> bool
+    ensures few { result ≡ true → HasFewPoints events.now }
+    ensures count { result ≡ nat_lt (length events.now) (2 ^ 32) }
+{
+    events.events().len() < 4_294_967_296
+}
+
+/// The graph of a list of events whose points are fewer than 2^32 in number.
+pub fn graph_of(alloc: Global, events: &EventList) -> Result<Graph, NoMemory>
+    requires { HasFewPoints events.now }
+    ensures { IfOk result (λ graph. IsGraphOf events.now graph) }
+{
+    let items = events.events().as_slice();
+    let mut builder = Builder::new(alloc);
+    for event in items {
+        builder.add(*event)?;
+    }
+    builder.finish(alloc)
+}

@@ -1,0 +1,8 @@
+use flow_base::Point;
+
+/// A point of a graph and its capacity, in bits: how many may flow from its first half to its second.
+#[derive(Clone, Copy, Debug, PartialEq, Eq)]
+pub struct Node {
+    pub point: Point,
+    pub capacity: u128,
+}

@@ -1,0 +1,21 @@
+use flow_base::Point;
+
+/// An end of a link by its name, in the order of ends: the source, the points, the relays, the sink.
+#[derive(Clone, Copy, Debug, PartialEq, Eq, PartialOrd, Ord)]
+pub enum Place {
+    /// The secret.
+    Source,
+    /// A point.
+    At(Point),
+    /// The relay of a region.
+    Relay(u16),
+    /// All that can be seen of the run.
+    Sink,
+}
+
+/// A link by the names of its ends. Links are ordered by source, then target.
+#[derive(Clone, Copy, Debug, PartialEq, Eq, PartialOrd, Ord)]
+pub struct Join {
+    pub source: Place,
+    pub target: Place,
+}
