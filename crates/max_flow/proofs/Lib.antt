@@ -1,0 +1,13 @@
+pub mod Sums
+pub mod Duality
+pub mod Tightness
+pub mod Graphs
+pub mod Linking
+pub mod Finding
+pub mod Scans
+pub mod Walking
+pub mod Rounds
+pub mod Members
+pub mod Answering
+pub mod SmallSides
+pub mod Stacks

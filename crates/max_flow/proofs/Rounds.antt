@@ -1,0 +1,98 @@
+-- The rounds of the solver: no flow at all at first, and at last a flow and a set that nothing more leaves.
+use Rattle.std.proofs.Common.{◌≡◌, ◌≢◌, ◌⊎◌, ℕ, ◌+◌, ◌-◌, ◌^◌, ◌≤◌, ◌<◌, cond, eqb, ltb, Bool, true, false, List}
+use Rattle.std.proofs.Common.{length, slice_index, refl, sym, ap, ◌∙◌, subst, ⊎_elim, arith}
+use Rattle.std.proofs.lemmas.Bool.{cases_Bool, ltb-true, lt-ltb, le-ltb}
+use Rattle.max_flow.specs.Networks.{Net, sum_below, at_node, IsNet, IsFlow, IsSide, value_of, capacity_of}
+use Rattle.max_flow.specs.Rooms.{bound, IsBounded, IsClosed, HasSmallSide, IsLeast}
+use Rattle.max_flow.specs.Searching.{IsFound, is_found}
+use Rattle.max_flow.specs.declared.searching.Tree.{Tree}
+use Rattle.max_flow.specs.Solving.{IsRaised, AreZeros}
+use Rattle.max_flow.proofs.Sums.{sum_zero}
+use Rattle.max_flow.proofs.Tightness.{weak, closed, side_of_closed, capacity_of_closed}
+
+none_at : (keys flow : List ℕ) (v n : ℕ) → AreZeros n flow → at_node keys flow v ≡ 0
+unfolding at_node
+none_at keys flow v n zeros =
+    sum_zero (length keys) (λ i. cond (eqb (slice_index keys i) v) (slice_index flow i) 0)
+    (λ i below.
+    ⊎_elim (λ (e : eqb (slice_index keys i) v ≡ true). rw e (zeros.each i))
+    (λ (e : eqb (slice_index keys i) v ≡ false). rw e refl)
+    (cases_Bool (eqb (slice_index keys i) v)))
+
+pub none_flow : (net : Net) (flow : List ℕ) → AreZeros (length net.tails) flow → IsFlow net flow
+none_flow net flow zeros = record {
+  count = zeros.count;
+  within = λ i below. let e : slice_index flow i ≡ 0 = zeros.each i in omega arith;
+  balanced = λ v from below. none_at net.heads flow v (length net.tails) zeros ∙
+      sym (none_at net.tails flow v (length net.tails) zeros);
+}
+
+pub none_bounded : (net : Net) (flow : List ℕ) → AreZeros (length net.tails) flow → IsBounded net flow
+none_bounded net flow zeros = record {
+  count = zeros.count;
+  top = λ i below. let e : slice_index flow i ≡ 0 = zeros.each i in omega arith;
+}
+
+pub none-value : (net : Net) (flow : List ℕ) → AreZeros (length net.tails) flow → value_of net flow ≡ 0
+none-value net flow zeros = none_at net.tails flow 0 (length net.tails) zeros
+
+pub value_small : (net : Net) (flow : List ℕ) → IsNet net → HasSmallSide net → IsFlow net flow → value_of net flow < 2
+    ^ 64 - 1
+value_small net flow is small flows =
+    let below : value_of net flow ≤ capacity_of net small.first = weak net flow small.first is flows small.is_side in
+    let few : capacity_of net small.first < 2 ^ 64 - 1 = small.small in
+    omega (arith, below, few)
+
+source_in : (net : Net) (flow places arrivals rooms queue : List ℕ) → IsFound net flow places arrivals rooms queue →
+    is_found places 0 ≡ true
+source_in net flow places arrivals rooms queue found = lt-ltb 0 (slice_index places 0) found.source
+
+sink_out : (places : List ℕ) → slice_index places 1 ≡ 0 → is_found places 1 ≡ false
+sink_out places none = le-ltb 0 (slice_index places 1) (omega (arith, none))
+
+pub last_side : (net : Net) (flow : List ℕ) (value : ℕ) (places arrivals rooms queue : List ℕ) → IsNet net →
+    HasSmallSide net → IsFlow net flow →
+    IsFound net flow places arrivals rooms queue → slice_index places 1 ≡ 0 → IsClosed net flow (is_found places) →
+    IsSide net (is_found places)
+last_side net flow value places arrivals rooms queue is small flows found none shut =
+    side_of_closed net flow (is_found places) is flows (source_in net flow places arrivals rooms queue found)
+    (sink_out places none) shut (value_small net flow is small flows)
+
+pub last-capacity : (net : Net) (flow : List ℕ) (value : ℕ) (places arrivals rooms queue : List ℕ) → IsNet net →
+    HasSmallSide net → IsFlow net flow →
+    value_of net flow ≡ value → IsFound net flow places arrivals rooms queue → slice_index places 1 ≡ 0 →
+    IsClosed net flow (is_found places) →
+    capacity_of net (is_found places) ≡ value
+last-capacity net flow value places arrivals rooms queue is small flows value_is found none shut =
+    capacity_of_closed net flow (is_found places) is flows (source_in net flow places arrivals rooms queue found)
+    (sink_out places none) shut (value_small net flow is small flows)
+    ∙ value_is
+
+pub last_least : (net : Net) (flow : List ℕ) (value : ℕ) (places arrivals rooms queue : List ℕ) → IsNet net →
+    IsFlow net flow →
+    value_of net flow ≡ value → IsFound net flow places arrivals rooms queue → IsLeast net value (is_found places)
+last_least net flow value places arrivals rooms queue is flows value_is found = record {
+  contained = λ other side few v below in_set.
+      found.least other side.source (closed net flow other is flows side (omega (arith, few, value_is))) v below
+      (ltb-true 0 (slice_index places v) in_set);
+}
+
+pub raised_side : (net : Net) (flow : List ℕ) (value : ℕ) (tree : Tree) → IsNet net → HasSmallSide net →
+    IsRaised net flow value tree →
+    IsSide net (is_found tree.places.items)
+raised_side net flow value tree is small raised =
+    last_side net flow value tree.places.items tree.arrivals.items tree.rooms.items tree.queue.items is small
+    raised.flow_is raised.tree_is raised.sink raised.shut
+
+pub raised-capacity : (net : Net) (flow : List ℕ) (value : ℕ) (tree : Tree) → IsNet net → HasSmallSide net →
+    IsRaised net flow value tree →
+    capacity_of net (is_found tree.places.items) ≡ value
+raised-capacity net flow value tree is small raised =
+    last-capacity net flow value tree.places.items tree.arrivals.items tree.rooms.items tree.queue.items is small
+    raised.flow_is raised.value_is raised.tree_is raised.sink raised.shut
+
+pub raised_least : (net : Net) (flow : List ℕ) (value : ℕ) (tree : Tree) → IsNet net → IsRaised net flow value tree →
+    IsLeast net value (is_found tree.places.items)
+raised_least net flow value tree is raised =
+    last_least net flow value tree.places.items tree.arrivals.items tree.rooms.items tree.queue.items is
+    raised.flow_is raised.value_is raised.tree_is

@@ -1,0 +1,27 @@
+use Rattle.std.proofs.Common.{◌≢◌}
+use Rattle.max_flow.specs.Solving.{net_of}
+use Rattle.max_flow.proofs.Walking.{walking_first, walking_on, walked_flow, walked-value}
+use Rattle.max_flow.proofs.augmenting.augment.Goals as goal
+
+pub loop-at-init : goal.loop-at-init
+loop-at-init c =
+    rw c.room-amount.ensures (walking_first (net_of c.args.network.now) c.args.flows.now _ _ _
+    c.args.tree.now.queue.items c.requires.network.net c.requires.flow c.requires.bounded c.requires.tree
+    c.requires.found)
+
+pub loop-at-preserved : goal.loop-at-preserved
+loop-at-preserved c =
+    let ne : c.loop-at.at ≢ 0 = λ e. c.loop-at-test.true e in
+    rw (c.push-at.ensures.flows, c.push-at.ensures.end, c.arrival.ensures)
+    (walking_on (net_of c.args.network.now) c.loop-at.flows _ _ _ _ c.loop-at.at c.room-amount.result
+    c.requires.network.net c.loop-at.invariant ne)
+
+pub returns-clause-flow : goal.returns-clause-flow
+returns-clause-flow c =
+    walked_flow (net_of c.args.network.now) c.loop-at.flows _ _ _ _ c.loop-at.at c.room-amount.result
+    c.requires.network.net c.loop-at-test.false c.loop-at.invariant
+
+pub returns-clause-value : goal.returns-clause-value
+returns-clause-value c =
+    walked-value (net_of c.args.network.now) c.loop-at.flows _ _ _ _ c.loop-at.at c.room-amount.result
+    c.requires.network.net c.loop-at-test.false c.loop-at.invariant

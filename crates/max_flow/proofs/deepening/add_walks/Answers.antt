@@ -1,0 +1,31 @@
+use Rattle.std.proofs.Common.{◌-◌, ◌^◌, ◌<◌, subst, arith}
+use Rattle.max_flow.specs.Networks.{value_of}
+use Rattle.max_flow.specs.Searching.{IsStart}
+use Rattle.max_flow.specs.Solving.{net_of}
+use Rattle.max_flow.proofs.Finding.{found_first}
+use Rattle.max_flow.proofs.Rounds.{value_small}
+use Rattle.max_flow.proofs.deepening.add_walks.Goals as goal
+
+pub overflow_add-total : goal.overflow_add-total
+overflow_add-total c =
+    let small : value_of (net_of c.args.network.now) c.augment-total.new.flows < 2 ^ 64 - 1 =
+    value_small (net_of c.args.network.now) c.augment-total.new.flows c.requires.network.net c.requires.small
+    c.augment-total.ensures.flow in
+    omega (arith, small, c.augment-total.ensures.value, c.loop.invariant.value)
+
+pub loop-preserved-then-at-eq1 : goal.loop-preserved-then-at-eq1
+loop-preserved-then-at-eq1 c =
+    let t = c.restart.new.tree in
+    let start : IsStart c.args.network.now.nodes t.places.items t.arrivals.items t.rooms.items t.queue.items =
+    subst (λ n. IsStart n t.places.items t.arrivals.items t.rooms.items t.queue.items) c.nodes.ensures
+    c.restart.ensures in
+    record {
+      flow = c.augment-total.ensures.flow;
+      bounded = c.augment-total.ensures.bounded;
+      value = omega (arith, c.augment-total.ensures.value, c.loop.invariant.value);
+      tree = found_first (net_of c.args.network.now) c.augment-total.new.flows t.places.items t.arrivals.items
+          t.rooms.items t.queue.items c.requires.network.net start;
+      root = start.source;
+      leaving = c.loop.invariant.leaving;
+      entering = c.loop.invariant.entering;
+    }

@@ -1,0 +1,37 @@
+use Rattle.std.proofs.Common.{◌≡◌, ◌<◌, ◌-◌, length, slice_index, refl, sym, ap, ◌∙◌, arith}
+use Rattle.max_flow.specs.Solving.{net_of}
+use Rattle.max_flow.proofs.Finding.{grown_on}
+use Rattle.max_flow.proofs.Scans.{reaches_tail, entered_next}
+use Rattle.max_flow.proofs.scanning.scan_entering.Goals as goal
+
+pub reach-requires-clause-reaches : goal.reach-requires-clause-reaches
+reach-requires-clause-reaches c = λ none.
+    let some : 0 < c.loop-cursor.cursor = omega arith in
+    rw c.tail.ensures
+    (reaches_tail (net_of c.args.network.now) c.args.flows.now c.loop-cursor.tree.places.items c.args.at
+    (c.loop-cursor.cursor - 1) _
+    c.requires.network.net c.requires.inside (let k : slice_index c.loop-cursor.tree.places.items c.args.at ≡
+    slice_index c.args.tree.now.places.items c.args.at = c.loop-cursor.invariant.grown.kept c.args.at
+    c.requires.found in omega (arith, k, c.requires.found)) (omega arith) (c.loop-cursor.invariant.here some) refl
+    (sym (ap (slice_index c.loop-cursor.tree.places.items) c.tail.ensures) ∙ none))
+
+pub loop-cursor-preserved : goal.loop-cursor-preserved
+loop-cursor-preserved c =
+    let some : 0 < c.loop-cursor.cursor = omega arith in
+    let step = entered_next (net_of c.args.network.now) c.args.flows.now c.loop-cursor.tree.places.items
+    (length c.loop-cursor.tree.queue.items) c.reach.new.tree.places.items (length c.reach.new.tree.queue.items)
+    c.args.at c.loop-cursor.cursor c.args.network.now.entering.first.items c.args.network.now.entering.next.items
+    c.before-cursor.result c.tail.result
+    c.requires.network.entering c.loop-cursor.invariant.left some c.loop-cursor.invariant.within
+    (c.loop-cursor.invariant.here some) c.in_ok-reach.ensures.grown c.before-cursor.ensures
+    c.tail.ensures c.in_ok-reach.ensures.found in
+    record {
+      tree = c.in_ok-reach.ensures.tree;
+      grown = grown_on c.args.tree.now.places.items (length c.args.tree.now.queue.items)
+          c.loop-cursor.tree.places.items (length c.loop-cursor.tree.queue.items)
+          c.reach.new.tree.places.items (length c.reach.new.tree.queue.items) c.loop-cursor.invariant.grown
+          c.in_ok-reach.ensures.grown;
+      left = step.0;
+      within = step.1;
+      here = step.2;
+    }

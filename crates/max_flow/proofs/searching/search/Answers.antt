@@ -1,0 +1,15 @@
+use Rattle.std.proofs.Common.{subst, arith}
+use Rattle.max_flow.specs.Searching.{IsStart}
+use Rattle.max_flow.specs.Solving.{net_of}
+use Rattle.max_flow.proofs.Finding.{found_first}
+use Rattle.max_flow.proofs.Scans.{scanned_none}
+use Rattle.max_flow.proofs.searching.search.Goals as goal
+
+pub loop-next-init : goal.loop-next-init
+loop-next-init c = record {
+  tree = found_first (net_of c.args.network.now) c.args.flows.now _ _ _ _ c.requires.network.net
+      (subst (λ n. IsStart n c.in_ok-tree.tree.places.items c.in_ok-tree.tree.arrivals.items
+      c.in_ok-tree.tree.rooms.items c.in_ok-tree.tree.queue.items) c.nodes.ensures c.in_ok-tree.ensures);
+  scanned = scanned_none (net_of c.args.network.now) c.args.flows.now c.in_ok-tree.tree.places.items;
+  within = omega arith;
+}

@@ -1,0 +1,9 @@
+pub mod Networks
+pub mod Flows
+pub mod Laws
+pub mod Rooms
+pub mod Adjacency
+pub mod Searching
+pub mod Solving
+pub mod Marks
+pub mod Stacks

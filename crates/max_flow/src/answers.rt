@@ -1,0 +1,36 @@
+use flow_base::List;
+
+/// Which halves of a point are in a side.
+#[derive(Clone, Copy, Debug, PartialEq, Eq)]
+pub enum Half {
+    /// Both halves.
+    Both,
+    /// The first half alone: the point is cut.
+    FirstOnly,
+    /// The second half alone.
+    SecondOnly,
+    /// Neither half.
+    Neither,
+}
+
+/// A flow: how many bits flow through each point and over each link, in the graph's order.
+#[derive(Drop)]
+pub struct Flow {
+    pub points: List<u64>,
+    pub links: List<u64>,
+}
+
+/// A side: which halves of each point are in it, and whether each relay is, in the graph's order.
+#[derive(Drop)]
+pub struct Side {
+    pub points: List<Half>,
+    pub relays: List<bool>,
+}
+
+/// A maximum flow of a graph, its value, and the least minimum side.
+#[derive(Drop)]
+pub struct Solved {
+    pub value: u64,
+    pub flow: Flow,
+    pub side: Side,
+}

@@ -1,0 +1,55 @@
+ghost use Rattle.std.specs.Prelude.{◌≡◌, ℕ, ◌-◌, ◌<◌, ◌≤◌, length, slice_index, replicate, IfOk};
+ghost use Rattle.max_flow.specs.Adjacency.{AreChains};
+
+use flow_base::NoMemory;
+use std::alloc::Global;
+
+/// Edges by the node at one of their ends, as chains: for each node its last edge, and for each edge the one before it
+/// at its node. Both are counted from 1; 0 is none.
+#[derive(Drop)]
+pub struct Chains {
+    pub first: Vec<usize>,
+    pub next: Vec<usize>,
+}
+
+/// Writes the chains of the keys over zeros.
+fn link(keys: &[usize], first: &mut [usize], next: &mut [usize])
+    requires keys { (i : ℕ) → i < length keys.now → slice_index keys.now i < length first.old }
+    requires none { (v : ℕ) → slice_index first.old v ≡ 0 }
+    requires nexts { length next.old ≡ length keys.now }
+    ensures { AreChains keys.now (length keys.now) (length first.old) first.new next.new }
+{
+    for (i, key) in keys.iter().enumerate() {
+        next[i] = first[*key];
+        first[*key] = i + 1;
+    }
+}
+
+/// The chains of the keys, which are below `nodes`.
+pub fn chains_of(alloc: Global, keys: &[usize], nodes: usize) -> Result<Chains, NoMemory>
+    requires { (i : ℕ) → i < length keys.now → slice_index keys.now i < nodes }
+    ensures { IfOk result (λ c. AreChains keys.now (length keys.now) nodes c.first.items c.next.items) }
+{
+    let mut first = vec![in alloc; 0; nodes]?;
+    let mut next = vec![in alloc; 0; keys.len()]?;
+    link(keys, &mut first, &mut next);
+    Ok(Chains { first, next })
+}
+
+impl Chains {
+    /// The last edge at a node, counted from 1, or 0.
+    pub fn last_at(&self, node: usize) -> usize
+        requires { node < length self.now.first.items }
+        ensures { result ≡ slice_index self.now.first.items node }
+    {
+        self.first[node]
+    }
+
+    /// The edge before an edge at the same node, counted from 1, or 0.
+    pub fn before(&self, edge: usize) -> usize
+        requires { edge < length self.now.next.items }
+        ensures { result ≡ slice_index self.now.next.items edge }
+    {
+        self.next[edge]
+    }
+}

@@ -1,0 +1,84 @@
+ghost use Rattle.std.specs.Prelude.{◌≡◌, ◌+◌, ◌<◌, ◌≤◌, length, slice_index, IfOk};
+ghost use Rattle.max_flow.specs.Networks.{IsFlow, IsSide, value_of, capacity_of};
+ghost use Rattle.max_flow.specs.Rooms.{IsBounded, IsClosed, HasSmallSide, IsLeast};
+ghost use Rattle.max_flow.specs.Searching.{is_found};
+ghost use Rattle.max_flow.specs.Solving.{net_of, IsNetwork, IsTree, IsRaised, AreZeros};
+
+use crate::augmenting::augment;
+use crate::deepening::deepen;
+use crate::networks::Network;
+use crate::searching::{Tree, search};
+use flow_base::NoMemory;
+use std::alloc::Global;
+
+/// A maximum flow of a network, its value, and for each node whether the source still reaches it (its place, else 0).
+#[derive(Drop)]
+pub struct Answer {
+    pub value: u64,
+    pub flows: Vec<u64>,
+    pub places: Vec<usize>,
+}
+
+/// The value of a flow, and the last search over it.
+#[derive(Drop)]
+pub struct Raised {
+    pub value: u64,
+    pub tree: Tree,
+}
+
+/// The flow that is 0 on each edge.
+fn no_flow(alloc: Global, network: &Network) -> Result<Vec<u64>, NoMemory>
+    ensures { IfOk result (λ flows. AreZeros (length network.now.tails.items) flows.items) }
+{
+    let flows = vec![in alloc; 0; network.edges()]?;
+    Ok(flows)
+}
+
+/// Adds walks to a flow of value 0 until the sink is not reached any more: the walk of each search, and those over the
+/// nodes that it placed.
+fn raise(alloc: Global, network: &Network, flows: &mut [u64]) -> Result<Raised, NoMemory>
+    requires network { IsNetwork network.now }
+    requires small { HasSmallSide (net_of network.now) }
+    requires flow { IsFlow (net_of network.now) flows.old }
+    requires bounded { IsBounded (net_of network.now) flows.old }
+    requires none { value_of (net_of network.now) flows.old ≡ 0 }
+    ensures { IfOk result (λ raised. IsRaised (net_of network.now) flows.new raised.value raised.tree) }
+{
+    let mut value = 0;
+    let mut tree = search(alloc, network, flows)?;
+    while tree.place(1) != 0 {
+        value += augment(network, flows, &tree);
+        let levels = tree.places.as_slice();
+        let more = deepen(alloc, network, flows, levels)?;
+        value += more;
+        tree = search(alloc, network, flows)?;
+    }
+    Ok(Raised { value, tree })
+}
+
+/// A maximum flow of a network, and the nodes that the source still reaches.
+pub fn solve_network(alloc: Global, network: &Network) -> Result<Answer, NoMemory>
+    requires network { IsNetwork network.now }
+    requires small { HasSmallSide (net_of network.now) }
+    ensures count { IfOk result (λ answer. length answer.places.items ≡ network.now.nodes) }
+    ensures flow { IfOk result (λ answer. IsFlow (net_of network.now) answer.flows.items) }
+    ensures value { IfOk result (λ answer. value_of (net_of network.now) answer.flows.items ≡ answer.value) }
+    ensures side { IfOk result (λ answer. IsSide (net_of network.now) (is_found answer.places.items)) }
+    ensures capacity { IfOk result (λ answer. capacity_of (net_of network.now) (is_found answer.places.items) ≡
+        answer.value) }
+    ensures least { IfOk result (λ answer. IsLeast (net_of network.now) answer.value (is_found answer.places.items)) }
+{
+    let mut flows = no_flow(alloc, network)?;
+    let Raised { value, tree } = raise(alloc, network, &mut flows)?;
+    let Tree {
+        places,
+        arrivals: _,
+        rooms: _,
+        queue: _,
+    } = tree;
+    Ok(Answer {
+        value,
+        flows,
+        places,
+    })
+}

@@ -1,0 +1,157 @@
+ghost use Rattle.std.specs.Prelude.{◌≡◌, ◌+◌, ◌-◌, ◌<◌, ◌≤◌, ◌++◌, ◌∷◌, [], length, slice_index, slice_set, take, IfOk};
+ghost use Rattle.std.specs.Prelude.{OnOk};
+ghost use Rattle.max_flow.specs.Rooms.{IsClosed};
+ghost use Rattle.max_flow.specs.Searching.{Reaches, HasGrown, is_found, IsStart};
+ghost use Rattle.max_flow.specs.Solving.{net_of, IsNetwork, IsTree};
+
+use crate::networks::Network;
+use crate::scanning::scan;
+use flow_base::NoMemory;
+use std::alloc::Global;
+
+/// The nodes that a search has found, in the order of the queue: for each node its place in the queue, counted from 1
+/// (0: not found), the edge over which it was found, and how much more can be brought there.
+#[derive(Drop)]
+pub struct Tree {
+    pub places: Vec<usize>,
+    pub arrivals: Vec<usize>,
+    pub rooms: Vec<u64>,
+    pub queue: Vec<usize>,
+}
+
+impl Tree {
+    /// The place of a node in the queue, counted from 1; 0 where it is not found.
+    pub fn place(&self, node: usize) -> usize
+        requires { node < length self.now.places.items }
+        ensures { result ≡ slice_index self.now.places.items node }
+    {
+        self.places[node]
+    }
+
+    /// The edge over which a node was found.
+    pub fn arrival(&self, node: usize) -> usize
+        requires { node < length self.now.arrivals.items }
+        ensures { result ≡ slice_index self.now.arrivals.items node }
+    {
+        self.arrivals[node]
+    }
+
+    /// How much more can be brought to a node.
+    pub fn room(&self, node: usize) -> u64
+        requires { node < length self.now.rooms.items }
+        ensures { result ≡ slice_index self.now.rooms.items node }
+    {
+        self.rooms[node]
+    }
+
+    /// How many nodes are found.
+    pub fn count(&self) -> usize
+        ensures { result ≡ length self.now.queue.items }
+    {
+        self.queue.len()
+    }
+
+    /// The node at an index of the queue.
+    pub fn queued(&self, index: usize) -> usize
+        requires { index < length self.now.queue.items }
+        ensures { result ≡ slice_index self.now.queue.items index }
+    {
+        self.queue[index]
+    }
+
+    /// Takes the last node of the queue out again.
+    pub fn pop(&mut self)
+        requires some { 0 < length self.old.queue.items }
+        requires inside { slice_index self.old.queue.items (length self.old.queue.items - 1) < length
+            self.old.places.items }
+        ensures queue { self.new.queue.items ≡ take (length self.old.queue.items - 1) self.old.queue.items }
+        ensures places { self.new.places.items
+            ≡ slice_set self.old.places.items (slice_index self.old.queue.items (length self.old.queue.items - 1)) 0 }
+        ensures arrivals { self.new.arrivals.items ≡ self.old.arrivals.items }
+        ensures rooms { self.new.rooms.items ≡ self.old.rooms.items }
+    {
+        let last = self.queue.len() - 1;
+        let node = self.queue[last];
+        self.queue.truncate(last);
+        self.places[node] = 0;
+    }
+
+    /// Puts a node that is not found yet at the end of the queue.
+    fn put(&mut self, node: usize, edge: usize, room: u64) -> Result<(), NoMemory>
+        requires places { node < length self.old.places.items }
+        requires arrivals { node < length self.old.arrivals.items }
+        requires rooms { node < length self.old.rooms.items }
+        ensures queue { OnOk result (self.new.queue.items ≡ self.old.queue.items ++ node ∷ []) }
+        ensures places { OnOk result (self.new.places.items ≡ slice_set self.old.places.items node
+            (length self.old.queue.items + 1)) }
+        ensures arrivals { OnOk result (self.new.arrivals.items ≡ slice_set self.old.arrivals.items node edge) }
+        ensures rooms { OnOk result (self.new.rooms.items ≡ slice_set self.old.rooms.items node room) }
+    {
+        self.queue.push(node).map_err(|_| NoMemory)?;
+        self.places[node] = self.queue.len();
+        self.arrivals[node] = edge;
+        self.rooms[node] = room;
+        Ok(())
+    }
+}
+
+/// A tree in which the source alone is found.
+pub fn begin(alloc: Global, nodes: usize) -> Result<Tree, NoMemory>
+    requires { 0 < nodes }
+    ensures { IfOk result (λ tree. IsStart nodes tree.places.items tree.arrivals.items tree.rooms.items
+        tree.queue.items) }
+{
+    let mut tree = Tree {
+        places: vec![in alloc; 0; nodes]?,
+        arrivals: vec![in alloc; 0; nodes]?,
+        rooms: vec![in alloc; 0; nodes]?,
+        queue: Vec::new(alloc),
+    };
+    tree.put(0, 0, u64::MAX)?;
+    Ok(tree)
+}
+
+/// Finds a node from another one over an edge, where the edge has room and the node is not found yet.
+pub fn reach(
+    network: &Network,
+    flows: &[u64],
+    tree: &mut Tree,
+    source: usize,
+    edge: usize,
+    node: usize,
+    room: u64,
+) -> Result<(), NoMemory>
+    requires tree { IsTree (net_of network.now) flows.now tree.old }
+    requires inside { node < network.now.nodes }
+    requires source { source < network.now.nodes }
+    requires reaches { slice_index tree.old.places.items node ≡ 0 → Reaches (net_of network.now) flows.now
+        tree.old.places.items source edge node room }
+    ensures tree { OnOk result (IsTree (net_of network.now) flows.now tree.new) }
+    ensures grown { OnOk result (HasGrown tree.old.places.items (length tree.old.queue.items) tree.new.places.items
+        (length tree.new.queue.items)) }
+    ensures found { OnOk result (0 < room → 0 < slice_index tree.new.places.items node) }
+{
+    if room == 0 || tree.place(node) != 0 {
+        return Ok(());
+    }
+    let narrow = room.min(tree.room(source));
+    tree.put(node, edge, narrow)?;
+    Ok(())
+}
+
+/// Searches from the source over edges with room, nearest nodes first, until the sink is found or nothing is left.
+pub fn search(alloc: Global, network: &Network, flows: &[u64]) -> Result<Tree, NoMemory>
+    requires network { IsNetwork network.now }
+    requires flows { length flows.now ≡ length network.now.tails.items }
+    ensures tree { IfOk result (λ tree. IsTree (net_of network.now) flows.now tree) }
+    ensures closed { IfOk result (λ tree. slice_index tree.places.items 1 ≡ 0 → IsClosed (net_of network.now)
+        flows.now (is_found tree.places.items)) }
+{
+    let mut tree = begin(alloc, network.nodes())?;
+    let mut next = 0;
+    while next < tree.count() && tree.place(1) == 0 {
+        scan(network, flows, &mut tree, next)?;
+        next += 1;
+    }
+    Ok(tree)
+}

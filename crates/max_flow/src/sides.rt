@@ -1,0 +1,87 @@
+ghost use Rattle.std.specs.Prelude.{◌≡◌, ◌+◌, ◌*◌, ◌≤◌, map, length, IfOk, take, drop};
+ghost use Rattle.max_flow.specs.Flows.{has_first, has_second, marks};
+ghost use Rattle.max_flow.specs.Searching.{is_found};
+ghost use Rattle.max_flow.specs.Marks.{found_marks};
+
+use crate::answers::{Flow, Half, Side};
+use flow_base::{List, NoMemory};
+use flow_graph::Graph;
+use std::alloc::Global;
+
+/// The point's halves that are in a side.
+fn half_of(first: bool, second: bool) -> Half
+    ensures first { has_first result ≡ first }
+    ensures second { has_second result ≡ second }
+{
+    match (first, second) {
+        (true, true) => Half::Both,
+        (true, false) => Half::FirstOnly,
+        (false, true) => Half::SecondOnly,
+        (false, false) => Half::Neither,
+    }
+}
+
+/// For each point its halves that are found.
+fn found_halves(alloc: Global, places: &[usize], count: usize) -> Result<List<Half>, NoMemory>
+    requires count { count ≤ 65536 }
+    requires places { 2 + 2 * count ≤ length places.now }
+    ensures count { IfOk result (λ halves. length halves ≡ count) }
+    ensures marks { IfOk result (λ halves. marks halves ≡ found_marks places.now count) }
+{
+    let mut halves = List::new(alloc);
+    for i in 0..count {
+        let half = half_of(0 < places[2 + 2 * i], 0 < places[3 + 2 * i]);
+        halves.push(half)?;
+    }
+    Ok(halves)
+}
+
+/// For each relay whether it is found, where the relays' nodes begin at `start`.
+fn found_relays(
+    alloc: Global,
+    places: &[usize],
+    start: usize,
+    relays: &[u16],
+) -> Result<List<bool>, NoMemory>
+    requires { start + 65536 ≤ length places.now }
+    ensures { IfOk result (λ found. found ≡ map (λ region. is_found places.now (start + region)) relays.now) }
+{
+    let mut found = List::new(alloc);
+    for region in relays {
+        found.push(0 < places[start + *region as usize])?;
+    }
+    Ok(found)
+}
+
+/// The side of what is found.
+pub fn side_of(alloc: Global, graph: &Graph, places: &[usize]) -> Result<Side, NoMemory>
+    requires count { length graph.now.points ≤ 65536 }
+    requires places { length places.now ≡ 2 + 2 * length graph.now.points + 65536 }
+    ensures points_count { IfOk result (λ side. length side.points ≡ length graph.now.points) }
+    ensures points { IfOk result (λ side. marks side.points ≡ found_marks places.now (length graph.now.points)) }
+    ensures relays { IfOk result (λ side. side.relays
+        ≡ map (λ region. is_found places.now (2 + 2 * length graph.now.points + region)) graph.now.relays) }
+{
+    let count = graph.points.len();
+    let halves = found_halves(alloc, places, count)?;
+    let relays = found_relays(alloc, places, 2 + 2 * count, graph.relays.as_slice())?;
+    Ok(Side {
+        points: halves,
+        relays,
+    })
+}
+
+/// What flows through the points, and over the links.
+pub fn flow_of(alloc: Global, graph: &Graph, flows: &[u64]) -> Result<Flow, NoMemory>
+    requires { length flows.now ≡ length graph.now.points + length graph.now.links }
+    ensures points { IfOk result (λ flow. flow.points ≡ take (length graph.now.points) flows.now) }
+    ensures links { IfOk result (λ flow. flow.links ≡ drop (length graph.now.points) flows.now) }
+{
+    let count = graph.points.len();
+    let points = flows[..count].to_vec(alloc)?;
+    let links = flows[count..].to_vec(alloc)?;
+    Ok(Flow {
+        points: List::from_vec(points),
+        links: List::from_vec(links),
+    })
+}
