@@ -231,33 +231,37 @@ fn add_walks(
     Ok(total)
 }
 
-/// Adds walks over the nodes that a search has placed, each deeper than the one before, until no more is found. Gives
-/// what they add to the value, which may be 0.
+/// Adds the walk by which a search found the sink, and then walks over the nodes that it has placed, each deeper than the
+/// one before, until no more is found. Gives what they add to the value, at least 1.
 pub fn deepen(
     alloc: Global,
     network: &Network,
     flows: &mut [u64],
-    levels: &[usize],
+    found: &Tree,
 ) -> Result<u64, NoMemory>
     requires network { IsNetwork network.now }
     requires small { HasSmallSide (net_of network.now) }
     requires flow { IsFlow (net_of network.now) flows.old }
     requires bounded { IsBounded (net_of network.now) flows.old }
+    requires tree { IsTree (net_of network.now) flows.old found.now }
+    requires found { 0 < slice_index found.now.places.items 1 }
     ensures flow { OnOk result (IsFlow (net_of network.now) flows.new) }
     ensures bounded { OnOk result (IsBounded (net_of network.now) flows.new) }
     ensures value { IfOk result (λ total. value_of (net_of network.now) flows.new ≡ value_of (net_of network.now)
         flows.old + total) }
+    ensures some { IfOk result (λ total. 0 < total) }
 {
+    let first = augment(network, flows, found);
     let mut leaving = network.leaving.first.as_slice().to_vec(alloc)?;
     let mut entering = network.entering.first.as_slice().to_vec(alloc)?;
     let mut tree = begin(alloc, network.nodes())?;
-    let total = add_walks(
+    let more = add_walks(
         network,
         flows,
         &mut tree,
         &mut leaving,
         &mut entering,
-        levels,
+        found.places.as_slice(),
     )?;
-    Ok(total)
+    Ok(first + more)
 }

@@ -4,7 +4,6 @@ ghost use Rattle.max_flow.specs.Rooms.{IsBounded, IsClosed, HasSmallSide, IsLeas
 ghost use Rattle.max_flow.specs.Searching.{is_found};
 ghost use Rattle.max_flow.specs.Solving.{net_of, IsNetwork, IsTree, IsRaised, AreZeros};
 
-use crate::augmenting::augment;
 use crate::deepening::deepen;
 use crate::networks::Network;
 use crate::searching::{Tree, search};
@@ -47,10 +46,7 @@ fn raise(alloc: Global, network: &Network, flows: &mut [u64]) -> Result<Raised, 
     let mut value = 0;
     let mut tree = search(alloc, network, flows)?;
     while tree.place(1) != 0 {
-        value += augment(network, flows, &tree);
-        let levels = tree.places.as_slice();
-        let more = deepen(alloc, network, flows, levels)?;
-        value += more;
+        value += deepen(alloc, network, flows, &tree)?;
         tree = search(alloc, network, flows)?;
     }
     Ok(Raised { value, tree })

@@ -6,14 +6,7 @@ use Rattle.max_flow.proofs.raising.raise.Goals as goal
 
 pub overflow_add-value : goal.overflow_add-value
 overflow_add-value c =
-    let small : value_of (net_of c.args.network.now) c.augment-value.new.flows < 2 ^ 64 - 1 =
-    value_small (net_of c.args.network.now) c.augment-value.new.flows c.requires.network.net c.requires.small
-    c.augment-value.ensures.flow in
-    omega (arith, small, c.augment-value.ensures.value, c.loop-alloc.invariant.value)
-
-pub overflow_add-value-in-loop-alloc : goal.overflow_add-value-in-loop-alloc
-overflow_add-value-in-loop-alloc c =
     let small : value_of (net_of c.args.network.now) c.deepen.new.flows < 2 ^ 64 - 1 =
     value_small (net_of c.args.network.now) c.deepen.new.flows c.requires.network.net c.requires.small
-    c.in_ok-more.ensures.flow in
-    omega (arith, small, c.in_ok-more.ensures.value, c.augment-value.ensures.value, c.loop-alloc.invariant.value)
+    c.in_ok-value.ensures.flow in
+    omega (arith, small, c.in_ok-value.ensures.value, c.loop-alloc.invariant.value)
