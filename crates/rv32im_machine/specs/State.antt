@@ -71,6 +71,10 @@ restored (register ∷ registers) store =
 unfoldable pub moved_to : ℕ → Control → Control
 moved_to pc control = record control { pc = pc }
 
+-- in this region from now on, 0: in none
+unfoldable pub entered : ℕ → Control → Control
+entered region control = record control { region = region }
+
 -- to the next instruction
 unfoldable pub onward : Control → Control
 onward control = record control { pc = (control.pc + 4) % 2 ^ 32 }

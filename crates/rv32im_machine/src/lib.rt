@@ -12,6 +12,7 @@ mod operands;
 mod passing;
 mod plain;
 mod plans;
+mod regions;
 mod results;
 mod starting;
 mod stepping;

@@ -1,10 +1,10 @@
-#![tactic(auto, unfolding(crate::specs::State::with_register, crate::specs::State::with_byte, crate::specs::State::saved, crate::specs::State::moved_to, crate::specs::State::onward, crate::specs::State::ended, crate::specs::State::public_taken, crate::specs::State::secret_taken, crate::specs::State::break_moved, crate::specs::State::emitted))]
+#![tactic(auto, unfolding(crate::specs::State::with_register, crate::specs::State::with_byte, crate::specs::State::saved, crate::specs::State::moved_to, crate::specs::State::entered, crate::specs::State::onward, crate::specs::State::ended, crate::specs::State::public_taken, crate::specs::State::secret_taken, crate::specs::State::break_moved, crate::specs::State::emitted))]
 
 ghost use Rattle.std.specs.Prelude.{◌≡◌, ◌+◌, ◌-◌, ◌^◌, ◌<◌, ◌≤◌, [], length, slice_index, vec_len, vec_capacity, IsTrue};
 ghost use Rattle.flow_base.specs.Guests.{memory_size};
 ghost use Rattle.flow_base.specs.Points.{is_slot};
 ghost use Rattle.guest_calls.specs.Calls.{is_inside, checked_write, moved_break};
-ghost use Rattle.rv32im_machine.specs.State.{State, register_of, byte_of, word_at, with_register, with_byte, moved_to, onward, ended, public_taken, secret_taken, break_moved, emitted};
+ghost use Rattle.rv32im_machine.specs.State.{State, register_of, byte_of, word_at, with_register, with_byte, saved, moved_to, entered, onward, ended, public_taken, secret_taken, break_moved, emitted};
 ghost use Rattle.rv32im_machine.specs.Language.{with_store, with_control};
 ghost use Rattle.rv32im_machine.specs.Calls.{point};
 ghost use Rattle.rv32im_machine.specs.Start.{start_on};
@@ -151,7 +151,7 @@ impl Machine {
     }
 
     /// The point of a slot at the program counter, in the entered region (0 outside regions).
-    pub(crate) fn point(&self, slot: Slot) -> Point
+    pub fn point(&self, slot: Slot) -> Point
         requires { IsTrue (is_slot slot) }
         ensures { result ≡ point self.now.control slot }
     {
@@ -163,15 +163,43 @@ impl Machine {
     }
 
     /// The value of a register, 0 to 31.
-    pub(crate) fn register(&self, register: u8) -> u32
+    pub fn register(&self, register: u8) -> u32
         requires { register < 32 }
         ensures { result ≡ register_of self.now.store register }
     {
         self.registers.get(register)
     }
 
+    /// The number of the entered region, 0 outside regions.
+    pub fn region(&self) -> u16
+        ensures { result ≡ self.now.control.region }
+    {
+        self.region
+    }
+
+    /// Sets the number of the entered region, 0 outside regions.
+    pub fn set_region(&mut self, region: u16)
+        ensures { self.new ≡ with_control (entered region self.old.control) self.old }
+    {
+        self.region = region;
+    }
+
+    /// The 32 registers as they were when they were last kept, at the entry of a region.
+    pub fn kept(&self) -> &Registers
+        ensures { result.now ≡ self.now.store.kept }
+    {
+        &self.kept
+    }
+
+    /// Keeps every register, as at the entry of a region. It takes no memory.
+    pub fn save(&mut self)
+        ensures { self.new ≡ with_store (saved self.old.store) self.old }
+    {
+        self.kept = self.registers;
+    }
+
     /// Whether each of `count` bytes from the address on is one of guest memory.
-    pub(crate) fn is_inside(&self, address: u32, count: u32) -> bool
+    pub fn is_inside(&self, address: u32, count: u32) -> bool
         ensures inside { result ≡ is_inside self.now.setting.base address count }
         ensures below { IsTrue result → address + count ≤ 2 ^ 32 }
     {
