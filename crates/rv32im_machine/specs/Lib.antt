@@ -3,6 +3,7 @@ pub mod Language
 pub mod Calls
 pub mod Rows
 pub mod Folds
+pub mod Parts
 pub mod Playing
 pub mod Start
 pub mod Laws

@@ -9,6 +9,7 @@ mod laws;
 mod loads_stores;
 mod machines;
 mod operands;
+mod parts;
 mod passing;
 mod plain;
 mod plans;
@@ -19,11 +20,13 @@ mod stepping;
 mod walker;
 
 pub use language::{Operation, Part, Place, Seen, Shape, Source, Sources, Work};
-pub use laws::{ended_machines_stand_still, next_follows_the_step};
+pub use laws::{ended_machines_stand_still, next_follows_the_step, parts_compose};
 pub use machines::Machine;
 pub use passing::Passer;
 pub use stepping::{Arguments, CallPlan, Fault, Stepped};
 pub use walker::turn_by;
 
+#[cfg(test)]
+mod part_tests;
 #[cfg(test)]
 mod tests;

@@ -99,7 +99,7 @@ fn load_sources(kind: LoadKind, address: u32) -> Sources
 }
 
 /// The loaded bytes of guest memory, extended to a word.
-fn loaded(machine: &Machine, kind: LoadKind, address: u32) -> u32
+pub(crate) fn loaded(machine: &Machine, kind: LoadKind, address: u32) -> u32
     requires inside { IsTrue (is_inside machine.now.setting.base address (load_size kind)) }
     requires below { address + load_size kind ≤ 2 ^ 32 }
     ensures { result ≡ shaped (Shape.Extended kind) (bytes_at machine.now (loaded_from kind address)) }

@@ -69,7 +69,7 @@ fn run(machine: &mut Machine) -> u32 {
 }
 
 /// A machine of EXIT with the secret byte 3, and public bytes 7 and 9.
-fn caller(alloc: Global, output_limit: u32) -> Result<Machine, Fail> {
+pub(crate) fn caller(alloc: Global, output_limit: u32) -> Result<Machine, Fail> {
     let image = load_image(alloc, &EXIT)?;
     let public = Bytes::from_slice(alloc, &[7, 9])?;
     let secret = Bytes::from_slice(alloc, &[3])?;
