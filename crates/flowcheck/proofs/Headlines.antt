@@ -8,6 +8,7 @@ use Rattle.flow_base.specs.declared.loading.LoadFault.TheVariants.{Failed, TooLa
 use Rattle.flow_base.specs.Loads.{Told, after_load, next_answer, held_answer}
 use Rattle.elf32_loader.specs.Pictures.{Picture}
 use Rattle.elf32_loader.specs.Programs.{IsImage}
+use Rattle.enclosure_regions.specs.declared.region_parts.Region.{Region}
 use Rattle.cut_file.specs.Cuts.{CutPicture}
 use Rattle.cut_file.specs.Masks.{MaskAt}
 use Rattle.lockstep_replay.specs.Acceptance.{Accept, IsOutput}
@@ -18,11 +19,11 @@ use Rattle.lockstep_replay.proofs.Judging.{rejected_law}
 use Rattle.lockstep_replay.proofs.Causes.{causes_law}
 use Rattle.flowcheck.specs.declared.limits.Limits.{Limits}
 use Rattle.flowcheck.specs.CommandLines.{Check, IsCheck, Checks, Assembles, Lists}
-use Rattle.flowcheck.specs.Loading.{Want, LoadRefusal, CannotLoad, IsTooLarge, and_load, loaded_from, wants_of, secret_wants}
-use Rattle.flowcheck.specs.Replies.{Reply, RepliesByTold, Replies, RepliesToLoads, RepliesToFiles, RepliesToCut, judgements_of, load_reply}
+use Rattle.flowcheck.specs.Loading.{Want, LoadRefusal, CannotLoad, IsTooLarge, and_load, loaded_from, other_wants, wants_of, secret_wants}
+use Rattle.flowcheck.specs.Replies.{Reply, RepliesByTold, Replies, AreRegions, RepliesToLoads, RepliesToOthers, RepliesToFiles, RepliesToRegions, RepliesToCut, judgements_of, load_reply}
 use Rattle.flowcheck.specs.Headline.{HeadlineByTold}
 use Rattle.flowcheck.specs.Replies.{RepliesByTold}
-use Rattle.flowcheck.specs.Headline.{AreHeld, Says, AllSay, IsAmong, AreFewOfAll, AreFew, Headline}
+use Rattle.flowcheck.specs.Headline.{AreHeld, IsHeld, Says, AllSay, IsAmong, AreFewOfAll, AreFew, Headline}
 
 -- ---- each judgement says what it means
 
@@ -156,13 +157,14 @@ are-few-of-all : (picture : Picture) (public_input : List ℕ) (cut : CutPicture
 are-few-of-all picture public_input cut limits outputs different each =
     bound_law picture public_input (MaskAt cut.points) cut.secret_length limits.budget limits.turns outputs each different
 
-from-cut : (told : Told) (words : List (List ℕ)) (check : Check) (picture : Picture) (program_file public_input cut_file : List ℕ) (secrets : List (List ℕ)) (reply : Reply) →
-    IsCheck words check → IsImage program_file picture →
+from-cut : (told : Told) (words : List (List ℕ)) (check : Check) (picture : Picture) (program_file public_input cut_file : List ℕ) (region_file : Option (List ℕ)) (regions : List Region) (secrets : List (List ℕ)) (reply : Reply) →
+    IsCheck words check → IsImage program_file picture → AreRegions region_file regions →
     AreHeld told (check.program ∷ check.public_input ∷ check.cut ∷ check.secrets) (program_file ∷ public_input ∷ cut_file ∷ secrets) →
-    reply.status ≤ 1 → RepliesToCut picture public_input cut_file check.limits secrets reply → Headline told words reply.status reply.text
-from-cut told words check picture program_file public_input cut_file secrets reply is image held low (inl (fault, first, room, e)) =
+    IsHeld told check.region_file region_file →
+    reply.status ≤ 1 → RepliesToCut picture public_input regions cut_file check.limits secrets reply → Headline told words reply.status reply.text
+from-cut told words check picture program_file public_input cut_file region_file regions secrets reply is image are held regions-held low (inl (fault, first, room, e)) =
     absurd (low-status reply.status 3 (ap (λ r. r.status) e) low (omega arith))
-from-cut told words check picture program_file public_input cut_file secrets reply is image held low (inr (cut, text, e)) =
+from-cut told words check picture program_file public_input cut_file region_file regions secrets reply is image are held regions-held low (inr (cut, text, e)) =
     let judgements : List Judgement = judgements_of picture public_input cut check.limits secrets in
     let say = all-say picture public_input cut check.limits secrets in
     record {
@@ -173,8 +175,12 @@ from-cut told words check picture program_file public_input cut_file secrets rep
       cut_file = cut_file;
       secrets = secrets;
       held = held;
+      region_file = region_file;
+      regions_held = regions-held;
       picture = picture;
       is_image = image;
+      regions = regions;
+      are_regions = are;
       cut = cut;
       is_cut = text;
       judgements = judgements;
@@ -185,28 +191,54 @@ from-cut told words check picture program_file public_input cut_file secrets rep
       status_is = ap (λ r. r.status) e;
     }
 
-from-files : (told : Told) (words : List (List ℕ)) (check : Check) (program_file public_input cut_file : List ℕ) (secrets : List (List ℕ)) (reply : Reply) →
+from-regions : (told : Told) (words : List (List ℕ)) (check : Check) (picture : Picture) (program_file public_input cut_file : List ℕ) (region_file : Option (List ℕ)) (secrets : List (List ℕ)) (reply : Reply) →
+    IsCheck words check → IsImage program_file picture →
+    AreHeld told (check.program ∷ check.public_input ∷ check.cut ∷ check.secrets) (program_file ∷ public_input ∷ cut_file ∷ secrets) →
+    IsHeld told check.region_file region_file →
+    reply.status ≤ 1 → RepliesToRegions picture public_input region_file cut_file check.limits secrets reply → Headline told words reply.status reply.text
+from-regions told words check picture program_file public_input cut_file region_file secrets reply is image held regions-held low (inl (fault, first, e)) =
+    absurd (low-status reply.status 3 (ap (λ r. r.status) e) low (omega arith))
+from-regions told words check picture program_file public_input cut_file region_file secrets reply is image held regions-held low (inr (regions, are, rest)) =
+    from-cut told words check picture program_file public_input cut_file region_file regions secrets reply is image are held regions-held low rest
+
+from-files : (told : Told) (words : List (List ℕ)) (check : Check) (program_file public_input cut_file : List ℕ) (region_file : Option (List ℕ)) (secrets : List (List ℕ)) (reply : Reply) →
     IsCheck words check →
     AreHeld told (check.program ∷ check.public_input ∷ check.cut ∷ check.secrets) (program_file ∷ public_input ∷ cut_file ∷ secrets) →
-    reply.status ≤ 1 → RepliesToFiles check.limits program_file public_input cut_file secrets reply → Headline told words reply.status reply.text
-from-files told words check program_file public_input cut_file secrets reply is held low (inl (fault, first, e)) =
+    IsHeld told check.region_file region_file →
+    reply.status ≤ 1 → RepliesToFiles check.limits program_file public_input cut_file region_file secrets reply → Headline told words reply.status reply.text
+from-files told words check program_file public_input cut_file region_file secrets reply is held regions-held low (inl (fault, first, e)) =
     absurd (low-status reply.status 3 (ap (λ r. r.status) e) low (omega arith))
-from-files told words check program_file public_input cut_file secrets reply is held low (inr (picture, image, rest)) =
-    from-cut told words check picture program_file public_input cut_file secrets reply is image held low rest
+from-files told words check program_file public_input cut_file region_file secrets reply is held regions-held low (inr (picture, image, rest)) =
+    from-regions told words check picture program_file public_input cut_file region_file secrets reply is image held regions-held low rest
+
+-- of the files behind the cut the first is the region file where one is named
+from-others : (told : Told) (words : List (List ℕ)) (check : Check) (program_file public_input cut_file : List ℕ) (name : Option (List ℕ)) (others : List (List ℕ)) (reply : Reply) →
+    IsCheck words check → check.region_file ≡ name →
+    AreHeld told (check.program ∷ check.public_input ∷ check.cut ∷ names_of (other_wants name check.secrets)) (program_file ∷ public_input ∷ cut_file ∷ others) →
+    reply.status ≤ 1 → RepliesToOthers check.limits program_file public_input cut_file name others reply → Headline told words reply.status reply.text
+from-others told words check program_file public_input cut_file None others reply is named held low h =
+    from-files told words check program_file public_input cut_file None others reply is
+    (subst (λ names. AreHeld told (check.program ∷ check.public_input ∷ check.cut ∷ names) (program_file ∷ public_input ∷ cut_file ∷ others))
+    (secret-names check.secrets) held)
+    (subst (λ n. IsHeld told n None) (sym named) tt) low h
+from-others told words check program_file public_input cut_file (Some name) [] reply is named held low h = absurd h
+from-others told words check program_file public_input cut_file (Some name) (region_file ∷ secrets) reply is named held low h =
+    from-files told words check program_file public_input cut_file (Some region_file) secrets reply is
+    (subst (λ names. AreHeld told (check.program ∷ check.public_input ∷ check.cut ∷ names) (program_file ∷ public_input ∷ cut_file ∷ secrets))
+    (secret-names check.secrets) (held.0, (held.1.0, (held.1.1.0, held.1.1.1.1))))
+    (subst (λ n. IsHeld told n (Some region_file)) (sym named) held.1.1.1.0) low h
 
 from-loads : (told : Told) (words : List (List ℕ)) (check : Check) (loaded : Result (List (List ℕ)) LoadRefusal) (reply : Reply) →
     IsCheck words check → loaded_from told (wants_of check) ≡ loaded → reply.status ≤ 1 →
-    RepliesToLoads check.limits loaded reply → Headline told words reply.status reply.text
+    RepliesToLoads check loaded reply → Headline told words reply.status reply.text
 from-loads told words check (Err refusal) reply is e low h =
     absurd (low-status reply.status (load_reply refusal).status (ap (λ r. r.status) h) low (refusal-status refusal))
 from-loads told words check (Ok []) reply is e low h = absurd h
 from-loads told words check (Ok (program_file ∷ [])) reply is e low h = absurd h
 from-loads told words check (Ok (program_file ∷ (public_input ∷ []))) reply is e low h = absurd h
-from-loads told words check (Ok (program_file ∷ (public_input ∷ (cut_file ∷ secrets)))) reply is e low h =
-    from-files told words check program_file public_input cut_file secrets reply is
-    (subst (λ names. AreHeld told (check.program ∷ check.public_input ∷ check.cut ∷ names) (program_file ∷ public_input ∷ cut_file ∷ secrets))
-    (secret-names check.secrets) (all-held told (wants_of check) (program_file ∷ public_input ∷ cut_file ∷ secrets) e))
-    low h
+from-loads told words check (Ok (program_file ∷ (public_input ∷ (cut_file ∷ others)))) reply is e low h =
+    from-others told words check program_file public_input cut_file check.region_file others reply is refl
+    (all-held told (wants_of check) (program_file ∷ public_input ∷ cut_file ∷ others) e) low h
 
 -- words of one command are not those of another
 no-file-command : (words : List (List ℕ)) (check : Check) (name file : List ℕ) → IsCheck words check → words ≡ name ∷ file ∷ [] → ⊥

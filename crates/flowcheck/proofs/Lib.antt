@@ -3,6 +3,8 @@ pub mod OneSegment
 pub mod Two
 pub mod Five
 pub mod Plain
+pub mod Equals
+pub mod OptionSteps
 pub mod Secrets
 pub mod Judgements
 pub mod Headlines

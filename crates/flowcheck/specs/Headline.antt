@@ -18,6 +18,8 @@ use Rattle.lockstep_replay.specs.VerdictLaws.{Cause}
 use Rattle.flowcheck.specs.declared.limits.Limits.{Limits}
 use Rattle.flowcheck.specs.CommandLines.{Check, IsCheck}
 use Rattle.flowcheck.specs.Texts.{check_text, accepted_count}
+use Rattle.flowcheck.specs.Replies.{AreRegions}
+use Rattle.enclosure_regions.specs.declared.region_parts.Region.{Region}
 
 -- the source holds these files under these names
 abbrev pub AreHeld : Told → List (List ℕ) → List (List ℕ) → Type 0
@@ -25,6 +27,13 @@ AreHeld told [] [] = Unit {0}
 AreHeld told [] (file ∷ files) = ⊥
 AreHeld told (name ∷ names) [] = ⊥
 AreHeld told (name ∷ names) (file ∷ files) = (told.held name ≡ Some file) × AreHeld told names files
+
+-- and the region file under its name, where one is named
+abbrev pub IsHeld : Told → Option (List ℕ) → Option (List ℕ) → Type 0
+IsHeld told None None = Unit {0}
+IsHeld told None (Some file) = ⊥
+IsHeld told (Some name) None = ⊥
+IsHeld told (Some name) (Some file) = told.held name ≡ Some file
 
 -- An accepted secret: it is accepted within the budget; there are at most so many bits; the replay of these bits, on the
 -- program, the public input, the cut and the length of the secret alone, is done with the output of the secret's real run.
@@ -80,8 +89,12 @@ pub record Headline (told : Told) (words : List (List ℕ)) (status : ℕ) (text
   pub cut_file : List ℕ
   pub secrets : List (List ℕ)
   pub held : AreHeld told (check.program ∷ check.public_input ∷ check.cut ∷ check.secrets) (program_file ∷ public_input ∷ cut_file ∷ secrets)
+  pub region_file : Option (List ℕ)
+  pub regions_held : IsHeld told check.region_file region_file
   pub picture : Picture
   pub is_image : IsImage program_file picture
+  pub regions : List Region
+  pub are_regions : AreRegions region_file regions
   pub cut : CutPicture
   pub is_cut : CutText cut_file cut
   pub judgements : List Judgement

@@ -1,3 +1,4 @@
+pub mod Options
 pub mod CommandLines
 pub mod Loading
 pub mod FaultTexts

@@ -1,5 +1,5 @@
 -- The loads of a command, in order, and what comes of them.
-use Rattle.std.specs.Prelude.{ℕ, List, [], ◌∷◌, Result, Ok, Err}
+use Rattle.std.specs.Prelude.{ℕ, List, [], ◌∷◌, Option, None, Some, Result, Ok, Err}
 use Rattle.flow_base.specs.declared.loading.LoadFault.{LoadFault}
 use Rattle.flow_base.specs.declared.loading.LoadFault.TheVariants.{Failed, TooLarge, Memory}
 use Rattle.flow_base.specs.Loads.{Told, after_load, next_answer}
@@ -19,6 +19,9 @@ public_limit = 1048576
 abbrev pub cut_limit : ℕ
 cut_limit = 67108864
 
+abbrev pub region_limit : ℕ
+region_limit = 65536
+
 abbrev pub secret_limit : ℕ
 secret_limit = 65536
 
@@ -32,11 +35,16 @@ abbrev pub secret_wants : List (List ℕ) → List Want
 secret_wants [] = []
 secret_wants (name ∷ names) = want name secret_limit ∷ secret_wants names
 
--- the program, the public input, the cut, and each secret
+-- the region file where one is named, and each secret
+abbrev pub other_wants : Option (List ℕ) → List (List ℕ) → List Want
+other_wants None names = secret_wants names
+other_wants (Some region_file) names = want region_file region_limit ∷ secret_wants names
+
+-- the program, the public input, the cut, and the others
 abbrev pub wants_of : Check → List Want
 wants_of check =
     want check.program program_limit ∷ want check.public_input public_limit ∷ want check.cut cut_limit
-    ∷ secret_wants check.secrets
+    ∷ other_wants check.region_file check.secrets
 
 -- the files of a command
 abbrev pub command_wants : Command → List Want

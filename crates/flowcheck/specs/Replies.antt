@@ -12,14 +12,18 @@ use Rattle.cut_file.specs.declared.faults.CutFault.TheVariants.{Memory as NoRoom
 use Rattle.cut_file.specs.Cuts.{CutPicture}
 use Rattle.cut_file.specs.Faults.{FirstCutFault}
 use Rattle.cut_file.specs.Texts.{CutText}
+use Rattle.enclosure_regions.specs.declared.region_faults.RegionFault.{RegionFault}
+use Rattle.enclosure_regions.specs.declared.region_faults.RegionFault.TheVariants.{Memory as NoRoomForRegions}
+use Rattle.enclosure_regions.specs.declared.region_parts.Region.{Region}
+use Rattle.enclosure_regions.specs.Reading.{FirstRegionFault, Spells}
 use Rattle.lockstep_replay.specs.Verdicts.{Judgement, First}
 use Rattle.rv32im_asm.specs.declared.fault.AsmFault.{AsmFault}
 use Rattle.rv32im_asm.specs.Assembling.{assembled}
 use Rattle.rv32im_asm.specs.Listing.{listing}
 use Rattle.flowcheck.specs.declared.limits.Limits.{Limits}
-use Rattle.flowcheck.specs.CommandLines.{Command, Checks, Assembles, Lists, IsCommand}
+use Rattle.flowcheck.specs.CommandLines.{Check, Command, Checks, Assembles, Lists, IsCommand}
 use Rattle.flowcheck.specs.Loading.{LoadRefusal, CannotLoad, IsTooLarge, loaded_from, command_wants}
-use Rattle.flowcheck.specs.FaultTexts.{cut_fault_text, program_fault_text, source_fault_text}
+use Rattle.flowcheck.specs.FaultTexts.{cut_fault_text, program_fault_text, region_fault_text, source_fault_text}
 use Rattle.flowcheck.specs.Texts.{check_text, accepted_count}
 
 -- a status and a whole text
@@ -36,6 +40,10 @@ program_reply fault =
 
 abbrev pub source_reply : AsmFault → Reply
 source_reply fault = record { status = 3; text = codes "refused 3 source " ++ (source_fault_text fault ++ codes "\n") }
+
+abbrev pub regions_reply : RegionFault → Reply
+regions_reply fault =
+    record { status = 3; text = codes "refused 3 regions " ++ (region_fault_text fault ++ codes "\n") }
 
 abbrev pub cut_reply : CutFault → Reply
 cut_reply fault = record { status = 3; text = codes "refused 3 cut " ++ (cut_fault_text fault ++ codes "\n") }
@@ -58,27 +66,53 @@ judgements_of picture public_input cut limits [] = []
 judgements_of picture public_input cut limits (secret ∷ secrets) =
     First picture public_input secret cut limits.budget limits.turns ∷ judgements_of picture public_input cut limits secrets
 
--- the reply once the program is read: to the first fault of the cut file, or to the cut of which it is the text
-abbrev pub RepliesToCut : Picture → List ℕ → List ℕ → Limits → List (List ℕ) → Reply → Type 0
-RepliesToCut picture public_input cut_file limits secrets reply =
+-- The reply once program and regions are read: to the first fault of the cut file, or to the cut of which it is the
+-- text. The regions change no judgement yet.
+abbrev pub RepliesToCut : Picture → List ℕ → List Region → List ℕ → Limits → List (List ℕ) → Reply → Type 0
+RepliesToCut picture public_input regions cut_file limits secrets reply =
     ((fault : CutFault) × FirstCutFault cut_file fault × (fault ≢ NoRoomForCut) × (reply ≡ cut_reply fault))
     ⊎ ((cut : CutPicture) × CutText cut_file cut
     × (reply ≡ check_reply (judgements_of picture public_input cut limits secrets) limits.budget))
 
+-- the first fault of a region file, where there is one
+abbrev pub IsRegionFault : Option (List ℕ) → RegionFault → Type 0
+IsRegionFault None fault = ⊥
+IsRegionFault (Some region_file) fault = FirstRegionFault region_file fault × (fault ≢ NoRoomForRegions)
+
+-- the regions that a region file spells; none without a file
+abbrev pub AreRegions : Option (List ℕ) → List Region → Type 0
+AreRegions None regions = regions ≡ []
+AreRegions (Some region_file) regions = Spells region_file regions
+
+-- the reply once the program is read: to the first fault of the region file, or to its regions
+abbrev pub RepliesToRegions : Picture → List ℕ → Option (List ℕ) → List ℕ → Limits → List (List ℕ) → Reply → Type 0
+RepliesToRegions picture public_input region_file cut_file limits secrets reply =
+    ((fault : RegionFault) × IsRegionFault region_file fault × (reply ≡ regions_reply fault))
+    ⊎ ((regions : List Region) × AreRegions region_file regions
+    × RepliesToCut picture public_input regions cut_file limits secrets reply)
+
 -- the reply once all files are loaded
-abbrev pub RepliesToFiles : Limits → List ℕ → List ℕ → List ℕ → List (List ℕ) → Reply → Type 0
-RepliesToFiles limits program_file public_input cut_file secrets reply =
+abbrev pub RepliesToFiles : Limits → List ℕ → List ℕ → List ℕ → Option (List ℕ) → List (List ℕ) → Reply → Type 0
+RepliesToFiles limits program_file public_input cut_file region_file secrets reply =
     ((fault : ElfFault) × IsFirstFault program_file fault × (reply ≡ program_reply fault))
     ⊎ ((picture : Picture) × IsImage program_file picture
-    × RepliesToCut picture public_input cut_file limits secrets reply)
+    × RepliesToRegions picture public_input region_file cut_file limits secrets reply)
 
-abbrev pub RepliesToLoads : Limits → Result (List (List ℕ)) LoadRefusal → Reply → Type 0
-RepliesToLoads limits (Err refusal) reply = reply ≡ load_reply refusal
-RepliesToLoads limits (Ok []) reply = ⊥
-RepliesToLoads limits (Ok (program_file ∷ [])) reply = ⊥
-RepliesToLoads limits (Ok (program_file ∷ (public_input ∷ []))) reply = ⊥
-RepliesToLoads limits (Ok (program_file ∷ (public_input ∷ (cut_file ∷ secrets)))) reply =
-    RepliesToFiles limits program_file public_input cut_file secrets reply
+-- the same where a region file, if one is named, is loaded before the secrets
+abbrev pub RepliesToOthers : Limits → List ℕ → List ℕ → List ℕ → Option (List ℕ) → List (List ℕ) → Reply → Type 0
+RepliesToOthers limits program_file public_input cut_file None secrets reply =
+    RepliesToFiles limits program_file public_input cut_file None secrets reply
+RepliesToOthers limits program_file public_input cut_file (Some name) [] reply = ⊥
+RepliesToOthers limits program_file public_input cut_file (Some name) (region_file ∷ secrets) reply =
+    RepliesToFiles limits program_file public_input cut_file (Some region_file) secrets reply
+
+abbrev pub RepliesToLoads : Check → Result (List (List ℕ)) LoadRefusal → Reply → Type 0
+RepliesToLoads check (Err refusal) reply = reply ≡ load_reply refusal
+RepliesToLoads check (Ok []) reply = ⊥
+RepliesToLoads check (Ok (program_file ∷ [])) reply = ⊥
+RepliesToLoads check (Ok (program_file ∷ (public_input ∷ []))) reply = ⊥
+RepliesToLoads check (Ok (program_file ∷ (public_input ∷ (cut_file ∷ others)))) reply =
+    RepliesToOthers check.limits program_file public_input cut_file check.region_file others reply
 
 -- the reply to a source: the program file of its image, or its fault
 abbrev pub assembled_reply : Result Picture AsmFault → Reply
@@ -104,7 +138,7 @@ RepliesToFile RepliesToBytes (Ok (file ∷ (other ∷ files))) reply = ⊥
 
 -- the reply to a command once its files are loaded
 abbrev pub RepliesToCommand : Command → Result (List (List ℕ)) LoadRefusal → Reply → Type 0
-RepliesToCommand (Checks check) loaded reply = RepliesToLoads check.limits loaded reply
+RepliesToCommand (Checks check) loaded reply = RepliesToLoads check loaded reply
 RepliesToCommand (Assembles source) loaded reply = RepliesToFile RepliesToSource loaded reply
 RepliesToCommand (Lists program) loaded reply = RepliesToFile RepliesToProgram loaded reply
 

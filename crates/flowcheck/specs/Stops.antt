@@ -5,6 +5,7 @@ use Rattle.flow_base.specs.declared.loading.LoadFault.TheVariants.{Failed as Fai
 use Rattle.flow_base.specs.Counts.{Rose}
 use Rattle.flow_base.specs.Loads.{Told}
 use Rattle.flowcheck.specs.declared.loads.Loaded.{Loaded}
+use Rattle.flowcheck.specs.declared.loads.Others.{Others}
 use Rattle.flowcheck.specs.declared.loads.LoadStop.{LoadStop}
 use Rattle.flowcheck.specs.declared.loads.LoadStop.TheVariants.{Failed, TooLarge, Memory}
 use Rattle.flowcheck.specs.Loading.{Want, LoadRefusal, CannotLoad, IsTooLarge, loaded_from, after_loads, secret_limit}
@@ -47,9 +48,18 @@ RepliesToStop (Failed name) reply = reply ≡ load_reply (CannotLoad name)
 RepliesToStop (TooLarge name number) reply = reply ≡ load_reply (IsTooLarge name number)
 RepliesToStop Memory reply = ⊥
 
+-- a region file, where there is one, before the secrets
+abbrev pub and_others : Option (List ℕ) → List (List ℕ) → List (List ℕ)
+and_others None secrets = secrets
+and_others (Some region_file) secrets = region_file ∷ secrets
+
 -- the files in order
 abbrev pub files_of : Loaded → List (List ℕ)
-files_of loaded = loaded.program ∷ loaded.public_input ∷ loaded.cut ∷ loaded.secrets
+files_of loaded = loaded.program ∷ loaded.public_input ∷ loaded.cut ∷ and_others loaded.regions loaded.secrets
+
+abbrev pub other_files : Result Others LoadStop → Result (List (List ℕ)) LoadStop
+other_files (Ok others) = Ok (and_others others.regions others.secrets)
+other_files (Err stop) = Err stop
 
 abbrev pub all_files : Result Loaded LoadStop → Result (List (List ℕ)) LoadStop
 all_files (Ok loaded) = Ok (files_of loaded)

@@ -1,15 +1,24 @@
 -- The command that words name.
-use Rattle.std.specs.Prelude.{ℕ, suc, ◌==◌, ◌≤◌, List, [], ◌∷◌, Bool, false, map, string_bytes, if◌then◌else◌}
+use Rattle.std.specs.Prelude.{ℕ, suc, ◌==◌, ◌≤◌, List, [], ◌∷◌, Bool, false, map, string_bytes, option_map, if◌then◌else◌}
 use Rattle.flowcheck.specs.declared.words.CheckWords.{CheckWords}
 use Rattle.flowcheck.specs.declared.words.CommandWords.{CommandWords}
 use Rattle.flowcheck.specs.declared.words.CommandWords.TheVariants as words
+use Rattle.flowcheck.specs.declared.options.OptionWords.{OptionWords}
+use Rattle.flowcheck.specs.Options.{OptionValues}
 use Rattle.flowcheck.specs.CommandLines.{Check, Command, Checks, Assembles, Lists, highest_budget}
+
+abbrev pub values_of : OptionWords → OptionValues
+values_of words = record {
+  turns = option_map (λ word. word.now) words.turns;
+  regions = option_map (λ word. word.now) words.regions;
+}
 
 abbrev pub check_of : CheckWords → Check
 check_of words = record {
   program = words.program.now;
   public_input = words.public_input.now;
   cut = words.cut.now;
+  region_file = option_map (λ word. word.now) words.regions;
   secrets = map string_bytes words.secrets.now;
   limits = words.limits;
 }

@@ -1,11 +1,12 @@
-ghost use Rattle.std.specs.Prelude.{◌≡◌, ◌≤◌, ◌<◌, ◌^◌, ℕ, length, map, string_bytes, IfOk, IsTrue, ◌∷◌, []};
+ghost use Rattle.std.specs.Prelude.{◌≡◌, ◌≢◌, ◌≤◌, ◌<◌, ◌^◌, ℕ, length, map, string_bytes, IfErr, IfOk, IsTrue, ◌∷◌, []};
 ghost use Rattle.elf32_loader.specs.Images.{picture_of};
 ghost use Rattle.cut_file.specs.Pictures.{picture_of as cut_of};
+ghost use Rattle.enclosure_regions.specs.declared.region_faults.RegionFault.TheVariants.{Memory as NoRoomForRegions};
 ghost use Rattle.flow_base.specs.Counts.{Rose};
 ghost use Rattle.flowcheck.specs.Answering.{reply_of, is_one_of, Answers, CommandLoads, IsNoCommand, LoadsByTold};
 ghost use Rattle.flowcheck.specs.CommandLines.{Checks, IsCommand, highest_budget};
 ghost use Rattle.flowcheck.specs.Loading.{program_limit, cut_limit};
-ghost use Rattle.flowcheck.specs.Replies.{RepliesToCut, RepliesToFiles, RepliesByTold};
+ghost use Rattle.flowcheck.specs.Replies.{AreRegions, IsRegionFault, RepliesToCut, RepliesToRegions, RepliesToFiles, RepliesByTold};
 ghost use Rattle.flowcheck.specs.Stops.{AreShort};
 ghost use Rattle.flowcheck.specs.Words.{HasBudget, check_of, command_of};
 
@@ -14,26 +15,29 @@ use crate::limits::Limits;
 use crate::loads::{Loaded, load_all};
 use crate::one_file::{reply_to_program, reply_to_source};
 use crate::refusals::{
-    cut_fault, cut_reply, program_fault, program_reply, stop_reply, usage_reply,
+    cut_fault, cut_reply, program_fault, program_reply, region_fault, regions_reply, stop_reply,
+    usage_reply,
 };
 use crate::replies::Reply;
 use crate::words::{CheckWords, CommandWords, command_words};
 use cut_file::read_cut;
 use elf32_loader::{Image, load_image};
+use enclosure_regions::{RegionFault, Regions, read_regions};
 use flow_base::{Bytes, Files, NoMemory};
 use std::alloc::Global;
 
-/// The reply once the program is read: to the cut file, and to the secrets by its cut.
+/// The reply once program and regions are read: to the cut file, and to the secrets by its cut.
 fn reply_to_cut(
     alloc: Global,
     image: &Image,
+    regions: &Regions,
     loaded: &Loaded,
     limits: Limits,
 ) -> Result<Reply, NoMemory>
     requires cut { length loaded.now.cut ≤ cut_limit }
     requires short { AreShort loaded.now.secrets }
     requires within { limits.budget ≤ highest_budget }
-    ensures reply { IfOk result (λ reply. RepliesToCut (picture_of image.now) loaded.now.public_input loaded.now.cut limits loaded.now.secrets (reply_of reply)) }
+    ensures reply { IfOk result (λ reply. RepliesToCut (picture_of image.now) loaded.now.public_input regions.now.items loaded.now.cut limits loaded.now.secrets (reply_of reply)) }
     ensures status { IfOk result (λ reply. IsTrue (is_one_of (0 ∷ 1 ∷ 3 ∷ []) reply.status)) }
 {
     match read_cut(alloc, loaded.cut.as_slice()) {
@@ -49,17 +53,47 @@ fn reply_to_cut(
     }
 }
 
+/// The regions of the region file, or none without a file; the error is the file's first fault.
+fn regions_of(alloc: Global, loaded: &Loaded) -> Result<Regions, RegionFault>
+    ensures ok { IfOk result (λ regions. AreRegions loaded.now.regions regions.items) }
+    ensures err { IfErr result (λ fault. fault ≢ NoRoomForRegions → IsRegionFault loaded.now.regions fault) }
+{
+    match &loaded.regions {
+        Some(file) => read_regions(alloc, file.as_slice()),
+        None => Ok(Regions::none(alloc)),
+    }
+}
+
+/// The reply once the program is read: to the region file, if one is named, and to the cut file.
+fn reply_to_regions(
+    alloc: Global,
+    image: &Image,
+    loaded: &Loaded,
+    limits: Limits,
+) -> Result<Reply, NoMemory>
+    requires cut { length loaded.now.cut ≤ cut_limit }
+    requires short { AreShort loaded.now.secrets }
+    requires within { limits.budget ≤ highest_budget }
+    ensures reply { IfOk result (λ reply. RepliesToRegions (picture_of image.now) loaded.now.public_input loaded.now.regions loaded.now.cut limits loaded.now.secrets (reply_of reply)) }
+    ensures status { IfOk result (λ reply. IsTrue (is_one_of (0 ∷ 1 ∷ 3 ∷ []) reply.status)) }
+{
+    match regions_of(alloc, loaded) {
+        Ok(regions) => reply_to_cut(alloc, image, &regions, loaded, limits),
+        Err(fault) => regions_reply(alloc, &region_fault(fault)?),
+    }
+}
+
 /// The reply once all files are loaded.
 fn reply_to_files(alloc: Global, loaded: &Loaded, limits: Limits) -> Result<Reply, NoMemory>
     requires program { length loaded.now.program ≤ program_limit }
     requires cut { length loaded.now.cut ≤ cut_limit }
     requires short { AreShort loaded.now.secrets }
     requires within { limits.budget ≤ highest_budget }
-    ensures reply { IfOk result (λ reply. RepliesToFiles limits loaded.now.program loaded.now.public_input loaded.now.cut loaded.now.secrets (reply_of reply)) }
+    ensures reply { IfOk result (λ reply. RepliesToFiles limits loaded.now.program loaded.now.public_input loaded.now.cut loaded.now.regions loaded.now.secrets (reply_of reply)) }
     ensures status { IfOk result (λ reply. IsTrue (is_one_of (0 ∷ 1 ∷ 3 ∷ []) reply.status)) }
 {
     match load_image(alloc, loaded.program.as_slice()) {
-        Ok(image) => reply_to_cut(alloc, &image, loaded, limits),
+        Ok(image) => reply_to_regions(alloc, &image, loaded, limits),
         Err(fault) => program_reply(alloc, &program_fault(fault)?),
     }
 }

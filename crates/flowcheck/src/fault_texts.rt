@@ -1,10 +1,11 @@
 ghost use Rattle.std.specs.Prelude.{◌≡◌, IfOk};
 ghost use Rattle.elf32_loader.specs.declared.fault.ElfFault.TheVariants.{NotElf32 as TheNotElf32, EntryOutside as TheEntryOutside};
-ghost use Rattle.flowcheck.specs.FaultTexts.{cut_fault_text as cut_fault_text_of, hex_byte as hex_byte_of, program_fault_text as program_fault_text_of, source_fault_text as source_fault_text_of};
+ghost use Rattle.flowcheck.specs.FaultTexts.{cut_fault_text as cut_fault_text_of, hex_byte as hex_byte_of, program_fault_text as program_fault_text_of, region_fault_text as region_fault_text_of, source_fault_text as source_fault_text_of};
 
 use crate::texts::joined;
 use cut_file::CutFault;
 use elf32_loader::ElfFault;
+use enclosure_regions::RegionFault;
 use flow_base::{Bytes, NoMemory, hex_digits, hex_word};
 use rv32im_asm::AsmFault;
 use std::alloc::Global;
@@ -73,6 +74,24 @@ pub fn cut_fault_text(alloc: Global, fault: &CutFault) -> Result<Bytes, NoMemory
         CutFault::Truncated => return Bytes::from_slice(alloc, b"truncated"),
         CutFault::Trailing { offset } => format!(in alloc; "trailing {offset}")?,
         CutFault::Memory => return Bytes::from_slice(alloc, b"memory"),
+    };
+    Ok(Bytes::from_vec(text.into_bytes()))
+}
+
+/// What is wrong with a region file.
+pub fn region_fault_text(alloc: Global, fault: &RegionFault) -> Result<Bytes, NoMemory>
+    ensures { IfOk result (λ text. text ≡ region_fault_text_of fault.now) }
+{
+    let text = match *fault {
+        RegionFault::Json => return Bytes::from_slice(alloc, b"json"),
+        RegionFault::Shape { index } => format!(in alloc; "shape {index}")?,
+        RegionFault::SameAddress { index } => format!(in alloc; "same-address {index}")?,
+        RegionFault::EnterTwice { index } => format!(in alloc; "enter-twice {index}")?,
+        RegionFault::RegisterTwice { index, register } => {
+            format!(in alloc; "register-twice {index} x{register}")?
+        }
+        RegionFault::TooMany { count } => format!(in alloc; "too-many {count}")?,
+        RegionFault::Memory => return Bytes::from_slice(alloc, b"memory"),
     };
     Ok(Bytes::from_vec(text.into_bytes()))
 }

@@ -1,8 +1,8 @@
-ghost use Rattle.std.specs.Prelude.{◌≡◌, ◌≤◌, ◌+◌, ◌^◌, ◌<◌, ℕ, length, map, string_bytes, option_map, IfOk, [], ◌∷◌};
+ghost use Rattle.std.specs.Prelude.{◌≡◌, ◌≤◌, ◌+◌, ◌^◌, ◌<◌, ℕ, length, map, string_bytes, option_map, is_some, IfOk, [], ◌∷◌};
 ghost use Rattle.flow_base.specs.Counts.{Rose};
 ghost use Rattle.flow_base.specs.Loads.{after_load};
-ghost use Rattle.flowcheck.specs.Loading.{want, secret_wants, wants_of, program_limit, public_limit, cut_limit};
-ghost use Rattle.flowcheck.specs.Stops.{LoadsAs, Leaves, StopHasCause, all_files, first_file, StopsBy, AreShort};
+ghost use Rattle.flowcheck.specs.Loading.{want, secret_wants, other_wants, wants_of, program_limit, public_limit, cut_limit};
+ghost use Rattle.flowcheck.specs.Stops.{LoadsAs, Leaves, StopHasCause, all_files, first_file, other_files, StopsBy, AreShort};
 ghost use Rattle.flowcheck.specs.Words.{check_of};
 
 use crate::words::CheckWords;
@@ -26,6 +26,14 @@ pub struct Loaded {
     pub program: Bytes,
     pub public_input: Bytes,
     pub cut: Bytes,
+    pub regions: Option<Bytes>,
+    pub secrets: List<Bytes>,
+}
+
+/// The region file, where one is named, and the secrets.
+#[derive(Drop)]
+pub struct Others {
+    pub regions: Option<Bytes>,
     pub secrets: List<Bytes>,
 }
 
@@ -34,6 +42,8 @@ pub const PROGRAM_LIMIT: u32 = 16_777_216;
 const PUBLIC_LIMIT: u32 = 1_048_576;
 
 const CUT_LIMIT: u32 = 67_108_864;
+
+const REGION_LIMIT: u32 = 65_536;
 
 const SECRET_LIMIT: u32 = 65_536;
 
@@ -98,7 +108,37 @@ fn load_secrets<F: Files>(
     Ok(secrets)
 }
 
-/// The program, the public input, the cut and each secret, loaded in this order up to the first that is not Ok.
+/// The region file, where one is named, and each secret, loaded in this order up to the first that is not Ok.
+fn load_others<F: Files>(
+    alloc: Global,
+    files: &mut F,
+    regions: Option<&str>,
+    secrets: &[String],
+) -> Result<Others, LoadStop>
+    ensures files { LoadsAs (F.told files.old) (other_wants (option_map (λ word. word.now) regions.entry) (map string_bytes secrets.now)) (other_files result) }
+    ensures leaves { Leaves (F.told files.old) (other_wants (option_map (λ word. word.now) regions.entry) (map string_bytes secrets.now)) (other_files result) (F.told files.new) }
+    ensures cause { StopHasCause result (F.faults files.old) (F.faults files.new) }
+    ensures faults { F.faults files.old ≤ F.faults files.new }
+    ensures named { IfOk result (λ others. is_some others.regions ≡ is_some (option_map (λ word. word.now) regions.entry)) }
+    ensures short { IfOk result (λ others. AreShort others.secrets) }
+{
+    let Some(name) = regions else {
+        let secrets = load_secrets(alloc, files, secrets)?;
+        return Ok(Others {
+            regions: None,
+            secrets,
+        });
+    };
+    let file = load(alloc, files, name, REGION_LIMIT)?;
+    let secrets = load_secrets(alloc, files, secrets)?;
+    Ok(Others {
+        regions: Some(file),
+        secrets,
+    })
+}
+
+/// The program, the public input, the cut, the region file where one is named, and each secret, loaded in this order up
+/// to the first that is not Ok.
 pub fn load_all<F: Files>(
     alloc: Global,
     files: &mut F,
@@ -110,16 +150,18 @@ pub fn load_all<F: Files>(
     ensures faults { F.faults files.old ≤ F.faults files.new }
     ensures program { IfOk result (λ loaded. length loaded.program ≤ program_limit) }
     ensures cut { IfOk result (λ loaded. length loaded.cut ≤ cut_limit) }
+    ensures named { IfOk result (λ loaded. is_some loaded.regions ≡ is_some (check_of check.now).region_file) }
     ensures short { IfOk result (λ loaded. AreShort loaded.secrets) }
 {
     let program = load(alloc, files, check.program, PROGRAM_LIMIT)?;
     let public_input = load(alloc, files, check.public_input, PUBLIC_LIMIT)?;
     let cut = load(alloc, files, check.cut, CUT_LIMIT)?;
-    let secrets = load_secrets(alloc, files, check.secrets)?;
+    let others = load_others(alloc, files, check.regions, check.secrets)?;
     Ok(Loaded {
         program,
         public_input,
         cut,
-        secrets,
+        regions: others.regions,
+        secrets: others.secrets,
     })
 }

@@ -6,8 +6,12 @@ mod fault_texts;
 mod judging;
 mod limits;
 mod loads;
+mod numbers;
 mod one_file;
+mod options;
 mod refusals;
+#[cfg(test)]
+mod region_tests;
 mod replies;
 #[cfg(test)]
 mod tests;
@@ -22,13 +26,14 @@ use std::io::ErrorKind;
 use std::process::ExitCode;
 pub use top::flowcheck;
 
-const HELP: &str = "flowcheck check PROG PUBLIC CUT BUDGET SECRET.. [--turns N]\n\
+const HELP: &str = "flowcheck check PROG PUBLIC CUT BUDGET SECRET.. [--turns N] [--regions FILE]\n\
     flowcheck asm SOURCE\n\
     flowcheck list PROG\n\n\
     check judges by lockstep replay whether a run of PROG on each secret gives away no bits but those of the cut, at most\n\
     BUDGET of them. PROG is an ELF32 program of RV32IM, PUBLIC its public input, CUT a cut file, and each SECRET a file\n\
     with a secret input; BUDGET is 0 to 1048576, and there are 1 to 64 secrets. A run that has not exited after N turns\n\
-    is rejected; N is 1 to 20000000, and 1000000 where it is not named.\n\
+    is rejected; N is 1 to 20000000, and 1000000 where it is not named. FILE is a region file; its\n\
+    regions are read, and change no line yet.\n\
     asm writes the program file of an assembler source.\n\
     list writes the instructions of a program file.\n";
 

@@ -1,17 +1,21 @@
 ghost use Rattle.std.specs.Prelude.{◌≡◌, ◌≢◌, ℕ, IfOk, OnErr};
 ghost use Rattle.elf32_loader.specs.declared.fault.ElfFault.TheVariants.{Memory as NoRoomForProgram};
 ghost use Rattle.cut_file.specs.declared.faults.CutFault.TheVariants.{Memory as NoRoomForCut};
+ghost use Rattle.enclosure_regions.specs.declared.region_faults.RegionFault.TheVariants.{Memory as NoRoomForRegions};
 ghost use Rattle.rv32im_asm.specs.declared.fault.AsmFault.TheVariants.{Memory as NoRoomForSource};
 ghost use Rattle.flowcheck.specs.Answering.{reply_of};
 ghost use Rattle.flowcheck.specs.Loading.{CannotLoad, IsTooLarge};
-ghost use Rattle.flowcheck.specs.Replies.{usage_reply as usage_reply_of, program_reply as program_reply_of, source_reply as source_reply_of, cut_reply as cut_reply_of, load_reply};
+ghost use Rattle.flowcheck.specs.Replies.{usage_reply as usage_reply_of, program_reply as program_reply_of, source_reply as source_reply_of, cut_reply as cut_reply_of, regions_reply as regions_reply_of, load_reply};
 ghost use Rattle.flowcheck.specs.Stops.{RepliesToStop};
 
-use crate::fault_texts::{cut_fault_text, program_fault_text, source_fault_text};
+use crate::fault_texts::{
+    cut_fault_text, program_fault_text, region_fault_text, source_fault_text,
+};
 use crate::loads::LoadStop;
 use crate::replies::Reply;
 use cut_file::CutFault;
 use elf32_loader::ElfFault;
+use enclosure_regions::RegionFault;
 use flow_base::{Bytes, NoMemory};
 use rv32im_asm::AsmFault;
 use std::alloc::Global;
@@ -42,6 +46,17 @@ pub fn cut_fault(fault: CutFault) -> Result<CutFault, NoMemory>
 {
     match fault {
         CutFault::Memory => Err(NoMemory),
+        fault => Ok(fault),
+    }
+}
+
+/// A fault of a region file; want of memory is none.
+pub fn region_fault(fault: RegionFault) -> Result<RegionFault, NoMemory>
+    ensures told { IfOk result (λ told. (told ≡ fault) × (fault ≢ NoRoomForRegions)) }
+    ensures none { OnErr result (fault ≡ NoRoomForRegions) }
+{
+    match fault {
+        RegionFault::Memory => Err(NoMemory),
         fault => Ok(fault),
     }
 }
@@ -77,6 +92,20 @@ pub fn source_reply(alloc: Global, fault: &AsmFault) -> Result<Reply, NoMemory>
 {
     let fault = source_fault_text(alloc, fault)?;
     let mut text = b"refused 3 source ".to_vec(alloc)?;
+    text.extend_from_slice(fault.as_slice())?;
+    text.extend_from_slice(b"\n")?;
+    Ok(Reply {
+        status: 3,
+        text: Bytes::from_vec(text),
+    })
+}
+
+/// The reply to a region file that gives no regions.
+pub fn regions_reply(alloc: Global, fault: &RegionFault) -> Result<Reply, NoMemory>
+    ensures { IfOk result (λ reply. reply_of reply ≡ regions_reply_of fault.now) }
+{
+    let fault = region_fault_text(alloc, fault)?;
+    let mut text = b"refused 3 regions ".to_vec(alloc)?;
     text.extend_from_slice(fault.as_slice())?;
     text.extend_from_slice(b"\n")?;
     Ok(Reply {

@@ -4,14 +4,14 @@ use std::alloc::Global;
 use std::test::Fail;
 
 /// The ELF header and the program header of one segment at 0x10000, without the sizes and what follows them.
-const HEAD: [u8; 68] = [
+pub const HEAD: [u8; 68] = [
     0x7f, 0x45, 0x4c, 0x46, 1, 1, 1, 0, 0, 0, 0, 0, 0, 0, 0, 0, 2, 0, 243, 0, 1, 0, 0, 0, 0, 0, 1,
     0, 52, 0, 0, 0, 0, 0, 0, 0, 0, 0, 0, 0, 52, 0, 32, 0, 1, 0, 0, 0, 0, 0, 0, 0, 1, 0, 0, 0, 84,
     0, 0, 0, 0, 0, 1, 0, 0, 0, 1, 0,
 ];
 
 /// Reads a secret byte and writes its lowest bit.
-const LOW: [u32; 14] = [
+pub const LOW: [u32; 14] = [
     0x0030_0513,
     0x0001_15b7,
     0x0010_0613,
@@ -44,17 +44,17 @@ const ECHO: [u32; 11] = [
 ];
 
 /// Exits with status 0.
-const EXIT: [u32; 3] = [0x0000_0513, 0x05d0_0893, 0x0000_0073];
+pub const EXIT: [u32; 3] = [0x0000_0513, 0x05d0_0893, 0x0000_0073];
 
 /// Loads the byte at address 0.
 const OUTSIDE: [u32; 1] = [0x0000_4283];
 
-const ALL_BITS: &str =
+pub const ALL_BITS: &str =
     "flowcheck-cut 1\nsecret 1\nbits 8\npoint 0 0x00010010 in rest 0x000000ff\nend\n";
 
-const NO_BITS: &str = "flowcheck-cut 1\nsecret 1\nbits 0\nend\n";
+pub const NO_BITS: &str = "flowcheck-cut 1\nsecret 1\nbits 0\nend\n";
 
-const TRAILING: &str = "flowcheck-cut 1\nsecret 1\nbits 0\nend\n ";
+pub const TRAILING: &str = "flowcheck-cut 1\nsecret 1\nbits 0\nend\n ";
 
 /// Half of a written byte.
 const OUT: &str = "flowcheck-cut 1\nsecret 1\nbits 4\npoint 0 0x0001001c ou rest 0x0000000f\nend\n";
@@ -64,7 +64,7 @@ const REGISTER: &str =
     "flowcheck-cut 1\nsecret 1\nbits 1\npoint 0 0x00010018 rs 1*0x00000001 rest 0x00000001\nend\n";
 
 /// A program file of one segment at 0x10000.
-fn program(alloc: Global, code: &[u32]) -> Result<Bytes, NoMemory> {
+pub fn program(alloc: Global, code: &[u32]) -> Result<Bytes, NoMemory> {
     let size = ((4 * (code.len() & 0xffff)) as u32).to_le_bytes();
     let mut bytes = HEAD.to_vec(alloc)?;
     bytes.extend_from_slice(&size)?;
@@ -76,7 +76,13 @@ fn program(alloc: Global, code: &[u32]) -> Result<Bytes, NoMemory> {
     Ok(Bytes::from_vec(bytes))
 }
 
-fn hold(alloc: Global, names: &mut List<Held>, name: &str, bytes: &[u8]) -> Result<(), NoMemory> {
+/// One more file under a name.
+pub fn hold(
+    alloc: Global,
+    names: &mut List<Held>,
+    name: &str,
+    bytes: &[u8],
+) -> Result<(), NoMemory> {
     names.push(Held {
         name: Bytes::from_slice(alloc, name.as_bytes())?,
         bytes: Bytes::from_slice(alloc, bytes)?,

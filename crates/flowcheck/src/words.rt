@@ -1,10 +1,12 @@
-ghost use Rattle.std.specs.Prelude.{◌≡◌, ◌≤◌, ◌<◌, ◌∷◌, [], ℕ, List as Seq, length, take, drop, map, string_bytes, IfNone, IfOk, IfSome};
-ghost use Rattle.std.specs.Fmt.{decimal};
+ghost use Rattle.std.specs.Prelude.{◌≡◌, ◌≤◌, ◌∷◌, [], ℕ, List as Seq, length, take, drop, map, string_bytes, option_map, IfNone, IfOk, IfSome};
 ghost use Rattle.flowcheck.specs.Answering.{IsNoCommand};
-ghost use Rattle.flowcheck.specs.CommandLines.{Check, IsCheck, IsCommand, IsOfOneFile, HaveTurns, HaveSecrets, is_name as is_name_of, are_names as are_names_of};
-ghost use Rattle.flowcheck.specs.Words.{check_of, command_of, has_dash as has_dash_of, plain_count as plain_count_of};
+ghost use Rattle.flowcheck.specs.CommandLines.{Check, IsCheck, IsCommand, IsOfOneFile, IsTurnLimit, HaveSecrets, are_names as are_names_of};
+ghost use Rattle.flowcheck.specs.Options.{OptionValues};
+ghost use Rattle.flowcheck.specs.Words.{check_of, command_of, has_dash as has_dash_of, plain_count as plain_count_of, values_of};
 
 use crate::limits::Limits;
+use crate::numbers::number_of;
+use crate::options::{OptionWords, is_name, options_of};
 use flow_base::NoMemory;
 use std::alloc::Global;
 
@@ -14,6 +16,7 @@ pub struct CheckWords<'a> {
     pub program: &'a str,
     pub public_input: &'a str,
     pub cut: &'a str,
+    pub regions: Option<&'a str>,
     pub secrets: &'a [String],
     pub limits: Limits,
 }
@@ -21,7 +24,7 @@ pub struct CheckWords<'a> {
 /// The words of a command.
 #[derive(Clone, Copy)]
 pub enum CommandWords<'a> {
-    /// `check PROG PUBLIC CUT BUDGET SECRET.. [--turns N]`
+    /// `check PROG PUBLIC CUT BUDGET SECRET.. [--turns N] [--regions FILE]`
     Check(CheckWords<'a>),
     /// `asm SOURCE`
     Assemble { source: &'a str },
@@ -34,47 +37,6 @@ const HIGHEST_BUDGET: u32 = 1_048_576;
 const DEFAULT_TURNS: u32 = 1_000_000;
 
 const HIGHEST_TURNS: u32 = 20_000_000;
-
-/// The number that a word names; None exactly where it is no decimal of 32 bits without leading zeros.
-fn decimal_of(alloc: Global, word: &str) -> Result<Option<u32>, NoMemory>
-    ensures written { IfOk result (λ found. IfSome found (λ number. word.now ≡ decimal number)) }
-    ensures none { result ≡ Ok None → (number : ℕ) → number < 4294967296 → ¬ (word.now ≡ decimal number) }
-{
-    let Ok(number) = word.parse::<u32>() else {
-        return Ok(None);
-    };
-    let text = format!(in alloc; "{number}")?;
-    if text.as_str() != word {
-        return Ok(None);
-    }
-    Ok(Some(number))
-}
-
-/// The number that a word names; None exactly where it is no decimal without leading zeros within the range.
-fn number_of(alloc: Global, word: &str, lowest: u32, highest: u32) -> Result<Option<u32>, NoMemory>
-    ensures written { IfOk result (λ found. IfSome found (λ number. word.now ≡ decimal number)) }
-    ensures above { IfOk result (λ found. IfSome found (λ number. lowest ≤ number)) }
-    ensures below { IfOk result (λ found. IfSome found (λ number. number ≤ highest)) }
-    ensures none { result ≡ Ok None → (number : ℕ) → lowest ≤ number → number ≤ highest → ¬ (word.now ≡ decimal number) }
-{
-    let Some(number) = decimal_of(alloc, word)? else {
-        return Ok(None);
-    };
-    if number < lowest || number > highest {
-        return Ok(None);
-    }
-    Ok(Some(number))
-}
-
-/// Whether a word can name a file.
-pub fn is_name(word: &str) -> bool
-    ensures { result ≡ is_name_of word.now }
-{
-    match word.as_bytes() {
-        [] => false,
-        [first, ..] => *first != b'-',
-    }
-}
 
 /// Whether all words can name files.
 pub fn are_names(words: &[String]) -> bool
@@ -113,29 +75,14 @@ fn plain_count(words: &[String]) -> usize
     count
 }
 
-/// The limit of turns that an option names; None exactly where it is no such option.
-fn named_turns(alloc: Global, name: &str, value: &str) -> Result<Option<u32>, NoMemory>
-    ensures is { IfOk result (λ found. IfSome found (λ turns. HaveTurns (name.now ∷ value.now ∷ []) turns)) }
-    ensures none { result ≡ Ok None → (turns : ℕ) → ¬ HaveTurns (name.now ∷ value.now ∷ []) turns }
+/// The limit of turns that a value names, or the one without a value; None exactly where it names none.
+fn turns_of(alloc: Global, value: Option<&str>) -> Result<Option<u32>, NoMemory>
+    ensures is { IfOk result (λ found. IfSome found (λ turns. IsTurnLimit (option_map (λ word. word.now) value.entry) turns)) }
+    ensures none { result ≡ Ok None → (turns : ℕ) → ¬ IsTurnLimit (option_map (λ word. word.now) value.entry) turns }
 {
-    if name != "--turns" {
-        return Ok(None);
-    }
-    let Some(turns) = number_of(alloc, value, 1, HIGHEST_TURNS)? else {
-        return Ok(None);
-    };
-    Ok(Some(turns))
-}
-
-/// The limit of turns that the options name; None exactly where they are no such options.
-fn turns_of(alloc: Global, options: &[String]) -> Result<Option<u32>, NoMemory>
-    ensures is { IfOk result (λ found. IfSome found (λ turns. HaveTurns (map string_bytes options.now) turns)) }
-    ensures none { result ≡ Ok None → (turns : ℕ) → ¬ HaveTurns (map string_bytes options.now) turns }
-{
-    match options {
-        [] => Ok(Some(DEFAULT_TURNS)),
-        [name, value] => named_turns(alloc, name.as_str(), value.as_str()),
-        _ => Ok(None),
+    match value {
+        Some(word) => number_of(alloc, word, 1, HIGHEST_TURNS),
+        None => Ok(Some(DEFAULT_TURNS)),
     }
 }
 
@@ -147,26 +94,26 @@ fn split_plain<'a>(words: &'a [String]) -> (&'a [String], &'a [String])
     words.split_at(plain_count(words))
 }
 
-/// The words that name secrets, and the limit of turns that the options behind them give.
+/// The words that name secrets, and the values of the options behind them.
 #[derive(Clone, Copy)]
 struct SecretWords<'a> {
     secrets: &'a [String],
-    turns: u32,
+    options: OptionWords<'a>,
 }
 
-/// The secrets that words name and the limit of turns behind them; None exactly where they are no such words.
-fn secret_words<'a>(alloc: Global, words: &'a [String]) -> Result<Option<SecretWords<'a>>, NoMemory>
-    ensures is { IfOk result (λ found. IfSome found (λ named. HaveSecrets (map string_bytes words.entry.now) (map string_bytes named.secrets.now) named.turns)) }
-    ensures none { result ≡ Ok None → (secrets : Seq (Seq ℕ)) (turns : ℕ) → ¬ HaveSecrets (map string_bytes words.entry.now) secrets turns }
+/// The secrets that words name and the options behind them; None exactly where they are no such words.
+fn secret_words<'a>(words: &'a [String]) -> Option<SecretWords<'a>>
+    ensures is { IfSome result (λ named. HaveSecrets (map string_bytes words.entry.now) (map string_bytes named.secrets.now) (values_of named.options)) }
+    ensures none { IfNone result ((secrets : Seq (Seq ℕ)) (values : OptionValues) → ¬ HaveSecrets (map string_bytes words.entry.now) secrets values) }
 {
     let (secrets, options) = split_plain(words);
     if secrets.is_empty() || secrets.len() > 64 || !are_names(secrets) {
-        return Ok(None);
+        return None;
     }
-    let Some(turns) = turns_of(alloc, options)? else {
-        return Ok(None);
+    let Some(options) = options_of(options) else {
+        return None;
     };
-    Ok(Some(SecretWords { secrets, turns }))
+    Some(SecretWords { secrets, options })
 }
 
 /// The check that the words of a command line name; None exactly where they are no command line that is understood.
@@ -190,18 +137,19 @@ pub fn check_words<'a>(
     let Some(budget) = number_of(alloc, budget.as_str(), 0, HIGHEST_BUDGET)? else {
         return Ok(None);
     };
-    let Some(behind) = secret_words(alloc, &words[5..])? else {
+    let Some(behind) = secret_words(&words[5..]) else {
+        return Ok(None);
+    };
+    let Some(turns) = turns_of(alloc, behind.options.turns)? else {
         return Ok(None);
     };
     Ok(Some(CheckWords {
         program: program.as_str(),
         public_input: public_input.as_str(),
         cut: cut.as_str(),
+        regions: behind.options.regions,
         secrets: behind.secrets,
-        limits: Limits {
-            budget,
-            turns: behind.turns,
-        },
+        limits: Limits { budget, turns },
     }))
 }
 

@@ -10,7 +10,7 @@ pub returns-in-Ok-clause-reply : goal.returns-in-Ok-clause-reply
 returns-in-Ok-clause-reply c =
     let picture = picture_of c.in-Ok.image in
     let image : IsImage c.args.loaded.now.program picture = rw c.as_slice.ensures at c.in-Ok.ensures.loaded in
-    IfOk-weaker c.reply_to_cut.result _ _ (λ reply. λ replies. inr (picture, image, replies)) c.reply_to_cut.ensures.reply
+    IfOk-weaker c.reply_to_regions.result _ _ (λ reply. λ replies. inr (picture, image, replies)) c.reply_to_regions.ensures.reply
 
 pub returns-in_ok-program_fault-in-Err-clause-reply : goal.returns-in_ok-program_fault-in-Err-clause-reply
 returns-in_ok-program_fault-in-Err-clause-reply c =

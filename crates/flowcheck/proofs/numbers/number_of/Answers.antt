@@ -2,8 +2,8 @@ use Rattle.std.proofs.Common.{◌≡◌, ◌∙◌, arith, sym}
 use Rattle.std.proofs.lemmas.Grind.{common_steps}
 use Rattle.std.proofs.lemmas.Fmt.{decimal_injective}
 use Rattle.std.specs.Fmt.{decimal}
-use Rattle.flowcheck.proofs.words.number_of.Goals as goal
-use Rattle.flowcheck.proofs.words.number_of.Goals.{then-number-lowest-via-then-number-lowest, then-number-lowest-via-else-number-lowest+then-number-highest}
+use Rattle.flowcheck.proofs.numbers.number_of.Goals as goal
+use Rattle.flowcheck.proofs.numbers.number_of.Goals.{then-number-lowest-via-then-number-lowest, then-number-lowest-via-else-number-lowest+then-number-highest}
 
 pub returns-then-number-lowest-clause-none : goal.returns-then-number-lowest-clause-none
 returns-then-number-lowest-clause-none c = λ is. λ number. λ above. λ below. λ written.

@@ -1,7 +1,7 @@
 use Rattle.std.proofs.Common.{◌≡◌, arith, rules, Ok}
 use Rattle.std.proofs.lemmas.Grind.{common_steps}
 use Rattle.std.proofs.lemmas.Fmt.{parse-decimal}
-use Rattle.flowcheck.proofs.words.decimal_of.Goals as goal
+use Rattle.flowcheck.proofs.numbers.decimal_of.Goals as goal
 
 pub returns-in_default-clause-none : goal.returns-in_default-clause-none
 returns-in_default-clause-none c = λ is. λ number. λ within. λ written.
