@@ -42,7 +42,7 @@ fn copy_items(alloc: Global, regions: &List<Region>) -> Result<List<Region>, NoM
     Ok(copies)
 }
 
-/// A copy of the regions.
+/// A copy of the regions, for whoever keeps its own. `NoMemory` where there is not enough.
 pub fn copy_regions(alloc: Global, regions: &Regions) -> Result<Regions, NoMemory>
     ensures { IfOk result (λ copy. copy.items ≡ regions.now.items) }
 {

@@ -25,8 +25,11 @@ mod turning;
 mod words;
 
 pub use break_kinds::{Break, WrittenPlace};
+pub use copying::copy_regions;
 pub use file_laws::region_files_are_one;
 pub use monitors::Monitor;
+pub use ranges_of_regions::{first_outside, range_start};
+pub use region_checks::{broken_at_entry, broken_at_leave, written_byte, written_register};
 pub use region_faults::RegionFault;
 pub use region_files::read_regions;
 pub use region_lists::Regions;

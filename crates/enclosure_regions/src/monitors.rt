@@ -11,7 +11,7 @@ ghost use Rattle.enclosure_regions.specs.Watching.{last_start, new_watch, unless
 
 use crate::break_kinds::Break;
 use crate::copying::copy_regions;
-use crate::ranges_of_regions::start;
+use crate::ranges_of_regions::range_start;
 use crate::region_checks::{broken_at_entry, broken_at_leave, written_byte, written_register};
 use crate::region_lists::Regions;
 use crate::region_parts::{Range, Region};
@@ -167,7 +167,7 @@ impl Monitor {
         ensures { Some result ≡ last_start self.now range }
     {
         let region = listed(&self.regions, self.last);
-        start(
+        range_start(
             &self.registers,
             listed_range(region.ranges.as_slice(), range),
         )

@@ -6,8 +6,8 @@ ghost use Rattle.enclosure_regions.specs.Turns.{start_of};
 use crate::region_parts::{Range, Region};
 use flow_base::{MEMORY_SIZE, Registers};
 
-/// Where a range starts, by the registers at the region's entry.
-pub fn start(registers: &Registers, range: Range) -> u32
+/// Where a range starts, an address, by the registers at the region's entry, for whoever goes over its bytes.
+pub fn range_start(registers: &Registers, range: Range) -> u32
     requires { IsTrue (is_range range) }
     ensures { result ≡ start_of registers.now range }
 {
@@ -26,7 +26,8 @@ fn is_inside(base: u32, start: u32, length: u32) -> bool
     base <= start && end <= memory_end && end <= 0x1_0000_0000
 }
 
-/// The first range that is not inside guest memory at the entry, counted from 0.
+/// The first range that is not inside guest memory at the entry, counted from 0, for the runs that enter or skip a
+/// region. The base is the lowest address of guest memory.
 pub fn first_outside(region: &Region, registers: &Registers, base: u32) -> Option<u32>
     requires { IsTrue (is_region region.now) }
     ensures { result ≡ outside_range region.now registers.now base }
@@ -34,7 +35,7 @@ pub fn first_outside(region: &Region, registers: &Registers, base: u32) -> Optio
     let mut place: u32 = 0;
     let mut rest = region.ranges.as_slice();
     while let [range, more @ ..] = rest {
-        if !is_inside(base, start(registers, *range), range.length) {
+        if !is_inside(base, range_start(registers, *range), range.length) {
             return Some(place);
         }
         place += 1;
@@ -50,7 +51,7 @@ pub fn has_byte(region: &Region, registers: &Registers, address: u32) -> bool
 {
     let mut rest = region.ranges.as_slice();
     while let [range, more @ ..] = rest {
-        let start = start(registers, *range);
+        let start = range_start(registers, *range);
         if start <= address && u64::from(address) < u64::from(start) + u64::from(range.length) {
             return true;
         }

@@ -19,7 +19,8 @@ fn has_register(region: &Region, register: u8) -> bool
         || region.keep.as_slice().contains(&register)
 }
 
-/// How the write of a register by the instruction at an address breaks the region, if it does.
+/// How the write of a register, 0 to 31, by the instruction at an address breaks the region, if it does: for a run that
+/// watches its own writes.
 pub fn written_register(region: &Region, pc: u32, register: u8) -> Option<Break>
     ensures { result ≡ register_break region.now pc register }
 {
@@ -34,7 +35,8 @@ pub fn written_register(region: &Region, pc: u32, register: u8) -> Option<Break>
     }
 }
 
-/// How the write of a byte by the instruction at an address breaks the region, if it does.
+/// How the write of a byte by the instruction at an address breaks the region, if it does, by the registers at the
+/// region's entry: for a run that watches its own writes.
 pub fn written_byte(region: &Region, registers: &Registers, pc: u32, address: u32) -> Option<Break>
     requires { IsTrue (is_region region.now) }
     ensures { result ≡ byte_break region.now registers.now pc address }
@@ -79,7 +81,7 @@ fn broken_keep(region: &Region, register: u8, before: &Registers, after: &Regist
     }
 }
 
-/// How the registers at the leave break the region, if they do.
+/// How the registers at the leave break the region, if they do, beside those at its entry: for a run that leaves it.
 pub fn broken_at_leave(region: &Region, before: &Registers, after: &Registers) -> Option<Break>
     requires { IsTrue (is_region region.now) }
     ensures { result ≡ keep_break region.now before.now after.now }
@@ -90,7 +92,8 @@ pub fn broken_at_leave(region: &Region, before: &Registers, after: &Registers) -
     }
 }
 
-/// How the registers at the entry break the region, if they do. The base is the lowest address of guest memory.
+/// How the registers at the entry break the region, if they do: for a run that enters it. The base is the lowest
+/// address of guest memory.
 pub fn broken_at_entry(region: &Region, registers: &Registers, base: u32) -> Option<Break>
     requires { IsTrue (is_region region.now) }
     ensures { result ≡ range_break region.now registers.now base }

@@ -32,7 +32,7 @@ fn put_region(text: &mut String, region: &Region) -> Result<(), Fail> {
     Ok(())
 }
 
-// The regions of a file, or the text of its fault.
+/// The regions of a file as one line of text, or the text of its fault; an error only for want of memory.
 pub fn answer(alloc: Global, file: &[u8]) -> Result<String, Fail> {
     match read_regions(alloc, file) {
         Ok(regions) => {
