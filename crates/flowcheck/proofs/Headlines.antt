@@ -13,6 +13,7 @@ use Rattle.cut_file.specs.Cuts.{CutPicture}
 use Rattle.cut_file.specs.Masks.{MaskAt}
 use Rattle.lockstep_replay.specs.Acceptance.{Accept, IsOutput}
 use Rattle.lockstep_replay.specs.Verdicts.{Judgement, Accepts, Rejects, First}
+use Rattle.lockstep_replay.specs.VerdictLaws.{enclosures_of}
 use Rattle.lockstep_replay.proofs.Bounds.{bound_law}
 use Rattle.lockstep_replay.proofs.Accepting.{accepted_law}
 use Rattle.lockstep_replay.proofs.Judging.{rejected_law}
@@ -27,56 +28,56 @@ use Rattle.flowcheck.specs.Headline.{AreHeld, IsHeld, Says, AllSay, IsAmong, Are
 
 -- ---- each judgement says what it means
 
-says : (picture : Picture) (public_input : List ℕ) (cut : CutPicture) (limits : Limits) (secret : List ℕ) (judgement : Judgement) →
-    First picture public_input secret cut limits.budget limits.turns ≡ judgement → Says picture public_input cut limits secret judgement
-says picture public_input cut limits secret (Accepts bits output) e =
-    let law = accepted_law picture public_input secret cut limits.budget limits.turns bits output e in
+says : (picture : Picture) (public_input : List ℕ) (regions : List Region) (cut : CutPicture) (limits : Limits) (secret : List ℕ) (judgement : Judgement) →
+    First picture public_input secret regions cut limits.budget limits.turns ≡ judgement → Says picture public_input regions cut limits secret judgement
+says picture public_input regions cut limits secret (Accepts bits output) e =
+    let law = accepted_law picture public_input secret regions cut limits.budget limits.turns bits output e in
     record {
       accept = law.0;
       few = rw law.1 law.0.within;
       replay = rw law.1 law.0.replay;
       real = law.0.exits;
     }
-says picture public_input cut limits secret (Rejects why) e = record {
-  refused = rejected_law picture public_input secret cut limits.budget limits.turns why e;
-  cause = causes_law picture public_input secret cut limits.budget limits.turns why e;
+says picture public_input regions cut limits secret (Rejects why) e = record {
+  refused = rejected_law picture public_input secret regions cut limits.budget limits.turns why e;
+  cause = causes_law picture public_input secret regions cut limits.budget limits.turns why e;
 }
 
-all-say : (picture : Picture) (public_input : List ℕ) (cut : CutPicture) (limits : Limits) (secrets : List (List ℕ)) →
-    AllSay picture public_input cut limits secrets (judgements_of picture public_input cut limits secrets)
-all-say picture public_input cut limits [] = tt
-all-say picture public_input cut limits (secret ∷ secrets) =
-    (says picture public_input cut limits secret (First picture public_input secret cut limits.budget limits.turns) refl, all-say picture public_input cut limits secrets)
+all-say : (picture : Picture) (public_input : List ℕ) (regions : List Region) (cut : CutPicture) (limits : Limits) (secrets : List (List ℕ)) →
+    AllSay picture public_input regions cut limits secrets (judgements_of picture public_input regions cut limits secrets)
+all-say picture public_input regions cut limits [] = tt
+all-say picture public_input regions cut limits (secret ∷ secrets) =
+    (says picture public_input regions cut limits secret (First picture public_input secret regions cut limits.budget limits.turns) refl, all-say picture public_input regions cut limits secrets)
 
 -- ---- the bound
 
-among-output : (picture : Picture) (public_input : List ℕ) (cut : CutPicture) (limits : Limits) (secrets : List (List ℕ)) (judgements : List Judgement) (output : Output) →
-    AllSay picture public_input cut limits secrets judgements → IsAmong judgements output →
-    IsOutput picture public_input (MaskAt cut.points) cut.secret_length limits.budget limits.turns output
-among-output picture public_input cut limits [] [] output say among = absurd among
-among-output picture public_input cut limits [] (judgement ∷ judgements) output say among = absurd say
-among-output picture public_input cut limits (secret ∷ secrets) [] output say among = absurd say
-among-output picture public_input cut limits (secret ∷ secrets) (Accepts bits other ∷ judgements) output say (inl same) =
-    (secret, subst (λ o. Accept picture public_input (MaskAt cut.points) cut.secret_length limits.budget limits.turns secret o) same say.0.accept)
-among-output picture public_input cut limits (secret ∷ secrets) (Accepts bits other ∷ judgements) output say (inr among) =
-    among-output picture public_input cut limits secrets judgements output say.1 among
-among-output picture public_input cut limits (secret ∷ secrets) (Rejects why ∷ judgements) output say among =
-    among-output picture public_input cut limits secrets judgements output say.1 among
+among-output : (picture : Picture) (public_input : List ℕ) (regions : List Region) (cut : CutPicture) (limits : Limits) (secrets : List (List ℕ)) (judgements : List Judgement) (output : Output) →
+    AllSay picture public_input regions cut limits secrets judgements → IsAmong judgements output →
+    IsOutput picture public_input (enclosures_of regions cut) (MaskAt cut.points) cut.secret_length limits.budget limits.turns output
+among-output picture public_input regions cut limits [] [] output say among = absurd among
+among-output picture public_input regions cut limits [] (judgement ∷ judgements) output say among = absurd say
+among-output picture public_input regions cut limits (secret ∷ secrets) [] output say among = absurd say
+among-output picture public_input regions cut limits (secret ∷ secrets) (Accepts bits other ∷ judgements) output say (inl same) =
+    (secret, subst (λ o. Accept picture public_input (enclosures_of regions cut) (MaskAt cut.points) cut.secret_length limits.budget limits.turns secret o) same say.0.accept)
+among-output picture public_input regions cut limits (secret ∷ secrets) (Accepts bits other ∷ judgements) output say (inr among) =
+    among-output picture public_input regions cut limits secrets judgements output say.1 among
+among-output picture public_input regions cut limits (secret ∷ secrets) (Rejects why ∷ judgements) output say among =
+    among-output picture public_input regions cut limits secrets judgements output say.1 among
 
-all-outputs : (picture : Picture) (public_input : List ℕ) (cut : CutPicture) (limits : Limits) (secrets : List (List ℕ)) (judgements : List Judgement) (outputs : List Output) →
-    AllSay picture public_input cut limits secrets judgements → AllByRecursion (IsAmong judgements) outputs →
-    AllByRecursion (IsOutput picture public_input (MaskAt cut.points) cut.secret_length limits.budget limits.turns) outputs
-all-outputs picture public_input cut limits secrets judgements [] say among = tt
-all-outputs picture public_input cut limits secrets judgements (output ∷ outputs) say among = (
-  among-output picture public_input cut limits secrets judgements output say among.0,
-  all-outputs picture public_input cut limits secrets judgements outputs say among.1,
+all-outputs : (picture : Picture) (public_input : List ℕ) (regions : List Region) (cut : CutPicture) (limits : Limits) (secrets : List (List ℕ)) (judgements : List Judgement) (outputs : List Output) →
+    AllSay picture public_input regions cut limits secrets judgements → AllByRecursion (IsAmong judgements) outputs →
+    AllByRecursion (IsOutput picture public_input (enclosures_of regions cut) (MaskAt cut.points) cut.secret_length limits.budget limits.turns) outputs
+all-outputs picture public_input regions cut limits secrets judgements [] say among = tt
+all-outputs picture public_input regions cut limits secrets judgements (output ∷ outputs) say among = (
+  among-output picture public_input regions cut limits secrets judgements output say among.0,
+  all-outputs picture public_input regions cut limits secrets judgements outputs say among.1,
 )
 
-are-few : (picture : Picture) (public_input : List ℕ) (cut : CutPicture) (limits : Limits) (secrets : List (List ℕ)) (judgements : List Judgement) →
-    AllSay picture public_input cut limits secrets judgements → AreFew judgements limits.budget
-are-few picture public_input cut limits secrets judgements say outputs different among =
-    bound_law picture public_input (MaskAt cut.points) cut.secret_length limits.budget limits.turns outputs
-    (all-outputs picture public_input cut limits secrets judgements outputs say among) different
+are-few : (picture : Picture) (public_input : List ℕ) (regions : List Region) (cut : CutPicture) (limits : Limits) (secrets : List (List ℕ)) (judgements : List Judgement) →
+    AllSay picture public_input regions cut limits secrets judgements → AreFew judgements limits.budget
+are-few picture public_input regions cut limits secrets judgements say outputs different among =
+    bound_law picture public_input (enclosures_of regions cut) (MaskAt cut.points) cut.secret_length limits.budget limits.turns outputs
+    (all-outputs picture public_input regions cut limits secrets judgements outputs say among) different
 
 -- ---- what is loaded is held
 
@@ -152,10 +153,10 @@ refusal-status : (refusal : LoadRefusal) → 1 < (load_reply refusal).status
 refusal-status (CannotLoad name) = omega arith
 refusal-status (IsTooLarge name number) = omega arith
 
-are-few-of-all : (picture : Picture) (public_input : List ℕ) (cut : CutPicture) (limits : Limits) →
-    AreFewOfAll picture public_input cut limits
-are-few-of-all picture public_input cut limits outputs different each =
-    bound_law picture public_input (MaskAt cut.points) cut.secret_length limits.budget limits.turns outputs each different
+are-few-of-all : (picture : Picture) (public_input : List ℕ) (regions : List Region) (cut : CutPicture) (limits : Limits) →
+    AreFewOfAll picture public_input regions cut limits
+are-few-of-all picture public_input regions cut limits outputs different each =
+    bound_law picture public_input (enclosures_of regions cut) (MaskAt cut.points) cut.secret_length limits.budget limits.turns outputs each different
 
 from-cut : (told : Told) (words : List (List ℕ)) (check : Check) (picture : Picture) (program_file public_input cut_file : List ℕ) (region_file : Option (List ℕ)) (regions : List Region) (secrets : List (List ℕ)) (reply : Reply) →
     IsCheck words check → IsImage program_file picture → AreRegions region_file regions →
@@ -165,8 +166,8 @@ from-cut : (told : Told) (words : List (List ℕ)) (check : Check) (picture : Pi
 from-cut told words check picture program_file public_input cut_file region_file regions secrets reply is image are held regions-held low (inl (fault, first, room, e)) =
     absurd (low-status reply.status 3 (ap (λ r. r.status) e) low (omega arith))
 from-cut told words check picture program_file public_input cut_file region_file regions secrets reply is image are held regions-held low (inr (cut, text, e)) =
-    let judgements : List Judgement = judgements_of picture public_input cut check.limits secrets in
-    let say = all-say picture public_input cut check.limits secrets in
+    let judgements : List Judgement = judgements_of picture public_input regions cut check.limits secrets in
+    let say = all-say picture public_input regions cut check.limits secrets in
     record {
       check = check;
       is_check = is;
@@ -186,8 +187,8 @@ from-cut told words check picture program_file public_input cut_file region_file
       judgements = judgements;
       lines = ap (λ r. r.text) e;
       say = say;
-      bound = are-few-of-all picture public_input cut check.limits;
-      lines_bound = are-few picture public_input cut check.limits secrets judgements say;
+      bound = are-few-of-all picture public_input regions cut check.limits;
+      lines_bound = are-few picture public_input regions cut check.limits secrets judgements say;
       status_is = ap (λ r. r.status) e;
     }
 

@@ -14,7 +14,7 @@ use Rattle.replay_machine.specs.Runs.{real_after}
 use Rattle.replay_machine.specs.Starts.{guest}
 use Rattle.lockstep_replay.specs.Acceptance.{Accept, Done, HasExited, IsOutput}
 use Rattle.lockstep_replay.specs.Verdicts.{Judgement, Accepts, Rejects}
-use Rattle.lockstep_replay.specs.VerdictLaws.{Cause}
+use Rattle.lockstep_replay.specs.VerdictLaws.{Cause, enclosures_of}
 use Rattle.flowcheck.specs.declared.limits.Limits.{Limits}
 use Rattle.flowcheck.specs.CommandLines.{Check, IsCheck}
 use Rattle.flowcheck.specs.Texts.{check_text, accepted_count}
@@ -36,30 +36,30 @@ IsHeld told (Some name) None = ⊥
 IsHeld told (Some name) (Some file) = told.held name ≡ Some file
 
 -- An accepted secret: it is accepted within the budget; there are at most so many bits; the replay of these bits, on the
--- program, the public input, the cut and the length of the secret alone, is done with the output of the secret's real run.
-pub record IsAccepted (picture : Picture) (public_input : List ℕ) (cut : CutPicture) (limits : Limits) (secret : List ℕ) (bits : List Bool) (output : Output) : Type 0 where
-  pub accept : Accept picture public_input (MaskAt cut.points) cut.secret_length limits.budget limits.turns secret output
+-- program, the public input, the regions, the cut and the length of the secret alone, is done with the output of the secret's real run.
+pub record IsAccepted (picture : Picture) (public_input : List ℕ) (regions : List Region) (cut : CutPicture) (limits : Limits) (secret : List ℕ) (bits : List Bool) (output : Output) : Type 0 where
+  pub accept : Accept picture public_input (enclosures_of regions cut) (MaskAt cut.points) cut.secret_length limits.budget limits.turns secret output
   pub few : length bits ≤ limits.budget
-  pub replay : Done picture public_input (MaskAt cut.points) cut.secret_length limits.turns bits output
-  pub real : HasExited (real_after limits.turns (guest picture public_input secret)).state output
+  pub replay : Done picture public_input (enclosures_of regions cut) (MaskAt cut.points) cut.secret_length limits.turns bits output
+  pub real : HasExited (real_after (enclosures_of regions cut) limits.turns (guest picture public_input secret)).state output
 
 -- A rejected secret: no output of it is accepted, and the reason that is printed holds.
-pub record IsRejected (picture : Picture) (public_input : List ℕ) (cut : CutPicture) (limits : Limits) (secret : List ℕ) (why : Why) : Type 0 where
-  pub refused : (output : Output) → ¬ Accept picture public_input (MaskAt cut.points) cut.secret_length limits.budget limits.turns secret output
-  pub cause : Cause picture public_input secret cut limits.budget limits.turns why
+pub record IsRejected (picture : Picture) (public_input : List ℕ) (regions : List Region) (cut : CutPicture) (limits : Limits) (secret : List ℕ) (why : Why) : Type 0 where
+  pub refused : (output : Output) → ¬ Accept picture public_input (enclosures_of regions cut) (MaskAt cut.points) cut.secret_length limits.budget limits.turns secret output
+  pub cause : Cause picture public_input secret regions cut limits.budget limits.turns why
 
 -- what the judgement of a secret says
-abbrev pub Says : Picture → List ℕ → CutPicture → Limits → List ℕ → Judgement → Type 0
-Says picture public_input cut limits secret (Accepts bits output) = IsAccepted picture public_input cut limits secret bits output
-Says picture public_input cut limits secret (Rejects why) = IsRejected picture public_input cut limits secret why
+abbrev pub Says : Picture → List ℕ → List Region → CutPicture → Limits → List ℕ → Judgement → Type 0
+Says picture public_input regions cut limits secret (Accepts bits output) = IsAccepted picture public_input regions cut limits secret bits output
+Says picture public_input regions cut limits secret (Rejects why) = IsRejected picture public_input regions cut limits secret why
 
 -- a judgement for each secret, in order
-abbrev pub AllSay : Picture → List ℕ → CutPicture → Limits → List (List ℕ) → List Judgement → Type 0
-AllSay picture public_input cut limits [] [] = Unit {0}
-AllSay picture public_input cut limits [] (judgement ∷ judgements) = ⊥
-AllSay picture public_input cut limits (secret ∷ secrets) [] = ⊥
-AllSay picture public_input cut limits (secret ∷ secrets) (judgement ∷ judgements) =
-    Says picture public_input cut limits secret judgement × AllSay picture public_input cut limits secrets judgements
+abbrev pub AllSay : Picture → List ℕ → List Region → CutPicture → Limits → List (List ℕ) → List Judgement → Type 0
+AllSay picture public_input regions cut limits [] [] = Unit {0}
+AllSay picture public_input regions cut limits [] (judgement ∷ judgements) = ⊥
+AllSay picture public_input regions cut limits (secret ∷ secrets) [] = ⊥
+AllSay picture public_input regions cut limits (secret ∷ secrets) (judgement ∷ judgements) =
+    Says picture public_input regions cut limits secret judgement × AllSay picture public_input regions cut limits secrets judgements
 
 -- an output of one of the accepted secrets
 abbrev pub IsAmong : List Judgement → Output → Type 0
@@ -68,11 +68,11 @@ IsAmong (Accepts bits other ∷ judgements) output = (other ≡ output) ⊎ IsAm
 IsAmong (Rejects why ∷ judgements) output = IsAmong judgements output
 
 -- At most 2 to the budget different outputs arise of all secrets that are accepted, by this check or any other with the same
--- program, public input, cut and limits.
-abbrev pub AreFewOfAll : Picture → List ℕ → CutPicture → Limits → Type 0
-AreFewOfAll picture public_input cut limits =
+-- program, public input, regions, cut and limits.
+abbrev pub AreFewOfAll : Picture → List ℕ → List Region → CutPicture → Limits → Type 0
+AreFewOfAll picture public_input regions cut limits =
     (outputs : List Output) → AllDifferent outputs
-    → AllByRecursion (IsOutput picture public_input (MaskAt cut.points) cut.secret_length limits.budget limits.turns) outputs
+    → AllByRecursion (IsOutput picture public_input (enclosures_of regions cut) (MaskAt cut.points) cut.secret_length limits.budget limits.turns) outputs
     → length outputs ≤ 2 ^ limits.budget
 
 -- and at most so many of the accepted secrets of one check
@@ -99,8 +99,8 @@ pub record Headline (told : Told) (words : List (List ℕ)) (status : ℕ) (text
   pub is_cut : CutText cut_file cut
   pub judgements : List Judgement
   pub lines : text ≡ check_text judgements check.limits.budget
-  pub say : AllSay picture public_input cut check.limits secrets judgements
-  pub bound : AreFewOfAll picture public_input cut check.limits
+  pub say : AllSay picture public_input regions cut check.limits secrets judgements
+  pub bound : AreFewOfAll picture public_input regions cut check.limits
   pub lines_bound : AreFew judgements check.limits.budget
   pub status_is : status ≡ (if accepted_count judgements == length judgements then 0 else 1)
 

@@ -61,10 +61,10 @@ check_reply judgements budget = record {
 }
 
 -- each secret is judged from a fresh start
-abbrev pub judgements_of : Picture → List ℕ → CutPicture → Limits → List (List ℕ) → List Judgement
-judgements_of picture public_input cut limits [] = []
-judgements_of picture public_input cut limits (secret ∷ secrets) =
-    First picture public_input secret cut limits.budget limits.turns ∷ judgements_of picture public_input cut limits secrets
+abbrev pub judgements_of : Picture → List ℕ → List Region → CutPicture → Limits → List (List ℕ) → List Judgement
+judgements_of picture public_input regions cut limits [] = []
+judgements_of picture public_input regions cut limits (secret ∷ secrets) =
+    First picture public_input secret regions cut limits.budget limits.turns ∷ judgements_of picture public_input regions cut limits secrets
 
 -- The reply once program and regions are read: to the first fault of the cut file, or to the cut of which it is the
 -- text. The regions change no judgement yet.
@@ -72,7 +72,7 @@ abbrev pub RepliesToCut : Picture → List ℕ → List Region → List ℕ → 
 RepliesToCut picture public_input regions cut_file limits secrets reply =
     ((fault : CutFault) × FirstCutFault cut_file fault × (fault ≢ NoRoomForCut) × (reply ≡ cut_reply fault))
     ⊎ ((cut : CutPicture) × CutText cut_file cut
-    × (reply ≡ check_reply (judgements_of picture public_input cut limits secrets) limits.budget))
+    × (reply ≡ check_reply (judgements_of picture public_input regions cut limits secrets) limits.budget))
 
 -- the first fault of a region file, where there is one
 abbrev pub IsRegionFault : Option (List ℕ) → RegionFault → Type 0

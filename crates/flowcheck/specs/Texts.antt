@@ -4,8 +4,13 @@ use Rattle.std.specs.Fmt.{decimal}
 use Rattle.crossing_bits.specs.HexText.{hex_of}
 use Rattle.rv32im_machine.specs.declared.stepping.Fault.{Fault}
 use Rattle.rv32im_machine.specs.declared.stepping.Fault.TheVariants.{Illegal, FetchOutside, FetchUnaligned, LoadOutside, StoreOutside, Breakpoint, OutputLimit}
+use Rattle.enclosure_regions.specs.declared.break_kinds.Break.{Break}
+use Rattle.enclosure_regions.specs.declared.break_kinds.Break.TheVariants.{UndeclaredWrite, KeepBroken, CallInRegion}
+use Rattle.enclosure_regions.specs.declared.break_kinds.Break.TheVariants.{RangeOutside as BreakOutside}
+use Rattle.enclosure_regions.specs.declared.break_kinds.WrittenPlace.{WrittenPlace}
+use Rattle.enclosure_regions.specs.declared.break_kinds.WrittenPlace.TheVariants.{Reg, Byte}
 use Rattle.lockstep_replay.specs.declared.verdicts.Why.{Why}
-use Rattle.lockstep_replay.specs.declared.verdicts.Why.TheVariants.{RealFault, BudgetOverrun, ReplayFault, Parted, OutputDiffers, TurnLimit, SecretLength}
+use Rattle.lockstep_replay.specs.declared.verdicts.Why.TheVariants.{RealFault, RegionBreak, BudgetOverrun, ReplayFault, Parted, OutputDiffers, TurnLimit, SecretLength}
 use Rattle.lockstep_replay.specs.declared.verdicts.ReplayStop.{ReplayStop}
 use Rattle.lockstep_replay.specs.declared.verdicts.ReplayStop.TheVariants as stops
 use Rattle.replay_machine.specs.declared.marks.Mark.{Mark}
@@ -22,9 +27,30 @@ fault_text (StoreOutside pc address) = codes "store-outside " ++ (hex_word pc ++
 fault_text (Breakpoint pc) = codes "breakpoint " ++ hex_word pc
 fault_text (OutputLimit pc) = codes "output-limit " ++ hex_word pc
 
+-- a register, or the byte at an address
+abbrev pub place_text : WrittenPlace → List ℕ
+place_text (Reg register) = codes "x" ++ decimal register
+place_text (Byte address) = hex_word address
+
+-- a range, counted from 0, of the region with a number
+abbrev pub range_text : ℕ → ℕ → List ℕ
+range_text region range =
+    codes "region " ++ (decimal region ++ (codes " range " ++ (decimal range ++ codes " outside")))
+
+-- how a region is broken
+abbrev pub break_text : Break → List ℕ
+break_text (UndeclaredWrite region pc place) =
+    codes "region " ++ (decimal region ++ (codes " undeclared " ++ (place_text place ++ (codes " at " ++ hex_word pc))))
+break_text (KeepBroken region register before after) =
+    codes "region " ++ (decimal region ++ (codes " keep x" ++ (decimal register ++ (codes " before " ++ (hex_word before
+    ++ (codes " after " ++ hex_word after))))))
+break_text (CallInRegion region pc) = codes "region " ++ (decimal region ++ (codes " call at " ++ hex_word pc))
+break_text (BreakOutside region range) = range_text region range
+
 -- why a replay is stopped
 abbrev pub stop_text : ReplayStop → List ℕ
 stop_text (stops.Guest fault) = codes "guest " ++ fault_text fault
+stop_text (stops.RangeOutside region range) = range_text region range
 stop_text (stops.Short missing) = codes "short " ++ decimal missing
 
 abbrev pub ended_text : Bool → List ℕ
@@ -40,6 +66,7 @@ mark_text mark =
 -- why a secret is rejected
 abbrev pub why_text : Why → List ℕ
 why_text (RealFault fault) = codes "guest " ++ fault_text fault
+why_text (RegionBreak broken) = break_text broken
 why_text (BudgetOverrun budget needed) = codes "budget " ++ (decimal budget ++ (codes " needed " ++ decimal needed))
 why_text (ReplayFault stop) = codes "replay " ++ stop_text stop
 why_text (Parted real replay) = codes "parted real " ++ (mark_text real ++ (codes " replay " ++ mark_text replay))

@@ -45,6 +45,7 @@ fn reply_to_cut(
             alloc,
             image,
             &loaded.public_input,
+            regions,
             &cut,
             limits,
             loaded.secrets.as_slice(),

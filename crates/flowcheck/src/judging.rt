@@ -15,6 +15,7 @@ use crate::replies::Reply;
 use crate::texts::{counts_line, verdict_line};
 use cut_file::Cut;
 use elf32_loader::Image;
+use enclosure_regions::Regions;
 use flow_base::{Bytes, NoMemory};
 use lockstep_replay::{Lockstep, Verdict};
 use std::alloc::Global;
@@ -25,18 +26,20 @@ fn judge(
     image: &Image,
     public_input: &Bytes,
     secret: &Bytes,
+    regions: &Regions,
     cut: &Cut,
     limits: Limits,
 ) -> Result<Verdict, NoMemory>
     requires short { length secret.now ≤ secret_limit }
     requires within { limits.budget ≤ highest_budget }
-    ensures { IfOk result (λ verdict. judgement_of verdict ≡ First (picture_of image.now) public_input.now secret.now (cut_of cut.now) limits.budget limits.turns) }
+    ensures { IfOk result (λ verdict. judgement_of verdict ≡ First (picture_of image.now) public_input.now secret.now regions.now.items (cut_of cut.now) limits.budget limits.turns) }
 {
     let lockstep = Lockstep::new(
         alloc,
         image,
         public_input,
         secret,
+        regions,
         cut,
         limits.budget,
         limits.turns,
@@ -75,21 +78,22 @@ fn lines_of(
     alloc: Global,
     image: &Image,
     public_input: &Bytes,
+    regions: &Regions,
     cut: &Cut,
     limits: Limits,
     secrets: &[Bytes],
 ) -> Result<Lines, NoMemory>
     requires short { AreShort secrets.now }
     requires within { limits.budget ≤ highest_budget }
-    ensures text { IfOk result (λ lines. lines.text.items ≡ verdict_lines 1 (judgements_of (picture_of image.now) public_input.now (cut_of cut.now) limits secrets.now)) }
-    ensures accepted { IfOk result (λ lines. lines.accepted ≡ accepted_count (judgements_of (picture_of image.now) public_input.now (cut_of cut.now) limits secrets.now)) }
+    ensures text { IfOk result (λ lines. lines.text.items ≡ verdict_lines 1 (judgements_of (picture_of image.now) public_input.now regions.now.items (cut_of cut.now) limits secrets.now)) }
+    ensures accepted { IfOk result (λ lines. lines.accepted ≡ accepted_count (judgements_of (picture_of image.now) public_input.now regions.now.items (cut_of cut.now) limits secrets.now)) }
 {
     let mut text = Vec::new(alloc);
     let mut number = 0;
     let mut accepted = 0;
     for secret in secrets {
         number += 1;
-        let verdict = judge(alloc, image, public_input, secret, cut, limits)?;
+        let verdict = judge(alloc, image, public_input, secret, regions, cut, limits)?;
         let line = verdict_line(alloc, number, &verdict)?;
         text.extend_from_slice(line.as_slice())?;
         accepted += accepted_by(&verdict);
@@ -103,16 +107,17 @@ pub fn check_all(
     alloc: Global,
     image: &Image,
     public_input: &Bytes,
+    regions: &Regions,
     cut: &Cut,
     limits: Limits,
     secrets: &[Bytes],
 ) -> Result<Reply, NoMemory>
     requires short { AreShort secrets.now }
     requires within { limits.budget ≤ highest_budget }
-    ensures reply { IfOk result (λ reply. reply_of reply ≡ check_reply (judgements_of (picture_of image.now) public_input.now (cut_of cut.now) limits secrets.now) limits.budget) }
+    ensures reply { IfOk result (λ reply. reply_of reply ≡ check_reply (judgements_of (picture_of image.now) public_input.now regions.now.items (cut_of cut.now) limits secrets.now) limits.budget) }
     ensures status { IfOk result (λ reply. reply.status ≤ 1) }
 {
-    let lines = lines_of(alloc, image, public_input, cut, limits, secrets)?;
+    let lines = lines_of(alloc, image, public_input, regions, cut, limits, secrets)?;
     let counts = counts_line(alloc, secrets.len(), lines.accepted, limits.budget)?;
     let status = status_of(lines.accepted, secrets.len());
     let mut text = lines.text;

@@ -2,6 +2,8 @@
 #![tactic(auto)]
 
 mod answering;
+#[cfg(test)]
+mod break_tests;
 mod fault_texts;
 mod judging;
 mod limits;

@@ -23,15 +23,18 @@ const ID_TWICE: &str = r#"{"regions":[{"id":1,"enter":"0x10010","leave":"0x10014
 
 /// The status, the text, and the number of loads of a check.
 #[derive(Drop)]
-struct Answer {
-    status: u8,
-    text: Bytes,
-    loads: u64,
+pub struct Answer {
+    /// The status that is answered.
+    pub status: u8,
+    /// The bytes that the sink has taken.
+    pub text: Bytes,
+    /// How many loads were made.
+    pub loads: u64,
 }
 
 /// The answer to words, by a program, a cut and a region file `r`, which is held as `-r` too. The file `large` has 65,537
 /// bytes, and the names `nocut`, `none` and `s9` are not held.
-fn answered(
+pub fn answered(
     alloc: Global,
     program: &[u8],
     cut: &str,

@@ -29,7 +29,7 @@ pub const LOW: [u32; 14] = [
 ];
 
 /// Reads a secret byte and writes it.
-const ECHO: [u32; 11] = [
+pub const ECHO: [u32; 11] = [
     0x0030_0513,
     0x0001_15b7,
     0x0010_0613,

@@ -1,5 +1,5 @@
 -- What is found of a guest's run.
-use Rattle.std.specs.Prelude.{◌≡◌, ℕ, List, Bool, length}
+use Rattle.std.specs.Prelude.{◌≡◌, ℕ, List, [], Bool, length}
 use Rattle.flow_base.specs.declared.outputs.Output.{Output}
 use Rattle.elf32_loader.specs.Pictures.{Picture}
 use Rattle.elf32_loader.specs.Programs.{IsImage}
@@ -18,7 +18,7 @@ turns = 1000000
 abbrev pub IsJudgement : List ℕ → List ℕ → List ℕ → List ℕ → Judgement → Type 0
 IsJudgement program text public_input secret judgement =
     (picture : Picture) × (cut : CutPicture) × IsImage program picture × CutText text cut
-    × (judgement ≡ First picture public_input secret cut budget turns)
+    × (judgement ≡ First picture public_input secret [] cut budget turns)
 
 -- the number of bytes and the status are those of the output of a run that is accepted
 abbrev pub IsAccepted : List ℕ → List ℕ → ℕ → ℕ → Type 0

@@ -1,4 +1,4 @@
-ghost use Rattle.std.specs.Prelude.{◌≡◌, ◌<◌, ◌^◌, length, IfSome};
+ghost use Rattle.std.specs.Prelude.{◌≡◌, ◌<◌, ◌^◌, [], length, IfSome};
 ghost use Rattle.lockstep_replay.specs.Judgements.{judgement_of};
 ghost use Rattle.cut_file.specs.Pictures.{picture_of as cut_of};
 ghost use Rattle.lockstep_replay.specs.Verdicts.{First};
@@ -7,6 +7,7 @@ ghost use Rattle.guest_runs.specs.Accepted.{IsAccepted, IsJudgement, budget, tur
 
 use cut_file::{Cut, read_cut};
 use elf32_loader::{Image, load_image};
+use enclosure_regions::Regions;
 use flow_base::{Bytes, Files};
 use lockstep_replay::{Lockstep, Verdict};
 use std::alloc::Global;
@@ -68,9 +69,19 @@ fn judge(
     cut: &Cut,
 ) -> Option<Verdict>
     requires short { length secret.now < 2 ^ 32 }
-    ensures { IfSome result (λ verdict. judgement_of verdict ≡ First (picture_of image.now) public_input.now secret.now (cut_of cut.now) budget turns) }
+    ensures { IfSome result (λ verdict. judgement_of verdict ≡ First (picture_of image.now) public_input.now secret.now [] (cut_of cut.now) budget turns) }
 {
-    let Ok(lockstep) = Lockstep::new(alloc, image, public_input, secret, cut, BUDGET, TURNS) else {
+    let regions = Regions::none(alloc);
+    let Ok(lockstep) = Lockstep::new(
+        alloc,
+        image,
+        public_input,
+        secret,
+        &regions,
+        cut,
+        BUDGET,
+        TURNS,
+    ) else {
         return None;
     };
     Some(lockstep.run())

@@ -1,5 +1,6 @@
 -- A turn of the replay beside a real run.
-use Rattle.std.proofs.Common.{◌≡◌, ℕ, zero, suc, ◌+◌, ◌-◌, ◌≤◌, ◌<◌, List, length, length-drop, ap, sym, refl, ◌∙◌, Bool, true, arith, Option, Some, None}
+use Rattle.std.proofs.Common.{◌≡◌, ℕ, zero, suc, ◌+◌, ◌-◌, ◌≤◌, ◌<◌, List, [], length, length-drop, ap, sym, refl, ◌∙◌}
+use Rattle.std.proofs.Common.{Bool, true, arith, Option, Some, None}
 use Rattle.std.proofs.lemmas.List.{nil_from_length}
 use Rattle.crossing_bits.specs.Askers.{Asker, Fed, Fed', Short, feed}
 use Rattle.crossing_bits.specs.Streams.{Stream, left_of}
@@ -10,17 +11,20 @@ use Rattle.rv32im_machine.specs.State.{State}
 use Rattle.replay_machine.specs.declared.marks.Mark.{Mark}
 use Rattle.replay_machine.specs.declared.turns.ReplayTurn.{ReplayTurn}
 use Rattle.replay_machine.specs.declared.turns.ReplayTurn.TheVariants.{Wants, Stopped as DidStop}
+use Rattle.replay_machine.specs.declared.turns.ReplayTurn.TheVariants.{RangeOutside as DidRange}
 use Rattle.lockstep_replay.specs.Marks.{mark_of, is_same_mark}
-use Rattle.replay_machine.specs.Standing.{Standing, Stands, Turned, mode_answer, turn_answer, taken_after}
+use Rattle.replay_machine.specs.Standing.{Standing, Stands, Turned, mode_answer, end_answer, turn_answer, taken_after}
 use Rattle.cut_file.specs.Masks.{MaskAt}
-use Rattle.replay_machine.specs.Runs.{Place, Masks, fresh}
+use Rattle.replay_machine.specs.Breaking.{Outside}
+use Rattle.replay_machine.specs.Runs.{ReplayPlace, Masks}
 use Rattle.lockstep_replay.specs.declared.differences.Difference.{Difference}
-use Rattle.lockstep_replay.specs.declared.verdicts.ReplayStop.TheVariants.{Guest, Short as TooShort}
+use Rattle.lockstep_replay.specs.declared.verdicts.ReplayStop.TheVariants.{Guest, RangeOutside, Short as TooShort}
 use Rattle.lockstep_replay.specs.declared.verdicts.Why.TheVariants.{ReplayFault}
 use Rattle.lockstep_replay.specs.Differences.{byte_difference, status_difference, first_of, difference_of}
 use Rattle.lockstep_replay.specs.Turning.{why_compared, Joins, InStep}
-use Rattle.lockstep_replay.specs.Verdicts.{why_output, why_marks, why_copy, why_replay}
-use Rattle.lockstep_replay.proofs.Fine.{NotStopped, SameMarks, marks_same, first_none, none_output, none_marks, none_copy, no_byte, feed_rest}
+use Rattle.lockstep_replay.specs.Verdicts.{why_output, why_marks, why_stopped, why_copy, why_replay}
+use Rattle.lockstep_replay.proofs.Fine.{NotStopped, SameMarks, marks_same, first_none, none_output, none_marks}
+use Rattle.lockstep_replay.proofs.Fine.{none_copy, no_byte, feed_rest}
 use Rattle.replay_machine.proofs.Tables.{ahead-self}
 
 one_turn : (first second : Stepped) → mode_answer first ≡ mode_answer second → first ≡ second
@@ -39,26 +43,58 @@ wants_none Ran missing e = cc
 wants_none (Exited status) missing e = cc
 wants_none (Stopped fault) missing e = cc
 
+range_none : (region range : ℕ) (mode : Stepped) → DidRange region range ≡ mode_answer mode → ⊥
+range_none region range Ran e = cc
+range_none region range (Exited status) e = cc
+range_none region range (Stopped fault) e = cc
+
+wants_end : (outside : Option Outside) (mode : Stepped) (missing : ℕ) → Wants missing ≡ end_answer outside mode → ⊥
+wants_end None mode missing e = wants_none mode missing e
+wants_end (Some outside) mode missing e = cc
+
+-- an answer that names how the machine stands is one of a turn that no range has ended
+ends_of : (outside : Option Outside) (mode other : Stepped) → end_answer outside mode ≡ mode_answer other →
+    (outside ≡ None) × (mode ≡ other)
+ends_of None mode other e = (refl, one_turn mode other e)
+ends_of (Some outside) mode other e = absurd (range_none outside.region outside.range other e)
+
+range_of : (outside : Option Outside) (mode : Stepped) (region range : ℕ) →
+    end_answer outside mode ≡ DidRange region range → outside ≡ Some (record { region = region; range = range })
+range_of None mode region range e = absurd (range_none region range mode (sym e))
+range_of (Some outside) mode region range e =
+    let first : outside.region ≡ region = cc in
+    let second : outside.range ≡ range = cc in
+    ap (λ r. Some (record { region = r; range = outside.range })) first
+    ∙ ap (λ r. Some (record { region = region; range = r })) second
+
 -- a turn that does not want bits is one that misses none
-pub missing-none : (missing : ℕ) (mode other : Stepped) (answer : ReplayTurn) → answer ≡ turn_answer missing mode →
-    answer ≡ mode_answer other → missing ≡ 0
-missing-none zero mode other answer e is = refl
-missing-none (suc missing) mode other answer e is = absurd (wants_none other (suc missing) (sym e ∙ is))
+pub missing-none : (missing : ℕ) (outside : Option Outside) (mode other : Stepped) (answer : ReplayTurn) →
+    answer ≡ turn_answer missing outside mode → answer ≡ mode_answer other → missing ≡ 0
+missing-none zero outside mode other answer e is = refl
+missing-none (suc missing) outside mode other answer e is = absurd (wants_none other (suc missing) (sym e ∙ is))
+
+-- the place of a run at which a replay stands
+abbrev pub self_place : Standing → ReplayPlace
+self_place standing = record { state = standing.state; past = []; outside = standing.outside }
 
 -- the masks that are ahead are ones under which it stands
 pub stands-self : (standing : Standing) → standing.missing ≡ 0 →
-    Stands standing (MaskAt standing.ahead) (fresh standing.state)
-stands-self standing none = record { state = refl; ahead = ahead-self standing.ahead; missing = none }
+    Stands standing (MaskAt standing.ahead) (self_place standing)
+stands-self standing none =
+    record { state = refl; outside = refl; ahead = ahead-self standing.ahead; missing = none }
 
 -- no more bits are left than were
-fewer : (masks : Masks) (asker : Asker Place) (left : List Bool) (after : Standing) (stream : Stream) (mode : Stepped)
-    (answer : ReplayTurn) (fed : Fed Place) → feed asker left ≡ fed → Turned masks fed after stream answer →
+fewer : (masks : Masks) (asker : Asker ReplayPlace) (left : List Bool) (after : Standing) (stream : Stream)
+    (mode : Stepped)
+    (answer : ReplayTurn) (fed : Fed ReplayPlace) → feed asker left ≡ fed → Turned masks fed after stream answer →
     answer ≡ mode_answer mode → length (left_of stream) ≤ length left
-fewer masks asker left after stream mode answer (Short missing) e h is = absurd (wants_none mode missing (sym h.answers ∙ is))
+fewer masks asker left after stream mode answer (Short missing) e h is = absurd
+    (wants_none mode missing (sym h.answers ∙ is))
 fewer masks asker left after stream mode answer (Fed' place rest) e h is =
     omega (arith, ap length h.left, feed_rest asker left place rest e)
 
-pub taken-of : (masks : Masks) (asker : Asker Place) (before : Standing) (old : Stream) (after : Standing) (stream : Stream)
+pub taken-of : (masks : Masks) (asker : Asker ReplayPlace) (before : Standing) (old : Stream) (after : Standing)
+    (stream : Stream)
     (mode : Stepped) (answer : ReplayTurn) (needed : ℕ) → needed < 4294967296 →
     before.taken + length (left_of old) ≡ needed → after.taken ≡ taken_after before.taken old stream →
     Turned masks (feed asker (left_of old)) after stream answer → answer ≡ mode_answer mode →
@@ -67,7 +103,7 @@ taken-of masks asker before old after stream mode answer needed small used taken
     omega (arith, used, taken, fewer masks asker (left_of old) after stream mode answer _ refl h is)
 
 copy_running : (mode : Stepped) (real copy : Mark) (difference : Option Difference) → NotStopped mode →
-    why_copy mode real copy difference ≡ why_marks real copy difference
+    why_stopped mode real copy difference ≡ why_marks real copy difference
 copy_running Ran real copy difference running = refl
 copy_running (Exited status) real copy difference running = refl
 copy_running (Stopped fault) real copy difference running = absurd (running fault refl)
@@ -75,12 +111,15 @@ copy_running (Stopped fault) real copy difference running = absurd (running faul
 -- the replay is not stopped, and has enough bits
 pub beside-runs :
     (real : State) (needed : ℕ) (masks : Masks) (after : Standing) (stream : Stream) (mode : Stepped)
-    (answer : ReplayTurn) (fed : Fed Place) → Turned masks fed after stream answer → answer ≡ mode_answer mode →
-    NotStopped mode → after.taken + length (left_of stream) ≡ needed → why_compared real needed after mode ≡ why_replay real needed fed
+    (answer : ReplayTurn) (fed : Fed ReplayPlace) → Turned masks fed after stream answer → answer ≡ mode_answer mode →
+    NotStopped mode → after.taken + length (left_of stream) ≡ needed →
+    why_compared real needed after mode ≡ why_replay real needed fed
 beside-runs real needed masks after stream mode answer (Short missing) h is running used =
     absurd (wants_none mode missing (sym h.answers ∙ is))
 beside-runs real needed masks after stream mode answer (Fed' place rest) h is running used =
-    let ends : place.state.control.mode ≡ mode = one_turn place.state.control.mode mode (sym h.answers ∙ is) in
+    let told : (place.outside ≡ None) × (place.state.control.mode ≡ mode) =
+    ends_of place.outside place.state.control.mode mode (sym h.answers ∙ is) in
+    let ends : place.state.control.mode ≡ mode = told.1 in
     let state : place.state ≡ after.state = h.stands.state in
     let count : needed - length rest ≡ after.taken = omega (arith, used, ap length h.left) in
     let marks : mark_of place.state (needed - length rest) ≡ mark_of after.state after.taken =
@@ -91,11 +130,14 @@ beside-runs real needed masks after stream mode answer (Fed' place rest) h is ru
     let difference : difference_of real place.state
     ≡ first_of (byte_difference 0 real.control.output after.state.control.output)
     (status_difference (length real.control.output) real.control.mode mode) =
-    ap (λ first. first_of first (status_difference (length real.control.output) real.control.mode place.state.control.mode)) bytes
+    ap (λ first. first_of first (status_difference (length real.control.output) real.control.mode
+    place.state.control.mode)) bytes
     ∙ ap (λ m. first_of (byte_difference 0 real.control.output after.state.control.output)
     (status_difference (length real.control.output) real.control.mode m)) ends in
     let goes : NotStopped place.state.control.mode = λ fault stopped. running fault (sym ends ∙ stopped) in
-    sym (copy_running place.state.control.mode (mark_of real needed) (mark_of place.state (needed - length rest))
+    sym (ap (λ o. why_copy o place.state.control.mode (mark_of real needed) (mark_of place.state (needed - length rest))
+    (difference_of real place.state)) told.0
+    ∙ copy_running place.state.control.mode (mark_of real needed) (mark_of place.state (needed - length rest))
     (difference_of real place.state) goes
     ∙ (ap (λ m. why_marks (mark_of real needed) m (difference_of real place.state)) marks
     ∙ ap (λ d. why_marks (mark_of real needed) (mark_of after.state after.taken) d) difference))
@@ -103,40 +145,56 @@ beside-runs real needed masks after stream mode answer (Fed' place rest) h is ru
 -- too few bits are left
 pub beside-wants :
     (real : State) (needed : ℕ) (masks : Masks) (after : Standing) (stream : Stream) (missing : ℕ)
-    (answer : ReplayTurn) (fed : Fed Place) → Turned masks fed after stream answer → answer ≡ Wants missing →
+    (answer : ReplayTurn) (fed : Fed ReplayPlace) → Turned masks fed after stream answer → answer ≡ Wants missing →
     Some (ReplayFault (TooShort missing)) ≡ why_replay real needed fed
 beside-wants real needed masks after stream missing answer (Short more) h is =
     let same : Wants more ≡ Wants missing = sym h.answers ∙ is in
     let count : missing ≡ more = cc in ap (λ n. Some (ReplayFault (TooShort n))) count
 beside-wants real needed masks after stream missing answer (Fed' place rest) h is =
-    absurd (wants_none place.state.control.mode missing (sym is ∙ h.answers))
+    absurd (wants_end place.outside place.state.control.mode missing (sym is ∙ h.answers))
 
 -- the replay is stopped
 pub beside-stops :
     (real : State) (needed : ℕ) (masks : Masks) (after : Standing) (stream : Stream) (fault : Fault)
-    (answer : ReplayTurn) (fed : Fed Place) → Turned masks fed after stream answer → answer ≡ DidStop fault →
+    (answer : ReplayTurn) (fed : Fed ReplayPlace) → Turned masks fed after stream answer → answer ≡ DidStop fault →
     Some (ReplayFault (Guest fault)) ≡ why_replay real needed fed
 beside-stops real needed masks after stream fault answer (Short missing) h is =
     absurd (wants_none (Stopped fault) missing (sym h.answers ∙ is))
 beside-stops real needed masks after stream fault answer (Fed' place rest) h is =
-    let ends : place.state.control.mode ≡ Stopped fault =
-    one_turn place.state.control.mode (Stopped fault) (sym h.answers ∙ is) in
-    sym (ap (λ mode. why_copy mode (mark_of real needed) (mark_of place.state (needed - length rest))
-    (difference_of real place.state)) ends)
+    let told : (place.outside ≡ None) × (place.state.control.mode ≡ Stopped fault) =
+    ends_of place.outside place.state.control.mode (Stopped fault) (sym h.answers ∙ is) in
+    sym (ap (λ o. why_copy o place.state.control.mode (mark_of real needed) (mark_of place.state (needed - length rest))
+    (difference_of real place.state)) told.0
+    ∙ ap (λ mode. why_stopped mode (mark_of real needed) (mark_of place.state (needed - length rest))
+    (difference_of real place.state)) told.1)
+
+-- a range is outside of guest memory
+pub beside-outside :
+    (real : State) (needed : ℕ) (masks : Masks) (after : Standing) (stream : Stream) (region range : ℕ)
+    (answer : ReplayTurn) (fed : Fed ReplayPlace) → Turned masks fed after stream answer →
+    answer ≡ DidRange region range →
+    Some (ReplayFault (RangeOutside region range)) ≡ why_replay real needed fed
+beside-outside real needed masks after stream region range answer (Short missing) h is =
+    let never : Wants missing ≡ DidRange region range = sym h.answers ∙ is in absurd (cc)
+beside-outside real needed masks after stream region range answer (Fed' place rest) h is =
+    sym (ap (λ o. why_copy o place.state.control.mode (mark_of real needed) (mark_of place.state (needed - length rest))
+    (difference_of real place.state))
+    (range_of place.outside place.state.control.mode region range (sym h.answers ∙ is)))
 
 -- nothing fails
 pub joins-of :
     (real : State) (needed : ℕ) (masks : Masks) (after : Standing) (stream : Stream) (answer : ReplayTurn)
-    (fed : Fed Place) → Turned masks fed after stream answer → after.taken + length (left_of stream) ≡ needed →
+    (fed : Fed ReplayPlace) → Turned masks fed after stream answer → after.taken + length (left_of stream) ≡ needed →
     why_replay real needed fed ≡ None → Joins after masks fed
 joins-of real needed masks after stream answer (Short missing) h used none = absurd (cc)
 joins-of real needed masks after stream answer (Fed' place rest) h used none =
-    let parts : NotStopped place.state.control.mode
+    let parts : (place.outside ≡ None) × (NotStopped place.state.control.mode
     × ((is_same_mark (mark_of real needed) (mark_of place.state (needed - length rest)) ≡ true)
-    × (difference_of real place.state ≡ None)) =
-    none_copy place.state.control.mode (mark_of real needed) (mark_of place.state (needed - length rest))
+    × (difference_of real place.state ≡ None))) =
+    none_copy place.outside place.state.control.mode (mark_of real needed) (mark_of place.state (needed - length rest))
     (difference_of real place.state) none in
-    let marks : SameMarks (mark_of real needed) (mark_of place.state (needed - length rest)) = marks_same _ _ parts.1.0 in
+    let marks : SameMarks (mark_of real needed) (mark_of place.state (needed - length rest)) = marks_same _ _
+    parts.1.1.0 in
     let all : length rest ≡ 0 = omega (arith, marks.bits, used, ap length h.left) in record {
       place = place;
       uses = ap (λ r. Fed' place r) (nil_from_length rest all);

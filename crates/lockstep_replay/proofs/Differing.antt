@@ -1,5 +1,6 @@
 -- Where outputs begin alike, they differ first where the rest does.
-use Rattle.std.proofs.Common.{◌≡◌, ℕ, zero, suc, ◌+◌, ◌≤◌, ◌==◌, List, [], ◌∷◌, length, take, drop, ap, ◌∙◌, true, refl, arith, eq-eqb}
+use Rattle.std.proofs.Common.{◌≡◌, ℕ, zero, suc, ◌+◌, ◌≤◌, ◌==◌, List, [], ◌∷◌, length, take, drop, ap, ◌∙◌, true, refl}
+use Rattle.std.proofs.Common.{arith, eq-eqb}
 use Rattle.lockstep_replay.specs.Differences.{byte_difference}
 
 pub byte_difference-drop : (n index : ℕ) (a b : List ℕ) → n ≤ length a → n ≤ length b → take n a ≡ take n b →

@@ -1,5 +1,6 @@
 -- What holds after a turn in which no condition fails, and what the condition that fails says.
-use Rattle.std.proofs.Common.{◌≡◌, ℕ, suc, ◌-◌, ◌==◌, ◌≤◌, inl, inr, List, [], ◌∷◌, length, length-drop, take, drop, refl, ap, sym, subst, ◌∙◌, Bool, true, false, arith, Option, Some, None, if◌then◌else◌}
+use Rattle.std.proofs.Common.{◌≡◌, ℕ, suc, ◌-◌, ◌==◌, ◌≤◌, inl, inr, List, [], ◌∷◌, length, length-drop, take, drop}
+use Rattle.std.proofs.Common.{refl, ap, sym, subst, ◌∙◌, Bool, true, false, arith, Option, Some, None, if◌then◌else◌}
 use Rattle.std.proofs.Math.Bool.{beq}
 use Rattle.std.proofs.lemmas.Bool.{ltb-true, ltb-false, le-ltb}
 use Rattle.std.proofs.lemmas.Bool.Decides.{Decides-eqb}
@@ -13,16 +14,21 @@ use Rattle.rv32im_machine.specs.declared.stepping.Stepped.{Stepped}
 use Rattle.rv32im_machine.specs.declared.stepping.Stepped.TheVariants.{Ran, Exited, Stopped}
 use Rattle.rv32im_machine.specs.State.{State}
 use Rattle.replay_machine.specs.declared.marks.Mark.{Mark}
-use Rattle.replay_machine.specs.Runs.{Place}
+use Rattle.enclosure_regions.specs.declared.break_kinds.Break.{Break}
+use Rattle.replay_machine.specs.Breaking.{Outside}
+use Rattle.replay_machine.specs.Runs.{Place, ReplayPlace}
 use Rattle.lockstep_replay.specs.declared.differences.Difference.{Difference}
-use Rattle.lockstep_replay.specs.declared.verdicts.ReplayStop.TheVariants.{Guest, Short as TooShort}
+use Rattle.lockstep_replay.specs.declared.verdicts.ReplayStop.TheVariants.{Guest, RangeOutside, Short as TooShort}
 use Rattle.lockstep_replay.specs.declared.verdicts.Why.{Why}
-use Rattle.lockstep_replay.specs.declared.verdicts.Why.TheVariants.{RealFault, BudgetOverrun, ReplayFault, Parted, OutputDiffers}
+use Rattle.lockstep_replay.specs.declared.verdicts.Why.TheVariants.{RealFault, RegionBreak, BudgetOverrun, ReplayFault}
+use Rattle.lockstep_replay.specs.declared.verdicts.Why.TheVariants.{Parted}
+use Rattle.lockstep_replay.specs.declared.verdicts.Why.TheVariants.{OutputDiffers}
 use Rattle.lockstep_replay.specs.Acceptance.{EndAlike}
 use Rattle.replay_machine.specs.Standing.{has_exited}
 use Rattle.lockstep_replay.specs.Marks.{mark_of, is_same_mark}
 use Rattle.lockstep_replay.specs.Differences.{byte_difference, status_difference, first_of, difference_of}
-use Rattle.lockstep_replay.specs.Verdicts.{counted_bits, why_output, why_copy, why_replay, why_budget, why_mode, why_of}
+use Rattle.lockstep_replay.specs.Verdicts.{counted_bits, why_output, why_stopped, why_copy, why_replay}
+use Rattle.lockstep_replay.specs.Verdicts.{why_common, why_budget, why_mode, why_broken, why_of}
 use Rattle.lockstep_replay.specs.VerdictLaws.{Holds}
 
 and_parts : (a b : Bool) → (a && b) ≡ true → (a ≡ true) × (b ≡ true)
@@ -78,12 +84,6 @@ same_alike (Stopped fault) copy h s = absurd h
 
 abbrev pub NotStopped : Stepped → Type 0
 NotStopped mode = (fault : Fault) → mode ≡ Stopped fault → ⊥
-
--- where no condition fails the real run is not stopped
-pub not_stopped : (real copy : Stepped) (fault : Fault) → is_same_mode real copy ≡ true → real ≡ Stopped fault → ⊥
-not_stopped Ran copy fault e h = cc
-not_stopped (Exited status) copy fault e h = cc
-not_stopped (Stopped other) copy fault e h = cc
 
 -- ---- differences
 
@@ -150,7 +150,8 @@ marks_same first second e =
     && ((first.output == second.output) && beq first.exited second.exited)) ≡ true) = and_parts _ _ e in
     let two : (first.bits == second.bits ≡ true)
     × (((first.output == second.output) && beq first.exited second.exited) ≡ true) = and_parts _ _ one.1 in
-    let three : (first.output == second.output ≡ true) × (beq first.exited second.exited ≡ true) = and_parts _ _ two.1 in
+    let three : (first.output == second.output ≡ true) × (beq first.exited second.exited ≡ true) = and_parts _ _ two.1
+    in
     record {
       address = (Decides-eqb first.address second.address).0 one.0;
       bits = (Decides-eqb first.bits second.bits).0 two.0;
@@ -188,13 +189,25 @@ feed_rest (Asks n go) bits x rest h = elim (le_or_lt n (length bits)) [
   | inr few ↦ let short : feed (Asks n go) bits ≡ Short (n - length bits) = feed_few n go bits few in absurd (cc)
 ]
 
-pub record Fine (budget : ℕ) (real : State) (cross : List Bool) (fed : Fed Place) : Type 0 where
-  pub place : Place
+-- the replay is not stopped, has used the bits up, and has the real run's mark and output
+pub record Alike (real : State) (fed : Fed ReplayPlace) : Type 0 where
+  pub place : ReplayPlace
   pub uses : fed ≡ Fed' place []
-  pub within : length cross ≤ budget
+  pub inside : place.outside ≡ None
   pub address : real.control.pc ≡ place.state.control.pc
   pub mode : is_same_mode real.control.mode place.state.control.mode ≡ true
   pub output : real.control.output ≡ place.state.control.output
+
+pub record Fine (budget : ℕ) (enclosed : Bool) (real : Place) (cross : List Bool) (fed : Fed ReplayPlace) : Type 0 where
+  pub unbroken : real.broken ≡ None
+  pub running : NotStopped real.state.control.mode
+  pub within : length cross ≤ budget
+  pub beside : enclosed ≡ false → Alike real.state fed
+
+pub none_broken : (broken : Option Break) (later : Option Why) → why_broken broken later ≡ None →
+    (broken ≡ None) × (later ≡ None)
+none_broken None later e = (refl, e)
+none_broken (Some broken) later e = absurd (cc)
 
 none_budget :
     (test : Bool) (budget needed : ℕ) (later : Option Why) → why_budget test budget needed later ≡ None →
@@ -202,13 +215,17 @@ none_budget :
 none_budget true budget needed later e = absurd (cc)
 none_budget false budget needed later e = (refl, e)
 
-none_mode :
+pub none_mode :
     (mode : Stepped) (budget needed : ℕ) (later : Option Why) → why_mode mode budget needed later ≡ None →
     NotStopped mode × ((nat_lt budget needed ≡ false) × (later ≡ None))
 none_mode Ran budget needed later e = (λ fault stopped. cc, none_budget (nat_lt budget needed) budget needed later e)
 none_mode (Exited status) budget needed later e =
     (λ fault stopped. cc, none_budget (nat_lt budget needed) budget needed later e)
 none_mode (Stopped fault) budget needed later e = absurd (cc)
+
+none_common : (enclosed : Bool) (why : Option Why) → why_common enclosed why ≡ None → enclosed ≡ false → why ≡ None
+none_common true why e exposed = absurd (cc)
+none_common false why e exposed = e
 
 pub none_output : (difference : Option Difference) → why_output difference ≡ None → difference ≡ None
 none_output None e = refl
@@ -220,170 +237,245 @@ pub none_marks :
 none_marks true real copy later e = (refl, e)
 none_marks false real copy later e = absurd (cc)
 
-pub none_copy :
-    (mode : Stepped) (real copy : Mark) (difference : Option Difference) → why_copy mode real copy difference ≡ None →
+none_stopped :
+    (mode : Stepped) (real copy : Mark) (difference : Option Difference) →
+    why_stopped mode real copy difference ≡ None →
     NotStopped mode × ((is_same_mark real copy ≡ true) × (difference ≡ None))
-none_copy Ran real copy difference e =
+none_stopped Ran real copy difference e =
     let parts : (is_same_mark real copy ≡ true) × (why_output difference ≡ None) =
     none_marks (is_same_mark real copy) real copy (why_output difference) e in
     (λ fault stopped. cc, (parts.0, none_output difference parts.1))
-none_copy (Exited status) real copy difference e =
+none_stopped (Exited status) real copy difference e =
     let parts : (is_same_mark real copy ≡ true) × (why_output difference ≡ None) =
     none_marks (is_same_mark real copy) real copy (why_output difference) e in
     (λ fault stopped. cc, (parts.0, none_output difference parts.1))
-none_copy (Stopped fault) real copy difference e = absurd (cc)
+none_stopped (Stopped fault) real copy difference e = absurd (cc)
 
-fine_fed :
-    (budget : ℕ) (real : State) (cross : List Bool) (fed : Fed Place) →
-    ((place : Place) (rest : List Bool) → fed ≡ Fed' place rest → length rest ≤ length cross) →
-    NotStopped real.control.mode → nat_lt budget (length cross) ≡ false → why_replay real (length cross) fed ≡ None →
-    Fine budget real cross fed
-fine_fed budget real cross (Short missing) shorter running within e = absurd (cc)
-fine_fed budget real cross (Fed' place rest) shorter running within e =
-    let parts : NotStopped place.state.control.mode
+pub none_copy :
+    (outside : Option Outside) (mode : Stepped) (real copy : Mark) (difference : Option Difference) →
+    why_copy outside mode real copy difference ≡ None →
+    (outside ≡ None) × (NotStopped mode × ((is_same_mark real copy ≡ true) × (difference ≡ None)))
+none_copy None mode real copy difference e = (refl, none_stopped mode real copy difference e)
+none_copy (Some outside) mode real copy difference e = absurd (cc)
+
+alike_fed :
+    (real : State) (cross : List Bool) (fed : Fed ReplayPlace) →
+    ((place : ReplayPlace) (rest : List Bool) → fed ≡ Fed' place rest → length rest ≤ length cross) →
+    NotStopped real.control.mode → why_replay real (length cross) fed ≡ None → Alike real fed
+alike_fed real cross (Short missing) shorter running e = absurd (cc)
+alike_fed real cross (Fed' place rest) shorter running e =
+    let parts : (place.outside ≡ None) × (NotStopped place.state.control.mode
     × ((is_same_mark (mark_of real (length cross)) (mark_of place.state (length cross - length rest)) ≡ true)
-    × (difference_of real place.state ≡ None)) =
-    none_copy place.state.control.mode (mark_of real (length cross)) (mark_of place.state (length cross - length rest))
-    (difference_of real place.state) e in
+    × (difference_of real place.state ≡ None))) =
+    none_copy place.outside place.state.control.mode (mark_of real (length cross))
+    (mark_of place.state (length cross - length rest)) (difference_of real place.state) e in
     let marks : SameMarks (mark_of real (length cross)) (mark_of place.state (length cross - length rest)) =
-    marks_same _ _ parts.1.0 in
+    marks_same _ _ parts.1.1.0 in
     let none : (byte_difference 0 real.control.output place.state.control.output ≡ None)
     × (status_difference (length real.control.output) real.control.mode place.state.control.mode ≡ None) =
-    first_none _ _ parts.1.1 in
+    first_none _ _ parts.1.1.1 in
     let all : length rest ≡ 0 = omega (arith, marks.bits, shorter place rest refl) in
     let empty : rest ≡ [] = nil_from_length rest all in record {
       place = place;
       uses = ap (λ r. Fed' place r) empty;
-      within = ltb-false budget (length cross) within;
+      inside = parts.0;
       address = marks.address;
-      mode = same_ends real.control.mode place.state.control.mode (length real.control.output) running parts.0 marks.exited none.1;
+      mode =
+          same_ends real.control.mode place.state.control.mode (length real.control.output) running parts.1.0
+          marks.exited none.1;
       output = no_byte 0 real.control.output place.state.control.output marks.output none.0;
     }
 
 pub fine_of :
-    (budget : ℕ) (real : State) (cross : List Bool) (asker : Asker Place) →
-    why_of budget real cross (feed asker cross) ≡ None → Fine budget real cross (feed asker cross)
-fine_of budget real cross asker e =
-    let parts : NotStopped real.control.mode × ((nat_lt budget (length cross) ≡ false)
-    × (why_replay real (length cross) (feed asker cross) ≡ None)) =
-    none_mode real.control.mode budget (length cross) (why_replay real (length cross) (feed asker cross)) e in
-    fine_fed budget real cross (feed asker cross) (λ place rest fed. feed_rest asker cross place rest fed)
-    parts.0 parts.1.0 parts.1.1
+    (budget : ℕ) (enclosed : Bool) (real : Place) (cross : List Bool) (asker : Asker ReplayPlace) →
+    why_of budget enclosed real cross (feed asker cross) ≡ None → Fine budget enclosed real cross (feed asker cross)
+fine_of budget enclosed real cross asker e =
+    let whole : (real.broken ≡ None) × (why_mode real.state.control.mode budget (length cross)
+    (why_common enclosed (why_replay real.state (length cross) (feed asker cross))) ≡ None) =
+    none_broken real.broken _ e in
+    let parts : NotStopped real.state.control.mode × ((nat_lt budget (length cross) ≡ false)
+    × (why_common enclosed (why_replay real.state (length cross) (feed asker cross)) ≡ None)) =
+    none_mode real.state.control.mode budget (length cross) _ whole.1 in record {
+      unbroken = whole.0;
+      running = parts.0;
+      within = ltb-false budget (length cross) parts.1.0;
+      beside = λ exposed.
+          alike_fed real.state cross (feed asker cross) (λ place rest fed. feed_rest asker cross place rest fed) parts.0
+          (none_common enclosed _ parts.1.1 exposed);
+    }
 
-some_none :
-    (mode copy : Stepped) (budget needed : ℕ) (later : Option Why) → is_same_mode mode copy ≡ true →
+mode_none :
+    (mode : Stepped) (budget needed : ℕ) (later : Option Why) → NotStopped mode →
     nat_lt budget needed ≡ false → later ≡ None → why_mode mode budget needed later ≡ None
-some_none Ran copy budget needed later m e f = ap (λ test. why_budget test budget needed later) e ∙ f
-some_none (Exited status) copy budget needed later m e f = ap (λ test. why_budget test budget needed later) e ∙ f
-some_none (Stopped fault) copy budget needed later m e f = absurd (cc)
+mode_none Ran budget needed later running e f = ap (λ test. why_budget test budget needed later) e ∙ f
+mode_none (Exited status) budget needed later running e f = ap (λ test. why_budget test budget needed later) e ∙ f
+mode_none (Stopped fault) budget needed later running e f = absurd (running fault refl)
 
-copy_none :
+stopped_none :
     (real mode : Stepped) (first second : Mark) (difference : Option Difference) → is_same_mode real mode ≡ true →
-    is_same_mark first second ≡ true → difference ≡ None → why_copy mode first second difference ≡ None
-copy_none real Ran first second difference m e f = rw (e, f) refl
-copy_none real (Exited status) first second difference m e f = rw (e, f) refl
-copy_none Ran (Stopped fault) first second difference m e f = absurd (cc)
-copy_none (Exited status) (Stopped fault) first second difference m e f = absurd (cc)
-copy_none (Stopped other) (Stopped fault) first second difference m e f = absurd (cc)
+    is_same_mark first second ≡ true → difference ≡ None → why_stopped mode first second difference ≡ None
+stopped_none real Ran first second difference m e f = rw (e, f) refl
+stopped_none real (Exited status) first second difference m e f = rw (e, f) refl
+stopped_none Ran (Stopped fault) first second difference m e f = absurd (cc)
+stopped_none (Exited status) (Stopped fault) first second difference m e f = absurd (cc)
+stopped_none (Stopped other) (Stopped fault) first second difference m e f = absurd (cc)
 
-pub none_of : (budget : ℕ) (real : State) (cross : List Bool) (fed : Fed Place) → Fine budget real cross fed →
-    why_of budget real cross fed ≡ None
-none_of budget real cross fed fine =
-    let ends : (status_difference (length real.control.output) real.control.mode fine.place.state.control.mode ≡ None)
-    × (has_exited real.control.mode ≡ has_exited fine.place.state.control.mode) =
-    no_status real.control.mode fine.place.state.control.mode (length real.control.output) fine.mode in
-    let marks : is_same_mark (mark_of real (length cross)) (mark_of fine.place.state (length cross - 0)) ≡ true =
-    same_marks (mark_of real (length cross)) (mark_of fine.place.state (length cross - 0)) (record {
-      address = fine.address;
+common_none : (enclosed : Bool) (why : Option Why) → (enclosed ≡ false → why ≡ None) → why_common enclosed why ≡ None
+common_none true why h = refl
+common_none false why h = h refl
+
+alike_none : (real : State) (cross : List Bool) (fed : Fed ReplayPlace) → Alike real fed →
+    why_replay real (length cross) fed ≡ None
+alike_none real cross fed alike =
+    let ends : (status_difference (length real.control.output) real.control.mode alike.place.state.control.mode ≡ None)
+    × (has_exited real.control.mode ≡ has_exited alike.place.state.control.mode) =
+    no_status real.control.mode alike.place.state.control.mode (length real.control.output) alike.mode in
+    let marks : is_same_mark (mark_of real (length cross)) (mark_of alike.place.state (length cross - 0)) ≡ true =
+    same_marks (mark_of real (length cross)) (mark_of alike.place.state (length cross - 0)) (record {
+      address = alike.address;
       bits = omega arith;
-      output = ap length fine.output;
+      output = ap length alike.output;
       exited = ends.1;
     }) in
-    let bytes : byte_difference 0 real.control.output fine.place.state.control.output ≡ None =
-    subst (λ o. byte_difference 0 real.control.output o ≡ None) fine.output (no_byte_self 0 real.control.output) in
-    let same : difference_of real fine.place.state ≡ None = ap
-    (λ first. first_of first (status_difference (length real.control.output) real.control.mode fine.place.state.control.mode)) bytes ∙ ends.0 in
-    let beside : why_replay real (length cross) (Fed' fine.place []) ≡ None =
-    copy_none real.control.mode fine.place.state.control.mode (mark_of real (length cross))
-    (mark_of fine.place.state (length cross - 0)) (difference_of real fine.place.state) fine.mode marks same in
-    some_none real.control.mode fine.place.state.control.mode budget (length cross) (why_replay real (length cross) fed) fine.mode
-    (le-ltb budget (length cross) fine.within) (ap (λ f. why_replay real (length cross) f) fine.uses ∙ beside)
+    let bytes : byte_difference 0 real.control.output alike.place.state.control.output ≡ None =
+    subst (λ o. byte_difference 0 real.control.output o ≡ None) alike.output (no_byte_self 0 real.control.output) in
+    let same : difference_of real alike.place.state ≡ None =
+    ap (λ first. first_of first
+    (status_difference (length real.control.output) real.control.mode alike.place.state.control.mode)) bytes ∙ ends.0 in
+    ap (λ f. why_replay real (length cross) f) alike.uses
+    ∙ (ap (λ o. why_copy o alike.place.state.control.mode (mark_of real (length cross))
+    (mark_of alike.place.state (length cross - 0)) (difference_of real alike.place.state)) alike.inside
+    ∙ stopped_none real.control.mode alike.place.state.control.mode (mark_of real (length cross))
+    (mark_of alike.place.state (length cross - 0)) (difference_of real alike.place.state) alike.mode marks same)
+
+pub none_of : (budget : ℕ) (enclosed : Bool) (real : Place) (cross : List Bool) (fed : Fed ReplayPlace) →
+    Fine budget enclosed real cross fed → why_of budget enclosed real cross fed ≡ None
+none_of budget enclosed real cross fed fine =
+    ap (λ broken. why_broken broken (why_mode real.state.control.mode budget (length cross)
+    (why_common enclosed (why_replay real.state (length cross) fed)))) fine.unbroken
+    ∙ mode_none real.state.control.mode budget (length cross) _ fine.running (le-ltb budget (length cross) fine.within)
+    (common_none enclosed _ (λ exposed. alike_none real.state cross fed (fine.beside exposed)))
 
 -- ---- a condition fails
 
 output_holds :
-    (budget : ℕ) (real : State) (cross rest : List Bool) (place : Place) (why : Why) (difference : Option Difference) →
-    rest ≡ [] → difference_of real place.state ≡ difference → why_output difference ≡ Some why →
-    Holds budget real cross (Fed' place rest) why
-output_holds budget real cross rest place why None empty d e = absurd (cc)
-output_holds budget real cross rest place why (Some difference) empty d e =
+    (budget : ℕ) (enclosed : Bool) (real : Place) (cross rest : List Bool) (place : ReplayPlace) (why : Why)
+    (difference : Option Difference) → enclosed ≡ false →
+    rest ≡ [] → difference_of real.state place.state ≡ difference → why_output difference ≡ Some why →
+    Holds budget enclosed real cross (Fed' place rest) why
+output_holds budget enclosed real cross rest place why None exposed empty d e = absurd (cc)
+output_holds budget enclosed real cross rest place why (Some difference) exposed empty d e =
     let same : OutputDiffers difference.index difference.real difference.replay ≡ why = cc in
-    subst (λ w. Holds budget real cross (Fed' place rest) w) same (place, (ap (λ r. Fed' place r) empty, d))
+    subst (λ w. Holds budget enclosed real cross (Fed' place rest) w) same
+    (exposed, (place, (ap (λ r. Fed' place r) empty, d)))
 
 marks_hold :
-    (budget : ℕ) (real : State) (cross rest : List Bool) (place : Place) (why : Why) (test : Bool) →
-    length rest ≤ length cross →
-    is_same_mark (mark_of real (length cross)) (mark_of place.state (length cross - length rest)) ≡ test →
-    (if test then why_output (difference_of real place.state)
-    else Some (Parted (mark_of real (length cross)) (mark_of place.state (length cross - length rest)))) ≡ Some why →
-    Holds budget real cross (Fed' place rest) why
-marks_hold budget real cross rest place why true shorter t e =
-    let marks : SameMarks (mark_of real (length cross)) (mark_of place.state (length cross - length rest)) = marks_same _ _ t in
+    (budget : ℕ) (enclosed : Bool) (real : Place) (cross rest : List Bool) (place : ReplayPlace) (why : Why)
+    (test : Bool) → enclosed ≡ false → length rest ≤ length cross →
+    is_same_mark (mark_of real.state (length cross)) (mark_of place.state (length cross - length rest)) ≡ test →
+    (if test then why_output (difference_of real.state place.state)
+    else Some (Parted (mark_of real.state (length cross)) (mark_of place.state (length cross - length rest)))) ≡ Some
+    why →
+    Holds budget enclosed real cross (Fed' place rest) why
+marks_hold budget enclosed real cross rest place why true exposed shorter t e =
+    let marks : SameMarks (mark_of real.state (length cross)) (mark_of place.state (length cross - length rest)) =
+    marks_same _ _ t in
     let all : length rest ≡ 0 = omega (arith, marks.bits, shorter) in
-    output_holds budget real cross rest place why (difference_of real place.state) (nil_from_length rest all) refl e
-marks_hold budget real cross rest place why false shorter t e =
-    let same : Parted (mark_of real (length cross)) (mark_of place.state (length cross - length rest)) ≡ why = cc in
-    subst (λ w. Holds budget real cross (Fed' place rest) w) same
-    (place, (rest, (refl, refl, refl, other_marks _ _ t)))
+    output_holds budget enclosed real cross rest place why (difference_of real.state place.state) exposed
+    (nil_from_length rest all) refl e
+marks_hold budget enclosed real cross rest place why false exposed shorter t e =
+    let same : Parted (mark_of real.state (length cross)) (mark_of place.state (length cross - length rest)) ≡ why =
+    cc in
+    subst (λ w. Holds budget enclosed real cross (Fed' place rest) w) same
+    (exposed, (place, (rest, (refl, refl, refl, other_marks _ _ t))))
+
+stopped_holds :
+    (budget : ℕ) (enclosed : Bool) (real : Place) (cross rest : List Bool) (place : ReplayPlace) (why : Why)
+    (mode : Stepped) → enclosed ≡ false → length rest ≤ length cross → place.state.control.mode ≡ mode →
+    why_stopped mode (mark_of real.state (length cross)) (mark_of place.state (length cross - length rest))
+    (difference_of real.state place.state) ≡ Some why →
+    Holds budget enclosed real cross (Fed' place rest) why
+stopped_holds budget enclosed real cross rest place why Ran exposed shorter m e =
+    marks_hold budget enclosed real cross rest place why _ exposed shorter refl e
+stopped_holds budget enclosed real cross rest place why (Exited status) exposed shorter m e =
+    marks_hold budget enclosed real cross rest place why _ exposed shorter refl e
+stopped_holds budget enclosed real cross rest place why (Stopped fault) exposed shorter m e =
+    let same : ReplayFault (Guest fault) ≡ why = cc in
+    subst (λ w. Holds budget enclosed real cross (Fed' place rest) w) same (exposed, (place, (rest, (refl, m))))
 
 copy_holds :
-    (budget : ℕ) (real : State) (cross rest : List Bool) (place : Place) (why : Why) (mode : Stepped) →
-    length rest ≤ length cross → place.state.control.mode ≡ mode →
-    why_copy mode (mark_of real (length cross)) (mark_of place.state (length cross - length rest))
-    (difference_of real place.state) ≡ Some why →
-    Holds budget real cross (Fed' place rest) why
-copy_holds budget real cross rest place why Ran shorter m e = marks_hold budget real cross rest place why _ shorter refl e
-copy_holds budget real cross rest place why (Exited status) shorter m e =
-    marks_hold budget real cross rest place why _ shorter refl e
-copy_holds budget real cross rest place why (Stopped fault) shorter m e =
-    let same : ReplayFault (Guest fault) ≡ why = cc in
-    subst (λ w. Holds budget real cross (Fed' place rest) w) same (place, (rest, (refl, m)))
+    (budget : ℕ) (enclosed : Bool) (real : Place) (cross rest : List Bool) (place : ReplayPlace) (why : Why)
+    (outside : Option Outside) → enclosed ≡ false → length rest ≤ length cross → place.outside ≡ outside →
+    why_copy outside place.state.control.mode (mark_of real.state (length cross))
+    (mark_of place.state (length cross - length rest)) (difference_of real.state place.state) ≡ Some why →
+    Holds budget enclosed real cross (Fed' place rest) why
+copy_holds budget enclosed real cross rest place why None exposed shorter o e =
+    stopped_holds budget enclosed real cross rest place why place.state.control.mode exposed shorter refl e
+copy_holds budget enclosed real cross rest place why (Some outside) exposed shorter o e =
+    let same : ReplayFault (RangeOutside outside.region outside.range) ≡ why = cc in
+    subst (λ w. Holds budget enclosed real cross (Fed' place rest) w) same (exposed, (place, (rest, (refl, o))))
 
 replay_holds :
-    (budget : ℕ) (real : State) (cross : List Bool) (fed : Fed Place) (why : Why) →
-    ((place : Place) (rest : List Bool) → fed ≡ Fed' place rest → length rest ≤ length cross) →
-    why_replay real (length cross) fed ≡ Some why → Holds budget real cross fed why
-replay_holds budget real cross (Short missing) why shorter e =
+    (budget : ℕ) (enclosed : Bool) (real : Place) (cross : List Bool) (fed : Fed ReplayPlace) (why : Why) →
+    enclosed ≡ false →
+    ((place : ReplayPlace) (rest : List Bool) → fed ≡ Fed' place rest → length rest ≤ length cross) →
+    why_replay real.state (length cross) fed ≡ Some why → Holds budget enclosed real cross fed why
+replay_holds budget enclosed real cross (Short missing) why exposed shorter e =
     let same : ReplayFault (TooShort missing) ≡ why = cc in
-    subst (λ w. Holds budget real cross (Short missing) w) same refl
-replay_holds budget real cross (Fed' place rest) why shorter e =
-    copy_holds budget real cross rest place why place.state.control.mode (shorter place rest refl) refl e
+    subst (λ w. Holds budget enclosed real cross (Short missing) w) same (exposed, refl)
+replay_holds budget enclosed real cross (Fed' place rest) why exposed shorter e =
+    copy_holds budget enclosed real cross rest place why place.outside exposed (shorter place rest refl) refl e
+
+common_holds :
+    (test : Bool) (budget : ℕ) (enclosed : Bool) (real : Place) (cross : List Bool) (fed : Fed ReplayPlace)
+    (why : Why) →
+    ((place : ReplayPlace) (rest : List Bool) → fed ≡ Fed' place rest → length rest ≤ length cross) →
+    enclosed ≡ test → why_common test (why_replay real.state (length cross) fed) ≡ Some why →
+    Holds budget enclosed real cross fed why
+common_holds true budget enclosed real cross fed why shorter t e = absurd (cc)
+common_holds false budget enclosed real cross fed why shorter t e =
+    replay_holds budget enclosed real cross fed why t shorter e
 
 budget_holds :
-    (test : Bool) (budget : ℕ) (real : State) (cross : List Bool) (fed : Fed Place) (why : Why) →
-    (why_replay real (length cross) fed ≡ Some why → Holds budget real cross fed why) →
-    nat_lt budget (length cross) ≡ test →
-    why_budget test budget (length cross) (why_replay real (length cross) fed) ≡ Some why →
-    Holds budget real cross fed why
-budget_holds true budget real cross fed why later t e =
+    (test : Bool) (budget : ℕ) (enclosed : Bool) (real : Place) (cross : List Bool) (fed : Fed ReplayPlace) (why : Why)
+    (later : Option Why) → (later ≡ Some why → Holds budget enclosed real cross fed why) →
+    nat_lt budget (length cross) ≡ test → why_budget test budget (length cross) later ≡ Some why →
+    Holds budget enclosed real cross fed why
+budget_holds true budget enclosed real cross fed why later go t e =
     let same : BudgetOverrun budget (counted_bits (length cross)) ≡ why = cc in
-    subst (λ w. Holds budget real cross fed w) same (refl, (ltb-true budget (length cross) t, refl))
-budget_holds false budget real cross fed why later t e = later e
+    subst (λ w. Holds budget enclosed real cross fed w) same (refl, (ltb-true budget (length cross) t, refl))
+budget_holds false budget enclosed real cross fed why later go t e = go e
 
 mode_holds :
-    (mode : Stepped) (budget : ℕ) (real : State) (cross : List Bool) (fed : Fed Place) (why : Why) →
-    (why_replay real (length cross) fed ≡ Some why → Holds budget real cross fed why) →
-    real.control.mode ≡ mode →
-    why_mode mode budget (length cross) (why_replay real (length cross) fed) ≡ Some why →
-    Holds budget real cross fed why
-mode_holds Ran budget real cross fed why later m e = budget_holds _ budget real cross fed why later refl e
-mode_holds (Exited status) budget real cross fed why later m e = budget_holds _ budget real cross fed why later refl e
-mode_holds (Stopped fault) budget real cross fed why later m e =
-    let same : RealFault fault ≡ why = cc in subst (λ w. Holds budget real cross fed w) same m
+    (mode : Stepped) (budget : ℕ) (enclosed : Bool) (real : Place) (cross : List Bool) (fed : Fed ReplayPlace)
+    (why : Why) (later : Option Why) → (later ≡ Some why → Holds budget enclosed real cross fed why) →
+    real.broken ≡ None → real.state.control.mode ≡ mode →
+    why_mode mode budget (length cross) later ≡ Some why → Holds budget enclosed real cross fed why
+mode_holds Ran budget enclosed real cross fed why later go none m e =
+    budget_holds _ budget enclosed real cross fed why later go refl e
+mode_holds (Exited status) budget enclosed real cross fed why later go none m e =
+    budget_holds _ budget enclosed real cross fed why later go refl e
+mode_holds (Stopped fault) budget enclosed real cross fed why later go none m e =
+    let same : RealFault fault ≡ why = cc in subst (λ w. Holds budget enclosed real cross fed w) same (none, m)
+
+broken_holds :
+    (broken : Option Break) (budget : ℕ) (enclosed : Bool) (real : Place) (cross : List Bool) (fed : Fed ReplayPlace)
+    (why : Why) (later : Option Why) →
+    (real.broken ≡ None → later ≡ Some why → Holds budget enclosed real cross fed why) →
+    real.broken ≡ broken → why_broken broken later ≡ Some why → Holds budget enclosed real cross fed why
+broken_holds None budget enclosed real cross fed why later go b e = go b e
+broken_holds (Some broken) budget enclosed real cross fed why later go b e =
+    let same : RegionBreak broken ≡ why = cc in subst (λ w. Holds budget enclosed real cross fed w) same b
 
 pub holds_of :
-    (budget : ℕ) (real : State) (cross : List Bool) (asker : Asker Place) (why : Why) →
-    why_of budget real cross (feed asker cross) ≡ Some why → Holds budget real cross (feed asker cross) why
-holds_of budget real cross asker why e =
-    mode_holds real.control.mode budget real cross (feed asker cross) why
-    (replay_holds budget real cross (feed asker cross) why (λ place rest fed. feed_rest asker cross place rest fed)) refl e
+    (budget : ℕ) (enclosed : Bool) (real : Place) (cross : List Bool) (asker : Asker ReplayPlace) (why : Why) →
+    why_of budget enclosed real cross (feed asker cross) ≡ Some why →
+    Holds budget enclosed real cross (feed asker cross) why
+holds_of budget enclosed real cross asker why e =
+    broken_holds real.broken budget enclosed real cross (feed asker cross) why
+    (why_mode real.state.control.mode budget (length cross)
+    (why_common enclosed (why_replay real.state (length cross) (feed asker cross))))
+    (λ none later. mode_holds real.state.control.mode budget enclosed real cross (feed asker cross) why
+    (why_common enclosed (why_replay real.state (length cross) (feed asker cross)))
+    (λ common. common_holds enclosed budget enclosed real cross (feed asker cross) why
+    (λ place rest fed. feed_rest asker cross place rest fed) refl common) none refl later) refl e

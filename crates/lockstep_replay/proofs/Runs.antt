@@ -1,112 +1,285 @@
 -- Whole runs, turn by turn: one more turn of each, and how their crossing bits and their outputs grow.
-use Rattle.std.proofs.Common.{◌≡◌, ℕ, zero, suc, ◌≤◌, inl, inr, List, [], ◌∷◌, ◌++◌, length, refl, ap, subst, sym, ◌∙◌, length-append, arith}
-use Rattle.crossing_bits.specs.Askers.{Uses, Fed', feed}
-use Rattle.crossing_bits.proofs.Feeding.{le_or_lt, feed_after}
-use Rattle.replay_machine.specs.Runs.{Place, Masks, real_turn, real_after, replay_turn, Replay}
-use Rattle.lockstep_replay.specs.Crossing.{crossing_of, Cross}
+use Rattle.std.proofs.Common.{◌≡◌, ℕ, zero, suc, ◌≤◌, inl, inr, List, [], ◌∷◌, ◌++◌, length, refl, ap, subst, sym, ◌∙◌}
+use Rattle.std.proofs.Common.{append_assoc, append-nil, length-append, Bool, true, false, Option, Some, None, arith}
+use Rattle.std.specs.Prelude.{if◌then◌else◌}
+use Rattle.crossing_bits.specs.Askers.{Over, Uses, Fed', feed}
+use Rattle.crossing_bits.proofs.Feeding.{le_or_lt, feed_after, feed_more}
+use Rattle.enclosure_regions.specs.declared.break_kinds.Break.{Break}
+use Rattle.replay_machine.specs.Enclosures.{Enclosures, is_enclosed}
+use Rattle.replay_machine.specs.Guests.{guest_walk}
+use Rattle.replay_machine.specs.Breaking.{Outside, range_outside}
+use Rattle.replay_machine.specs.Runs.{Place, ReplayPlace, Masks, turn_unless, real_turn, real_after, common_turns}
+use Rattle.replay_machine.specs.Runs.{replay_inside, replay_unless, replay_turn, Replay}
+use Rattle.replay_machine.proofs.Feeds.{Between, between}
 use Rattle.replay_machine.proofs.Growth.{Longer, longer_self, longer_more, real_grows, replay_grows}
+use Rattle.lockstep_replay.specs.Crossing.{crossing_unless, crossing_unbroken, crossing_of, Cross}
 
-pub cross_grows :
-    (masks : Masks) (place : Place) (j n : ℕ) → j ≤ n →
-    length (Cross masks j place) ≤ length (Cross masks n place)
+-- ---- crossing bits
+
+-- the crossing bits begin with what they were
+pub cross_begins :
+    (enclosures : Enclosures) (masks : Masks) (place : Place) (j n : ℕ) → j ≤ n →
+    (more : List Bool) × (Cross enclosures masks n place ≡ Cross enclosures masks j place ++ more)
 unfolding Cross
-cross_grows masks place j zero h =
-    let same : j ≡ zero = omega (arith, h) in
-    let equal : length (Cross masks j place) ≡ length (Cross masks zero place) = ap
-    (λ i. length (Cross masks i place)) same in
-    omega (arith, equal)
-cross_grows masks place j (suc n) h = elim (le_or_lt j n) [
+cross_begins enclosures masks place j zero h =
+    let same : zero ≡ j = omega (arith, h) in (
+      [],
+      ap (λ i. Cross enclosures masks i place) same ∙ sym (append-nil (Cross enclosures masks j place)),
+    )
+cross_begins enclosures masks place j (suc n) h = elim (le_or_lt j n) [
   | inl k ↦
-      omega (
-        arith,
-        cross_grows masks place j n k,
-        length-append (Cross masks n place)
-            (crossing_of masks (real_after n place)),
+      let before : (more : List Bool) × (Cross enclosures masks n place ≡ Cross enclosures masks j place ++ more) =
+      cross_begins enclosures masks place j n k in (
+        before.0 ++ crossing_of enclosures masks (real_after enclosures n place),
+        ap (λ s. s ++ crossing_of enclosures masks (real_after enclosures n place)) before.1
+            ∙ append_assoc (Cross enclosures masks j place) before.0
+            (crossing_of enclosures masks (real_after enclosures n place)),
       )
   | inr k ↦
+      let same : suc n ≡ j = omega (arith, h, k) in (
+        [],
+        ap (λ i. Cross enclosures masks i place) same ∙ sym (append-nil (Cross enclosures masks j place)),
+      )
+]
+
+pub cross_grows :
+    (enclosures : Enclosures) (masks : Masks) (place : Place) (j n : ℕ) → j ≤ n →
+    length (Cross enclosures masks j place) ≤ length (Cross enclosures masks n place)
+cross_grows enclosures masks place j n h =
+    let begins : (more : List Bool) × (Cross enclosures masks n place ≡ Cross enclosures masks j place ++ more) =
+    cross_begins enclosures masks place j n h in
+    omega (arith, ap length begins.1, length-append (Cross enclosures masks j place) begins.0)
+
+-- ---- common turns
+
+pub common_enclosed : (enclosures : Enclosures) (turns : ℕ) (place : Place) →
+    is_enclosed enclosures (real_after enclosures turns place).state.control ≡ true →
+    common_turns enclosures (suc turns) place ≡ common_turns enclosures turns place
+unfolding common_turns
+common_enclosed enclosures turns place e =
+    ap (λ b. if b then common_turns enclosures turns place else suc (common_turns enclosures turns place)) e
+
+pub common_exposed : (enclosures : Enclosures) (turns : ℕ) (place : Place) →
+    is_enclosed enclosures (real_after enclosures turns place).state.control ≡ false →
+    common_turns enclosures (suc turns) place ≡ suc (common_turns enclosures turns place)
+unfolding common_turns
+common_exposed enclosures turns place e =
+    ap (λ b. if b then common_turns enclosures turns place else suc (common_turns enclosures turns place)) e
+
+no_less : (enclosed : Bool) (count least : ℕ) → least ≤ count → least ≤ (if enclosed then count else suc count)
+no_less true count least h = h
+no_less false count least h = omega (arith, h)
+
+no_more : (enclosed : Bool) (count turns : ℕ) → count ≤ turns → (if enclosed then count else suc count) ≤ suc turns
+no_more true count turns h = omega (arith, h)
+no_more false count turns h = omega (arith, h)
+
+-- there are no more common turns than turns
+pub common_most : (enclosures : Enclosures) (turns : ℕ) (place : Place) → common_turns enclosures turns place ≤ turns
+unfolding common_turns
+common_most enclosures zero place = omega arith
+common_most enclosures (suc turns) place =
+    no_more (is_enclosed enclosures (real_after enclosures turns place).state.control)
+    (common_turns enclosures turns place) turns (common_most enclosures turns place)
+
+pub common_grows : (enclosures : Enclosures) (place : Place) (j n : ℕ) → j ≤ n →
+    common_turns enclosures j place ≤ common_turns enclosures n place
+unfolding common_turns
+common_grows enclosures place j zero h =
+    let same : j ≡ zero = omega (arith, h) in
+    let equal : common_turns enclosures j place ≡ common_turns enclosures zero place =
+    ap (λ i. common_turns enclosures i place) same in
+    omega (arith, equal)
+common_grows enclosures place j (suc n) h = elim (le_or_lt j n) [
+  | inl k ↦
+      no_less (is_enclosed enclosures (real_after enclosures n place).state.control)
+      (common_turns enclosures n place) (common_turns enclosures j place) (common_grows enclosures place j n k)
+  | inr k ↦
       let same : j ≡ suc n = omega (arith, h, k) in
-      let equal : length (Cross masks j place) ≡ length (Cross masks (suc n) place) = ap
-      (λ i. length (Cross masks i place)) same in
+      let equal : common_turns enclosures j place ≡ common_turns enclosures (suc n) place =
+      ap (λ i. common_turns enclosures i place) same in
       omega (arith, equal)
 ]
 
 -- ---- one more turn
 
-pub real_next : (turns : ℕ) (place : Place) → real_after (suc turns) place ≡ real_turn (real_after turns place)
+pub real_next : (enclosures : Enclosures) (turns : ℕ) (place : Place) →
+    real_after enclosures (suc turns) place ≡ real_turn enclosures (real_after enclosures turns place)
 unfolding real_after
-real_next turns place = refl
+real_next enclosures turns place = refl
 
 pub cross_next :
-    (masks : Masks) (turns : ℕ) (place : Place) →
-    Cross masks (suc turns) place ≡ Cross masks turns place ++ crossing_of masks (real_after turns place)
+    (enclosures : Enclosures) (masks : Masks) (turns : ℕ) (place : Place) →
+    Cross enclosures masks (suc turns) place
+    ≡ Cross enclosures masks turns place ++ crossing_of enclosures masks (real_after enclosures turns place)
 unfolding Cross
-cross_next masks turns place = refl
+cross_next enclosures masks turns place = refl
 
--- the replay uses up the real run's crossing bits so far, and is at a place
-abbrev pub IsAt : Masks → Place → Place → ℕ → Place → Type 0
-IsAt masks real copy turns place = Uses (Replay masks turns copy) (Cross masks turns real) place
+-- the replay uses up the real run's crossing bits so far in the common turns so far, and is at a place
+abbrev pub IsAt : Enclosures → Masks → Place → ReplayPlace → ℕ → ReplayPlace → Type 0
+IsAt enclosures masks real copy turns place =
+    Uses (Replay enclosures masks (common_turns enclosures turns real) copy) (Cross enclosures masks turns real) place
 
 -- where the replay has used up the bits so far, one more turn of it takes the bits of one more turn
 pub fed_next :
-    (masks : Masks) (turns : ℕ) (real copy place : Place) → IsAt masks real copy turns place →
-    feed (Replay masks (suc turns) copy) (Cross masks (suc turns) real)
-    ≡ feed (replay_turn masks place) (crossing_of masks (real_after turns real))
+    (enclosures : Enclosures) (masks : Masks) (turns : ℕ) (real : Place) (copy place : ReplayPlace) →
+    is_enclosed enclosures (real_after enclosures turns real).state.control ≡ false →
+    IsAt enclosures masks real copy turns place →
+    feed (Replay enclosures masks (common_turns enclosures (suc turns) real) copy)
+    (Cross enclosures masks (suc turns) real)
+    ≡ feed (replay_turn enclosures masks place) (crossing_of enclosures masks (real_after enclosures turns real))
 unfolding Replay Cross
-fed_next masks turns real copy place h =
-    feed_after (Replay masks turns copy) (replay_turn masks) (Cross masks turns real)
-    (crossing_of masks (real_after turns real)) place h
+fed_next enclosures masks turns real copy place exposed h =
+    ap (λ n. feed (Replay enclosures masks n copy) (Cross enclosures masks (suc turns) real))
+    (common_exposed enclosures turns real exposed)
+    ∙ feed_after (Replay enclosures masks (common_turns enclosures turns real) copy) (replay_turn enclosures masks)
+    (Cross enclosures masks turns real) (crossing_of enclosures masks (real_after enclosures turns real)) place h
+
+quiet_unless : (broken : Option Break) (enclosures : Enclosures) (masks : Masks) (place : Place) →
+    is_enclosed enclosures place.state.control ≡ true → crossing_unbroken broken enclosures masks place ≡ []
+quiet_unless (Some broken) enclosures masks place e = refl
+quiet_unless None enclosures masks place e =
+    ap (λ b. crossing_unless b masks place.past (guest_walk enclosures.regions place.state)) e
+
+-- a turn that is enclosed crosses nothing
+pub quiet_enclosed : (enclosures : Enclosures) (masks : Masks) (place : Place) →
+    is_enclosed enclosures place.state.control ≡ true → crossing_of enclosures masks place ≡ []
+quiet_enclosed enclosures masks place e = quiet_unless place.broken enclosures masks place e
+
+pub cross_enclosed :
+    (enclosures : Enclosures) (masks : Masks) (turns : ℕ) (place : Place) →
+    is_enclosed enclosures (real_after enclosures turns place).state.control ≡ true →
+    Cross enclosures masks (suc turns) place ≡ Cross enclosures masks turns place
+cross_enclosed enclosures masks turns place e =
+    cross_next enclosures masks turns place
+    ∙ (ap (λ bits. Cross enclosures masks turns place ++ bits)
+    (quiet_enclosed enclosures masks (real_after enclosures turns place) e)
+    ∙ append-nil (Cross enclosures masks turns place))
+
+-- and the replay stays where it is
+pub at_enclosed :
+    (enclosures : Enclosures) (masks : Masks) (real : Place) (copy : ReplayPlace) (turns : ℕ) (place : ReplayPlace) →
+    is_enclosed enclosures (real_after enclosures turns real).state.control ≡ true →
+    IsAt enclosures masks real copy turns place → IsAt enclosures masks real copy (suc turns) place
+at_enclosed enclosures masks real copy turns place e h =
+    ap (λ n. feed (Replay enclosures masks n copy) (Cross enclosures masks (suc turns) real))
+    (common_enclosed enclosures turns real e)
+    ∙ (ap (λ bits. feed (Replay enclosures masks (common_turns enclosures turns real) copy) bits)
+    (cross_enclosed enclosures masks turns real e) ∙ h)
 
 -- ---- outputs
 
 abbrev pub written : Place → List ℕ
 written place = place.state.control.output
 
-real_same : (place : Place) (j n : ℕ) → j ≡ n → Longer (written (real_after j place)) (written (real_after n place))
-real_same place j n e =
-    subst (λ i. Longer (written (real_after j place)) (written (real_after i place))) e
-    (longer_self (written (real_after j place)))
+abbrev pub rewritten : ReplayPlace → List ℕ
+rewritten place = place.state.control.output
+
+real_same : (enclosures : Enclosures) (place : Place) (j n : ℕ) → j ≡ n →
+    Longer (written (real_after enclosures j place)) (written (real_after enclosures n place))
+real_same enclosures place j n e =
+    subst (λ i. Longer (written (real_after enclosures j place)) (written (real_after enclosures i place))) e
+    (longer_self (written (real_after enclosures j place)))
+
+unless_grows : (broken : Option Break) (enclosures : Enclosures) (place : Place) →
+    Longer (written place) (written (turn_unless broken enclosures place))
+unless_grows (Some broken) enclosures place = longer_self (written place)
+unless_grows None enclosures place = real_grows enclosures.regions place.state
+
+-- in one turn, and in a turn of the replay
+turn_grows : (enclosures : Enclosures) (place : Place) → Longer (written place) (written (real_turn enclosures place))
+turn_grows enclosures place = unless_grows place.broken enclosures place
+
+over_grows : (place other last : ReplayPlace) (bits rest : List Bool) → rewritten other ≡ rewritten place →
+    feed (Over other) bits ≡ Fed' last rest → Longer (rewritten place) (rewritten last)
+over_grows place other last bits rest same e =
+    let there : other ≡ last = cc in
+    subst (λ output. Longer (rewritten place) output) (sym same ∙ ap (λ (p : ReplayPlace). rewritten p) there)
+    (longer_self (rewritten place))
+
+inside_grows :
+    (outside : Option Outside) (enclosures : Enclosures) (masks : Masks) (place : ReplayPlace) (bits : List Bool)
+    (last : ReplayPlace) (rest : List Bool) →
+    feed (replay_inside outside enclosures masks place) bits ≡ Fed' last rest →
+    Longer (rewritten place) (rewritten last)
+inside_grows None enclosures masks place bits last rest e =
+    replay_grows enclosures masks place.past place.state bits last rest e
+inside_grows (Some outside) enclosures masks place bits last rest e =
+    over_grows place (record { state = place.state; past = place.past; outside = Some outside }) last bits rest refl e
+
+outside_grows :
+    (outside : Option Outside) (enclosures : Enclosures) (masks : Masks) (place : ReplayPlace) (bits : List Bool)
+    (last : ReplayPlace) (rest : List Bool) →
+    feed (replay_unless outside enclosures masks place) bits ≡ Fed' last rest →
+    Longer (rewritten place) (rewritten last)
+outside_grows None enclosures masks place bits last rest e =
+    inside_grows (range_outside enclosures.regions place.state) enclosures masks place bits last rest e
+outside_grows (Some outside) enclosures masks place bits last rest e = over_grows place place last bits rest refl e
+
+replay_turn_grows :
+    (enclosures : Enclosures) (masks : Masks) (place : ReplayPlace) (bits : List Bool) (last : ReplayPlace)
+    (rest : List Bool) →
+    feed (replay_turn enclosures masks place) bits ≡ Fed' last rest → Longer (rewritten place) (rewritten last)
+replay_turn_grows enclosures masks place bits last rest e =
+    outside_grows place.outside enclosures masks place bits last rest e
+
+-- ---- whole runs
 
 -- the output of the real run begins with what it was
-pub real_run_grows : (place : Place) (j n : ℕ) → j ≤ n → Longer (written (real_after j place))
-    (written (real_after n place))
+pub real_run_grows : (enclosures : Enclosures) (place : Place) (j n : ℕ) → j ≤ n →
+    Longer (written (real_after enclosures j place)) (written (real_after enclosures n place))
 unfolding real_after
-real_run_grows place j zero h = let same : j ≡ zero = omega (arith, h) in real_same place j zero same
-real_run_grows place j (suc n) h = elim (le_or_lt j n) [
+real_run_grows enclosures place j zero h =
+    let same : j ≡ zero = omega (arith, h) in real_same enclosures place j zero same
+real_run_grows enclosures place j (suc n) h = elim (le_or_lt j n) [
   | inl k ↦
-      longer_more (written (real_after j place)) (written (real_after n place)) (written (real_after (suc n) place))
-      (real_run_grows place j n k) (real_grows (real_after n place).state)
-  | inr k ↦ let same : j ≡ suc n = omega (arith, h, k) in real_same place j (suc n) same
+      longer_more (written (real_after enclosures j place)) (written (real_after enclosures n place))
+      (written (real_after enclosures (suc n) place))
+      (real_run_grows enclosures place j n k) (turn_grows enclosures (real_after enclosures n place))
+  | inr k ↦ let same : j ≡ suc n = omega (arith, h, k) in real_same enclosures place j (suc n) same
 ]
 
 replay_same :
-    (masks : Masks) (real copy : Place) (j n : ℕ) (first last : Place) → j ≡ n → IsAt masks real copy j first →
-    IsAt masks real copy n last → Longer (written first) (written last)
-replay_same masks real copy j n first last e u v =
-    let there : IsAt masks real copy n first = subst (λ i. IsAt masks real copy i first) e u in
+    (enclosures : Enclosures) (masks : Masks) (copy : ReplayPlace) (bits : List Bool) (j n : ℕ)
+    (first last : ReplayPlace) (rest left : List Bool) → j ≡ n →
+    feed (Replay enclosures masks j copy) bits ≡ Fed' first rest →
+    feed (Replay enclosures masks n copy) bits ≡ Fed' last left → Longer (rewritten first) (rewritten last)
+replay_same enclosures masks copy bits j n first last rest left e u v =
+    let there : feed (Replay enclosures masks n copy) bits ≡ Fed' first rest =
+    subst (λ i. feed (Replay enclosures masks i copy) bits ≡ Fed' first rest) e u in
     let same : first ≡ last = cc in
-    subst (λ (p : Place). Longer (written first) (written p)) same (longer_self (written first))
+    subst (λ (p : ReplayPlace). Longer (rewritten first) (rewritten p)) same (longer_self (rewritten first))
 
--- the output of a replay that follows the real run begins with what it was
-pub replay_run_grows :
-    (masks : Masks) (real copy : Place) (turns : ℕ) → ((i : ℕ) → i ≤ turns →
-    (place : Place) × IsAt masks real copy i place) →
-    (j n : ℕ) (first last : Place) → j ≤ n → n ≤ turns → IsAt masks real copy j first → IsAt masks real copy n last →
-    Longer (written first) (written last)
-unfolding Replay Cross
-replay_run_grows masks real copy turns follows j zero first last h k u v =
-    let same : j ≡ zero = omega (arith, h) in replay_same masks real copy j zero first last same u v
-replay_run_grows masks real copy turns follows j (suc n) first last h k u v = elim (le_or_lt j n) [
+-- the output of a replay begins with what it was
+replay_run_grows :
+    (enclosures : Enclosures) (masks : Masks) (copy : ReplayPlace) (bits : List Bool) (j n : ℕ)
+    (first last : ReplayPlace) (rest left : List Bool) → j ≤ n →
+    feed (Replay enclosures masks j copy) bits ≡ Fed' first rest →
+    feed (Replay enclosures masks n copy) bits ≡ Fed' last left → Longer (rewritten first) (rewritten last)
+unfolding Replay
+replay_run_grows enclosures masks copy bits j zero first last rest left h u v =
+    let same : j ≡ zero = omega (arith, h) in
+    replay_same enclosures masks copy bits j zero first last rest left same u v
+replay_run_grows enclosures masks copy bits j (suc n) first last rest left h u v = elim (le_or_lt j n) [
   | inl early ↦
-      let below : n ≤ turns = omega (arith, k) in
-      let mid : (place : Place) × IsAt masks real copy n place = follows n below in
-      let goes : feed (replay_turn masks mid.0) (crossing_of masks (real_after n real)) ≡ Fed' last [] =
-      sym (fed_next masks n real copy mid.0 mid.1) ∙ v in
-      longer_more (written first) (written mid.0) (written last)
-      (replay_run_grows masks real copy turns follows j n first mid.0 early below u mid.1)
-      (replay_grows masks mid.0.past mid.0.state (crossing_of masks (real_after n real)) last [] goes)
+      let mid : Between (Replay enclosures masks n copy) (replay_turn enclosures masks) bits last left =
+      between (Replay enclosures masks n copy) (replay_turn enclosures masks) bits last left v in
+      longer_more (rewritten first) (rewritten mid.value) (rewritten last)
+      (replay_run_grows enclosures masks copy bits j n first mid.value rest mid.left early u mid.first)
+      (replay_turn_grows enclosures masks mid.value mid.left last left mid.second)
   | inr late ↦
-      let same : j ≡ suc n = omega (arith, h, late) in replay_same masks real copy j (suc n) first last same u v
+      let same : j ≡ suc n = omega (arith, h, late) in
+      replay_same enclosures masks copy bits j (suc n) first last rest left same u v
 ]
+
+-- also where the string has been made longer
+pub replay_more_grows :
+    (enclosures : Enclosures) (masks : Masks) (copy : ReplayPlace) (bits more : List Bool) (j n : ℕ)
+    (first last : ReplayPlace) (left : List Bool) → j ≤ n → Uses (Replay enclosures masks j copy) bits first →
+    feed (Replay enclosures masks n copy) (bits ++ more) ≡ Fed' last left → Longer (rewritten first) (rewritten last)
+replay_more_grows enclosures masks copy bits more j n first last left h u v =
+    replay_run_grows enclosures masks copy (bits ++ more) j n first last more left h
+    (feed_more (Replay enclosures masks j copy) bits more first [] u) v
 
 -- two beginnings of one list that are as long as each other
 pub same_beginning :

@@ -1,81 +1,154 @@
--- A guest that has exited or is stopped stands still.
-use Rattle.std.proofs.Common.{◌≡◌, ℕ, zero, suc, ◌≤◌, inl, inr, List, [], ◌++◌, ap, ◌∙◌, append-nil, Bool, arith}
+-- A run that has exited, is stopped or broke a region stands still, and so does a replay that has ended.
+use Rattle.std.proofs.Common.{◌≡◌, ℕ, zero, suc, ◌≤◌, inl, inr, List, [], ◌++◌, refl, sym, ap, ◌∙◌, append-nil, Bool}
+use Rattle.std.proofs.Common.{true, false, Option, Some, None, arith}
 use Rattle.flow_base.specs.declared.points.Point.{Point}
 use Rattle.crossing_bits.specs.Askers.{Fed', feed}
 use Rattle.crossing_bits.proofs.Feeding.{le_or_lt, feed_then}
 use Rattle.rv32im_machine.specs.State.{State}
-use Rattle.rv32im_machine.specs.Rows.{walk_of}
-use Rattle.rv32im_machine.specs.Folds.{real_end, Step}
-use Rattle.replay_machine.specs.Runs.{Place, Masks, passed, real_turn, real_after, replay_turn, Replay}
-use Rattle.replay_machine.proofs.Stillness.{IsOver, still_walk, still_replay}
-use Rattle.lockstep_replay.specs.Crossing.{crossing, crossing_of, Cross}
+use Rattle.rv32im_machine.specs.Language.{Ended}
+use Rattle.rv32im_machine.specs.Folds.{real_end}
+use Rattle.enclosure_regions.specs.declared.break_kinds.Break.{Break}
+use Rattle.replay_machine.specs.Enclosures.{Enclosures, is_enclosed}
+use Rattle.replay_machine.specs.Guests.{guest_walk}
+use Rattle.replay_machine.specs.Breaking.{Breaks, kind_break}
+use Rattle.replay_machine.specs.Runs.{Place, ReplayPlace, Masks, passed, visited, turn_unless, real_turn, real_after}
+use Rattle.replay_machine.specs.Runs.{replay_turn, Replay}
+use Rattle.replay_machine.proofs.Stillness.{IsOver, still_kind, still_guest, still_replay}
+use Rattle.lockstep_replay.specs.Crossing.{crossing, crossing_unless, crossing_unbroken, crossing_of, Cross}
 
-pub still_step : (state : State) → IsOver state.control.mode → Step state ≡ state
+-- ---- a guest that has ended
+
+still_breaks : (enclosures : Enclosures) (state : State) → IsOver state.control.mode →
+    Breaks enclosures.regions state ≡ None
+still_breaks enclosures state h = ap (λ k. kind_break k state) (still_kind enclosures.regions state.control h)
+
+still_end : (enclosures : Enclosures) (state : State) → IsOver state.control.mode →
+    real_end (guest_walk enclosures.regions state) ≡ state
 unfolding real_end
-still_step state h = ap (λ w. real_end w) (still_walk state h)
+still_end enclosures state h = ap (λ w. real_end w) (still_guest enclosures.regions state h)
 
-pub still_passed : (past : List Point) (state : State) → IsOver state.control.mode → passed past (walk_of state) ≡ past
+visited_ended : (enclosed : Bool) (past : List Point) (state : State) → visited enclosed past (Ended state) ≡ past
 unfolding passed
-still_passed past state h = ap (λ w. passed past w) (still_walk state h)
+visited_ended true past state = refl
+visited_ended false past state = refl
 
-pub still_crossing :
-    (masks : Masks) (past : List Point) (state : State) → IsOver state.control.mode → crossing masks past
-    (walk_of state) ≡ []
+crossing_ended : (enclosed : Bool) (masks : Masks) (past : List Point) (state : State) →
+    crossing_unless enclosed masks past (Ended state) ≡ []
 unfolding crossing
-still_crossing masks past state h = ap (λ w. crossing masks past w) (still_walk state h)
+crossing_ended true masks past state = refl
+crossing_ended false masks past state = refl
 
-abbrev pub placed : State → List Point → Place
-placed state past = record { state = state; past = past }
+-- ---- one turn
+
+abbrev placed : State → List Point → Option Break → Place
+placed state past broken = record { state = state; past = past; broken = broken }
 
 same_place :
-    (first second : State) (before after : List Point) → first ≡ second → before ≡ after →
-    placed first before ≡ placed second after
-same_place first second before after e f = cc
+    (first second : State) (before after : List Point) (broken other : Option Break) → first ≡ second →
+    before ≡ after → broken ≡ other → placed first before broken ≡ placed second after other
+same_place first second before after broken other e f g = cc
 
-pub still_real : (place : Place) → IsOver place.state.control.mode → real_turn place ≡ place
-still_real place h = same_place (Step place.state) place.state (passed place.past (walk_of place.state)) place.past
-    (still_step place.state h) (still_passed place.past place.state h)
+still_unless : (broken : Option Break) (enclosures : Enclosures) (place : Place) → place.broken ≡ broken →
+    IsOver place.state.control.mode → turn_unless broken enclosures place ≡ place
+still_unless (Some broken) enclosures place is h = refl
+still_unless None enclosures place is h =
+    let ends : guest_walk enclosures.regions place.state ≡ Ended place.state = still_guest enclosures.regions
+    place.state h in
+    same_place (real_end (guest_walk enclosures.regions place.state)) place.state
+    (visited (is_enclosed enclosures place.state.control) place.past (guest_walk enclosures.regions place.state))
+    place.past
+    (Breaks enclosures.regions place.state) place.broken (still_end enclosures place.state h)
+    (ap (λ w. visited (is_enclosed enclosures place.state.control) place.past w) ends
+    ∙ visited_ended (is_enclosed enclosures place.state.control) place.past place.state)
+    (still_breaks enclosures place.state h ∙ sym is)
 
--- ---- whole runs, from the turn on after which it is over
+pub still_real : (enclosures : Enclosures) (place : Place) → IsOver place.state.control.mode →
+    real_turn enclosures place ≡ place
+still_real enclosures place h = still_unless place.broken enclosures place refl h
 
-pub real_later :
-    (place : Place) (turns more : ℕ) → turns ≤ more → IsOver (real_after turns place).state.control.mode →
-    real_after more place ≡ real_after turns place
+pub broken_real : (enclosures : Enclosures) (place : Place) (broken : Break) → place.broken ≡ Some broken →
+    real_turn enclosures place ≡ place
+broken_real enclosures place broken e = ap (λ b. turn_unless b enclosures place) e
+
+quiet_unbroken : (broken : Option Break) (enclosures : Enclosures) (masks : Masks) (place : Place) →
+    IsOver place.state.control.mode → crossing_unbroken broken enclosures masks place ≡ []
+quiet_unbroken (Some broken) enclosures masks place h = refl
+quiet_unbroken None enclosures masks place h =
+    ap (λ w. crossing_unless (is_enclosed enclosures place.state.control) masks place.past w)
+    (still_guest enclosures.regions place.state h)
+    ∙ crossing_ended (is_enclosed enclosures place.state.control) masks place.past place.state
+
+pub still_crossing : (enclosures : Enclosures) (masks : Masks) (place : Place) → IsOver place.state.control.mode →
+    crossing_of enclosures masks place ≡ []
+still_crossing enclosures masks place h = quiet_unbroken place.broken enclosures masks place h
+
+-- ---- whole runs
+
+-- from a turn on after which a run stands still
+pub real_stays :
+    (enclosures : Enclosures) (place : Place) (turns more : ℕ) → turns ≤ more →
+    real_turn enclosures (real_after enclosures turns place) ≡ real_after enclosures turns place →
+    real_after enclosures more place ≡ real_after enclosures turns place
 unfolding real_after
-real_later place turns zero h over = let same : zero ≡ turns = omega arith in ap (λ n. real_after n place) same
-real_later place turns (suc more) h over = elim (le_or_lt turns more) [
-  | inl k ↦ ap (λ p. real_turn p) (real_later place turns more k over) ∙ still_real (real_after turns place) over
-  | inr k ↦ let same : suc more ≡ turns = omega arith in ap (λ n. real_after n place) same
+real_stays enclosures place turns zero h still =
+    let same : zero ≡ turns = omega arith in ap (λ n. real_after enclosures n place) same
+real_stays enclosures place turns (suc more) h still = elim (le_or_lt turns more) [
+  | inl k ↦ ap (λ p. real_turn enclosures p) (real_stays enclosures place turns more k still) ∙ still
+  | inr k ↦ let same : suc more ≡ turns = omega arith in ap (λ n. real_after enclosures n place) same
 ]
 
+-- from the turn on after which it is over
+pub real_later :
+    (enclosures : Enclosures) (place : Place) (turns more : ℕ) → turns ≤ more →
+    IsOver (real_after enclosures turns place).state.control.mode →
+    real_after enclosures more place ≡ real_after enclosures turns place
+real_later enclosures place turns more h over =
+    real_stays enclosures place turns more h (still_real enclosures (real_after enclosures turns place) over)
+
+none_or_some : (broken : Option Break) → ((b : Break) → broken ≡ Some b → ⊥) → broken ≡ None
+none_or_some None h = refl
+none_or_some (Some b) h = absurd (h b refl)
+
+-- a run that no break has ended was not ended by one before
+pub unbroken_before :
+    (enclosures : Enclosures) (place : Place) (turns more : ℕ) → turns ≤ more →
+    (real_after enclosures more place).broken ≡ None → (real_after enclosures turns place).broken ≡ None
+unbroken_before enclosures place turns more h none =
+    none_or_some (real_after enclosures turns place).broken (λ b e.
+    let same : real_after enclosures more place ≡ real_after enclosures turns place =
+    real_stays enclosures place turns more h (broken_real enclosures (real_after enclosures turns place) b e) in
+    let both : None ≡ Some b = sym none ∙ (ap (λ (p : Place). p.broken) same ∙ e) in cc)
+
 pub cross_later :
-    (masks : Masks) (place : Place) (turns more : ℕ) → turns ≤ more → IsOver
-    (real_after turns place).state.control.mode →
-    Cross masks more place ≡ Cross masks turns place
+    (enclosures : Enclosures) (masks : Masks) (place : Place) (turns more : ℕ) → turns ≤ more →
+    IsOver (real_after enclosures turns place).state.control.mode →
+    Cross enclosures masks more place ≡ Cross enclosures masks turns place
 unfolding Cross
-cross_later masks place turns zero h over = let same : zero ≡ turns = omega arith in ap (λ n. Cross masks n place) same
-cross_later masks place turns (suc more) h over = elim (le_or_lt turns more) [
+cross_later enclosures masks place turns zero h over =
+    let same : zero ≡ turns = omega arith in ap (λ n. Cross enclosures masks n place) same
+cross_later enclosures masks place turns (suc more) h over = elim (le_or_lt turns more) [
   | inl k ↦
-      let quiet : crossing_of masks (real_after more place) ≡ [] =
-      ap (λ p. crossing_of masks p) (real_later place turns more k over)
-      ∙ still_crossing masks (real_after turns place).past (real_after turns place).state over in
-      ap (λ bits. Cross masks more place ++ bits) quiet ∙ (append-nil (Cross masks more place)
-      ∙ cross_later masks place turns more k over)
-  | inr k ↦ let same : suc more ≡ turns = omega arith in ap (λ n. Cross masks n place) same
+      let quiet : crossing_of enclosures masks (real_after enclosures more place) ≡ [] =
+      ap (λ p. crossing_of enclosures masks p) (real_later enclosures place turns more k over)
+      ∙ still_crossing enclosures masks (real_after enclosures turns place) over in
+      ap (λ bits. Cross enclosures masks more place ++ bits) quiet ∙ (append-nil (Cross enclosures masks more place)
+      ∙ cross_later enclosures masks place turns more k over)
+  | inr k ↦ let same : suc more ≡ turns = omega arith in ap (λ n. Cross enclosures masks n place) same
 ]
 
 pub replay_later :
-    (masks : Masks) (first : Place) (turns more : ℕ) (bits : List Bool) (place : Place) (rest : List Bool) →
-    turns ≤ more →
-    IsOver place.state.control.mode → feed (Replay masks turns first) bits ≡ Fed' place rest →
-    feed (Replay masks more first) bits ≡ Fed' place rest
+    (enclosures : Enclosures) (masks : Masks) (first : ReplayPlace) (turns more : ℕ) (bits : List Bool)
+    (place : ReplayPlace) (rest : List Bool) → turns ≤ more → place.outside ≡ None →
+    IsOver place.state.control.mode → feed (Replay enclosures masks turns first) bits ≡ Fed' place rest →
+    feed (Replay enclosures masks more first) bits ≡ Fed' place rest
 unfolding Replay
-replay_later masks first turns zero bits place rest h over e =
-    let same : zero ≡ turns = omega arith in ap (λ n. feed (Replay masks n first) bits) same ∙ e
-replay_later masks first turns (suc more) bits place rest h over e = elim (le_or_lt turns more) [
+replay_later enclosures masks first turns zero bits place rest h inside over e =
+    let same : zero ≡ turns = omega arith in ap (λ n. feed (Replay enclosures masks n first) bits) same ∙ e
+replay_later enclosures masks first turns (suc more) bits place rest h inside over e = elim (le_or_lt turns more) [
   | inl k ↦
-      feed_then (Replay masks more first) (replay_turn masks) bits place rest
-      (replay_later masks first turns more bits place rest k over e)
-      ∙ ap (λ asker. feed asker rest) (still_replay masks place over)
-  | inr k ↦ let same : suc more ≡ turns = omega arith in ap (λ n. feed (Replay masks n first) bits) same ∙ e
+      feed_then (Replay enclosures masks more first) (replay_turn enclosures masks) bits place rest
+      (replay_later enclosures masks first turns more bits place rest k inside over e)
+      ∙ ap (λ asker. feed asker rest) (still_replay enclosures masks place inside over)
+  | inr k ↦
+      let same : suc more ≡ turns = omega arith in ap (λ n. feed (Replay enclosures masks n first) bits) same ∙ e
 ]

@@ -1,5 +1,6 @@
 -- What the two sides of a common turn come to.
-use Rattle.std.proofs.Common.{◌≡◌, ℕ, ◌+◌, ◌≤◌, ◌<◌, List, ◌++◌, length, Bool, refl, arith, Result, Ok, Err, Option, Some}
+use Rattle.std.proofs.Common.{◌≡◌, ℕ, ◌+◌, ◌≤◌, ◌<◌, List, ◌++◌, length, Bool, refl, arith, Result, Ok, Err, Option}
+use Rattle.std.proofs.Common.{Some}
 use Rattle.std.proofs.lemmas.Bool.{le-ltb, lt-ltb}
 use Rattle.std.proofs.Math.Seq.{drop-append_seam}
 use Rattle.flow_base.specs.declared.points.Point.{Point}
@@ -17,7 +18,8 @@ use Rattle.lockstep_replay.specs.Verdicts.{counted_bits, why_mode}
 use Rattle.lockstep_replay.proofs.Fine.{NotStopped}
 
 -- the real side always comes to its end
-pub crosses-outcome : {Stop : Type 0} (before : Tally) (masks : Masks) (past : List Point) (bits : List Bool) (state reached : State) (r : Result (Unit {0}) Stop) (after : Tally) →
+pub crosses-outcome : {Stop : Type 0} (before : Tally) (masks : Masks) (past : List Point) (bits : List Bool)
+    (state reached : State) (r : Result (Unit {0}) Stop) (after : Tally) →
     Crosses before masks past bits state (outcome r reached after) →
     (state ≡ reached) × (IsAhead after.ahead masks past × Tallies before bits after)
 crosses-outcome before masks past bits state reached (Ok done) after h = h

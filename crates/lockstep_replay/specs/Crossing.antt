@@ -1,9 +1,11 @@
 -- The crossing bits of a real run: visit by visit the bits of the values under the masks. No replay occurs in them.
-use Rattle.std.specs.Prelude.{ℕ, zero, suc, List, [], ◌∷◌, ◌++◌, Bool}
+use Rattle.std.specs.Prelude.{ℕ, zero, suc, List, [], ◌∷◌, ◌++◌, Bool, true, false, Option, Some, None}
 use Rattle.flow_base.specs.declared.points.Point.{Point}
 use Rattle.flow_base.specs.Words.{bits_under}
 use Rattle.rv32im_machine.specs.Language.{Walk, Looked, Passed, Decided, Gave, Moved, Saved, Restored, Ended}
-use Rattle.rv32im_machine.specs.Rows.{walk_of}
+use Rattle.enclosure_regions.specs.declared.break_kinds.Break.{Break}
+use Rattle.replay_machine.specs.Enclosures.{Enclosures, is_enclosed}
+use Rattle.replay_machine.specs.Guests.{guest_walk}
 use Rattle.replay_machine.specs.Runs.{Place, Masks, mask_at, real_after}
 
 -- the bits of the values of a turn under the masks, visit by visit, lowest bit first
@@ -20,10 +22,23 @@ crossing masks past (Saved walk) = crossing masks past walk
 crossing masks past (Restored registers walk replayed) = crossing masks past walk
 crossing masks past (Ended state) = []
 
-abbrev pub crossing_of : Masks → Place → List Bool
-crossing_of masks place = crossing masks place.past (walk_of place.state)
+-- the entry of a skipped region and the turns inside it give none
+abbrev pub crossing_unless : Bool → Masks → List Point → Walk → List Bool
+crossing_unless true masks past walk = []
+crossing_unless false masks past walk = crossing masks past walk
+
+-- and so does a run that a break has ended
+abbrev pub crossing_unbroken : Option Break → Enclosures → Masks → Place → List Bool
+crossing_unbroken None enclosures masks place =
+    crossing_unless (is_enclosed enclosures place.state.control) masks place.past
+    (guest_walk enclosures.regions place.state)
+crossing_unbroken (Some broken) enclosures masks place = []
+
+abbrev pub crossing_of : Enclosures → Masks → Place → List Bool
+crossing_of enclosures masks place = crossing_unbroken place.broken enclosures masks place
 
 -- Cross: the crossing bits of so many turns of the real run
-unfoldable pub Cross : Masks → ℕ → Place → List Bool
-Cross masks zero place = []
-Cross masks (suc turns) place = Cross masks turns place ++ crossing_of masks (real_after turns place)
+unfoldable pub Cross : Enclosures → Masks → ℕ → Place → List Bool
+Cross enclosures masks zero place = []
+Cross enclosures masks (suc turns) place =
+    Cross enclosures masks turns place ++ crossing_of enclosures masks (real_after enclosures turns place)

@@ -1,30 +1,57 @@
--- One common turn: a turn of the real run beside one of the replay, on the bits that crossed in it.
-use Rattle.std.specs.Prelude.{◌≡◌, ℕ, ◌+◌, ◌≤◌, List, [], length, Bool, Option}
+-- One turn of the real run, and where it makes a common turn one of the replay beside it, on the bits that crossed in
+-- it.
+use Rattle.std.specs.Prelude.{◌≡◌, ℕ, ◌+◌, ◌≤◌, List, [], ◌++◌, length, Bool, true, false, Option, None, IsTrue}
 use Rattle.flow_base.specs.declared.points.Point.{Point}
 use Rattle.crossing_bits.specs.Askers.{Fed, Fed', feed}
 use Rattle.crossing_bits.specs.Streams.{Stream}
 use Rattle.rv32im_machine.specs.State.{State}
-use Rattle.rv32im_machine.specs.Rows.{walk_of}
+use Rattle.rv32im_machine.specs.Folds.{real_end}
 use Rattle.rv32im_machine.specs.declared.stepping.Stepped.{Stepped}
-use Rattle.lockstep_replay.specs.Marks.{mark_of}
-use Rattle.replay_machine.specs.Runs.{Place, Masks, replay_turn}
+use Rattle.enclosure_regions.specs.declared.break_kinds.Break.{Break}
+use Rattle.replay_machine.specs.Enclosures.{Enclosures, Kind, is_enclosed, is_enclosed_kind}
+use Rattle.replay_machine.specs.Guests.{guest_walk, kind_walk}
+use Rattle.replay_machine.specs.Breaking.{Breaks, kind_break}
+use Rattle.replay_machine.specs.Runs.{ReplayPlace, Masks, visited, replay_turn}
 use Rattle.replay_machine.specs.Standing.{Standing, Stands}
+use Rattle.replay_machine.specs.Visits.{IsAhead}
+use Rattle.replay_machine.specs.Within.{may_leave}
+use Rattle.lockstep_replay.specs.Marks.{mark_of}
+use Rattle.lockstep_replay.specs.declared.tallies.Tallying.{Tallying}
+use Rattle.lockstep_replay.specs.declared.turned.RealTurn.{RealTurn}
+use Rattle.lockstep_replay.specs.declared.turned.Round.{Round}
 use Rattle.lockstep_replay.specs.declared.verdicts.Why.{Why}
-use Rattle.lockstep_replay.specs.Crossing.{crossing}
+use Rattle.lockstep_replay.specs.Crossing.{crossing_unless}
 use Rattle.lockstep_replay.specs.Differences.{byte_difference, status_difference, first_of}
-use Rattle.lockstep_replay.specs.Verdicts.{why_marks, why_mode, why_replay}
+use Rattle.lockstep_replay.specs.Sides.{tally_of}
+use Rattle.lockstep_replay.specs.Tapes.{Tallies}
+use Rattle.lockstep_replay.specs.Verdicts.{why_marks, why_broken, why_mode, why_common, why_replay}
 
--- the bits that cross in the real turn, and the replay of these
-abbrev pub crossed : Masks → List Point → State → List Bool
-crossed masks past real = crossing masks past (walk_of real)
+-- ---- the real run
 
-abbrev pub fed_turn : Masks → Place → List Bool → Fed Place
-fed_turn masks place bits = feed (replay_turn masks place) bits
+-- a turn of this kind has come to this state, and has left this of the real side
+pub record Makes (enclosures : Enclosures) (kind : Kind) (before : State) (tally : Tallying) (reached : State)
+    (turn : RealTurn) : Type 0 where
+  pub state : reached ≡ real_end (kind_walk kind before)
+  pub enclosed : turn.enclosed ≡ is_enclosed_kind enclosures kind
+  pub broken : turn.broken ≡ kind_break kind before
+  pub budget : turn.tally.budget ≡ tally.budget
+  pub tallies :
+      (masks : Masks) (past : List Point) → IsAhead tally.masks masks past →
+      Tallies (tally_of tally) (crossing_unless (is_enclosed_kind enclosures kind) masks past (kind_walk kind before))
+      (tally_of turn.tally)
+  pub ahead :
+      (masks : Masks) (past : List Point) → IsAhead tally.masks masks past →
+      IsAhead turn.tally.masks masks (visited (is_enclosed_kind enclosures kind) past (kind_walk kind before))
 
--- what fails after a common turn, `needed` bits having crossed before it
-abbrev pub why_turned : ℕ → ℕ → State → List Bool → Fed Place → Option Why
-why_turned budget needed reached bits fed =
-    why_mode reached.control.mode budget (needed + length bits) (why_replay reached (needed + length bits) fed)
+-- the bits that cross in the turn of a real run, and the replay of these
+abbrev pub crossed : Enclosures → Masks → List Point → State → List Bool
+crossed enclosures masks past real =
+    crossing_unless (is_enclosed enclosures real.control) masks past (guest_walk enclosures.regions real)
+
+abbrev pub fed_turn : Enclosures → Masks → ReplayPlace → List Bool → Fed ReplayPlace
+fed_turn enclosures masks place bits = feed (replay_turn enclosures masks place) bits
+
+-- ---- the replay beside it
 
 -- where the marks differ, or else the outputs, of a real run and a replay that ends its turn in this mode
 abbrev pub why_compared : State → ℕ → Standing → Stepped → Option Why
@@ -34,20 +61,65 @@ why_compared real needed standing mode =
     (status_difference (length real.control.output) real.control.mode mode))
 
 -- where nothing fails, the replay has used the bits up, and stands where it has come to
-pub record Joins (standing : Standing) (masks : Masks) (fed : Fed Place) : Type 0 where
-  pub place : Place
+pub record Joins (standing : Standing) (masks : Masks) (fed : Fed ReplayPlace) : Type 0 where
+  pub place : ReplayPlace
   pub uses : fed ≡ Fed' place []
   pub stands : Stands standing masks place
 
--- the replay wants no bit, the bits so far are used up, so many, and both runs have one output
+-- after a common turn the replay wants no bit, the bits so far are used up, so many, and both runs have one output
 pub record InStep (real : State) (standing : Standing) (stream : Stream) (count : ℕ) : Type 0 where
   pub wanted : standing.missing ≡ 0
   pub used : standing.taken ≡ count
   pub taken : stream.taken ≡ length stream.bits
   pub output : real.control.output ≡ standing.state.control.output
 
--- between two common turns they are also the bits that are kept, and fit the budget
+-- ---- both
+
+-- what fails after a turn, `needed` bits having crossed before it
+abbrev pub why_turned : ℕ → Bool → Option Break → ℕ → State → List Bool → Fed ReplayPlace → Option Why
+why_turned budget enclosed broken needed reached bits fed =
+    why_broken broken (why_mode reached.control.mode budget (needed + length bits)
+    (why_common enclosed (why_replay reached (needed + length bits) fed)))
+
+-- where nothing fails, the replay stays where it is, or makes its turn
+abbrev pub Joined : Bool → Standing → Masks → ReplayPlace → Fed ReplayPlace → Type 0
+Joined true standing masks place fed = Stands standing masks place
+Joined false standing masks place fed = Joins standing masks fed
+
+-- between two turns the replay wants no bit, and has used up the bits that have crossed, which are kept and fit the
+-- budget; the real run has written what the replay has, and may have written more; and it can leave its region
 pub record Keeps (real : State) (standing : Standing) (stream : Stream) (count budget : ℕ) : Type 0 where
-  pub agrees : InStep real standing stream count
+  pub wanted : standing.missing ≡ 0
+  pub used : standing.taken ≡ count
+  pub taken : stream.taken ≡ length stream.bits
   pub kept : length stream.bits ≡ count
   pub within : count ≤ budget
+  pub output : (more : List ℕ) × (real.control.output ≡ standing.state.control.output ++ more)
+  pub leaves : IsTrue (may_leave standing.enclosures.regions real)
+
+-- a round with these regions has brought the real run and the replay here, and has left this
+pub record Rounds (enclosures : Enclosures) (before : State) (tally : Tallying) (standing : Standing) (reached : State)
+    (next : Standing) (round : Round) : Type 0 where
+  pub state : reached ≡ real_end (guest_walk enclosures.regions before)
+  pub enclosed : round.enclosed ≡ is_enclosed enclosures before.control
+  pub budget : round.tally.budget ≡ tally.budget
+  pub regions_stay : next.enclosures ≡ standing.enclosures
+  pub ahead :
+      (masks : Masks) (past : List Point) → IsAhead tally.masks masks past →
+      IsAhead round.tally.masks masks
+      (visited (is_enclosed enclosures before.control) past (guest_walk enclosures.regions before))
+  pub why :
+      (masks : Masks) (past : List Point) (place : ReplayPlace) → IsAhead tally.masks masks past →
+      Stands standing masks place →
+      round.why ≡ why_turned tally.budget (is_enclosed enclosures before.control)
+      (Breaks enclosures.regions before) tally.needed reached (crossed enclosures masks past before)
+      (fed_turn enclosures masks place (crossed enclosures masks past before))
+  pub joins :
+      (masks : Masks) (past : List Point) (place : ReplayPlace) → IsAhead tally.masks masks past →
+      Stands standing masks place → round.why ≡ None →
+      Joined (is_enclosed enclosures before.control) next masks place
+      (fed_turn enclosures masks place (crossed enclosures masks past before))
+  pub bits :
+      (masks : Masks) (past : List Point) → IsAhead tally.masks masks past → round.why ≡ None →
+      round.tally.bits.bits ≡ tally.bits.bits ++ crossed enclosures masks past before
+  pub keeps : round.why ≡ None → Keeps reached next round.tally.bits round.tally.needed round.tally.budget

@@ -1,20 +1,27 @@
-//! Two machines in lockstep: the real run on a secret beside a replay that never sees it, and the verdict on the
-//! secret.
+//! Two machines in lockstep: the real run on a secret beside a replay that never sees it, with regions of which a cut
+//! may skip some, and the verdict on the secret.
 #![tactic(auto)]
 
-mod common_turns;
 mod comparing;
 mod differences;
+mod guarding;
+mod guards;
 mod laws;
 mod lockstep;
+mod real_turns;
+#[cfg(test)]
+mod region_tests;
+mod rounds;
 mod tallies;
 mod tallying;
 mod tasks;
 #[cfg(test)]
 mod tests;
+mod turned;
 mod turning;
 mod two_runs;
 mod verdicts;
+mod watching;
 
 pub use laws::{accepted_runs_are_bounded, verdicts_are_acceptance};
 pub use tasks::Lockstep;

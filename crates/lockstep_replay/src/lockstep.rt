@@ -1,11 +1,13 @@
-ghost use Rattle.std.specs.Prelude.{◌≡◌, ◌<◌, ◌^◌, [], length, IfOk};
+ghost use Rattle.std.specs.Prelude.{◌≡◌, ◌<◌, ◌^◌, [], length, false, IfOk};
 ghost use Rattle.elf32_loader.specs.Images.{picture_of};
 ghost use Rattle.cut_file.specs.Pictures.{picture_of as cut_picture};
+ghost use Rattle.rv32im_machine.specs.declared.stepping.Stepped.TheVariants.{Exited};
 ghost use Rattle.lockstep_replay.specs.Judgements.{judgement_of};
-ghost use Rattle.lockstep_replay.specs.Tasks.{Begins, IsTask};
+ghost use Rattle.lockstep_replay.specs.Tasks.{Begins, Ends, IsTask};
 ghost use Rattle.lockstep_replay.specs.Turning.{Keeps};
 ghost use Rattle.lockstep_replay.specs.Verdicts.{Task, Accepts, judged, judged_from, task_of};
 
+use crate::rounds::round;
 use crate::tallies::Tallying;
 use crate::tasks::Lockstep;
 use crate::two_runs::TwoRuns;
@@ -13,6 +15,7 @@ use crate::verdicts::{Verdict, Why};
 use crossing_bits::Bits;
 use cut_file::Cut;
 use elf32_loader::Image;
+use enclosure_regions::Regions;
 use flow_base::{Bytes, NoMemory, Output};
 use replay_machine::{Replay, VisitMasks};
 use rv32im_machine::{Machine, Stepped};
@@ -22,27 +25,28 @@ use std::alloc::Global;
 const OUTPUT_LIMIT: u32 = 1_048_576;
 
 impl Lockstep {
-    /// A check of one secret against a cut, for one program and public input, within a budget of bits and a limit of
-    /// turns.
+    /// A check of one secret against a cut, for one program with its regions and one public input, within a budget of
+    /// bits and a limit of turns.
     /// `NoMemory` where there is not enough; [`Lockstep::run`] takes none.
     pub fn new(
         alloc: Global,
         image: &Image,
         public: &Bytes,
         secret: &Bytes,
+        regions: &Regions,
         cut: &Cut,
         budget: u32,
         turns: u32,
     ) -> Result<Lockstep, NoMemory>
         requires secret { length secret.now < 2 ^ 32 }
         requires budget { budget < 4294967295 }
-        ensures { IfOk result (λ lockstep. IsTask lockstep
-            (task_of (picture_of image.now) public.now secret.now (cut_picture cut.now) budget turns)) }
+        ensures { IfOk result (λ lockstep. IsTask lockstep (task_of (picture_of image.now) public.now secret.now
+            regions.now.items (cut_picture cut.now) budget turns)) }
     {
         let real = Machine::new(alloc, image, public, secret, OUTPUT_LIMIT)?;
         let masks = VisitMasks::new(alloc, cut)?;
         let bits = Bits::with_room(alloc, budget)?;
-        let replay = Replay::new(alloc, image, public, cut)?;
+        let replay = Replay::new(alloc, image, public, regions, cut)?;
         let tally = Tallying {
             masks,
             bits,
@@ -81,11 +85,10 @@ impl Lockstep {
 }
 
 /// The verdict of a real run that has exited with this status.
-fn accepted(runs: TwoRuns, status: u8) -> Verdict
-    ensures { judgement_of result ≡ Accepts runs.tally.bits.bits
-        (record { bytes = runs.real.control.output; status = status }) }
+fn accepted(real: Machine, tally: Tallying, status: u8) -> Verdict
+    ensures { judgement_of result ≡ Accepts tally.bits.bits
+        (record { bytes = real.control.output; status = status }) }
 {
-    let TwoRuns { real, tally, .. } = runs;
     let Tallying { bits, .. } = tally;
     let output = Output {
         bytes: real.into_output(),
@@ -94,19 +97,42 @@ fn accepted(runs: TwoRuns, status: u8) -> Verdict
     Verdict::Accepted { bits, output }
 }
 
-/// The verdict of so many common turns.
+/// The status with which a run has exited in a turn that is not enclosed, if it has.
+fn exit_status(enclosed: bool, mode: Stepped) -> Option<u8>
+    ensures { Ends result enclosed mode }
+{
+    if enclosed {
+        return None;
+    }
+    match mode {
+        Stepped::Ran => None,
+        Stepped::Exited(status) => Some(status),
+        Stepped::Stopped(_) => None,
+    }
+}
+
+/// The verdict of so many turns of the real run.
 fn run_turns(runs: TwoRuns, turns: u32) -> Verdict
     requires empty { runs.tally.bits.bits ≡ [] }
     requires keeps { Keeps runs.real runs.replay runs.tally.bits runs.tally.needed runs.tally.budget }
     ensures { (task : Task) → Begins runs task → turns ≡ task.turns → judgement_of result ≡ judged_from task turns 0 }
 {
-    let mut runs = runs;
+    let TwoRuns {
+        real,
+        tally,
+        replay,
+    } = runs;
+    let mut real = real;
+    let mut tally = tally;
+    let mut replay = replay;
     for _ in 0..turns {
-        if let Some(why) = runs.turn() {
+        let made = round(&mut real, tally, &mut replay);
+        tally = made.tally;
+        if let Some(why) = made.why {
             return Verdict::Rejected(why);
         }
-        if let Stepped::Exited(status) = runs.real.mode() {
-            return accepted(runs, status);
+        if let Some(status) = exit_status(made.enclosed, real.mode()) {
+            return accepted(real, tally, status);
         }
     }
     Verdict::Rejected(Why::TurnLimit { limit: turns })

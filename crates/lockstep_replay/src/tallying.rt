@@ -50,8 +50,9 @@ fn push_fitting(bits: &mut Bits, value: u32, mask: u32)
 
 impl Tallying {
     /// The bits of a value under the mask of the next visit of its point cross.
-    fn cross(&mut self, point: Point, value: u32)
+    pub(crate) fn cross(&mut self, point: Point, value: u32)
         requires { IsTrue (is_slot point.slot) }
+        ensures budget { self.new.budget ≡ self.old.budget }
         ensures tally { (masks : Masks) (past : List APoint) → IsAhead self.old.masks masks past →
             Tallies (tally_of self.old) (bits_under value (mask_at masks past point)) (tally_of self.new) }
         ensures ahead { (masks : Masks) (past : List APoint) → IsAhead self.old.masks masks past →

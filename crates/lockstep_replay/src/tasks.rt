@@ -1,4 +1,5 @@
-ghost use Rattle.std.specs.Prelude.{◌≡◌, []};
+ghost use Rattle.std.specs.Prelude.{◌≡◌, [], IsTrue};
+ghost use Rattle.replay_machine.specs.Within.{may_leave};
 
 use crate::two_runs::TwoRuns;
 
@@ -18,5 +19,6 @@ pub struct Lockstep {
     ghost uncounted: { runs.tally.needed ≡ 0 },
     ghost lacks_none: { runs.replay.missing ≡ 0 },
     ghost unused: { runs.replay.taken ≡ 0 },
+    ghost leaves: { IsTrue (may_leave runs.replay.enclosures.regions runs.real) },
     ghost alike: { runs.real.control.output ≡ runs.replay.state.control.output },
 }

@@ -3,6 +3,7 @@ ghost use Rattle.std.specs.Prelude.{◌≤◌, length};
 use crate::{Lockstep, ReplayStop, Verdict, Why};
 use cut_file::read_cut;
 use elf32_loader::load_image;
+use enclosure_regions::{Regions, read_regions};
 use flow_base::{Bytes, NoMemory};
 use replay_machine::Mark;
 use rv32im_machine::Fault;
@@ -17,7 +18,7 @@ const HEAD: [u8; 68] = [
 ];
 
 /// Reads a secret byte to 0x11000, by an ECALL at 0x10010.
-const READ: [u32; 5] = [
+pub(crate) const READ: [u32; 5] = [
     0x0030_0513, // 0x10000 addi a0,x0,3
     0x0001_15b7, // 0x10004 lui a1,0x11
     0x0010_0613, // 0x10008 addi a2,x0,1
@@ -39,7 +40,7 @@ const LOW: [u32; 9] = [
 ];
 
 /// Writes the byte.
-const ECHO: [u32; 6] = [
+pub(crate) const ECHO: [u32; 6] = [
     0x0010_0513, // 0x10014 addi a0,x0,1
     0x0400_0893, // 0x10018 addi a7,x0,64
     0x0000_0073, // 0x1001c ecall
@@ -119,29 +120,31 @@ const OUTSIDE: [u32; 1] = [
     0x0000_4283, // 0x10000 lbu t0,0(x0)
 ];
 
-const ALL_BITS: &str = "secret 1\nbits 8\npoint 0 0x00010010 in rest 0x000000ff\n";
+pub(crate) const ALL_BITS: &str = "secret 1\nbits 8\npoint 0 0x00010010 in rest 0x000000ff\n";
 
 const LOW_BIT: &str = "secret 1\nbits 1\npoint 0 0x00010018 rs 1*0x00000001 rest 0x00000001\n";
 
-const NO_BITS: &str = "secret 1\nbits 0\n";
+pub(crate) const NO_BITS: &str = "secret 1\nbits 0\n";
 
 /// What is expected of a verdict: the crossing bits as a hex text, the output and the status, or the reason.
 #[derive(Clone, Copy)]
-enum Expected<'a> {
+pub(crate) enum Expected<'a> {
     Accepted(&'a str, &'a [u8], u8),
     Rejected(Why),
 }
 
-/// A program in two parts, the lines of a cut, a secret, a budget, a limit of turns, and the verdict.
+/// A program in two parts, its regions as the inside of a JSON list, the lines of a cut, a secret, a budget, a limit of
+/// turns, and the verdict.
 #[derive(Clone, Copy)]
-struct Row<'a> {
-    first: &'a [u32],
-    second: &'a [u32],
-    cut: &'a str,
-    secret: &'a [u8],
-    budget: u16,
-    turns: u32,
-    expected: Expected<'a>,
+pub(crate) struct Row<'a> {
+    pub first: &'a [u32],
+    pub second: &'a [u32],
+    pub regions: &'a str,
+    pub cut: &'a str,
+    pub secret: &'a [u8],
+    pub budget: u16,
+    pub turns: u32,
+    pub expected: Expected<'a>,
 }
 
 /// A program file of one segment at 0x10000.
@@ -169,6 +172,16 @@ fn short(bytes: &[u8]) -> &[u8]
     &bytes[..bytes.len().min(65_536)]
 }
 
+/// The regions of a row.
+fn regions_of(alloc: Global, inside: &str) -> Result<Regions, Fail> {
+    if inside.is_empty() {
+        return Ok(Regions::none(alloc));
+    }
+    let text = format!(in alloc; "{{\"regions\":[{inside}]}}")?;
+    let regions = read_regions(alloc, text.as_bytes()).map_err(|_| NoMemory)?;
+    Ok(regions)
+}
+
 /// The verdict of a row.
 fn verdict(alloc: Global, row: &Row) -> Result<Verdict, Fail> {
     let file = program(alloc, row.first, row.second)?;
@@ -178,10 +191,15 @@ fn verdict(alloc: Global, row: &Row) -> Result<Verdict, Fail> {
     let public = Bytes::from_slice(alloc, &[])?;
     let secret = Bytes::from_slice(alloc, short(row.secret))?;
     let budget = u32::from(row.budget);
-    let lockstep = Lockstep::new(alloc, &image, &public, &secret, &cut, budget, row.turns)?;
+    let regions = regions_of(alloc, row.regions)?;
+    let turns = row.turns;
+    let lockstep = Lockstep::new(
+        alloc, &image, &public, &secret, &regions, &cut, budget, turns,
+    )?;
     Ok(lockstep.run())
 }
 
+/// Whether a row is judged as it says.
 fn is_as_expected(alloc: Global, row: &Row) -> Result<bool, Fail> {
     Ok(match (verdict(alloc, row)?, row.expected) {
         (Verdict::Accepted { bits, output }, Expected::Accepted(crossing, bytes, status)) => {
@@ -195,7 +213,7 @@ fn is_as_expected(alloc: Global, row: &Row) -> Result<bool, Fail> {
 }
 
 /// The index of the first row that is judged otherwise than it says, or how many there are.
-fn judged_as_said(alloc: Global, rows: &[Row]) -> Result<usize, Fail> {
+pub(crate) fn judged_as_said(alloc: Global, rows: &[Row]) -> Result<usize, Fail> {
     let mut index = 0;
     for row in rows {
         if !is_as_expected(alloc, row)? {
@@ -206,7 +224,8 @@ fn judged_as_said(alloc: Global, rows: &[Row]) -> Result<usize, Fail> {
     Ok(index)
 }
 
-fn accepts<'a>(
+/// A row without regions that is accepted, with status 0.
+pub(crate) fn accepts<'a>(
     first: &'a [u32],
     second: &'a [u32],
     cut: &'a str,
@@ -217,6 +236,7 @@ fn accepts<'a>(
     Row {
         first,
         second,
+        regions: "",
         cut,
         secret,
         budget: 16,
@@ -225,7 +245,8 @@ fn accepts<'a>(
     }
 }
 
-fn rejects<'a>(
+/// A row without regions that is rejected.
+pub(crate) fn rejects<'a>(
     first: &'a [u32],
     second: &'a [u32],
     cut: &'a str,
@@ -235,6 +256,7 @@ fn rejects<'a>(
     Row {
         first,
         second,
+        regions: "",
         cut,
         secret,
         budget: 16,
@@ -243,7 +265,8 @@ fn rejects<'a>(
     }
 }
 
-fn mark(address: u32, bits: u64, output: u32, exited: bool) -> Mark {
+/// A mark.
+pub(crate) fn mark(address: u32, bits: u64, output: u32, exited: bool) -> Mark {
     Mark {
         address,
         bits,
@@ -252,6 +275,7 @@ fn mark(address: u32, bits: u64, output: u32, exited: bool) -> Mark {
     }
 }
 
+/// Secrets that are accepted without regions.
 #[test]
 fn runs_are_accepted(rt: HostRuntime) -> Result<(), Fail> {
     let alloc = rt.alloc();
@@ -280,6 +304,7 @@ fn runs_are_accepted(rt: HostRuntime) -> Result<(), Fail> {
     Ok(())
 }
 
+/// Each reason of a rejection without regions.
 #[test]
 fn runs_are_rejected(rt: HostRuntime) -> Result<(), Fail> {
     let alloc = rt.alloc();

@@ -1,36 +1,17 @@
 ghost use Rattle.std.specs.Prelude.{◌≡◌, ℕ, ◌+◌, ◌≤◌, ◌++◌, List, length, take, None};
-ghost use Rattle.flow_base.specs.declared.points.Point.{Point as APoint};
 ghost use Rattle.crossing_bits.specs.Streams.{left_of};
 ghost use Rattle.replay_machine.specs.Standing.{Stands};
-ghost use Rattle.replay_machine.specs.Runs.{Masks, Place as APlace, passed};
-ghost use Rattle.replay_machine.specs.Visits.{IsAhead};
-ghost use Rattle.rv32im_machine.specs.Folds.{Step};
-ghost use Rattle.rv32im_machine.specs.Rows.{walk_of};
+ghost use Rattle.replay_machine.specs.Runs.{Masks, ReplayPlace as APlace};
 ghost use Rattle.lockstep_replay.specs.Differences.{byte_difference, status_difference as difference_of_ends, first_of};
-ghost use Rattle.lockstep_replay.specs.Sides.{tally_of};
-ghost use Rattle.lockstep_replay.specs.Tapes.{Tallies};
-ghost use Rattle.lockstep_replay.specs.Turning.{crossed, fed_turn, why_compared, Joins, InStep};
+ghost use Rattle.lockstep_replay.specs.Turning.{fed_turn, why_compared, Joins, InStep};
 ghost use Rattle.lockstep_replay.specs.Verdicts.{why_output, why_replay};
 
 use crate::comparing::{is_same, mark_at, output_difference, status_difference};
 use crate::differences::Difference;
-use crate::tallies::Tallying;
 use crate::verdicts::{ReplayStop, Why};
 use crossing_bits::Bits;
 use replay_machine::{Replay, ReplayTurn};
-use rv32im_machine::{Machine, Stepped, turn_by};
-
-/// One turn of the real run, whose bits are tallied.
-pub(crate) fn real_turn(real: &mut Machine, tally: &mut Tallying)
-    ensures state { real.new ≡ Step real.old }
-    ensures budget { tally.new.budget ≡ tally.old.budget }
-    ensures tally { (masks : Masks) (past : List APoint) → IsAhead tally.old.masks masks past →
-        Tallies (tally_of tally.old) (crossed masks past real.old) (tally_of tally.new) }
-    ensures ahead { (masks : Masks) (past : List APoint) → IsAhead tally.old.masks masks past →
-        IsAhead tally.new.masks masks (passed past (walk_of real.old)) }
-{
-    let _ = turn_by(real, tally);
-}
+use rv32im_machine::{Machine, Stepped};
 
 fn first_difference(first: Option<Difference>, second: Option<Difference>) -> Option<Difference>
     ensures { result ≡ first_of first second }
@@ -89,27 +70,27 @@ fn compared(real: &Machine, needed: u32, replay: &Replay, mode: Stepped, from: u
 }
 
 /// One turn of the replay on the bits that are left, beside a real run that has come through its turn; what fails.
-/// Before the turn the replay had the first `from` bytes of the real run's output, and `needed` is the number of bits that it
+/// Before the turn the real run's output begins with the replay's, and `needed` is the number of bits that the replay
 /// has used with those that are left.
 pub(crate) fn replay_beside(
     real: &Machine,
     replay: &mut Replay,
     bits: &mut Bits,
     needed: u32,
-    from: usize,
 ) -> Option<Why>
-    requires from { from ≡ length replay.old.state.control.output }
     requires begins { (more : List ℕ) × (real.now.control.output ≡ replay.old.state.control.output ++ more) }
     requires wanted { replay.old.missing ≡ 0 }
     requires used { replay.old.taken + length (left_of bits.old) ≡ needed }
     ensures why { (masks : Masks) (place : APlace) → Stands replay.old masks place →
-        result ≡ why_replay real.now needed (fed_turn masks place (left_of bits.old)) }
+        result ≡ why_replay real.now needed (fed_turn replay.old.enclosures masks place (left_of bits.old)) }
     ensures joins { (masks : Masks) (place : APlace) → Stands replay.old masks place → result ≡ None →
-        Joins replay.new masks (fed_turn masks place (left_of bits.old)) }
+        Joins replay.new masks (fed_turn replay.old.enclosures masks place (left_of bits.old)) }
+    ensures enclosures { replay.new.enclosures ≡ replay.old.enclosures }
     ensures bits { bits.new.bits ≡ bits.old.bits }
     ensures room { bits.new.room ≡ bits.old.room }
     ensures agrees { result ≡ None → InStep real.now replay.new bits.new needed }
 {
+    let from = replay.output().len();
     let turned = replay.turn(bits);
     prove!(bits.left() <= bits.count());
     match turned {
@@ -117,5 +98,8 @@ pub(crate) fn replay_beside(
         ReplayTurn::Exited(status) => compared(real, needed, replay, Stepped::Exited(status), from),
         ReplayTurn::Wants(missing) => Some(Why::ReplayFault(ReplayStop::Short { missing })),
         ReplayTurn::Stopped(fault) => Some(Why::ReplayFault(ReplayStop::Guest(fault))),
+        ReplayTurn::RangeOutside { region, range } => {
+            Some(Why::ReplayFault(ReplayStop::RangeOutside { region, range }))
+        }
     }
 }

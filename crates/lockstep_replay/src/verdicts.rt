@@ -1,4 +1,5 @@
 use crossing_bits::Bits;
+use enclosure_regions::Break;
 use flow_base::Output;
 use replay_machine::Mark;
 use rv32im_machine::Fault;
@@ -8,6 +9,9 @@ use rv32im_machine::Fault;
 pub enum ReplayStop {
     /// The replayed guest is stopped.
     Guest(Fault),
+    /// At an entry or a skip of the region with this number a range is not inside guest memory: the first such, counted
+    /// from 0.
+    RangeOutside { region: u16, range: u32 },
     /// A mask needs so many bits more than are left.
     Short { missing: u8 },
 }
@@ -18,6 +22,8 @@ pub enum ReplayStop {
 pub enum Why {
     /// The real run is stopped in this turn.
     RealFault(Fault),
+    /// The real run breaks a region in this turn.
+    RegionBreak(Break),
     /// The crossing bits up to and with this turn exceed the budget; `needed` is their number, or 4,294,967,295 where
     /// there are more.
     BudgetOverrun { budget: u32, needed: u32 },

@@ -1,5 +1,5 @@
 -- One passing of a replay.
-use Rattle.std.proofs.Common.{◌≡◌, ℕ, zero, suc, ◌-◌, ◌≤◌, ◌<◌, List, ◌++◌, length, take, drop, Bool, refl, sym, ap}
+use Rattle.std.proofs.Common.{◌≡◌, ℕ, zero, suc, ◌-◌, ◌≤◌, ◌<◌, List, length, take, drop, Bool, refl, ap}
 use Rattle.std.proofs.Common.{◌∙◌, subst, arith, Result, Ok, Err}
 use Rattle.flow_base.specs.declared.points.Point.{Point}
 use Rattle.flow_base.specs.Words.{bit_count, patched}
@@ -8,9 +8,9 @@ use Rattle.crossing_bits.specs.Streams.{Stream, left_of}
 use Rattle.crossing_bits.proofs.Feeding.{feed_enough, feed_few}
 use Rattle.rv32im_machine.specs.State.{State}
 use Rattle.rv32im_machine.specs.Playing.{Played, Finished, Halted, outcome}
-use Rattle.replay_machine.specs.Runs.{Place, Masks, replayed}
-use Rattle.rv32im_machine.specs.Rows.{walk_of}
-use Rattle.replay_machine.proofs.Growth.{replay_grows}
+use Rattle.replay_machine.specs.Runs.{ReplayPlace as Place, Masks, replayed}
+use Rattle.rv32im_machine.specs.Language.{Walk}
+use Rattle.replay_machine.proofs.Ending.{AtEnds, replayed_at_end}
 use Rattle.replay_machine.specs.Sides.{Side, Comes, Replays, fed_of}
 
 -- the same string, seen from before
@@ -19,6 +19,7 @@ pub replays-from : (masks : Masks) (before after : Stream) (fed : Fed Place) (ou
 replays-from masks before after (Fed' place rest) (Finished reached end) same room h =
     record {
       state = h.state;
+      outside = h.outside;
       ahead = h.ahead;
       left = h.left;
       missing = h.missing;
@@ -118,14 +119,12 @@ short-goes masks before after missing later mask wanted value next out none e fe
     (next value) out
     none few is same h)
 
--- the output of a replay grows
-pub comes-grows : (masks : Masks) (past : List Point) (state : State) (bits : List Bool) (before : Stream)
-    (fed : Fed Place)
-    (reached : State) (end : Side) → feed (replayed masks past (walk_of state)) bits ≡ fed →
-    Comes masks before fed reached end → end.missing ≡ 0 →
-    (more : List ℕ) × (reached.control.output ≡ state.control.output ++ more)
-comes-grows masks past state bits before (Fed' place rest) reached end e h none =
-    let grown = replay_grows masks past state bits place rest e in
-    (grown.0, ap (λ (s : State). s.control.output) (sym h.state) ∙ grown.1)
-comes-grows masks past state bits before (Short missing) reached end e h none =
+-- what is so at each end of a turn is so where the replay has come to
+pub comes-so : (P : State → Type 0) (masks : Masks) (past : List Point) (walk : Walk) (bits : List Bool)
+    (before : Stream) (fed : Fed Place) (reached : State) (end : Side) →
+    AtEnds P walk → feed (replayed masks past walk) bits ≡ fed → Comes masks before fed reached end →
+    end.missing ≡ 0 → P reached
+comes-so P masks past walk bits before (Fed' place rest) reached end so e h none =
+    subst P h.state (replayed_at_end P masks past walk bits place rest so e)
+comes-so P masks past walk bits before (Short missing) reached end so e h none =
     absurd (omega (arith, none, h.missing, h.some))

@@ -1,15 +1,20 @@
--- A replay that has exited or is stopped stands still.
-use Rattle.std.proofs.Common.{◌≡◌, ℕ, ◌<◌, ◌^◌, refl, sym, ap, subst, ◌∙◌, arith}
-use Rattle.crossing_bits.specs.Askers.{Over, feed}
+-- A replay that a range has ended, or that has exited or is stopped, stands still.
+use Rattle.std.proofs.Common.{◌≡◌, ℕ, ◌<◌, ◌^◌, refl, sym, ap, subst, ◌∙◌, arith, inl, inr, ◌⊎◌, List}
+use Rattle.std.proofs.Common.{Option, Some, None}
+use Rattle.crossing_bits.specs.Askers.{Asker, Over, feed}
 use Rattle.crossing_bits.specs.Streams.{Stream, left_of}
 use Rattle.rv32im_machine.specs.declared.stepping.Stepped.{Stepped}
 use Rattle.rv32im_machine.specs.declared.stepping.Stepped.TheVariants.{Ran, Exited, Stopped}
 use Rattle.rv32im_machine.specs.State.{State, Setting, Control}
 use Rattle.rv32im_machine.specs.Language.{Ends, Ended, walked, none_held}
 use Rattle.rv32im_machine.specs.Rows.{turn_in, walk_of}
+use Rattle.enclosure_regions.specs.declared.region_parts.Region.{Region}
 use Rattle.replay_machine.specs.declared.turns.ReplayTurn.{ReplayTurn}
-use Rattle.replay_machine.specs.Standing.{Standing, Stands, Turned, mode_answer, taken_after}
-use Rattle.replay_machine.specs.Runs.{Place, Masks, replayed, replay_turn}
+use Rattle.replay_machine.specs.Enclosures.{Enclosures, Kind, Steps, kind_of, kind_in}
+use Rattle.replay_machine.specs.Guests.{guest_walk, kind_walk, replay_kind_walk, replay_walk}
+use Rattle.replay_machine.specs.Breaking.{Outside, kind_outside_range, range_outside}
+use Rattle.replay_machine.specs.Standing.{Standing, Stands, Turned, end_answer, mode_answer, taken_after}
+use Rattle.replay_machine.specs.Runs.{ReplayPlace, Masks, replayed, replay_turn}
 
 -- it has exited, or is stopped
 abbrev pub IsOver : Stepped → Type 0
@@ -29,19 +34,95 @@ still_walk state h =
     ap (λ t. walked state.setting state.secret t state.store none_held)
     (still_turn state.control.mode state.setting state.control h)
 
-pub still_replay : (masks : Masks) (place : Place) → IsOver place.state.control.mode →
-    replay_turn masks place ≡ Over place
-unfolding replayed
-still_replay masks place h = ap (λ w. replayed masks place.past w) (still_walk place.state h)
+still_in : (mode : Stepped) (regions : List Region) (control : Control) → IsOver mode →
+    kind_in mode regions control ≡ Steps None
+still_in Ran regions control h = absurd h
+still_in (Exited status) regions control h = refl
+still_in (Stopped fault) regions control h = refl
 
-pub ended-turn : (masks : Masks) (place : Place) (standing : Standing) (stream : Stream) (mode : Stepped)
-    (answer : ReplayTurn) →
-    Stands standing masks place → mode ≡ standing.state.control.mode → IsOver mode → answer ≡ mode_answer mode →
-    Turned masks (feed (replay_turn masks place) (left_of stream)) standing stream answer
-ended-turn masks place standing stream mode answer stands is over answers =
+-- such a guest makes a step, which leaves it as it is
+pub still_kind : (regions : List Region) (control : Control) → IsOver control.mode →
+    kind_of regions control ≡ Steps None
+still_kind regions control h = still_in control.mode regions control h
+
+pub still_guest : (regions : List Region) (state : State) → IsOver state.control.mode →
+    guest_walk regions state ≡ Ended state
+still_guest regions state h =
+    ap (λ (k : Kind). kind_walk k state) (still_kind regions state.control h) ∙ still_walk state h
+
+pub still_guest_replay : (enclosures : Enclosures) (state : State) → IsOver state.control.mode →
+    replay_walk enclosures state ≡ Ended state
+still_guest_replay enclosures state h =
+    ap (λ (k : Kind). replay_kind_walk enclosures k state) (still_kind enclosures.regions state.control h)
+    ∙ still_walk state h
+
+still_inside : (regions : List Region) (state : State) → IsOver state.control.mode → range_outside regions state ≡ None
+still_inside regions state h =
+    ap (λ (k : Kind). kind_outside_range k state) (still_kind regions state.control h)
+
+replayed_still : (enclosures : Enclosures) (masks : Masks) (place : ReplayPlace) → place.outside ≡ None →
+    replayed masks place.past (Ended place.state) ≡ Over place
+unfolding replayed
+replayed_still enclosures masks place inside =
+    ap (λ (o : Option Outside). Over (record { state = place.state; past = place.past; outside = o })) (sym inside)
+
+-- a turn where no range is outside is that of the walk
+pub replay_walks : (enclosures : Enclosures) (masks : Masks) (place : ReplayPlace) → place.outside ≡ None →
+    range_outside enclosures.regions place.state ≡ None →
+    replay_turn enclosures masks place ≡ replayed masks place.past (replay_walk enclosures place.state)
+replay_walks enclosures masks place inside within = rw (inside, within) refl
+
+pub replay_ends : (enclosures : Enclosures) (masks : Masks) (place : ReplayPlace) (outside : Outside) →
+    place.outside ≡ None → range_outside enclosures.regions place.state ≡ Some outside →
+    replay_turn enclosures masks place
+    ≡ Over (record { state = place.state; past = place.past; outside = Some outside })
+replay_ends enclosures masks place outside inside is = rw (inside, is) refl
+
+pub still_outside : (enclosures : Enclosures) (masks : Masks) (place : ReplayPlace) (outside : Outside) →
+    place.outside ≡ Some outside → replay_turn enclosures masks place ≡ Over place
+still_outside enclosures masks place outside is = rw is refl
+
+pub still_replay : (enclosures : Enclosures) (masks : Masks) (place : ReplayPlace) → place.outside ≡ None →
+    IsOver place.state.control.mode → replay_turn enclosures masks place ≡ Over place
+still_replay enclosures masks place inside h =
+    replay_walks enclosures masks place inside (still_inside enclosures.regions place.state h)
+    ∙ ap (λ w. replayed masks place.past w) (still_guest_replay enclosures place.state h)
+    ∙ replayed_still enclosures masks place inside
+
+pub none-or : {A : Type 0} (found : Option A) → (found ≡ None) ⊎ (found ≡ None → ⊥)
+none-or None = inl refl
+none-or (Some value) = inr (λ none. absurd (cc))
+
+-- ---- a call that changes nothing
+
+over-turn : (asker : Asker ReplayPlace) (masks : Masks) (place : ReplayPlace) (standing : Standing) (stream : Stream)
+    (answer : ReplayTurn) → asker ≡ Over place → Stands standing masks place →
+    answer ≡ end_answer place.outside place.state.control.mode →
+    Turned masks (feed asker (left_of stream)) standing stream answer
+over-turn asker masks place standing stream answer is stands answers =
+    rw is (record { answers = answers; stands = stands; left = refl })
+
+pub ended-turn : (enclosures : Enclosures) (masks : Masks) (place : ReplayPlace) (standing : Standing) (stream : Stream)
+    (mode : Stepped) (answer : ReplayTurn) →
+    Stands standing masks place → standing.outside ≡ None → mode ≡ standing.state.control.mode → IsOver mode →
+    answer ≡ mode_answer mode →
+    Turned masks (feed (replay_turn enclosures masks place) (left_of stream)) standing stream answer
+ended-turn enclosures masks place standing stream mode answer stands inside is over answers =
     let same : mode ≡ place.state.control.mode = is ∙ ap (λ (s : State). s.control.mode) (sym stands.state) in
-    rw (still_replay masks place (subst IsOver same over))
-    (record { answers = answers ∙ ap mode_answer same; stands = stands; left = refl })
+    let within : place.outside ≡ None = stands.outside ∙ inside in
+    over-turn (replay_turn enclosures masks place) masks place standing stream answer
+    (still_replay enclosures masks place within (subst IsOver same over)) stands
+    (rw within (answers ∙ ap mode_answer same))
+
+pub outside-turn : (enclosures : Enclosures) (masks : Masks) (place : ReplayPlace) (standing : Standing)
+    (stream : Stream) (outside : Outside) (answer : ReplayTurn) →
+    Stands standing masks place → standing.outside ≡ Some outside →
+    answer ≡ ReplayTurn.RangeOutside outside.region outside.range →
+    Turned masks (feed (replay_turn enclosures masks place) (left_of stream)) standing stream answer
+outside-turn enclosures masks place standing stream outside answer stands is answers =
+    let there : place.outside ≡ Some outside = stands.outside ∙ is in
+    over-turn (replay_turn enclosures masks place) masks place standing stream answer
+    (still_outside enclosures masks place outside there) stands (rw there answers)
 
 pub taken-same : (taken held : ℕ) (stream : Stream) → held ≡ taken → held < 2 ^ 64 →
     taken ≡ taken_after taken stream stream

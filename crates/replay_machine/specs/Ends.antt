@@ -18,6 +18,6 @@ pub replays-Ended : (Stop : Type 0) (ahead : List CutPoint) (stream : Stream) (m
     (Finished state (record { ahead = ahead; stream = stream; missing = missing }))
 unfolding replayed
 replays-Ended Stop ahead stream zero masks past state known =
-    record { state = refl; ahead = known; left = refl; missing = refl; bits = refl; room = refl }
+    record { state = refl; outside = refl; ahead = known; left = refl; missing = refl; bits = refl; room = refl }
 replays-Ended Stop ahead stream (suc missing) masks past state known =
     record { some = omega arith; missing = refl; bits = refl; room = refl }

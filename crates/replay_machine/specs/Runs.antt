@@ -1,21 +1,35 @@
--- The real run, and the replay of a string: both are read off the same turns, for any masks.
-use Rattle.std.specs.Prelude.{ℕ, zero, suc, List, [], ◌∷◌, if◌then◌else◌}
+-- The real run, and the replay of a string: both are read off the same turns, for any regions and any masks.
+use Rattle.std.specs.Prelude.{ℕ, zero, suc, List, [], ◌∷◌, Bool, true, false, Option, Some, None, if◌then◌else◌}
 use Rattle.flow_base.specs.declared.points.Point.{Point}
 use Rattle.flow_base.specs.Words.{bit_count, patched}
 use Rattle.crossing_bits.specs.Askers.{Asker, Asks, Over, then_ask}
 use Rattle.cut_file.specs.Masks.{is_same_point}
 use Rattle.rv32im_machine.specs.State.{State}
 use Rattle.rv32im_machine.specs.Language.{Walk, Looked, Passed, Decided, Gave, Moved, Saved, Restored, Ended}
-use Rattle.rv32im_machine.specs.Rows.{walk_of}
-use Rattle.rv32im_machine.specs.Folds.{Step}
+use Rattle.rv32im_machine.specs.Folds.{real_end}
+use Rattle.enclosure_regions.specs.declared.break_kinds.Break.{Break}
+use Rattle.replay_machine.specs.Enclosures.{Enclosures, is_enclosed}
+use Rattle.replay_machine.specs.Guests.{guest_walk, replay_walk}
+use Rattle.replay_machine.specs.Breaking.{Breaks, Outside, range_outside}
 
--- a state of a run, and the points that the run has passed so far, the latest first
+-- a state of the real run, the points that the run has passed so far, the latest first, and the break of a region that
+-- ended the run, if one did
 pub record Place : Type 0 where
   pub state : State
   pub past : List Point
+  pub broken : Option Break
 
 abbrev pub fresh : State → Place
-fresh state = record { state = state; past = [] }
+fresh state = record { state = state; past = []; broken = None }
+
+-- a state of the replay, the points that it has passed so far, and the range that ended it, if one did
+pub record ReplayPlace : Type 0 where
+  pub state : State
+  pub past : List Point
+  pub outside : Option Outside
+
+abbrev pub replay_fresh : State → ReplayPlace
+replay_fresh state = record { state = state; past = []; outside = None }
 
 -- the mask at each visit of each point; visits of one point are counted from 1
 abbrev pub Masks : Type 0
@@ -44,19 +58,45 @@ passed past (Saved walk) = passed past walk
 passed past (Restored registers walk replayed) = passed past walk
 passed past (Ended state) = past
 
-abbrev pub real_turn : Place → Place
-real_turn place = record { state = Step place.state; past = passed place.past (walk_of place.state) }
+-- the points inside a skipped region are never visited
+abbrev pub visited : Bool → List Point → Walk → List Point
+visited true past walk = past
+visited false past walk = passed past walk
 
--- the real run after so many turns
-unfoldable pub real_after : ℕ → Place → Place
-real_after zero place = place
-real_after (suc turns) place = real_turn (real_after turns place)
+-- a turn of a run that no break has ended
+abbrev pub unbroken_turn : Enclosures → Place → Place
+unbroken_turn enclosures place = record {
+  state = real_end (guest_walk enclosures.regions place.state);
+  past = visited (is_enclosed enclosures place.state.control) place.past (guest_walk enclosures.regions place.state);
+  broken = Breaks enclosures.regions place.state;
+}
+
+abbrev pub turn_unless : Option Break → Enclosures → Place → Place
+turn_unless None enclosures place = unbroken_turn enclosures place
+turn_unless (Some broken) enclosures place = place
+
+-- a run that broke a region stands still
+abbrev pub real_turn : Enclosures → Place → Place
+real_turn enclosures place = turn_unless place.broken enclosures place
+
+-- Real: the real run after so many turns
+unfoldable pub real_after : Enclosures → ℕ → Place → Place
+real_after enclosures zero place = place
+real_after enclosures (suc turns) place = real_turn enclosures (real_after enclosures turns place)
+
+-- How many common turns so many turns of the real run are: each turn is one, but a skipped region's entry and the turns
+-- inside it belong to the common turn of its leave.
+unfoldable pub common_turns : Enclosures → ℕ → Place → ℕ
+common_turns enclosures zero place = zero
+common_turns enclosures (suc turns) place =
+    if is_enclosed enclosures (real_after enclosures turns place).state.control
+    then common_turns enclosures turns place else suc (common_turns enclosures turns place)
 
 -- ---- the replay
 
 -- a turn in which at each visit the bits of the value under the mask are replaced by the next bits of a string, lowest
 -- first, and that value goes on; at a leave the kept registers are put back
-unfoldable pub replayed : Masks → List Point → Walk → Asker Place
+unfoldable pub replayed : Masks → List Point → Walk → Asker ReplayPlace
 replayed masks past (Looked seen value walk) = replayed masks past walk
 replayed masks past (Passed point place work sources value go) =
     Asks (bit_count (mask_at masks past point))
@@ -70,12 +110,25 @@ replayed masks past (Gave point place value go) =
 replayed masks past (Moved place shape source value walk) = replayed masks past walk
 replayed masks past (Saved walk) = replayed masks past walk
 replayed masks past (Restored registers walk back) = replayed masks past back
-replayed masks past (Ended state) = Over (record { state = state; past = past })
+replayed masks past (Ended state) = Over (record { state = state; past = past; outside = None })
 
-abbrev pub replay_turn : Masks → Place → Asker Place
-replay_turn masks place = replayed masks place.past (walk_of place.state)
+-- a turn of a replay, where no range is outside of guest memory
+abbrev pub replay_inside : Option Outside → Enclosures → Masks → ReplayPlace → Asker ReplayPlace
+replay_inside None enclosures masks place = replayed masks place.past (replay_walk enclosures place.state)
+replay_inside (Some outside) enclosures masks place =
+    Over (record { state = place.state; past = place.past; outside = Some outside })
+
+abbrev pub replay_unless : Option Outside → Enclosures → Masks → ReplayPlace → Asker ReplayPlace
+replay_unless None enclosures masks place =
+    replay_inside (range_outside enclosures.regions place.state) enclosures masks place
+replay_unless (Some outside) enclosures masks place = Over place
+
+-- a replay that was ended by a range stands still
+abbrev pub replay_turn : Enclosures → Masks → ReplayPlace → Asker ReplayPlace
+replay_turn enclosures masks place = replay_unless place.outside enclosures masks place
 
 -- Replay: so many turns of a run that asks for the bits of a string
-unfoldable pub Replay : Masks → ℕ → Place → Asker Place
-Replay masks zero place = Over place
-Replay masks (suc turns) place = then_ask (Replay masks turns place) (replay_turn masks)
+unfoldable pub Replay : Enclosures → Masks → ℕ → ReplayPlace → Asker ReplayPlace
+Replay enclosures masks zero place = Over place
+Replay enclosures masks (suc turns) place =
+    then_ask (Replay enclosures masks turns place) (replay_turn enclosures masks)

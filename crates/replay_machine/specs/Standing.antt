@@ -1,5 +1,6 @@
 -- Where a replay stands, and what a turn of it answers.
-use Rattle.std.specs.Prelude.{◌≡◌, ℕ, zero, suc, ◌+◌, ◌-◌, ◌^◌, min, List, length, Bool, true, false}
+use Rattle.std.specs.Prelude.{◌≡◌, ℕ, zero, suc, ◌+◌, ◌-◌, ◌^◌, min, List, length, Bool, true, false, Option}
+use Rattle.std.specs.Prelude.{Some, None}
 use Rattle.cut_file.specs.declared.points.CutPoint.{CutPoint}
 use Rattle.crossing_bits.specs.Askers.{Fed, Fed', Short}
 use Rattle.crossing_bits.specs.Streams.{Stream, left_of}
@@ -11,19 +12,26 @@ use Rattle.replay_machine.specs.declared.turns.ReplayTurn.{ReplayTurn}
 use Rattle.replay_machine.specs.declared.turns.ReplayTurn.TheVariants.{Ran as ReplayRan, Wants}
 use Rattle.replay_machine.specs.declared.turns.ReplayTurn.TheVariants.{Exited as ReplayExited}
 use Rattle.replay_machine.specs.declared.turns.ReplayTurn.TheVariants.{Stopped as ReplayStopped}
-use Rattle.replay_machine.specs.Runs.{Place, Masks}
+use Rattle.replay_machine.specs.declared.turns.ReplayTurn.TheVariants.{RangeOutside}
+use Rattle.replay_machine.specs.Enclosures.{Enclosures}
+use Rattle.replay_machine.specs.Breaking.{Outside}
+use Rattle.replay_machine.specs.Runs.{ReplayPlace, Masks}
 use Rattle.replay_machine.specs.Visits.{IsAhead}
 
--- a replay: its machine, the masks that are ahead, how many bits are missing (0: none), and how many it has taken
+-- a replay: its regions, its machine, the range that ended it if one did, the masks that are ahead, how many bits are
+-- missing (0: none), and how many it has taken
 pub record Standing : Type 0 where
+  pub enclosures : Enclosures
   pub state : State
+  pub outside : Option Outside
   pub ahead : List CutPoint
   pub missing : ℕ
   pub taken : ℕ
 
 -- the replay stands at this place of a run under the masks, and wants nothing
-pub record Stands (standing : Standing) (masks : Masks) (place : Place) : Type 0 where
+pub record Stands (standing : Standing) (masks : Masks) (place : ReplayPlace) : Type 0 where
   pub state : place.state ≡ standing.state
+  pub outside : place.outside ≡ standing.outside
   pub ahead : IsAhead standing.ahead masks place.past
   pub missing : standing.missing ≡ 0
 
@@ -32,15 +40,20 @@ mode_answer Ran = ReplayRan
 mode_answer (Exited status) = ReplayExited status
 mode_answer (Stopped fault) = ReplayStopped fault
 
--- what a turn answers, by how many bits are missing after it and by how the machine stands
-abbrev pub turn_answer : ℕ → Stepped → ReplayTurn
-turn_answer zero mode = mode_answer mode
-turn_answer (suc missing) mode = Wants (suc missing)
+-- what a turn answers that wants no bit
+abbrev pub end_answer : Option Outside → Stepped → ReplayTurn
+end_answer None mode = mode_answer mode
+end_answer (Some outside) mode = RangeOutside outside.region outside.range
+
+-- what a turn answers, by how many bits are missing after it, by the range that ended it, and by how the machine stands
+abbrev pub turn_answer : ℕ → Option Outside → Stepped → ReplayTurn
+turn_answer zero outside mode = end_answer outside mode
+turn_answer (suc missing) outside mode = Wants (suc missing)
 
 -- the turn has come to a place and left these bits, or so many bits were missing
-pub record Arrived (masks : Masks) (place : Place) (rest : List Bool) (after : Standing) (stream : Stream)
+pub record Arrived (masks : Masks) (place : ReplayPlace) (rest : List Bool) (after : Standing) (stream : Stream)
     (answer : ReplayTurn) : Type 0 where
-  pub answers : answer ≡ mode_answer place.state.control.mode
+  pub answers : answer ≡ end_answer place.outside place.state.control.mode
   pub stands : Stands after masks place
   pub left : left_of stream ≡ rest
 
@@ -48,7 +61,7 @@ pub record Lacked (count : ℕ) (after : Standing) (answer : ReplayTurn) : Type 
   pub answers : answer ≡ Wants count
   pub missing : after.missing ≡ count
 
-abbrev pub Turned : Masks → Fed Place → Standing → Stream → ReplayTurn → Type 0
+abbrev pub Turned : Masks → Fed ReplayPlace → Standing → Stream → ReplayTurn → Type 0
 Turned masks (Fed' place rest) after stream answer = Arrived masks place rest after stream answer
 Turned masks (Short missing) after stream answer = Lacked missing after answer
 

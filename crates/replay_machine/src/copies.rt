@@ -41,3 +41,11 @@ pub(crate) fn first_cursors(alloc: Global, count: usize) -> Result<Vec<Cursor>, 
     let cursors = vec![in alloc; first; count]?;
     Ok(cursors)
 }
+
+/// A copy of a list of numbers.
+pub(crate) fn copy_numbers(alloc: Global, numbers: &List<u16>) -> Result<List<u16>, NoMemory>
+    ensures { IfOk result (λ copy. copy ≡ numbers.now) }
+{
+    let items = numbers.as_slice().to_vec(alloc)?;
+    Ok(List::from_vec(items))
+}

@@ -1,30 +1,36 @@
-ghost use Rattle.std.specs.Prelude.{◌≡◌, ◌≢◌, ℕ, ◌+◌, ◌<◌, ◌++◌, length, List, IfOk};
+ghost use Rattle.std.specs.Prelude.{◌≡◌, ◌≢◌, ℕ, ◌+◌, ◌<◌, ◌++◌, length, List as Seq, IfOk, None};
 ghost use Rattle.flow_base.specs.declared.points.Point.{Point as ThePoint};
 ghost use Rattle.elf32_loader.specs.Images.{picture_of};
 ghost use Rattle.cut_file.specs.Masks.{MaskAt};
 ghost use Rattle.crossing_bits.specs.Askers.{feed};
 ghost use Rattle.crossing_bits.specs.Streams.{left_of};
 ghost use Rattle.rv32im_machine.specs.declared.stepping.Stepped.TheVariants.{Ran};
-ghost use Rattle.rv32im_machine.specs.Rows.{walk_of};
 ghost use Rattle.rv32im_machine.specs.Start.{zeros};
-ghost use Rattle.replay_machine.specs.Runs.{Place, Masks, replayed, replay_turn};
+ghost use Rattle.replay_machine.specs.Enclosures.{is_skipped as skips};
+ghost use Rattle.replay_machine.specs.Guests.{replay_walk};
+ghost use Rattle.replay_machine.specs.Breaking.{range_outside};
+ghost use Rattle.replay_machine.specs.Runs.{ReplayPlace, Masks, replayed, replay_turn};
 ghost use Rattle.replay_machine.specs.Starts.{replay_guest};
 ghost use Rattle.replay_machine.specs.Visits.{IsAhead};
 ghost use Rattle.replay_machine.specs.Sides.{Side, Comes};
-ghost use Rattle.replay_machine.specs.Standing.{Stands, Turned, turn_answer, taken_after, has_exited, mark_of};
+ghost use Rattle.replay_machine.specs.Standing.{Stands, Turned, end_answer, turn_answer, taken_after, has_exited};
+ghost use Rattle.replay_machine.specs.Standing.{mark_of};
 
+use crate::copies::copy_numbers;
 use crate::marks::Mark;
+use crate::outsides::Outside;
+use crate::playing::play;
 use crate::replays::Replaying;
 use crate::turns::ReplayTurn;
 use crate::visit_masks::VisitMasks;
 use crossing_bits::Bits;
 use cut_file::Cut;
 use elf32_loader::Image;
-use flow_base::{Bytes, NoMemory};
-use rv32im_machine::{Machine, Stepped, turn_by};
+use enclosure_regions::{Region, Regions, copy_regions};
+use flow_base::{Bytes, List, NoMemory};
+use rv32im_machine::{Machine, Stepped};
 use std::alloc::Global;
 use std::marker::Model;
-use std::mem;
 
 /// The output of a run has at most 1 MiB.
 const OUTPUT_LIMIT: u32 = 1_048_576;
@@ -35,17 +41,29 @@ pub struct Replay {
     machine: Machine,
     side: Replaying,
     taken: u64,
+    regions: Regions,
+    skip: List<u16>,
+    outside: Option<Outside>,
 }
 
 impl Model for Replay {
-    ghost use Rattle.std.specs.Prelude.{◌<◌, ◌^◌};
+    ghost use Rattle.std.specs.Prelude.{◌≡◌, ◌<◌, ◌^◌, IsTrue};
     ghost use Rattle.replay_machine.specs.Standing.{Standing};
+    ghost use Rattle.replay_machine.specs.Within.{may_leave};
 
     ghost Value = { Standing };
 
-    ghost view = { λ r. record { state = r.machine; ahead = r.side.masks; missing = r.side.missing; taken = r.taken } };
+    ghost view = { λ r. record {
+      enclosures = record { regions = r.regions.items; skip = r.skip };
+      state = r.machine;
+      outside = r.outside;
+      ahead = r.side.masks;
+      missing = r.side.missing;
+      taken = r.taken;
+    } };
 
-    ghost invariant = { λ r. r.taken < 2 ^ 64 };
+    ghost invariant = { λ r. (r.taken < 2 ^ 64)
+        × (r.side.missing ≡ 0 → IsTrue (may_leave r.regions.items r.machine)) };
 }
 
 /// So many zeros.
@@ -58,28 +76,29 @@ fn zeroed(alloc: Global, count: usize) -> Result<Bytes, NoMemory>
     Ok(Bytes::from_vec(items))
 }
 
-/// One turn on the bits that are left.
-fn play(machine: &mut Machine, side: &mut Replaying, bits: &mut Bits)
-    requires { side.old.missing ≡ 0 }
-    ensures { (masks : Masks) (past : List ThePoint) → IsAhead side.old.masks masks past →
-        Comes masks bits.old (feed (replayed masks past (walk_of machine.old)) (left_of bits.old)) machine.new
-        (record { ahead = side.new.masks; stream = bits.new; missing = side.new.missing }) }
+/// What a turn answers that wants no bit, by the range that ended it, if one did, and how the machine stands.
+fn end_of(outside: Option<Outside>, mode: Stepped) -> ReplayTurn
+    ensures { result ≡ end_answer outside mode }
 {
-    mem::swap(&mut side.bits, bits);
-    let _ = turn_by(machine, side);
-    mem::swap(&mut side.bits, bits);
-}
-
-/// What a turn answers, after which so many bits are missing and the machine stands so.
-fn answer(missing: u8, mode: Stepped) -> ReplayTurn
-    ensures { result ≡ turn_answer missing mode }
-{
-    match missing {
-        0 => match mode {
+    match outside {
+        Some(outside) => ReplayTurn::RangeOutside {
+            region: outside.region,
+            range: outside.range,
+        },
+        None => match mode {
             Stepped::Ran => ReplayTurn::Ran,
             Stepped::Exited(status) => ReplayTurn::Exited(status),
             Stepped::Stopped(why) => ReplayTurn::Stopped(why),
         },
+    }
+}
+
+/// The same of any turn, after which so many bits are missing.
+fn answer(missing: u8, outside: Option<Outside>, mode: Stepped) -> ReplayTurn
+    ensures { result ≡ turn_answer missing outside mode }
+{
+    match missing {
+        0 => end_of(outside, mode),
         _ => ReplayTurn::Wants(missing),
     }
 }
@@ -97,16 +116,27 @@ fn is_exit(mode: Stepped) -> bool
 
 impl Replay {
     /// The replay of a program on its public input, before its first turn. Of the secret it knows the length alone,
-    /// which the cut names. `NoMemory` where there is not enough; no later call takes memory.
-    pub fn new(alloc: Global, image: &Image, public: &Bytes, cut: &Cut) -> Result<Replay, NoMemory>
+    /// which the cut names; it skips the regions that the cut names, each at its entry. It keeps copies of what it
+    /// needs. `NoMemory` where there is not enough; no later call takes memory.
+    pub fn new(
+        alloc: Global,
+        image: &Image,
+        public: &Bytes,
+        regions: &Regions,
+        cut: &Cut,
+    ) -> Result<Replay, NoMemory>
         ensures stands { IfOk result (λ replay. Stands replay (MaskAt cut.now.points)
             (replay_guest (picture_of image.now) public.now cut.now.secret_length)) }
+        ensures enclosures { IfOk result (λ replay. replay.enclosures ≡
+            (record { regions = regions.now.items; skip = cut.now.skip })) }
         ensures untaken { IfOk result (λ replay. replay.taken ≡ 0) }
     {
         let masks = VisitMasks::new(alloc, cut)?;
         let zeros = zeroed(alloc, cut.secret_length as usize)?;
         let machine = Machine::new(alloc, image, public, &zeros, OUTPUT_LIMIT)?;
         let bits = Bits::with_room(alloc, 0)?;
+        let regions = copy_regions(alloc, regions)?;
+        let skip = copy_numbers(alloc, &cut.skip)?;
         let side = Replaying {
             masks,
             bits,
@@ -116,27 +146,60 @@ impl Replay {
             machine,
             side,
             taken: 0,
+            regions,
+            skip,
+            outside: None,
         })
     }
 
-    /// One turn on the bits that are left of a string. `Wants` comes exactly where a mask of the turn needs so many
-    /// bits more than are left; the turn then goes on to its end with the other values as they are. After an answer
-    /// other than `Ran` each later call gives the same answer and changes nothing.
+    /// One turn on the bits that are left of a string: an instruction, the entry or the leave of a region, or its skip.
+    /// `Wants` comes exactly where a mask of the turn needs so many bits more than are left; the turn then goes on to
+    /// its end with the other values as they are. `RangeOutside` comes exactly where a region is entered or skipped one
+    /// of whose ranges is not inside guest memory; nothing is then done. After an answer other than `Ran` each later
+    /// call gives the same answer and changes nothing.
     pub fn turn(&mut self, bits: &mut Bits) -> ReplayTurn
-        ensures turn { (masks : Masks) (place : Place) → Stands self.old masks place →
-            Turned masks (feed (replay_turn masks place) (left_of bits.old)) self.new bits.new result }
-        ensures answer { result ≡ turn_answer self.new.missing self.new.state.control.mode }
+        ensures turn { (masks : Masks) (place : ReplayPlace) → Stands self.old masks place →
+            Turned masks (feed (replay_turn self.old.enclosures masks place) (left_of bits.old)) self.new bits.new
+            result }
+        ensures enclosures { self.new.enclosures ≡ self.old.enclosures }
+        ensures answer { result ≡ turn_answer self.new.missing self.new.outside self.new.state.control.mode }
         ensures wants { self.old.missing ≢ 0 → (self.new ≡ self.old) × (bits.new ≡ bits.old) }
+        ensures outside { self.old.outside ≢ None → (self.new ≡ self.old) × (bits.new ≡ bits.old) }
         ensures ended { self.old.state.control.mode ≢ Ran → (self.new ≡ self.old) × (bits.new ≡ bits.old) }
         ensures bits { bits.new.bits ≡ bits.old.bits }
         ensures room { bits.new.room ≡ bits.old.room }
         ensures taken { self.new.taken ≡ taken_after self.old.taken bits.old bits.new }
         ensures output { self.new.missing ≡ 0 →
-            (more : List ℕ) × (self.new.state.control.output ≡ self.old.state.control.output ++ more) }
+            (more : Seq ℕ) × (self.new.state.control.output ≡ self.old.state.control.output ++ more) }
     {
         if self.side.missing != 0 {
             return ReplayTurn::Wants(self.side.missing);
         }
+        match self.outside {
+            Some(outside) => ReplayTurn::RangeOutside {
+                region: outside.region,
+                range: outside.range,
+            },
+            None => self.inside_turn(bits),
+        }
+    }
+
+    /// The turn of a replay that no range has ended and that wants nothing.
+    fn inside_turn(&mut self, bits: &mut Bits) -> ReplayTurn
+        requires wants { self.old.missing ≡ 0 }
+        requires outside { self.old.outside ≡ None }
+        ensures turn { (masks : Masks) (place : ReplayPlace) → Stands self.old masks place →
+            Turned masks (feed (replay_turn self.old.enclosures masks place) (left_of bits.old)) self.new bits.new
+            result }
+        ensures enclosures { self.new.enclosures ≡ self.old.enclosures }
+        ensures answer { result ≡ turn_answer self.new.missing self.new.outside self.new.state.control.mode }
+        ensures ended { self.old.state.control.mode ≢ Ran → (self.new ≡ self.old) × (bits.new ≡ bits.old) }
+        ensures bits { bits.new.bits ≡ bits.old.bits }
+        ensures room { bits.new.room ≡ bits.old.room }
+        ensures taken { self.new.taken ≡ taken_after self.old.taken bits.old bits.new }
+        ensures output { self.new.missing ≡ 0 →
+            (more : Seq ℕ) × (self.new.state.control.output ≡ self.old.state.control.output ++ more) }
+    {
         match self.machine.mode() {
             Stepped::Ran => self.run_turn(bits),
             Stepped::Exited(status) => ReplayTurn::Exited(status),
@@ -144,20 +207,28 @@ impl Replay {
         }
     }
 
-    /// The turn of a replay that runs and wants nothing.
+    /// The turn of a replay that runs, that no range has ended and that wants nothing.
     fn run_turn(&mut self, bits: &mut Bits) -> ReplayTurn
         requires wants { self.old.missing ≡ 0 }
-        ensures turn { (masks : Masks) (past : List ThePoint) → IsAhead self.old.ahead masks past →
-            Comes masks bits.old (feed (replayed masks past (walk_of self.old.state)) (left_of bits.old)) self.new.state
-            (record { ahead = self.new.ahead; stream = bits.new; missing = self.new.missing }) }
-        ensures answer { result ≡ turn_answer self.new.missing self.new.state.control.mode }
+        requires outside { self.old.outside ≡ None }
+        ensures outside { self.new.outside ≡ range_outside self.old.enclosures.regions self.old.state }
+        ensures still { self.new.outside ≢ None → (self.new.state ≡ self.old.state) × (self.new.ahead ≡ self.old.ahead)
+            × (self.new.missing ≡ self.old.missing) × (bits.new ≡ bits.old) }
+        ensures turn { self.new.outside ≡ None → (masks : Masks) (past : Seq ThePoint) →
+            IsAhead self.old.ahead masks past →
+            Comes masks bits.old
+            (feed (replayed masks past (replay_walk self.old.enclosures self.old.state)) (left_of bits.old))
+            self.new.state (record { ahead = self.new.ahead; stream = bits.new; missing = self.new.missing }) }
+        ensures enclosures { self.new.enclosures ≡ self.old.enclosures }
+        ensures answer { result ≡ turn_answer self.new.missing self.new.outside self.new.state.control.mode }
         ensures taken { self.new.taken ≡ taken_after self.old.taken bits.old bits.new }
     {
         let before = bits.left();
-        play(&mut self.machine, &mut self.side, bits);
+        let skip = self.skip.as_slice();
+        self.outside = play(&mut self.machine, &mut self.side, &self.regions, skip, bits);
         let used = before.saturating_sub(bits.left());
         self.taken = self.taken.saturating_add(u64::from(used));
-        answer(self.side.missing, self.machine.mode())
+        answer(self.side.missing, self.outside, self.machine.mode())
     }
 
     /// Where the replay stands; `bits` counts up to 2^64 - 1.
@@ -177,5 +248,26 @@ impl Replay {
         ensures { result.now ≡ self.now.state.control.output }
     {
         self.machine.output()
+    }
+
+    /// The regions of the program.
+    pub fn regions(&self) -> &Regions
+        ensures { result.now.items ≡ self.now.enclosures.regions }
+    {
+        &self.regions
+    }
+
+    /// The numbers of the regions that are skipped.
+    pub fn skip(&self) -> &[u16]
+        ensures { result.now ≡ self.now.enclosures.skip }
+    {
+        self.skip.as_slice()
+    }
+
+    /// Whether a region is skipped.
+    pub fn is_skipped(&self, region: &Region) -> bool
+        ensures { result ≡ skips self.now.enclosures region.now }
+    {
+        self.skip.as_slice().contains(&region.id)
     }
 }

@@ -5,7 +5,7 @@ ghost use Rattle.flow_base.specs.Points.{is_slot, width_of};
 ghost use Rattle.crossing_bits.specs.Askers.{Asker, Asks};
 ghost use Rattle.crossing_bits.specs.Streams.{left_of};
 ghost use Rattle.rv32im_machine.specs.Playing.{Played};
-ghost use Rattle.replay_machine.specs.Runs.{Place as ThePlace, Masks, mask_at};
+ghost use Rattle.replay_machine.specs.Runs.{ReplayPlace as ThePlace, Masks, mask_at};
 ghost use Rattle.replay_machine.specs.Visits.{IsAhead};
 ghost use Rattle.replay_machine.specs.Sides.{Side, Replays, fed_of};
 

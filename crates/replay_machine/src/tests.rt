@@ -2,6 +2,7 @@ use crate::{Mark, Replay, ReplayTurn, VisitMasks};
 use crossing_bits::{Bits, bit_count};
 use cut_file::{Cut, read_cut};
 use elf32_loader::load_image;
+use enclosure_regions::Regions;
 use flow_base::{Bytes, NoMemory, Point, Slot};
 use rv32im_machine::Fault;
 use std::alloc::Global;
@@ -42,15 +43,21 @@ const LOOP: [u32; 2] = [
 ];
 
 /// A cut for two secret bytes, of these lines.
-fn cut_of(rt: &impl Abort, alloc: Global, lines: &str) -> Result<Cut, Fail> {
+pub(crate) fn cut_of(rt: &impl Abort, alloc: Global, lines: &str) -> Result<Cut, Fail> {
     let text = format!(in alloc; "flowcheck-cut 1\nsecret 2\nbits 0\n{lines}end\n")?;
     assert!(rt; text.len() < 100_000);
     let cut = read_cut(alloc, text.as_bytes()).map_err(|_| NoMemory)?;
     Ok(cut)
 }
 
-/// The replay of a program of one segment at 0x10000.
-fn replay_of(rt: &impl Abort, alloc: Global, code: &[u32], lines: &str) -> Result<Replay, Fail> {
+/// The replay of a program of one segment at 0x10000, with these regions.
+pub(crate) fn replay_with(
+    rt: &impl Abort,
+    alloc: Global,
+    code: &[u32],
+    regions: &Regions,
+    lines: &str,
+) -> Result<Replay, Fail> {
     let size = ((4 * (code.len() & 0xffff)) as u32).to_le_bytes();
     let mut file = HEAD.to_vec(alloc)?;
     file.extend_from_slice(&size)?;
@@ -63,11 +70,20 @@ fn replay_of(rt: &impl Abort, alloc: Global, code: &[u32], lines: &str) -> Resul
     let image = load_image(alloc, file.as_slice())?;
     let cut = cut_of(rt, alloc, lines)?;
     let public = Bytes::from_slice(alloc, &[])?;
-    Ok(Replay::new(alloc, &image, &public, &cut)?)
+    Ok(Replay::new(alloc, &image, &public, regions, &cut)?)
+}
+
+/// The replay of a program of one segment at 0x10000, with no regions.
+fn replay_of(rt: &impl Abort, alloc: Global, code: &[u32], lines: &str) -> Result<Replay, Fail> {
+    replay_with(rt, alloc, code, &Regions::none(alloc), lines)
 }
 
 /// The bits of values under masks.
-fn string_of(rt: &impl Abort, alloc: Global, parts: &[(u32, u32)]) -> Result<Bits, Fail> {
+pub(crate) fn string_of(
+    rt: &impl Abort,
+    alloc: Global,
+    parts: &[(u32, u32)],
+) -> Result<Bits, Fail> {
     let mut bits = Bits::with_room(alloc, 64)?;
     for (value, mask) in parts {
         assert!(rt; bits.count() < 1000 && bit_count(*mask) <= 32);
@@ -77,7 +93,7 @@ fn string_of(rt: &impl Abort, alloc: Global, parts: &[(u32, u32)]) -> Result<Bit
 }
 
 /// The answer that ends a run, within 100 turns.
-fn run(replay: &mut Replay, bits: &mut Bits) -> ReplayTurn {
+pub(crate) fn run(replay: &mut Replay, bits: &mut Bits) -> ReplayTurn {
     for _ in 0..100 {
         let answer = replay.turn(bits);
         if answer != ReplayTurn::Ran {

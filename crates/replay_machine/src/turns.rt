@@ -11,4 +11,6 @@ pub enum ReplayTurn {
     Exited(u8),
     /// The guest is stopped.
     Stopped(Fault),
+    /// At the entry of the region with this number, a range is not inside guest memory: the first such, counted from 0.
+    RangeOutside { region: u16, range: u32 },
 }

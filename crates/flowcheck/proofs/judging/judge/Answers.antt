@@ -6,6 +6,6 @@ use Rattle.flowcheck.proofs.judging.judge.Goals as goal
 pub returns : goal.returns
 returns c =
     c.run.ensures
-    (task_of (picture_of c.args.image.now) c.args.public_input.now c.args.secret.now (cut_of c.args.cut.now)
+    (task_of (picture_of c.args.image.now) c.args.public_input.now c.args.secret.now c.args.regions.now.items (cut_of c.args.cut.now)
     c.args.limits.budget c.args.limits.turns)
     c.in_ok-lockstep.ensures

@@ -10,9 +10,9 @@ invariant-loop-secret l = record {
   number : l.number ≡ l.secret-index;
   few : l.accepted ≤ l.secret-index;
   text :
-      l.text.items ++ verdict_lines (l.number + 1) (judgements_of (picture_of l.image) l.public_input (cut_of l.cut) l.limits (drop l.secret-index l.secrets))
-      ≡ verdict_lines 1 (judgements_of (picture_of l.image) l.public_input (cut_of l.cut) l.limits l.secrets);
+      l.text.items ++ verdict_lines (l.number + 1) (judgements_of (picture_of l.image) l.public_input l.regions.items (cut_of l.cut) l.limits (drop l.secret-index l.secrets))
+      ≡ verdict_lines 1 (judgements_of (picture_of l.image) l.public_input l.regions.items (cut_of l.cut) l.limits l.secrets);
   count :
-      l.accepted + accepted_count (judgements_of (picture_of l.image) l.public_input (cut_of l.cut) l.limits (drop l.secret-index l.secrets))
-      ≡ accepted_count (judgements_of (picture_of l.image) l.public_input (cut_of l.cut) l.limits l.secrets);
+      l.accepted + accepted_count (judgements_of (picture_of l.image) l.public_input l.regions.items (cut_of l.cut) l.limits (drop l.secret-index l.secrets))
+      ≡ accepted_count (judgements_of (picture_of l.image) l.public_input l.regions.items (cut_of l.cut) l.limits l.secrets);
 }

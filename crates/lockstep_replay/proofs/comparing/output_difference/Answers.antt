@@ -6,4 +6,5 @@ use Rattle.lockstep_replay.proofs.comparing.output_difference.Goals as goal
 pub returns : goal.returns
 returns c =
     rw (take_rest c.args.real.now c.args.from, take_rest c.args.replay.now c.args.from) at c.difference_from.ensures
-    ∙ byte_difference-from c.args.from c.args.real.now c.args.replay.now c.requires.real c.requires.replay c.requires.same
+    ∙ byte_difference-from c.args.from c.args.real.now c.args.replay.now c.requires.real c.requires.replay
+    c.requires.same

@@ -1,7 +1,8 @@
-use Rattle.std.proofs.Common.{◌≡◌, ◌∙◌, suc, ◌-◌, sym, ap, subst, arith, add-one, None, Some}
+use Rattle.std.proofs.Common.{◌∙◌, suc, ◌-◌, sym, ap, subst, arith, add-one}
 use Rattle.lockstep_replay.specs.declared.verdicts.Why.TheVariants.{TurnLimit}
-use Rattle.lockstep_replay.specs.Verdicts.{Rejects, judged_from, why_after}
-use Rattle.lockstep_replay.proofs.Rounds.{StandsAt, stands-start, round-why, round-stands, judged-rejects, judged-accepts, judged-goes, judged-limit, none-of}
+use Rattle.lockstep_replay.specs.Verdicts.{Rejects, judged_from}
+use Rattle.lockstep_replay.proofs.Standings.{StandsAt, stands-start, step-stands, step-rejects, step-accepts, step-goes}
+use Rattle.lockstep_replay.proofs.Standings.{judged-limit, none-of}
 use Rattle.lockstep_replay.proofs.lockstep.run_turns.Goals as goal
 
 pub loop-init : goal.loop-init
@@ -13,62 +14,42 @@ loop-init c = record {
 
 pub returns-in-Some : goal.returns-in-Some
 returns-in-Some c = λ task begins limit.
-    let stands : StandsAt task c.loop.counter c.loop.runs = c.loop.invariant.stands task begins in
-    let why : why_after task (suc c.loop.counter) ≡ Some c.in-Some.why =
-    round-why task c.loop.counter c.loop.runs c.turn.new.self c.turn.result stands c.loop.invariant.keeps.kept c.turn.ensures.state
-    c.turn.ensures.why ∙ c.in-Some.is in
-    sym (judged-rejects task (c.args.turns - suc c.loop.counter) c.loop.counter c.in-Some.why why)
+    sym (step-rejects task (c.args.turns - suc c.loop.counter) c.loop.counter c.loop.real c.loop.tally c.loop.replay
+    c.round-made.new.real c.round-made.new.replay c.round-made.result c.in-Some.why
+    (c.loop.invariant.stands task begins)
+    c.loop.invariant.keeps.kept c.round-made.ensures c.in-Some.is)
     ∙ (ap (λ n. judged_from task n c.loop.counter) (omega arith) ∙ c.loop.invariant.judged task begins)
 
-pub returns-in-Exited : goal.returns-in-Exited
-returns-in-Exited c = λ task begins limit.
-    let stands : StandsAt task c.loop.counter c.loop.runs = c.loop.invariant.stands task begins in
-    let none : c.turn.result ≡ None = none-of c.turn.result c.in_default.not-Some in
-    let why : why_after task (suc c.loop.counter) ≡ None =
-    round-why task c.loop.counter c.loop.runs c.turn.new.self c.turn.result stands c.loop.invariant.keeps.kept c.turn.ensures.state
-    c.turn.ensures.why ∙ none in
-    let next : StandsAt task (suc c.loop.counter) c.turn.new.self =
-    round-stands task c.loop.counter c.loop.runs c.turn.new.self stands c.turn.ensures.state c.turn.ensures.budget c.turn.ensures.ahead
-    (λ masks past ahead. c.turn.ensures.bits masks past ahead none)
-    (λ masks past place ahead at. c.turn.ensures.joins masks past place ahead at none) in
+pub returns-in-Some-exit_status : goal.returns-in-Some-exit_status
+returns-in-Some-exit_status c = λ task begins limit.
+    let exits = rw (c.in-Some-exit_status.is, c.mode.ensures) at c.exit_status.ensures in
     c.accepted.ensures
-    ∙ (sym (judged-accepts task (c.args.turns - suc c.loop.counter) c.loop.counter c.turn.new.self c.in-Exited.status why next
-    (sym c.in-Exited.ensures))
+    ∙ (sym (step-accepts task (c.args.turns - suc c.loop.counter) c.loop.counter c.loop.real c.loop.tally c.loop.replay
+    c.round-made.new.real c.round-made.new.replay c.round-made.result c.in-Some-exit_status.status
+    (c.loop.invariant.stands task begins) c.loop.invariant.keeps.kept c.round-made.ensures
+    (none-of c.round-made.result.why c.in_default.not-Some) exits.0 exits.1)
     ∙ (ap (λ n. judged_from task n c.loop.counter) (omega arith) ∙ c.loop.invariant.judged task begins))
 
 pub loop-preserved : goal.loop-preserved
-loop-preserved c =
-    let none : c.turn.result ≡ None = none-of c.turn.result c.in_default.not-Some in
-    record {
-      keeps = c.turn.ensures.keeps none;
-      stands = λ task begins.
-          let stands : StandsAt task c.loop.counter c.loop.runs = c.loop.invariant.stands task begins in
-          let none : c.turn.result ≡ None = none-of c.turn.result c.in_default.not-Some in
-          let why : why_after task (suc c.loop.counter) ≡ None =
-          round-why task c.loop.counter c.loop.runs c.turn.new.self c.turn.result stands c.loop.invariant.keeps.kept c.turn.ensures.state
-          c.turn.ensures.why ∙ none in
-          let next : StandsAt task (suc c.loop.counter) c.turn.new.self =
-          round-stands task c.loop.counter c.loop.runs c.turn.new.self stands c.turn.ensures.state c.turn.ensures.budget c.turn.ensures.ahead
-          (λ masks past ahead. c.turn.ensures.bits masks past ahead none)
-          (λ masks past place ahead at. c.turn.ensures.joins masks past place ahead at none) in
-          subst (λ n. StandsAt task n c.turn.new.self) (sym (add-one c.loop.counter)) next;
-      judged = λ task begins.
-          let stands : StandsAt task c.loop.counter c.loop.runs = c.loop.invariant.stands task begins in
-          let none : c.turn.result ≡ None = none-of c.turn.result c.in_default.not-Some in
-          let why : why_after task (suc c.loop.counter) ≡ None =
-          round-why task c.loop.counter c.loop.runs c.turn.new.self c.turn.result stands c.loop.invariant.keeps.kept c.turn.ensures.state
-          c.turn.ensures.why ∙ none in
-          let next : StandsAt task (suc c.loop.counter) c.turn.new.self =
-          round-stands task c.loop.counter c.loop.runs c.turn.new.self stands c.turn.ensures.state c.turn.ensures.budget c.turn.ensures.ahead
-          (λ masks past ahead. c.turn.ensures.bits masks past ahead none)
-          (λ masks past place ahead at. c.turn.ensures.joins masks past place ahead at none) in
-          ap (λ n. judged_from task (c.args.turns - n) n) (add-one c.loop.counter)
-          ∙ (sym (judged-goes task (c.args.turns - suc c.loop.counter) c.loop.counter c.turn.new.self why next
-          (λ status exited. c.in_default-mode.not-Exited status (c.mode.ensures ∙ exited)))
-          ∙ (ap (λ n. judged_from task n c.loop.counter) (omega arith) ∙ c.loop.invariant.judged task begins));
-    }
+loop-preserved c = record {
+  keeps = c.round-made.ensures.keeps (none-of c.round-made.result.why c.in_default.not-Some);
+  stands = λ task begins.
+      subst (λ n. StandsAt task n c.round-made.new.real c.round-made.result.tally c.round-made.new.replay)
+      (sym (add-one c.loop.counter))
+      (step-stands task c.loop.counter c.loop.real c.loop.tally c.loop.replay c.round-made.new.real
+      c.round-made.new.replay c.round-made.result (c.loop.invariant.stands task begins) c.round-made.ensures
+      (none-of c.round-made.result.why c.in_default.not-Some));
+  judged = λ task begins.
+      ap (λ n. judged_from task (c.args.turns - n) n) (add-one c.loop.counter)
+      ∙ (sym (step-goes task (c.args.turns - suc c.loop.counter) c.loop.counter c.loop.real c.loop.tally c.loop.replay
+      c.round-made.new.real c.round-made.new.replay c.round-made.result (c.loop.invariant.stands task begins)
+      c.loop.invariant.keeps.kept c.round-made.ensures (none-of c.round-made.result.why c.in_default.not-Some)
+      (rw (none-of c.exit_status.result c.in_default-exit_status.not-Some, c.mode.ensures) at c.exit_status.ensures))
+      ∙ (ap (λ n. judged_from task n c.loop.counter) (omega arith) ∙ c.loop.invariant.judged task begins));
+}
 
 pub returns : goal.returns
 returns c = λ task begins limit.
     ap (λ n. Rejects (TurnLimit n)) limit
-    ∙ (sym (judged-limit task (c.args.turns - c.loop.counter) c.loop.counter (omega arith)) ∙ c.loop.invariant.judged task begins)
+    ∙ (sym (judged-limit task (c.args.turns - c.loop.counter) c.loop.counter (omega arith))
+    ∙ c.loop.invariant.judged task begins)

@@ -5,6 +5,8 @@ use Rattle.lockstep_replay.proofs.tallying.keep.Goals as goal
 
 pub returns-then-so_far-budget-clause-kept : goal.returns-then-so_far-budget-clause-kept
 returns-then-so_far-budget-clause-kept c =
-    let longer : length c.push_fitting.new.bits.bits ≡ length c.args.bits.now.bits + length (bits_under c.args.value c.args.mask) =
-    ap length c.push_fitting.ensures.pushed ∙ length-append c.args.bits.now.bits (bits_under c.args.value c.args.mask) in
+    let longer : length c.push_fitting.new.bits.bits ≡ length c.args.bits.now.bits + length
+    (bits_under c.args.value c.args.mask) =
+    ap length c.push_fitting.ensures.pushed ∙ length-append c.args.bits.now.bits (bits_under c.args.value c.args.mask)
+    in
     omega (arith, length_bits_under c.args.value c.args.mask)

@@ -10,7 +10,8 @@ use Rattle.lockstep_replay.proofs.tallying.TallyingPasser.pass.Goals as goal
 pub returns-clause-goes : goal.returns-clause-goes
 unfolding crossing real_end passed
 returns-clause-goes c = λ go out after masks past ahead.
-    crosses-more (tally_of c.args.self.now) (tally_of c.cross.new.self) masks (passed (c.args.point ∷ past) (go c.args.value))
+    crosses-more (tally_of c.args.self.now) (tally_of c.cross.new.self) masks
+    (passed (c.args.point ∷ past) (go c.args.value))
     (bits_under c.args.value (mask_at masks past c.args.point))
     (crossing masks (c.args.point ∷ past) (go c.args.value))
     (real_end (go c.args.value)) out c.args.self.now.small (c.cross.ensures.tally masks past ahead)

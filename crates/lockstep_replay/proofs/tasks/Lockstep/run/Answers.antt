@@ -1,4 +1,4 @@
-use Rattle.std.proofs.Common.{◌≡◌, ◌∙◌, ◌==◌, sym, ap, true, eq-eqb}
+use Rattle.std.proofs.Common.{◌≡◌, ◌∙◌, ◌==◌, [], length, sym, ap, true, eq-eqb, append-nil, arith}
 use Rattle.std.specs.Prelude.{if◌then◌else◌}
 use Rattle.rv32im_machine.specs.State.{State}
 use Rattle.lockstep_replay.specs.declared.verdicts.Why.TheVariants.{SecretLength}
@@ -15,3 +15,14 @@ returns-then-got-wanted c = λ task is.
     ∙ (ap (λ n. judged_from task n 0) is.turns
     ∙ sym (ap (λ b. if b then judged_from task task.turns 0
     else Rejects (SecretLength task.secret_length task.real.setting.secret_length)) test))
+
+pub run_turns-requires-clause-keeps : goal.run_turns-requires-clause-keeps
+run_turns-requires-clause-keeps c = record {
+  wanted = c.args.self.lacks_none;
+  used = c.args.self.unused ∙ sym c.args.self.uncounted;
+  taken = omega (arith, c.args.self.untaken, ap length c.args.self.empty);
+  kept = omega (arith, c.args.self.uncounted, ap length c.args.self.empty);
+  within = omega (arith, c.args.self.uncounted);
+  output = ([], c.args.self.alike ∙ sym (append-nil c.args.self.runs.replay.state.control.output));
+  leaves = c.args.self.leaves;
+}

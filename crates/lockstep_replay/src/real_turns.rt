@@ -1,0 +1,103 @@
+ghost use Rattle.std.specs.Prelude.{◌≡◌, IsTrue, None};
+ghost use Rattle.enclosure_regions.specs.Regions.{is_region};
+ghost use Rattle.replay_machine.specs.Enclosures.{Enclosures, Enters, Leaves, Steps, is_skipped, kind_of};
+ghost use Rattle.replay_machine.specs.Within.{are_inside, may_leave};
+ghost use Rattle.std.specs.Prelude.{Some};
+ghost use Rattle.lockstep_replay.specs.Turning.{Makes};
+
+use crate::guards::Guarding;
+use crate::tallies::Tallying;
+use crate::turned::RealTurn;
+use enclosure_regions::{Region, Regions, broken_at_entry, broken_at_leave};
+use replay_machine::{GuestTurn, enter_by, guest_turn, leave_by};
+use rv32im_machine::{Machine, turn_by};
+
+/// One step outside regions, or none where the run has ended.
+fn step(real: &mut Machine, tally: Tallying) -> RealTurn
+    ensures { (enclosures : Enclosures) → Makes enclosures (Steps None) real.old tally real.new result }
+{
+    let mut tally = tally;
+    let _ = turn_by(real, &mut tally);
+    RealTurn {
+        tally,
+        enclosed: false,
+        broken: None,
+    }
+}
+
+/// The entry of a region, which is `enclosed` where the region is skipped.
+fn enter(real: &mut Machine, tally: Tallying, region: &Region, enclosed: bool) -> RealTurn
+    requires { IsTrue (is_region region.now) }
+    ensures { (enclosures : Enclosures) → enclosed ≡ is_skipped enclosures region.now →
+        Makes enclosures (Enters region.now) real.old tally real.new result }
+{
+    let broken = broken_at_entry(region, real.registers(), real.base());
+    let mut tally = tally;
+    let _ = enter_by(real, &mut tally, region);
+    RealTurn {
+        tally,
+        enclosed,
+        broken,
+    }
+}
+
+/// The leave of a region.
+fn leave(real: &mut Machine, tally: Tallying, region: &Region) -> RealTurn
+    requires rules { IsTrue (is_region region.now) }
+    requires inside { IsTrue (are_inside region.now.ranges real.old.store.kept real.old.setting.base) }
+    ensures { (enclosures : Enclosures) → Makes enclosures (Leaves region.now) real.old tally real.new result }
+{
+    let broken = broken_at_leave(region, real.kept(), real.registers());
+    let mut tally = tally;
+    let _ = leave_by(real, &mut tally, region);
+    RealTurn {
+        tally,
+        enclosed: false,
+        broken,
+    }
+}
+
+/// One step inside a region, which is `enclosed` where the region is skipped. The turn is played to its end, also where
+/// it breaks the region.
+fn step_inside(real: &mut Machine, tally: Tallying, region: &Region, enclosed: bool) -> RealTurn
+    requires { IsTrue (is_region region.now) }
+    ensures { (enclosures : Enclosures) → enclosed ≡ is_skipped enclosures region.now →
+        Makes enclosures (Steps (Some region.now)) real.old tally real.new result }
+{
+    let mut side = Guarding {
+        tally,
+        region,
+        kept: *real.kept(),
+        pc: real.pc(),
+        enclosed,
+        broken: None,
+    };
+    let _ = turn_by(real, &mut side);
+    let Guarding { tally, broken, .. } = side;
+    RealTurn {
+        tally,
+        enclosed,
+        broken,
+    }
+}
+
+/// One turn of the real run with these regions, of which those with these numbers are skipped.
+pub(crate) fn real_turn(
+    real: &mut Machine,
+    tally: Tallying,
+    regions: &Regions,
+    skip: &[u16],
+) -> RealTurn
+    requires { IsTrue (may_leave regions.now.items real.old) }
+    ensures { Makes (record { regions = regions.now.items; skip = skip.now })
+        (kind_of regions.now.items real.old.control) real.old tally real.new result }
+{
+    match guest_turn(real, regions) {
+        GuestTurn::Enters(region) => enter(real, tally, region, skip.contains(&region.id)),
+        GuestTurn::Leaves(region) => leave(real, tally, region),
+        GuestTurn::Steps(Some(region)) => {
+            step_inside(real, tally, region, skip.contains(&region.id))
+        }
+        GuestTurn::Steps(None) => step(real, tally),
+    }
+}

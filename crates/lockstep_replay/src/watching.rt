@@ -1,0 +1,43 @@
+ghost use Rattle.std.specs.Prelude.{◌≡◌, IsTrue};
+ghost use Rattle.enclosure_regions.specs.Regions.{is_region};
+ghost use Rattle.replay_machine.specs.Breaking.{first_break, place_break as break_by_place, slot_break as break_by_slot};
+
+use enclosure_regions::{Break, Region, written_byte, written_register};
+use flow_base::{Registers, Slot};
+use rv32im_machine::Place;
+
+/// The earlier of two breaks.
+pub(crate) fn earlier(first: Option<Break>, second: Option<Break>) -> Option<Break>
+    ensures { result ≡ first_break first second }
+{
+    match first {
+        None => second,
+        Some(broken) => Some(broken),
+    }
+}
+
+/// How the write of a place by the instruction at an address breaks the region, if it does.
+pub(crate) fn place_break(region: &Region, kept: &Registers, pc: u32, place: Place) -> Option<Break>
+    requires { IsTrue (is_region region.now) }
+    ensures { result ≡ break_by_place region.now kept.now pc place }
+{
+    match place {
+        Place::Register(register) => written_register(region, pc, register),
+        Place::Byte(address) => written_byte(region, kept, pc, address),
+        Place::First => None,
+        Place::Second => None,
+    }
+}
+
+/// How a decision of the instruction at an address breaks the region, if it does: the number of a call.
+pub(crate) fn slot_break(region: &Region, pc: u32, slot: Slot) -> Option<Break>
+    ensures { result ≡ break_by_slot region.now pc slot }
+{
+    match slot {
+        Slot::Number => Some(Break::CallInRegion {
+            region: region.id,
+            pc,
+        }),
+        _ => None,
+    }
+}

@@ -1,0 +1,54 @@
+use Rattle.std.proofs.Common.{◌∙◌, [], refl, sym, ap, inl, inr}
+use Rattle.cut_file.specs.Masks.{MaskAt}
+use Rattle.crossing_bits.specs.Streams.{Stream}
+use Rattle.rv32im_machine.specs.declared.stepping.Stepped.{Stepped}
+use Rattle.rv32im_machine.specs.State.{State}
+use Rattle.replay_machine.specs.Enclosures.{kind_of}
+use Rattle.replay_machine.specs.Guests.{replay_walk}
+use Rattle.replay_machine.specs.Standing.{Standing}
+use Rattle.replay_machine.proofs.Growth.{EndsLonger, longer_self, replay_kind_extends}
+use Rattle.replay_machine.proofs.Tables.{ahead-self}
+use Rattle.replay_machine.proofs.Passings.{comes-bits, comes-room, comes-so}
+use Rattle.replay_machine.proofs.Stillness.{ended-turn, none-or}
+use Rattle.replay_machine.proofs.machines.Replay.inside_turn.Goals as goal
+
+pub returns-in-Ran-clause-bits : goal.returns-in-Ran-clause-bits
+returns-in-Ran-clause-bits c = elim (none-or c.run_turn.new.self.outside) [
+  | inl none ↦
+      comes-bits _ c.args.bits.now _ _ _ (c.run_turn.ensures.turn none (MaskAt c.args.self.now.ahead) []
+      (ahead-self c.args.self.now.ahead))
+  | inr some ↦ ap (λ (s : Stream). s.bits) (c.run_turn.ensures.still some).3
+]
+
+pub returns-in-Ran-clause-room : goal.returns-in-Ran-clause-room
+returns-in-Ran-clause-room c = elim (none-or c.run_turn.new.self.outside) [
+  | inl none ↦
+      comes-room _ c.args.bits.now _ _ _ (c.run_turn.ensures.turn none (MaskAt c.args.self.now.ahead) []
+      (ahead-self c.args.self.now.ahead))
+  | inr some ↦ ap (λ (s : Stream). s.room) (c.run_turn.ensures.still some).3
+]
+
+pub returns-in-Ran-clause-output : goal.returns-in-Ran-clause-output
+returns-in-Ran-clause-output c = λ enough. elim (none-or c.run_turn.new.self.outside) [
+  | inl none ↦
+      comes-so (EndsLonger c.args.self.now.state.control.output) (MaskAt c.args.self.now.ahead) []
+      (replay_walk c.args.self.now.enclosures c.args.self.now.state) _ c.args.bits.now _ _ _
+      (replay_kind_extends c.args.self.now.enclosures
+      (kind_of c.args.self.now.enclosures.regions c.args.self.now.state.control) c.args.self.now.state) refl
+      (c.run_turn.ensures.turn none (MaskAt c.args.self.now.ahead) [] (ahead-self c.args.self.now.ahead)) enough
+  | inr some ↦
+      let same = longer_self c.args.self.now.state.control.output in
+      (same.0, ap (λ (s : State). s.control.output) (c.run_turn.ensures.still some).0 ∙ same.1)
+]
+
+pub returns-in-Exited-clause-turn : goal.returns-in-Exited-clause-turn
+returns-in-Exited-clause-turn c = λ masks place stands.
+    ended-turn c.args.self.now.enclosures masks place c.args.self.now c.args.bits.now
+    (Stepped.Exited c.in-Exited.status) _ stands c.requires.outside
+    (sym c.in-Exited.is ∙ c.mode.ensures ∙ ap (λ (s : Standing). s.state.control.mode) c.self.view_is) tt refl
+
+pub returns-in-Stopped-clause-turn : goal.returns-in-Stopped-clause-turn
+returns-in-Stopped-clause-turn c = λ masks place stands.
+    ended-turn c.args.self.now.enclosures masks place c.args.self.now c.args.bits.now
+    (Stepped.Stopped c.in-Stopped.fault) _ stands c.requires.outside
+    (sym c.in-Stopped.is ∙ c.mode.ensures ∙ ap (λ (s : Standing). s.state.control.mode) c.self.view_is) tt refl

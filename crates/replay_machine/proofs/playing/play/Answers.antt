@@ -1,0 +1,23 @@
+use Rattle.std.proofs.Common.{[], refl, sym}
+use Rattle.crossing_bits.specs.Streams.{left_of}
+use Rattle.cut_file.specs.Masks.{MaskAt}
+use Rattle.replay_machine.specs.Guests.{replay_kind_walk}
+use Rattle.replay_machine.specs.Within.{seen}
+use Rattle.replay_machine.specs.Enclosures.{Enclosures}
+use Rattle.replay_machine.proofs.Tables.{ahead-self}
+use Rattle.replay_machine.proofs.Passings.{comes-so}
+use Rattle.replay_machine.proofs.Keeping.{CanGoOn, replay_kind_keeps}
+use Rattle.replay_machine.proofs.playing.play.Goals as goal
+
+pub returns-in-None-clause-leave : goal.returns-in-None-clause-leave
+returns-in-None-clause-leave c = λ none.
+    let enclosures : Enclosures = record { regions = c.args.regions.now.items; skip = c.args.skip.now } in
+    let kind = seen c.guest_turn-turn.result in
+    comes-so (CanGoOn c.args.regions.now.items) (MaskAt c.args.side.now.masks) []
+    (replay_kind_walk enclosures kind c.args.machine.now)
+    (left_of c.args.bits.now) c.args.bits.now _ c.play_turn.new.machine _
+    (replay_kind_keeps enclosures kind c.args.machine.now c.args.regions.now.keeps_rules c.requires.leave
+    (sym c.guest_turn-turn.ensures.kind) (c.in-None.ensures.inside refl))
+    refl
+    (c.play_turn.ensures c.args.regions.now.items (MaskAt c.args.side.now.masks) [] (ahead-self c.args.side.now.masks))
+    none

@@ -1,0 +1,88 @@
+ghost use Rattle.std.specs.Prelude.{◌≡◌, IsTrue, List as Seq};
+ghost use Rattle.rv32im_machine.specs.Playing.{outcome};
+ghost use Rattle.enclosure_regions.specs.declared.region_parts.Region.{Region as TheRegion};
+ghost use Rattle.enclosure_regions.specs.Regions.{is_region, stands_in};
+ghost use Rattle.replay_machine.specs.Guests.{entry_walk, guest_walk, kind_walk, replay_kind_walk};
+ghost use Rattle.replay_machine.specs.Within.{are_inside, can_leave, can_skip, has_rules, may_leave, seen};
+
+use crate::entering::enter_by;
+use crate::kinds::{GuestTurn, guest_turn};
+use crate::leaving::leave_by;
+use crate::skipping::skip_by;
+use enclosure_regions::{Region, Regions};
+use rv32im_machine::{Machine, Passer, turn_by};
+
+/// A turn of this kind, which a guest makes next, each value handed to a passer: the entry, the leave, or the step.
+pub fn kind_turn_by<P: Passer>(
+    machine: &mut Machine,
+    passer: &mut P,
+    turn: GuestTurn<'_>,
+) -> Result<(), P::Stop>
+    requires rules { IsTrue (has_rules (seen turn)) }
+    requires leave { IsTrue (can_leave (seen turn) machine.old.store.kept machine.old.setting.base) }
+    ensures { P.Plays passer.old (kind_walk (seen turn.entry) machine.old)
+        (outcome result machine.new (P.tape passer.new)) }
+{
+    match turn {
+        GuestTurn::Enters(region) => enter_by(machine, passer, region),
+        GuestTurn::Leaves(region) => leave_by(machine, passer, region),
+        GuestTurn::Steps(_) => turn_by(machine, passer),
+    }
+}
+
+/// One turn of a guest with these regions, each value handed to a passer. Where the passer stops the turn, the machine
+/// is left in the middle of it. It takes no memory of its own.
+pub fn guest_turn_by<P: Passer>(
+    machine: &mut Machine,
+    passer: &mut P,
+    regions: &Regions,
+) -> Result<(), P::Stop>
+    requires { IsTrue (may_leave regions.now.items machine.old) }
+    ensures { P.Plays passer.old (guest_walk regions.now.items machine.old)
+        (outcome result machine.new (P.tape passer.new)) }
+{
+    let turn = guest_turn(machine, regions);
+    kind_turn_by(machine, passer, turn)
+}
+
+/// The entry of a region in a replay: its skip, if it is one of those that are skipped.
+fn skip_or_enter<P: Passer>(
+    machine: &mut Machine,
+    passer: &mut P,
+    region: &Region,
+    skip: &[u16],
+) -> Result<(), P::Stop>
+    requires rules { IsTrue (is_region region.now) }
+    requires inside { IsTrue (are_inside region.now.ranges machine.old.store.registers machine.old.setting.base) }
+    ensures { (regions : Seq TheRegion) →
+        P.Plays passer.old (entry_walk (record { regions = regions; skip = skip.now }) region.now machine.old)
+        (outcome result machine.new (P.tape passer.new)) }
+{
+    if skip.contains(&region.id) {
+        skip_by(machine, passer, region)
+    } else {
+        enter_by(machine, passer, region)
+    }
+}
+
+/// A turn of this kind of a replay that skips the regions with these numbers.
+pub(crate) fn replay_turn_by<P: Passer>(
+    machine: &mut Machine,
+    passer: &mut P,
+    turn: GuestTurn<'_>,
+    skip: &[u16],
+) -> Result<(), P::Stop>
+    requires rules { IsTrue (has_rules (seen turn)) }
+    requires leave { IsTrue (can_leave (seen turn) machine.old.store.kept machine.old.setting.base) }
+    requires skip { IsTrue (can_skip (seen turn) machine.old.store.registers machine.old.setting.base) }
+    ensures { (regions : Seq TheRegion) →
+        P.Plays passer.old
+        (replay_kind_walk (record { regions = regions; skip = skip.now }) (seen turn.entry) machine.old)
+        (outcome result machine.new (P.tape passer.new)) }
+{
+    match turn {
+        GuestTurn::Enters(region) => skip_or_enter(machine, passer, region, skip),
+        GuestTurn::Leaves(region) => leave_by(machine, passer, region),
+        GuestTurn::Steps(_) => turn_by(machine, passer),
+    }
+}

@@ -1,0 +1,8 @@
+/// A range that is not inside guest memory at the entry of its region.
+#[derive(Clone, Copy, Debug, PartialEq, Eq)]
+pub struct Outside {
+    /// The region's number.
+    pub region: u16,
+    /// The first such range, counted from 0.
+    pub range: u32,
+}

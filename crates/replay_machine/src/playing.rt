@@ -1,0 +1,109 @@
+ghost use Rattle.std.specs.Prelude.{◌≡◌, ◌≢◌, IsTrue, Option as Maybe, None, List as Seq};
+ghost use Rattle.flow_base.specs.declared.points.Point.{Point as ThePoint};
+ghost use Rattle.crossing_bits.specs.Askers.{feed};
+ghost use Rattle.crossing_bits.specs.Streams.{left_of};
+ghost use Rattle.enclosure_regions.specs.declared.region_parts.Region.{Region as TheRegion};
+ghost use Rattle.enclosure_regions.specs.Regions.{is_region};
+ghost use Rattle.replay_machine.specs.Runs.{Masks, replayed};
+ghost use Rattle.replay_machine.specs.Visits.{IsAhead};
+ghost use Rattle.replay_machine.specs.Sides.{Side, Comes};
+ghost use Rattle.replay_machine.specs.Guests.{replay_kind_walk, replay_walk};
+ghost use Rattle.replay_machine.specs.Breaking.{kind_outside_range, outside_of, range_outside};
+ghost use Rattle.enclosure_regions.specs.Breaks.{outside_range};
+ghost use Rattle.replay_machine.specs.Within.{are_inside, can_leave, can_skip, has_rules, may_leave, seen};
+
+use crate::guests::replay_turn_by;
+use crate::kinds::{GuestTurn, guest_turn};
+use crate::outsides::Outside;
+use crate::replays::Replaying;
+use crossing_bits::Bits;
+use enclosure_regions::{Region, Regions, first_outside};
+use rv32im_machine::Machine;
+use std::mem;
+
+/// The first range that is not inside guest memory at the entry of a region.
+fn outside_at_entry(machine: &Machine, region: &Region) -> Option<Outside>
+    requires { IsTrue (is_region region.now) }
+    ensures outside { result ≡
+        outside_of region.now (outside_range region.now machine.now.store.registers machine.now.setting.base) }
+    ensures inside { result ≡ None →
+        IsTrue (are_inside region.now.ranges machine.now.store.registers machine.now.setting.base) }
+{
+    match first_outside(region, machine.registers(), machine.base()) {
+        Some(range) => Some(Outside {
+            region: region.id,
+            range,
+        }),
+        None => None,
+    }
+}
+
+/// The first range that is not inside guest memory, where the turn is an entry.
+fn outside_at(machine: &Machine, turn: GuestTurn<'_>) -> Option<Outside>
+    requires { IsTrue (has_rules (seen turn)) }
+    ensures outside { result ≡ kind_outside_range (seen turn.entry) machine.now }
+    ensures inside { result ≡ None →
+        IsTrue (can_skip (seen turn.entry) machine.now.store.registers machine.now.setting.base) }
+{
+    match turn {
+        GuestTurn::Enters(region) => outside_at_entry(machine, region),
+        GuestTurn::Leaves(_) => None,
+        GuestTurn::Steps(_) => None,
+    }
+}
+
+/// One turn of this kind on the bits that are left.
+fn play_turn(
+    machine: &mut Machine,
+    side: &mut Replaying,
+    turn: GuestTurn<'_>,
+    skip: &[u16],
+    bits: &mut Bits,
+)
+    requires missing { side.old.missing ≡ 0 }
+    requires rules { IsTrue (has_rules (seen turn)) }
+    requires leave { IsTrue (can_leave (seen turn) machine.old.store.kept machine.old.setting.base) }
+    requires skip { IsTrue (can_skip (seen turn) machine.old.store.registers machine.old.setting.base) }
+    ensures { (regions : Seq TheRegion) (masks : Masks) (past : Seq ThePoint) → IsAhead side.old.masks masks past →
+        Comes masks bits.old
+        (feed (replayed masks past
+        (replay_kind_walk (record { regions = regions; skip = skip.now }) (seen turn.entry) machine.old))
+        (left_of bits.old)) machine.new
+        (record { ahead = side.new.masks; stream = bits.new; missing = side.new.missing }) }
+{
+    mem::swap(&mut side.bits, bits);
+    let _ = replay_turn_by(machine, side, turn, skip);
+    mem::swap(&mut side.bits, bits);
+}
+
+/// One turn on the bits that are left of a replay that skips the regions with these numbers; where it is the entry of a
+/// region with a range outside of guest memory, nothing is done.
+pub(crate) fn play(
+    machine: &mut Machine,
+    side: &mut Replaying,
+    regions: &Regions,
+    skip: &[u16],
+    bits: &mut Bits,
+) -> Option<Outside>
+    requires missing { side.old.missing ≡ 0 }
+    requires leave { IsTrue (may_leave regions.now.items machine.old) }
+    ensures outside { result ≡ range_outside regions.now.items machine.old }
+    ensures still { result ≢ None →
+        (machine.new ≡ machine.old) × (side.new ≡ side.old) × (bits.new ≡ bits.old) }
+    ensures turn { result ≡ None → (masks : Masks) (past : Seq ThePoint) → IsAhead side.old.masks masks past →
+        Comes masks bits.old
+        (feed (replayed masks past
+        (replay_walk (record { regions = regions.now.items; skip = skip.now }) machine.old))
+        (left_of bits.old)) machine.new
+        (record { ahead = side.new.masks; stream = bits.new; missing = side.new.missing }) }
+    ensures leave { side.new.missing ≡ 0 → IsTrue (may_leave regions.now.items machine.new) }
+{
+    let turn = guest_turn(machine, regions);
+    match outside_at(machine, turn) {
+        Some(outside) => Some(outside),
+        None => {
+            play_turn(machine, side, turn, skip, bits);
+            None
+        }
+    }
+}
