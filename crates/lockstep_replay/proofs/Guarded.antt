@@ -28,38 +28,38 @@ first-assoc (Some broken) second third = refl
 -- what passes here, and then what comes later
 guards-more : {Stop : Type 0} (a b : Guard) (masks : Masks) (past : List Point) (s t : List Bool)
     (here later : Option Break) (state : State) (out : Played Stop Guard) → a.tally.budget < 4294967295 →
-    Tallies a.tally s b.tally → b.broken ≡ first_break a.broken here →
+    Tallies a.tally s b.tally → b.broken ≡ first_break a.broken here → b.lent ≡ a.lent →
     Guards b masks past t (first_break b.broken later) state out →
     Guards a masks past (s ++ t) (first_break a.broken (first_break here later)) state out
-guards-more a b masks past s t here later state (Finished reached c) small h e k = (
+guards-more a b masks past s t here later state (Finished reached c) small h e n k = (
   k.0,
   (
     k.1.0,
     (
       tallies-more a.tally b.tally c.tally s t small h k.1.1.0,
-      k.1.1.1 ∙ (ap (λ x. first_break x later) e ∙ first-assoc a.broken here later),
+      (k.1.1.1.0 ∙ (ap (λ x. first_break x later) e ∙ first-assoc a.broken here later), k.1.1.1.1 ∙ n),
     ),
   ),
 )
-guards-more a b masks past s t here later state (Halted stop) small h e k = k
+guards-more a b masks past s t here later state (Halted stop) small h e n k = k
 
 -- what breaks here alone
 guards-wrote : {Stop : Type 0} (a b : Guard) (masks : Masks) (past : List Point) (t : List Bool)
     (here later : Option Break) (state : State) (out : Played Stop Guard) → b.tally ≡ a.tally →
-    b.broken ≡ first_break a.broken here →
+    b.broken ≡ first_break a.broken here → b.lent ≡ a.lent →
     Guards b masks past t (first_break b.broken later) state out →
     Guards a masks past t (first_break a.broken (first_break here later)) state out
-guards-wrote a b masks past t here later state (Finished reached c) same e k = (
+guards-wrote a b masks past t here later state (Finished reached c) same e n k = (
   k.0,
   (
     k.1.0,
     (
       rw same at k.1.1.0,
-      k.1.1.1 ∙ (ap (λ x. first_break x later) e ∙ first-assoc a.broken here later),
+      (k.1.1.1.0 ∙ (ap (λ x. first_break x later) e ∙ first-assoc a.broken here later), k.1.1.1.1 ∙ n),
     ),
   ),
 )
-guards-wrote a b masks past t here later state (Halted stop) same e k = k
+guards-wrote a b masks past t here later state (Halted stop) same e n k = k
 
 -- ---- what a guard says of the rest of a turn
 
@@ -96,50 +96,50 @@ guards-restored false guard masks past region kept pc registers walk back out h 
 pub guards-moved : {Stop : Type 0} (enclosed : Bool) (a b : Guard) (masks : Masks) (past : List Point)
     (region : Region) (kept : List ℕ) (pc : ℕ) (place : Place) (shape : Shape) (source : Source) (value : ℕ)
     (walk : Walk) (out : Played Stop Guard) → b.tally ≡ a.tally →
-    b.broken ≡ first_break a.broken (place_break region kept pc place) →
+    b.broken ≡ first_break a.broken (place_break region kept pc place) → b.lent ≡ a.lent →
     Guarded enclosed b masks past region kept pc walk out →
     Guarded enclosed a masks past region kept pc (Moved place shape source value walk) out
 unfolding crossing passed walk_break real_end
-guards-moved true a b masks past region kept pc place shape source value walk out same e h =
+guards-moved true a b masks past region kept pc place shape source value walk out same e n h =
     guards-wrote a b masks past [] (place_break region kept pc place) (walk_break region kept pc walk) (real_end walk)
-    out same e h
-guards-moved false a b masks past region kept pc place shape source value walk out same e h =
+    out same e n h
+guards-moved false a b masks past region kept pc place shape source value walk out same e n h =
     guards-wrote a b masks (passed past walk) (crossing masks past walk) (place_break region kept pc place)
-    (walk_break region kept pc walk) (real_end walk) out same e h
+    (walk_break region kept pc walk) (real_end walk) out same e n h
 
 pub guards-passed : {Stop : Type 0} (enclosed : Bool) (a b : Guard) (masks : Masks) (past : List Point)
     (region : Region) (kept : List ℕ) (pc : ℕ) (point : Point) (place : Place) (work : Work) (sources : Sources)
     (value : ℕ) (go : ℕ → Walk) (out : Played Stop Guard) → a.tally.budget < 4294967295 →
     Tallies a.tally (visit_bits enclosed masks past point value) b.tally →
-    b.broken ≡ first_break a.broken (place_break region kept pc place) →
+    b.broken ≡ first_break a.broken (place_break region kept pc place) → b.lent ≡ a.lent →
     Guarded enclosed b masks (visit_past enclosed past point) region kept pc (go value) out →
     Guarded enclosed a masks past region kept pc (Passed point place work sources value go) out
 unfolding crossing passed walk_break real_end
-guards-passed true a b masks past region kept pc point place work sources value go out small t e h =
+guards-passed true a b masks past region kept pc point place work sources value go out small t e n h =
     guards-more a b masks past [] [] (place_break region kept pc place) (walk_break region kept pc (go value))
-    (real_end (go value)) out small t e h
-guards-passed false a b masks past region kept pc point place work sources value go out small t e h =
+    (real_end (go value)) out small t e n h
+guards-passed false a b masks past region kept pc point place work sources value go out small t e n h =
     guards-more a b masks (passed (visit_past false past point) (go value))
     (bits_under value (mask_at masks past point))
     (crossing masks (visit_past false past point) (go value)) (place_break region kept pc place)
-    (walk_break region kept pc (go value)) (real_end (go value)) out small t e h
+    (walk_break region kept pc (go value)) (real_end (go value)) out small t e n h
 
 pub guards-decided : {Stop : Type 0} (enclosed : Bool) (a b : Guard) (masks : Masks) (past : List Point)
     (region : Region) (kept : List ℕ) (pc : ℕ) (point : Point) (work : Work) (sources : Sources)
     (value : ℕ) (go : ℕ → Walk) (out : Played Stop Guard) → a.tally.budget < 4294967295 →
     Tallies a.tally (visit_bits enclosed masks past point value) b.tally →
-    b.broken ≡ first_break a.broken (slot_break region pc point.slot) →
+    b.broken ≡ first_break a.broken (slot_break region pc point.slot) → b.lent ≡ a.lent →
     Guarded enclosed b masks (visit_past enclosed past point) region kept pc (go value) out →
     Guarded enclosed a masks past region kept pc (Decided point work sources value go) out
 unfolding crossing passed walk_break real_end
-guards-decided true a b masks past region kept pc point work sources value go out small t e h =
+guards-decided true a b masks past region kept pc point work sources value go out small t e n h =
     guards-more a b masks past [] [] (slot_break region pc point.slot) (walk_break region kept pc (go value))
-    (real_end (go value)) out small t e h
-guards-decided false a b masks past region kept pc point work sources value go out small t e h =
+    (real_end (go value)) out small t e n h
+guards-decided false a b masks past region kept pc point work sources value go out small t e n h =
     guards-more a b masks (passed (visit_past false past point) (go value))
     (bits_under value (mask_at masks past point))
     (crossing masks (visit_past false past point) (go value)) (slot_break region pc point.slot)
-    (walk_break region kept pc (go value)) (real_end (go value)) out small t e h
+    (walk_break region kept pc (go value)) (real_end (go value)) out small t e n h
 
 first-nothing : (broken : Option Break) → broken ≡ first_break broken None
 first-nothing None = refl
@@ -148,15 +148,15 @@ first-nothing (Some broken) = refl
 pub guards-gave : {Stop : Type 0} (enclosed : Bool) (a b : Guard) (masks : Masks) (past : List Point)
     (region : Region) (kept : List ℕ) (pc : ℕ) (point : Point) (place : Place)
     (value : ℕ) (go : ℕ → Walk) (out : Played Stop Guard) → a.tally.budget < 4294967295 →
-    Tallies a.tally (visit_bits enclosed masks past point value) b.tally → b.broken ≡ a.broken →
+    Tallies a.tally (visit_bits enclosed masks past point value) b.tally → b.broken ≡ a.broken → b.lent ≡ a.lent →
     Guarded enclosed b masks (visit_past enclosed past point) region kept pc (go value) out →
     Guarded enclosed a masks past region kept pc (Gave point place value go) out
 unfolding crossing passed walk_break real_end
-guards-gave true a b masks past region kept pc point place value go out small t e h =
+guards-gave true a b masks past region kept pc point place value go out small t e n h =
     guards-more a b masks past [] [] None (walk_break region kept pc (go value))
-    (real_end (go value)) out small t (e ∙ first-nothing a.broken) h
-guards-gave false a b masks past region kept pc point place value go out small t e h =
+    (real_end (go value)) out small t (e ∙ first-nothing a.broken) n h
+guards-gave false a b masks past region kept pc point place value go out small t e n h =
     guards-more a b masks (passed (visit_past false past point) (go value))
     (bits_under value (mask_at masks past point))
     (crossing masks (visit_past false past point) (go value)) None
-    (walk_break region kept pc (go value)) (real_end (go value)) out small t (e ∙ first-nothing a.broken) h
+    (walk_break region kept pc (go value)) (real_end (go value)) out small t (e ∙ first-nothing a.broken) n h

@@ -1,6 +1,7 @@
 -- What a turn of the real run leaves, kind by kind.
 use Rattle.std.proofs.Common.{◌≡◌, ℕ, List, [], ◌∷◌, Bool, true, false, Result, Ok, Err, Option, Some, None, refl, sym}
 use Rattle.std.proofs.Common.{ap, subst, ◌∙◌}
+use Rattle.std.specs.Borrow.{GName}
 use Rattle.flow_base.specs.declared.points.Point.{Point}
 use Rattle.cut_file.specs.Masks.{MaskAt}
 use Rattle.rv32im_machine.specs.State.{State, Setting, Store, entered}
@@ -64,47 +65,67 @@ guards-outcome : {Stop : Type 0} (before : Guard) (masks : Masks) (past : List P
     (broken : Option Break) (state reached : State) (r : Result (Unit {0}) Stop) (after : Guard) →
     Guards before masks past bits broken state (outcome r reached after) →
     (state ≡ reached) × (IsAhead after.tally.ahead masks past × (Tallies before.tally bits after.tally
-    × (after.broken ≡ broken)))
+    × ((after.broken ≡ broken) × (after.lent ≡ before.lent))))
 guards-outcome before masks past bits broken state reached (Ok done) after h = h
 guards-outcome before masks past bits broken state reached (Err stop) after h = absurd h
 
-abbrev guard : Tallying → Option Break → Guard
-guard tally broken = record { tally = tally_of tally; broken = broken }
+abbrev guard : Tallying → Option Break → GName → Guard
+guard tally broken lent = record { tally = tally_of tally; broken = broken; lent = lent }
 
--- what the real side inside a region says of its turn
-abbrev GuardsWalk : {Stop : Type 0} → Bool → Region → List ℕ → ℕ → Walk → Tallying → State → Tallying → Option Break →
-    Result (Unit {0}) Stop → Type 0
-GuardsWalk enclosed region kept pc walk tally reached after broken r =
+-- what the real side inside a region, lent the tally under the first name and holding the second, says of its turn
+abbrev GuardsWalk : {Stop : Type 0} → Bool → Region → List ℕ → ℕ → Walk → GName → GName → Tallying → State → Tallying →
+    Option Break → Result (Unit {0}) Stop → Type 0
+GuardsWalk enclosed region kept pc walk lent held tally reached after broken r =
     (masks : Masks) (past : List Point) → IsAhead tally.masks masks past →
-    Guards (guard tally None) masks (visited enclosed past walk) (crossing_unless enclosed masks past walk)
-    (first_break None (walk_break region kept pc walk)) (real_end walk) (outcome r reached (guard after broken))
+    Guards (guard tally None lent) masks (visited enclosed past walk) (crossing_unless enclosed masks past walk)
+    (first_break None (walk_break region kept pc walk)) (real_end walk) (outcome r reached (guard after broken held))
+
+-- and so of these masks and points
+guarded-at : {Stop : Type 0} (enclosed : Bool) (region : Region) (kept : List ℕ) (pc : ℕ) (walk : Walk)
+    (lent held : GName) (tally : Tallying) (reached : State) (after : Tallying) (broken : Option Break)
+    (r : Result (Unit {0}) Stop) (masks : Masks) (past : List Point) →
+    GuardsWalk enclosed region kept pc walk lent held tally reached after broken r → IsAhead tally.masks masks past →
+    (real_end walk ≡ reached) × (IsAhead after.masks masks (visited enclosed past walk)
+    × (Tallies (tally_of tally) (crossing_unless enclosed masks past walk) (tally_of after)
+    × ((broken ≡ walk_break region kept pc walk) × (held ≡ lent))))
+guarded-at enclosed region kept pc walk lent held tally reached after broken r masks past h ahead =
+    guards-outcome (guard tally None lent) masks (visited enclosed past walk)
+    (crossing_unless enclosed masks past walk) (walk_break region kept pc walk) (real_end walk) reached r
+    (guard after broken held) (h masks past ahead)
 
 pub walked-guarded : {Stop : Type 0} (enclosed : Bool) (region : Region) (kept : List ℕ) (pc : ℕ) (walk : Walk)
-    (tally : Tallying) (reached : State) (after : Tallying) (broken : Option Break) (r : Result (Unit {0}) Stop) →
-    GuardsWalk enclosed region kept pc walk tally reached after broken r → Walked enclosed walk tally reached after
-walked-guarded enclosed region kept pc walk tally reached after broken r h =
-    let first = guards-outcome (guard tally None) (MaskAt tally.masks) (visited enclosed [] walk)
-    (crossing_unless enclosed (MaskAt tally.masks) [] walk) (walk_break region kept pc walk) (real_end walk) reached r
-    (guard after broken) (h (MaskAt tally.masks) [] (ahead-self tally.masks)) in record {
+    (lent held : GName) (tally : Tallying) (reached : State) (after : Tallying) (broken : Option Break)
+    (r : Result (Unit {0}) Stop) →
+    GuardsWalk enclosed region kept pc walk lent held tally reached after broken r →
+    Walked enclosed walk tally reached after
+walked-guarded enclosed region kept pc walk lent held tally reached after broken r h =
+    let first = guarded-at enclosed region kept pc walk lent held tally reached after broken r (MaskAt tally.masks) [] h
+    (ahead-self tally.masks) in record {
       state = sym first.0;
       budget = first.1.1.0.budget;
       tallies = λ masks past ahead.
-          (guards-outcome (guard tally None) masks (visited enclosed past walk)
-          (crossing_unless enclosed masks past walk) (walk_break region kept pc walk) (real_end walk) reached r
-          (guard after broken) (h masks past ahead)).1.1.0;
+          (guarded-at enclosed region kept pc walk lent held tally reached after broken r masks past h ahead).1.1.0;
       ahead = λ masks past ahead.
-          (guards-outcome (guard tally None) masks (visited enclosed past walk)
-          (crossing_unless enclosed masks past walk) (walk_break region kept pc walk) (real_end walk) reached r
-          (guard after broken) (h masks past ahead)).1.0;
+          (guarded-at enclosed region kept pc walk lent held tally reached after broken r masks past h ahead).1.0;
     }
 
 pub broken-guarded : {Stop : Type 0} (enclosed : Bool) (region : Region) (kept : List ℕ) (pc : ℕ) (walk : Walk)
-    (tally : Tallying) (reached : State) (after : Tallying) (broken : Option Break) (r : Result (Unit {0}) Stop) →
-    GuardsWalk enclosed region kept pc walk tally reached after broken r → broken ≡ walk_break region kept pc walk
-broken-guarded enclosed region kept pc walk tally reached after broken r h =
-    (guards-outcome (guard tally None) (MaskAt tally.masks) (visited enclosed [] walk)
-    (crossing_unless enclosed (MaskAt tally.masks) [] walk) (walk_break region kept pc walk) (real_end walk) reached r
-    (guard after broken) (h (MaskAt tally.masks) [] (ahead-self tally.masks))).1.1.1
+    (lent held : GName) (tally : Tallying) (reached : State) (after : Tallying) (broken : Option Break)
+    (r : Result (Unit {0}) Stop) →
+    GuardsWalk enclosed region kept pc walk lent held tally reached after broken r →
+    broken ≡ walk_break region kept pc walk
+broken-guarded enclosed region kept pc walk lent held tally reached after broken r h =
+    (guarded-at enclosed region kept pc walk lent held tally reached after broken r (MaskAt tally.masks) [] h
+    (ahead-self tally.masks)).1.1.1.0
+
+-- it still holds what it was lent
+pub lent-guarded : {Stop : Type 0} (enclosed : Bool) (region : Region) (kept : List ℕ) (pc : ℕ) (walk : Walk)
+    (lent held : GName) (tally : Tallying) (reached : State) (after : Tallying) (broken : Option Break)
+    (r : Result (Unit {0}) Stop) →
+    GuardsWalk enclosed region kept pc walk lent held tally reached after broken r → held ≡ lent
+lent-guarded enclosed region kept pc walk lent held tally reached after broken r h =
+    (guarded-at enclosed region kept pc walk lent held tally reached after broken r (MaskAt tally.masks) [] h
+    (ahead-self tally.masks)).1.1.1.1
 
 -- ---- at an entry nothing crosses
 
@@ -174,12 +195,12 @@ walked-entry true state region tally reached after h = record {
 
 -- ---- the kinds of turn
 
-abbrev turn_of : Tallying → Bool → Option Break → RealTurn
-turn_of tally enclosed broken = record { tally = tally; enclosed = enclosed; broken = broken }
+abbrev pub turn_of : Bool → Option Break → RealTurn
+turn_of enclosed broken = record { enclosed = enclosed; broken = broken }
 
 pub makes-step : (enclosures : Enclosures) (before : State) (tally : Tallying) (reached : State) (after : Tallying) →
     Walked false (walk_of before) tally reached after →
-    Makes enclosures (Steps None) before tally reached (turn_of after false None)
+    Makes enclosures (Steps None) before tally reached after (turn_of false None)
 makes-step enclosures before tally reached after h = record {
   state = h.state;
   enclosed = refl;
@@ -192,7 +213,7 @@ makes-step enclosures before tally reached after h = record {
 pub makes-leave : (enclosures : Enclosures) (before : State) (region : Region) (tally : Tallying) (reached : State)
     (after : Tallying) (broken : Option Break) → broken ≡ keep_break region before.store.kept before.store.registers →
     Walked false (turn_walk before (leave region before.store.kept before.control)) tally reached after →
-    Makes enclosures (Leaves region) before tally reached (turn_of after false broken)
+    Makes enclosures (Leaves region) before tally reached after (turn_of false broken)
 makes-leave enclosures before region tally reached after broken e h = record {
   state = h.state;
   enclosed = refl;
@@ -206,7 +227,7 @@ pub makes-entry : (enclosures : Enclosures) (before : State) (region : Region) (
     (after : Tallying) (enclosed : Bool) (broken : Option Break) → enclosed ≡ is_skipped enclosures region →
     broken ≡ range_break region before.store.registers before.setting.base →
     Walked false (turn_walk before (entry region before.control)) tally reached after →
-    Makes enclosures (Enters region) before tally reached (turn_of after enclosed broken)
+    Makes enclosures (Enters region) before tally reached after (turn_of enclosed broken)
 makes-entry enclosures before region tally reached after enclosed broken is e h =
     let walked : Walked (is_skipped enclosures region) (turn_walk before (entry region before.control)) tally reached
     after =
@@ -219,20 +240,21 @@ makes-entry enclosures before region tally reached after enclosed broken is e h 
       ahead = walked.ahead;
     }
 
-pub makes-inside : {Stop : Type 0} (enclosures : Enclosures) (before : State) (region : Region) (tally : Tallying)
-    (reached : State) (after : Tallying) (enclosed : Bool) (kept : List ℕ) (pc : ℕ) (broken : Option Break)
-    (r : Result (Unit {0}) Stop) → enclosed ≡ is_skipped enclosures region → kept ≡ before.store.kept →
-    pc ≡ before.control.pc → GuardsWalk enclosed region kept pc (walk_of before) tally reached after broken r →
-    Makes enclosures (Steps (Some region)) before tally reached (turn_of after enclosed broken)
-makes-inside enclosures before region tally reached after enclosed kept pc broken r is k a h =
+pub makes-inside : {Stop : Type 0} (enclosures : Enclosures) (before : State) (region : Region) (lent held : GName)
+    (tally : Tallying) (reached : State) (after : Tallying) (enclosed : Bool) (kept : List ℕ) (pc : ℕ)
+    (broken : Option Break) (r : Result (Unit {0}) Stop) → enclosed ≡ is_skipped enclosures region →
+    kept ≡ before.store.kept → pc ≡ before.control.pc →
+    GuardsWalk enclosed region kept pc (walk_of before) lent held tally reached after broken r →
+    Makes enclosures (Steps (Some region)) before tally reached after (turn_of enclosed broken)
+makes-inside enclosures before region lent held tally reached after enclosed kept pc broken r is k a h =
     let walked : Walked (is_skipped enclosures region) (walk_of before) tally reached after =
     subst (λ b. Walked b (walk_of before) tally reached after) is
-    (walked-guarded enclosed region kept pc (walk_of before) tally reached after broken r h) in
+    (walked-guarded enclosed region kept pc (walk_of before) lent held tally reached after broken r h) in
     record {
       state = walked.state;
       enclosed = is;
       broken =
-          broken-guarded enclosed region kept pc (walk_of before) tally reached after broken r h
+          broken-guarded enclosed region kept pc (walk_of before) lent held tally reached after broken r h
           ∙ (ap (λ x. walk_break region x pc (walk_of before)) k
           ∙ ap (λ x. walk_break region before.store.kept x (walk_of before)) a);
       budget = walked.budget;
@@ -241,7 +263,7 @@ makes-inside enclosures before region tally reached after enclosed kept pc broke
     }
 
 pub makes-kind : (enclosures : Enclosures) (first second : Kind) (before : State) (tally : Tallying) (reached : State)
-    (turn : RealTurn) → first ≡ second → Makes enclosures first before tally reached turn →
-    Makes enclosures second before tally reached turn
-makes-kind enclosures first second before tally reached turn e h =
-    subst (λ k. Makes enclosures k before tally reached turn) e h
+    (after : Tallying) (turn : RealTurn) → first ≡ second →
+    Makes enclosures first before tally reached after turn → Makes enclosures second before tally reached after turn
+makes-kind enclosures first second before tally reached after turn e h =
+    subst (λ k. Makes enclosures k before tally reached after turn) e h

@@ -85,31 +85,33 @@ later-passes broken mode budget total count later p =
 
 -- ---- a turn of the real run, before which the two runs kept step
 
-pub record Played (before : State) (tally : Tallying) (standing : Standing) (reached : State) (turn : RealTurn) :
-    Type 0 where
-  pub makes : Makes standing.enclosures (kind_of standing.enclosures.regions before.control) before tally reached turn
+pub record Played (before : State) (tally : Tallying) (standing : Standing) (reached : State) (after : Tallying)
+    (turn : RealTurn) : Type 0 where
+  pub makes :
+      Makes standing.enclosures (kind_of standing.enclosures.regions before.control) before tally reached after turn
   pub keeps : Keeps before standing tally.bits tally.needed tally.budget
   pub small : tally.budget < 4294967295
   pub rules : are_regions standing.enclosures.regions ≡ true
 
 -- what the code finds of the real run alone
-abbrev pub real_why : State → RealTurn → Option Why
-real_why reached turn = why_broken turn.broken (why_mode reached.control.mode turn.tally.budget turn.tally.needed None)
+abbrev pub real_why : State → Tallying → RealTurn → Option Why
+real_why reached after turn = why_broken turn.broken (why_mode reached.control.mode after.budget after.needed None)
 
-own-why : (before : State) (tally : Tallying) (standing : Standing) (reached : State) (turn : RealTurn) →
-    (p : Played before tally standing reached turn) →
-    real_why reached turn ≡ why_broken (Breaks standing.enclosures.regions before)
-    (why_mode reached.control.mode tally.budget turn.tally.needed None)
-own-why before tally standing reached turn p =
-    ap (λ b. why_broken b (why_mode reached.control.mode turn.tally.budget turn.tally.needed None)) p.makes.broken
+own-why : (before : State) (tally : Tallying) (standing : Standing) (reached : State) (after : Tallying)
+    (turn : RealTurn) → (p : Played before tally standing reached after turn) →
+    real_why reached after turn ≡ why_broken (Breaks standing.enclosures.regions before)
+    (why_mode reached.control.mode tally.budget after.needed None)
+own-why before tally standing reached after turn p =
+    ap (λ b. why_broken b (why_mode reached.control.mode after.budget after.needed None)) p.makes.broken
     ∙ ap (λ b. why_broken (Breaks standing.enclosures.regions before)
-    (why_mode reached.control.mode b turn.tally.needed None)) p.makes.budget
+    (why_mode reached.control.mode b after.needed None)) p.makes.budget
 
-pub round-fails : (before : State) (tally : Tallying) (standing : Standing) (reached : State) (turn : RealTurn)
-    (why : Why) → Played before tally standing reached turn → real_why reached turn ≡ Some why →
-    Rounds standing.enclosures before tally standing reached standing
-    (record { tally = turn.tally; enclosed = turn.enclosed; why = Some why })
-round-fails before tally standing reached turn why p e = record {
+pub round-fails : (before : State) (tally : Tallying) (standing : Standing) (reached : State) (after : Tallying)
+    (turn : RealTurn) (why : Why) → Played before tally standing reached after turn →
+    real_why reached after turn ≡ Some why →
+    Rounds standing.enclosures before tally standing reached after standing
+    (record { enclosed = turn.enclosed; why = Some why })
+round-fails before tally standing reached after turn why p e = record {
   state = p.makes.state;
   enclosed = p.makes.enclosed;
   budget = p.makes.budget;
@@ -117,37 +119,39 @@ round-fails before tally standing reached turn why p e = record {
   ahead = p.makes.ahead;
   why = λ masks past place ahead stands.
       sym (real-fails (Breaks standing.enclosures.regions before) reached.control.mode tally.budget
-      (tally.needed + length (crossed standing.enclosures masks past before)) turn.tally.needed _ why
-      (p.makes.tallies masks past ahead).needed (sym (own-why before tally standing reached turn p) ∙ e));
+      (tally.needed + length (crossed standing.enclosures masks past before)) after.needed _ why
+      (p.makes.tallies masks past ahead).needed (sym (own-why before tally standing reached after turn p) ∙ e));
   joins = λ masks past place ahead stands none. absurd (cc);
   bits = λ masks past ahead none. absurd (cc);
   keeps = λ none. absurd (cc);
 }
 
-passes-of : (before : State) (tally : Tallying) (standing : Standing) (reached : State) (turn : RealTurn)
-    (masks : Masks) (past : List Point) → Played before tally standing reached turn → real_why reached turn ≡ None →
+passes-of : (before : State) (tally : Tallying) (standing : Standing) (reached : State) (after : Tallying)
+    (turn : RealTurn) (masks : Masks) (past : List Point) → Played before tally standing reached after turn →
+    real_why reached after turn ≡ None →
     IsAhead tally.masks masks past →
     Passes (Breaks standing.enclosures.regions before) reached.control.mode tally.budget
-    (tally.needed + length (crossed standing.enclosures masks past before)) turn.tally.needed
-passes-of before tally standing reached turn masks past p e ahead =
+    (tally.needed + length (crossed standing.enclosures masks past before)) after.needed
+passes-of before tally standing reached after turn masks past p e ahead =
     real-passes (Breaks standing.enclosures.regions before) reached.control.mode tally.budget
-    (tally.needed + length (crossed standing.enclosures masks past before)) turn.tally.needed p.small
-    (p.makes.tallies masks past ahead).needed (sym (own-why before tally standing reached turn p) ∙ e)
+    (tally.needed + length (crossed standing.enclosures masks past before)) after.needed p.small
+    (p.makes.tallies masks past ahead).needed (sym (own-why before tally standing reached after turn p) ∙ e)
 
-pub within-played : (before : State) (tally : Tallying) (standing : Standing) (reached : State) (turn : RealTurn)
-    (masks : Masks) (past : List Point) → Played before tally standing reached turn → real_why reached turn ≡ None →
+pub within-played : (before : State) (tally : Tallying) (standing : Standing) (reached : State) (after : Tallying)
+    (turn : RealTurn) (masks : Masks) (past : List Point) → Played before tally standing reached after turn →
+    real_why reached after turn ≡ None →
     IsAhead tally.masks masks past →
-    Within (tally_of tally) (crossed standing.enclosures masks past before) (tally_of turn.tally)
-within-played before tally standing reached turn masks past p e ahead =
-    within-of (tally_of tally) (tally_of turn.tally) (crossed standing.enclosures masks past before)
-    (p.makes.tallies masks past ahead) p.small (passes-of before tally standing reached turn masks past p e ahead).small
-    p.keeps.taken
+    Within (tally_of tally) (crossed standing.enclosures masks past before) (tally_of after)
+within-played before tally standing reached after turn masks past p e ahead =
+    within-of (tally_of tally) (tally_of after) (crossed standing.enclosures masks past before)
+    (p.makes.tallies masks past ahead) p.small
+    (passes-of before tally standing reached after turn masks past p e ahead).small p.keeps.taken
 
 -- the real run's output still begins with the replay's
-pub output-begins : (before : State) (tally : Tallying) (standing : Standing) (reached : State) (turn : RealTurn) →
-    Played before tally standing reached turn →
+pub output-begins : (before : State) (tally : Tallying) (standing : Standing) (reached : State) (after : Tallying)
+    (turn : RealTurn) → Played before tally standing reached after turn →
     (more : List ℕ) × (reached.control.output ≡ standing.state.control.output ++ more)
-output-begins before tally standing reached turn p =
+output-begins before tally standing reached after turn p =
     let grown = real_grows standing.enclosures.regions before in
     let old = p.keeps.output in (
       old.0 ++ grown.0,
@@ -155,14 +159,14 @@ output-begins before tally standing reached turn p =
           ∙ append_assoc standing.state.control.output old.0 grown.0)),
     )
 
-leaves-played : (before : State) (tally : Tallying) (standing : Standing) (reached : State) (turn : RealTurn) →
-    Played before tally standing reached turn → real_why reached turn ≡ None →
+leaves-played : (before : State) (tally : Tallying) (standing : Standing) (reached : State) (after : Tallying)
+    (turn : RealTurn) → Played before tally standing reached after turn → real_why reached after turn ≡ None →
     may_leave standing.enclosures.regions reached ≡ true
-leaves-played before tally standing reached turn p e =
+leaves-played before tally standing reached after turn p e =
     let masks : Masks = MaskAt tally.masks in
     subst (λ (s : State). may_leave standing.enclosures.regions s ≡ true) (sym p.makes.state)
     (guest_keeps standing.enclosures.regions before p.rules p.keeps.leaves
-    (passes-of before tally standing reached turn masks [] p e (ahead-self tally.masks)).unbroken)
+    (passes-of before tally standing reached after turn masks [] p e (ahead-self tally.masks)).unbroken)
 
 quiet-length : (enclosures : Enclosures) (masks : Masks) (past : List Point) (before : State) →
     is_enclosed enclosures before.control ≡ true → length (crossed enclosures masks past before) ≡ 0
@@ -176,15 +180,16 @@ joined-stays true standing masks place bits e stands = stands
 joined-stays false standing masks place bits e stands = absurd (cc)
 
 -- the turn is enclosed, and nothing fails of the real run: the replay stays where it is
-pub round-enclosed : (before : State) (tally : Tallying) (standing : Standing) (reached : State) (turn : RealTurn) →
-    Played before tally standing reached turn → real_why reached turn ≡ None → turn.enclosed ≡ true →
-    Rounds standing.enclosures before tally standing reached standing
-    (record { tally = turn.tally; enclosed = turn.enclosed; why = None })
-round-enclosed before tally standing reached turn p e is =
+pub round-enclosed : (before : State) (tally : Tallying) (standing : Standing) (reached : State) (after : Tallying)
+    (turn : RealTurn) →
+    Played before tally standing reached after turn → real_why reached after turn ≡ None → turn.enclosed ≡ true →
+    Rounds standing.enclosures before tally standing reached after standing
+    (record { enclosed = turn.enclosed; why = None })
+round-enclosed before tally standing reached after turn p e is =
     let inside : is_enclosed standing.enclosures before.control ≡ true = sym p.makes.enclosed ∙ is in
     let first : Masks = MaskAt tally.masks in
-    let w : Within (tally_of tally) (crossed standing.enclosures first [] before) (tally_of turn.tally) =
-    within-played before tally standing reached turn first [] p e (ahead-self tally.masks) in
+    let w : Within (tally_of tally) (crossed standing.enclosures first [] before) (tally_of after) =
+    within-played before tally standing reached after turn first [] p e (ahead-self tally.masks) in
     let none : length (crossed standing.enclosures first [] before) ≡ 0 =
     quiet-length standing.enclosures first [] before inside in record {
       state = p.makes.state;
@@ -194,8 +199,8 @@ round-enclosed before tally standing reached turn p e is =
       ahead = p.makes.ahead;
       why = λ masks past place ahead stands.
           sym (later-passes (Breaks standing.enclosures.regions before) reached.control.mode tally.budget
-          (tally.needed + length (crossed standing.enclosures masks past before)) turn.tally.needed _
-          (passes-of before tally standing reached turn masks past p e ahead)
+          (tally.needed + length (crossed standing.enclosures masks past before)) after.needed _
+          (passes-of before tally standing reached after turn masks past p e ahead)
           ∙ ap (λ b. why_common b (why_replay reached
           (tally.needed + length (crossed standing.enclosures masks past before))
           (fed_turn standing.enclosures masks place (crossed standing.enclosures masks past before)))) inside);
@@ -203,7 +208,7 @@ round-enclosed before tally standing reached turn p e is =
           joined-stays (is_enclosed standing.enclosures before.control) standing masks place
           (crossed standing.enclosures masks past before) inside stands;
       bits = λ masks past ahead nothing.
-          (within-played before tally standing reached turn masks past p e ahead).bits;
+          (within-played before tally standing reached after turn masks past p e ahead).bits;
       keeps = λ nothing. record {
         wanted = p.keeps.wanted;
         used = omega (arith, p.keeps.used, w.needed, none);
@@ -223,8 +228,8 @@ round-enclosed before tally standing reached turn p e is =
           w.needed,
         );
         within = omega (arith, w.fits, w.needed, p.makes.budget);
-        output = output-begins before tally standing reached turn p;
-        leaves = leaves-played before tally standing reached turn p e;
+        output = output-begins before tally standing reached after turn p;
+        leaves = leaves-played before tally standing reached after turn p e;
       };
     }
 
@@ -235,33 +240,33 @@ joined-joins true standing masks place enclosures bits e joins = absurd (cc)
 joined-joins false standing masks place enclosures bits e joins = joins
 
 -- what the replay beside says
-pub record IsBeside (before : State) (tally : Tallying) (standing : Standing) (reached : State) (turn : RealTurn)
-    (next : Standing) (after : Tallying) (why : Option Why) : Type 0 where
+pub record IsBeside (before : State) (tally : Tallying) (standing : Standing) (reached : State) (after : Tallying)
+    (turn : RealTurn) (next : Standing) (last : Tallying) (why : Option Why) : Type 0 where
   pub says :
       (masks : Masks) (place : ReplayPlace) → Stands standing masks place →
-      why ≡ why_replay reached turn.tally.needed (fed_turn standing.enclosures masks place (left_of turn.tally.bits))
+      why ≡ why_replay reached after.needed (fed_turn standing.enclosures masks place (left_of after.bits))
   pub joins :
       (masks : Masks) (place : ReplayPlace) → Stands standing masks place → why ≡ None →
-      Joins next masks (fed_turn standing.enclosures masks place (left_of turn.tally.bits))
+      Joins next masks (fed_turn standing.enclosures masks place (left_of after.bits))
   pub enclosures : next.enclosures ≡ standing.enclosures
-  pub bits : after.bits.bits ≡ turn.tally.bits.bits
-  pub masks : after.masks ≡ turn.tally.masks
-  pub needed : after.needed ≡ turn.tally.needed
-  pub budget : after.budget ≡ turn.tally.budget
-  pub agrees : why ≡ None → InStep reached next after.bits turn.tally.needed
+  pub bits : last.bits.bits ≡ after.bits.bits
+  pub masks : last.masks ≡ after.masks
+  pub needed : last.needed ≡ after.needed
+  pub budget : last.budget ≡ after.budget
+  pub agrees : why ≡ None → InStep reached next last.bits after.needed
 
 -- the turn is not enclosed, and nothing fails of the real run: the replay has made its turn
-pub round-beside : (before : State) (tally : Tallying) (standing : Standing) (reached : State) (turn : RealTurn)
-    (next : Standing) (after : Tallying) (why : Option Why) →
-    Played before tally standing reached turn → real_why reached turn ≡ None → turn.enclosed ≡ false →
-    IsBeside before tally standing reached turn next after why →
-    Rounds standing.enclosures before tally standing reached next
-    (record { tally = after; enclosed = turn.enclosed; why = why })
-round-beside before tally standing reached turn next after why p e is b =
+pub round-beside : (before : State) (tally : Tallying) (standing : Standing) (reached : State) (after : Tallying)
+    (turn : RealTurn) (next : Standing) (last : Tallying) (why : Option Why) →
+    Played before tally standing reached after turn → real_why reached after turn ≡ None → turn.enclosed ≡ false →
+    IsBeside before tally standing reached after turn next last why →
+    Rounds standing.enclosures before tally standing reached last next
+    (record { enclosed = turn.enclosed; why = why })
+round-beside before tally standing reached after turn next last why p e is b =
     let outside : is_enclosed standing.enclosures before.control ≡ false = sym p.makes.enclosed ∙ is in
     let first : Masks = MaskAt tally.masks in
-    let w : Within (tally_of tally) (crossed standing.enclosures first [] before) (tally_of turn.tally) =
-    within-played before tally standing reached turn first [] p e (ahead-self tally.masks) in record {
+    let w : Within (tally_of tally) (crossed standing.enclosures first [] before) (tally_of after) =
+    within-played before tally standing reached after turn first [] p e (ahead-self tally.masks) in record {
       state = p.makes.state;
       enclosed = p.makes.enclosed;
       budget = b.budget ∙ p.makes.budget;
@@ -270,30 +275,30 @@ round-beside before tally standing reached turn next after why p e is b =
           subst (λ a. IsAhead a masks (visited (is_enclosed standing.enclosures before.control) past
           (guest_walk standing.enclosures.regions before))) (sym b.masks) (p.makes.ahead masks past ahead);
       why = λ masks past place ahead stands.
-          let v : Within (tally_of tally) (crossed standing.enclosures masks past before) (tally_of turn.tally) =
-          within-played before tally standing reached turn masks past p e ahead in
+          let v : Within (tally_of tally) (crossed standing.enclosures masks past before) (tally_of after) =
+          within-played before tally standing reached after turn masks past p e ahead in
           b.says masks place stands
-          ∙ (ap (λ n. why_replay reached n (fed_turn standing.enclosures masks place (left_of turn.tally.bits)))
+          ∙ (ap (λ n. why_replay reached n (fed_turn standing.enclosures masks place (left_of after.bits)))
           v.needed
           ∙ (ap (λ s. why_replay reached (tally.needed + length (crossed standing.enclosures masks past before))
           (fed_turn standing.enclosures masks place s)) v.left
           ∙ sym (later-passes (Breaks standing.enclosures.regions before) reached.control.mode tally.budget
-          (tally.needed + length (crossed standing.enclosures masks past before)) turn.tally.needed _
-          (passes-of before tally standing reached turn masks past p e ahead)
+          (tally.needed + length (crossed standing.enclosures masks past before)) after.needed _
+          (passes-of before tally standing reached after turn masks past p e ahead)
           ∙ ap (λ t. why_common t (why_replay reached
           (tally.needed + length (crossed standing.enclosures masks past before))
           (fed_turn standing.enclosures masks place (crossed standing.enclosures masks past before)))) outside)));
       joins = λ masks past place ahead stands nothing.
-          let v : Within (tally_of tally) (crossed standing.enclosures masks past before) (tally_of turn.tally) =
-          within-played before tally standing reached turn masks past p e ahead in
+          let v : Within (tally_of tally) (crossed standing.enclosures masks past before) (tally_of after) =
+          within-played before tally standing reached after turn masks past p e ahead in
           joined-joins (is_enclosed standing.enclosures before.control) next masks place standing.enclosures
           (crossed standing.enclosures masks past before) outside
           (subst (λ s. Joins next masks (fed_turn standing.enclosures masks place s)) v.left
           (b.joins masks place stands nothing));
       bits = λ masks past ahead nothing.
-          b.bits ∙ (within-played before tally standing reached turn masks past p e ahead).bits;
+          b.bits ∙ (within-played before tally standing reached after turn masks past p e ahead).bits;
       keeps = λ nothing.
-          let agrees : InStep reached next after.bits turn.tally.needed = b.agrees nothing in record {
+          let agrees : InStep reached next last.bits after.needed = b.agrees nothing in record {
             wanted = agrees.wanted;
             used = agrees.used ∙ sym b.needed;
             taken = agrees.taken;
@@ -310,15 +315,15 @@ round-beside before tally standing reached turn next after why p e is b =
             output = ([], agrees.output ∙ sym (append-nil next.state.control.output));
             leaves =
                 subst (λ (x : Enclosures). may_leave x.regions reached ≡ true) (sym b.enclosures)
-                (leaves-played before tally standing reached turn p e);
+                (leaves-played before tally standing reached after turn p e);
           };
     }
 
 -- the bits that the replay has used and those that are left are those that have crossed
-pub used-played : (before : State) (tally : Tallying) (standing : Standing) (reached : State) (turn : RealTurn) →
-    Played before tally standing reached turn → real_why reached turn ≡ None →
-    standing.taken + length (left_of turn.tally.bits) ≡ turn.tally.needed
-used-played before tally standing reached turn p e =
-    let w : Within (tally_of tally) (crossed standing.enclosures (MaskAt tally.masks) [] before) (tally_of turn.tally) =
-    within-played before tally standing reached turn (MaskAt tally.masks) [] p e (ahead-self tally.masks) in
+pub used-played : (before : State) (tally : Tallying) (standing : Standing) (reached : State) (after : Tallying)
+    (turn : RealTurn) → Played before tally standing reached after turn → real_why reached after turn ≡ None →
+    standing.taken + length (left_of after.bits) ≡ after.needed
+used-played before tally standing reached after turn p e =
+    let w : Within (tally_of tally) (crossed standing.enclosures (MaskAt tally.masks) [] before) (tally_of after) =
+    within-played before tally standing reached after turn (MaskAt tally.masks) [] p e (ahead-self tally.masks) in
     omega (arith, p.keeps.used, ap length w.left, w.needed)

@@ -136,10 +136,10 @@ fed-is task turns real place e is at exposed =
 
 -- the next condition of a task is what a round says
 pub round-why : (task : Task) (turns : ℕ) (real : State) (tally : Tallying) (standing : Standing) (reached : State)
-    (next : Standing) (round : Round) → StandsAt task turns real tally standing →
-    length tally.bits.bits ≡ tally.needed → Rounds task.enclosures real tally standing reached next round →
+    (after : Tallying) (next : Standing) (round : Round) → StandsAt task turns real tally standing →
+    length tally.bits.bits ≡ tally.needed → Rounds task.enclosures real tally standing reached after next round →
     why_after task turns ≡ round.why
-round-why task turns real tally standing reached next round s count r =
+round-why task turns real tally standing reached after next round s count r =
     let past : List Point = (real_at task turns).past in
     let bits : List Bool = crossed task.enclosures task.masks past real in
     let grown : length (cross_after task (suc turns)) ≡ tally.needed + length bits =
@@ -187,10 +187,10 @@ stands-there false task turns real next place e broken is at joined = record {
 }
 
 pub round-stands : (task : Task) (turns : ℕ) (real : State) (tally : Tallying) (standing : Standing) (reached : State)
-    (next : Standing) (round : Round) → StandsAt task turns real tally standing →
-    Rounds task.enclosures real tally standing reached next round → round.why ≡ None →
-    StandsAt task (suc turns) reached round.tally next
-round-stands task turns real tally standing reached next round s r none =
+    (after : Tallying) (next : Standing) (round : Round) → StandsAt task turns real tally standing →
+    Rounds task.enclosures real tally standing reached after next round → round.why ≡ None →
+    StandsAt task (suc turns) reached after next
+round-stands task turns real tally standing reached after next round s r none =
     let masks : Masks = task.masks in
     let past : List Point = (real_at task turns).past in
     let there : StandsThere task (suc turns) next =
@@ -204,7 +204,7 @@ round-stands task turns real tally standing reached next round s r none =
       unbroken = breaks-is task turns real s.unbroken s.real_is ∙ unbroken;
       enclosures = r.regions_stay ∙ s.enclosures;
       ahead =
-          subst (λ points. IsAhead round.tally.masks masks points) (past-is task turns real s.unbroken s.real_is)
+          subst (λ points. IsAhead after.masks masks points) (past-is task turns real s.unbroken s.real_is)
           (r.ahead masks past s.ahead);
       bits_are =
           r.bits masks past s.ahead none
@@ -219,9 +219,9 @@ round-stands task turns real tally standing reached next round s r none =
 
 -- the turn is enclosed where the round says so
 pub round-enclosed-is : (task : Task) (turns : ℕ) (real : State) (tally : Tallying) (standing : Standing)
-    (reached : State) (next : Standing) (round : Round) → StandsAt task turns real tally standing →
-    Rounds task.enclosures real tally standing reached next round → enclosed_after task turns ≡ round.enclosed
-round-enclosed-is task turns real tally standing reached next round s r =
+    (reached : State) (after : Tallying) (next : Standing) (round : Round) → StandsAt task turns real tally standing →
+    Rounds task.enclosures real tally standing reached after next round → enclosed_after task turns ≡ round.enclosed
+round-enclosed-is task turns real tally standing reached after next round s r =
     ap (λ (t : State). is_enclosed task.enclosures t.control) s.real_is ∙ sym r.enclosed
 
 -- ---- the judgement, round by round
@@ -290,52 +290,54 @@ none-of (Some x) h = absurd (h x refl)
 -- ---- whole rounds
 
 in-task : (task : Task) (turns : ℕ) (real : State) (tally : Tallying) (standing : Standing) (reached : State)
-    (next : Standing) (round : Round) → StandsAt task turns real tally standing →
-    Rounds standing.enclosures real tally standing reached next round →
-    Rounds task.enclosures real tally standing reached next round
-in-task task turns real tally standing reached next round s r =
-    subst (λ (e : Enclosures). Rounds e real tally standing reached next round) s.enclosures r
+    (after : Tallying) (next : Standing) (round : Round) → StandsAt task turns real tally standing →
+    Rounds standing.enclosures real tally standing reached after next round →
+    Rounds task.enclosures real tally standing reached after next round
+in-task task turns real tally standing reached after next round s r =
+    subst (λ (e : Enclosures). Rounds e real tally standing reached after next round) s.enclosures r
 
 pub step-stands : (task : Task) (turns : ℕ) (real : State) (tally : Tallying) (standing : Standing) (reached : State)
-    (next : Standing) (round : Round) → StandsAt task turns real tally standing →
-    Rounds standing.enclosures real tally standing reached next round → round.why ≡ None →
-    StandsAt task (suc turns) reached round.tally next
-step-stands task turns real tally standing reached next round s r none =
-    round-stands task turns real tally standing reached next round s
-    (in-task task turns real tally standing reached next round s r) none
+    (after : Tallying) (next : Standing) (round : Round) → StandsAt task turns real tally standing →
+    Rounds standing.enclosures real tally standing reached after next round → round.why ≡ None →
+    StandsAt task (suc turns) reached after next
+step-stands task turns real tally standing reached after next round s r none =
+    round-stands task turns real tally standing reached after next round s
+    (in-task task turns real tally standing reached after next round s r) none
 
 pub step-rejects : (task : Task) (left turns : ℕ) (real : State) (tally : Tallying) (standing : Standing)
-    (reached : State) (next : Standing) (round : Round) (why : Why) → StandsAt task turns real tally standing →
-    length tally.bits.bits ≡ tally.needed → Rounds standing.enclosures real tally standing reached next round →
+    (reached : State) (after : Tallying) (next : Standing) (round : Round) (why : Why) →
+    StandsAt task turns real tally standing → length tally.bits.bits ≡ tally.needed →
+    Rounds standing.enclosures real tally standing reached after next round →
     round.why ≡ Some why → judged_from task (suc left) turns ≡ Rejects why
-step-rejects task left turns real tally standing reached next round why s count r is =
+step-rejects task left turns real tally standing reached after next round why s count r is =
     judged-rejects task left turns why
-    (round-why task turns real tally standing reached next round s count
-    (in-task task turns real tally standing reached next round s r) ∙ is)
+    (round-why task turns real tally standing reached after next round s count
+    (in-task task turns real tally standing reached after next round s r) ∙ is)
 
 pub step-accepts : (task : Task) (left turns : ℕ) (real : State) (tally : Tallying) (standing : Standing)
-    (reached : State) (next : Standing) (round : Round) (status : ℕ) → StandsAt task turns real tally standing →
-    length tally.bits.bits ≡ tally.needed → Rounds standing.enclosures real tally standing reached next round →
+    (reached : State) (after : Tallying) (next : Standing) (round : Round) (status : ℕ) →
+    StandsAt task turns real tally standing → length tally.bits.bits ≡ tally.needed →
+    Rounds standing.enclosures real tally standing reached after next round →
     round.why ≡ None → round.enclosed ≡ false → reached.control.mode ≡ Exited status →
     judged_from task (suc left) turns
-    ≡ Accepts round.tally.bits.bits (record { bytes = reached.control.output; status = status })
-step-accepts task left turns real tally standing reached next round status s count r none exposed mode =
-    judged-accepts task left turns reached round.tally next status
-    (round-why task turns real tally standing reached next round s count
-    (in-task task turns real tally standing reached next round s r) ∙ none)
-    (round-enclosed-is task turns real tally standing reached next round s
-    (in-task task turns real tally standing reached next round s r) ∙ exposed)
-    (step-stands task turns real tally standing reached next round s r none) mode
+    ≡ Accepts after.bits.bits (record { bytes = reached.control.output; status = status })
+step-accepts task left turns real tally standing reached after next round status s count r none exposed mode =
+    judged-accepts task left turns reached after next status
+    (round-why task turns real tally standing reached after next round s count
+    (in-task task turns real tally standing reached after next round s r) ∙ none)
+    (round-enclosed-is task turns real tally standing reached after next round s
+    (in-task task turns real tally standing reached after next round s r) ∙ exposed)
+    (step-stands task turns real tally standing reached after next round s r none) mode
 
 pub step-goes : (task : Task) (left turns : ℕ) (real : State) (tally : Tallying) (standing : Standing)
-    (reached : State) (next : Standing) (round : Round) → StandsAt task turns real tally standing →
-    length tally.bits.bits ≡ tally.needed → Rounds standing.enclosures real tally standing reached next round →
+    (reached : State) (after : Tallying) (next : Standing) (round : Round) → StandsAt task turns real tally standing →
+    length tally.bits.bits ≡ tally.needed → Rounds standing.enclosures real tally standing reached after next round →
     round.why ≡ None → (round.enclosed ≡ false → (status : ℕ) → reached.control.mode ≡ Exited status → ⊥) →
     judged_from task (suc left) turns ≡ judged_from task left (suc turns)
-step-goes task left turns real tally standing reached next round s count r none running =
-    judged-goes task left turns reached round.tally next
-    (round-why task turns real tally standing reached next round s count
-    (in-task task turns real tally standing reached next round s r) ∙ none)
-    (step-stands task turns real tally standing reached next round s r none)
-    (λ exposed. running (sym (round-enclosed-is task turns real tally standing reached next round s
-    (in-task task turns real tally standing reached next round s r)) ∙ exposed))
+step-goes task left turns real tally standing reached after next round s count r none running =
+    judged-goes task left turns reached after next
+    (round-why task turns real tally standing reached after next round s count
+    (in-task task turns real tally standing reached after next round s r) ∙ none)
+    (step-stands task turns real tally standing reached after next round s r none)
+    (λ exposed. running (sym (round-enclosed-is task turns real tally standing reached after next round s
+    (in-task task turns real tally standing reached after next round s r)) ∙ exposed))

@@ -41,6 +41,6 @@ pub guards-Ended : (Stop : Type 0) (guard : Guard) (enclosed : Bool) (region : R
     (first_break guard.broken (walk_break region kept pc (Ended state))) (real_end (Ended state)) (Finished state guard)
 unfolding crossing real_end passed walk_break
 guards-Ended Stop guard true region kept pc masks past state small ahead =
-    (refl, (ahead, (tallies-none guard.tally small, first-none guard.broken)))
+    (refl, (ahead, (tallies-none guard.tally small, (first-none guard.broken, refl))))
 guards-Ended Stop guard false region kept pc masks past state small ahead =
-    (refl, (ahead, (tallies-none guard.tally small, first-none guard.broken)))
+    (refl, (ahead, (tallies-none guard.tally small, (first-none guard.broken, refl))))

@@ -7,4 +7,5 @@ abbrev pub tally_of : Tallying → Tally
 tally_of side = record { ahead = side.masks; stream = side.bits; needed = side.needed; budget = side.budget }
 
 abbrev pub guard_of : Guarding → Guard
-guard_of side = record { tally = tally_of side.tally; broken = side.broken }
+guard_of side =
+    record { tally = tally_of side.tally.now; broken = side.broken; lent = side.tally.ghost_name }

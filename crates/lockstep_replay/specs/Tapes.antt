@@ -1,5 +1,6 @@
 -- What a turn of the real side leaves of the string of bits.
 use Rattle.std.specs.Prelude.{◌≡◌, ℕ, ◌+◌, ◌≤◌, List, [], ◌∷◌, ◌++◌, length, Bool, true, false, Option}
+use Rattle.std.specs.Borrow.{GName}
 use Rattle.flow_base.specs.declared.points.Point.{Point}
 use Rattle.flow_base.specs.Words.{bits_under}
 use Rattle.crossing_bits.specs.Streams.{Stream}
@@ -43,15 +44,17 @@ abbrev pub visit_past : Bool → List Point → Point → List Point
 visit_past true past point = past
 visit_past false past point = point ∷ past
 
--- the real side with the first break of the region so far
+-- the real side with the first break of the region so far, and the name of the reference to the tally that it is lent
 pub record Guard : Type 0 where
   pub tally : Tally
   pub broken : Option Break
+  pub lent : GName
 
--- the turn has reached this state, these points have been passed, these bits have crossed, and this is the first break
+-- the turn has reached this state, these points have been passed, these bits have crossed, this is the first break, and
+-- the tally is still the one that was lent
 abbrev pub Guards : {Stop : Type 0} → Guard → Masks → List Point → List Bool → Option Break → State →
     Played Stop Guard → Type 0
 Guards before masks past bits broken state (Finished reached after) =
     (state ≡ reached) × (IsAhead after.tally.ahead masks past × (Tallies before.tally bits after.tally
-    × (after.broken ≡ broken)))
+    × ((after.broken ≡ broken) × (after.lent ≡ before.lent))))
 Guards before masks past bits broken state (Halted stop) = ⊥

@@ -28,20 +28,20 @@ use Rattle.lockstep_replay.specs.Verdicts.{why_marks, why_broken, why_mode, why_
 
 -- ---- the real run
 
--- a turn of this kind has come to this state, and has left this of the real side
+-- a turn of this kind has come to this state, and has left the real side so
 pub record Makes (enclosures : Enclosures) (kind : Kind) (before : State) (tally : Tallying) (reached : State)
-    (turn : RealTurn) : Type 0 where
+    (after : Tallying) (turn : RealTurn) : Type 0 where
   pub state : reached ≡ real_end (kind_walk kind before)
   pub enclosed : turn.enclosed ≡ is_enclosed_kind enclosures kind
   pub broken : turn.broken ≡ kind_break kind before
-  pub budget : turn.tally.budget ≡ tally.budget
+  pub budget : after.budget ≡ tally.budget
   pub tallies :
       (masks : Masks) (past : List Point) → IsAhead tally.masks masks past →
       Tallies (tally_of tally) (crossing_unless (is_enclosed_kind enclosures kind) masks past (kind_walk kind before))
-      (tally_of turn.tally)
+      (tally_of after)
   pub ahead :
       (masks : Masks) (past : List Point) → IsAhead tally.masks masks past →
-      IsAhead turn.tally.masks masks (visited (is_enclosed_kind enclosures kind) past (kind_walk kind before))
+      IsAhead after.masks masks (visited (is_enclosed_kind enclosures kind) past (kind_walk kind before))
 
 -- the bits that cross in the turn of a real run, and the replay of these
 abbrev pub crossed : Enclosures → Masks → List Point → State → List Bool
@@ -97,16 +97,16 @@ pub record Keeps (real : State) (standing : Standing) (stream : Stream) (count b
   pub output : (more : List ℕ) × (real.control.output ≡ standing.state.control.output ++ more)
   pub leaves : IsTrue (may_leave standing.enclosures.regions real)
 
--- a round with these regions has brought the real run and the replay here, and has left this
+-- a round with these regions has brought the real run, its tally and the replay here, and has left this
 pub record Rounds (enclosures : Enclosures) (before : State) (tally : Tallying) (standing : Standing) (reached : State)
-    (next : Standing) (round : Round) : Type 0 where
+    (after : Tallying) (next : Standing) (round : Round) : Type 0 where
   pub state : reached ≡ real_end (guest_walk enclosures.regions before)
   pub enclosed : round.enclosed ≡ is_enclosed enclosures before.control
-  pub budget : round.tally.budget ≡ tally.budget
+  pub budget : after.budget ≡ tally.budget
   pub regions_stay : next.enclosures ≡ standing.enclosures
   pub ahead :
       (masks : Masks) (past : List Point) → IsAhead tally.masks masks past →
-      IsAhead round.tally.masks masks
+      IsAhead after.masks masks
       (visited (is_enclosed enclosures before.control) past (guest_walk enclosures.regions before))
   pub why :
       (masks : Masks) (past : List Point) (place : ReplayPlace) → IsAhead tally.masks masks past →
@@ -121,5 +121,5 @@ pub record Rounds (enclosures : Enclosures) (before : State) (tally : Tallying) 
       (fed_turn enclosures masks place (crossed enclosures masks past before))
   pub bits :
       (masks : Masks) (past : List Point) → IsAhead tally.masks masks past → round.why ≡ None →
-      round.tally.bits.bits ≡ tally.bits.bits ++ crossed enclosures masks past before
-  pub keeps : round.why ≡ None → Keeps reached next round.tally.bits round.tally.needed round.tally.budget
+      after.bits.bits ≡ tally.bits.bits ++ crossed enclosures masks past before
+  pub keeps : round.why ≡ None → Keeps reached next after.bits after.needed after.budget

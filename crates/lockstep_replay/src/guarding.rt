@@ -47,7 +47,7 @@ impl Passer for Guarding<'_> {
 
     ghost tape = { λ side. guard_of side };
 
-    ghost Plays = { λ side walk out. (masks : Masks) (past : List ThePoint) → IsAhead side.tally.masks masks past →
+    ghost Plays = { λ side walk out. (masks : Masks) (past : List ThePoint) → IsAhead side.tally.now.masks masks past →
         Guards (guard_of side) masks (visited side.enclosed past walk) (crossing_unless side.enclosed masks past walk)
         (first_break side.broken (walk_break side.region.now side.kept side.pc walk)) (real_end walk) out };
 
@@ -63,7 +63,7 @@ impl Passer for Guarding<'_> {
         _sources: Sources,
         value: u32,
     ) -> Result<u32, Infallible> {
-        visit(&mut self.tally, self.enclosed, point, value);
+        visit(self.tally, self.enclosed, point, value);
         let broken = place_break(self.region, &self.kept, self.pc, place);
         self.broken = earlier(self.broken, broken);
         Ok(value)
@@ -76,14 +76,14 @@ impl Passer for Guarding<'_> {
         _sources: Sources,
         value: u32,
     ) -> Result<u32, Infallible> {
-        visit(&mut self.tally, self.enclosed, point, value);
+        visit(self.tally, self.enclosed, point, value);
         let broken = slot_break(self.region, self.pc, point.slot);
         self.broken = earlier(self.broken, broken);
         Ok(value)
     }
 
     fn give(&mut self, point: Point, _place: Place, value: u32) -> Result<u32, Infallible> {
-        visit(&mut self.tally, self.enclosed, point, value);
+        visit(self.tally, self.enclosed, point, value);
         Ok(value)
     }
 
@@ -109,5 +109,5 @@ impl Passer for Guarding<'_> {
 
     ghost at_end = { λ side state masks past ahead.
         guards-Ended Never (guard_of side) side.enclosed side.region.now side.kept side.pc masks past state
-        side.tally.word ahead };
+        side.tally.now.word ahead };
 }

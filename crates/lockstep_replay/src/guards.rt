@@ -9,7 +9,8 @@ use flow_base::Registers;
 /// first break of the region is kept.
 #[derive(Drop)]
 pub(crate) struct Guarding<'a> {
-    pub tally: Tallying,
+    /// What has crossed so far, lent for the turn.
+    pub tally: &'a mut Tallying,
     pub region: &'a Region,
     /// The registers at the entry.
     pub kept: Registers,

@@ -126,8 +126,7 @@ fn run_turns(runs: TwoRuns, turns: u32) -> Verdict
     let mut tally = tally;
     let mut replay = replay;
     for _ in 0..turns {
-        let made = round(&mut real, tally, &mut replay);
-        tally = made.tally;
+        let made = round(&mut real, &mut tally, &mut replay);
         if let Some(why) = made.why {
             return Verdict::Rejected(why);
         }

@@ -13,45 +13,38 @@ use replay_machine::{GuestTurn, enter_by, guest_turn, leave_by};
 use rv32im_machine::{Machine, turn_by};
 
 /// One step outside regions, or none where the run has ended.
-fn step(real: &mut Machine, tally: Tallying) -> RealTurn
-    ensures { (enclosures : Enclosures) → Makes enclosures (Steps None) real.old tally real.new result }
+fn step(real: &mut Machine, tally: &mut Tallying) -> RealTurn
+    ensures { (enclosures : Enclosures) →
+        Makes enclosures (Steps None) real.old tally.old real.new tally.new result }
 {
-    let mut tally = tally;
-    let _ = turn_by(real, &mut tally);
+    let _ = turn_by(real, tally);
     RealTurn {
-        tally,
         enclosed: false,
         broken: None,
     }
 }
 
 /// The entry of a region, which is `enclosed` where the region is skipped.
-fn enter(real: &mut Machine, tally: Tallying, region: &Region, enclosed: bool) -> RealTurn
+fn enter(real: &mut Machine, tally: &mut Tallying, region: &Region, enclosed: bool) -> RealTurn
     requires { IsTrue (is_region region.now) }
     ensures { (enclosures : Enclosures) → enclosed ≡ is_skipped enclosures region.now →
-        Makes enclosures (Enters region.now) real.old tally real.new result }
+        Makes enclosures (Enters region.now) real.old tally.old real.new tally.new result }
 {
     let broken = broken_at_entry(region, real.registers(), real.base());
-    let mut tally = tally;
-    let _ = enter_by(real, &mut tally, region);
-    RealTurn {
-        tally,
-        enclosed,
-        broken,
-    }
+    let _ = enter_by(real, tally, region);
+    RealTurn { enclosed, broken }
 }
 
 /// The leave of a region.
-fn leave(real: &mut Machine, tally: Tallying, region: &Region) -> RealTurn
+fn leave(real: &mut Machine, tally: &mut Tallying, region: &Region) -> RealTurn
     requires rules { IsTrue (is_region region.now) }
     requires inside { IsTrue (are_inside region.now.ranges real.old.store.kept real.old.setting.base) }
-    ensures { (enclosures : Enclosures) → Makes enclosures (Leaves region.now) real.old tally real.new result }
+    ensures { (enclosures : Enclosures) →
+        Makes enclosures (Leaves region.now) real.old tally.old real.new tally.new result }
 {
     let broken = broken_at_leave(region, real.kept(), real.registers());
-    let mut tally = tally;
-    let _ = leave_by(real, &mut tally, region);
+    let _ = leave_by(real, tally, region);
     RealTurn {
-        tally,
         enclosed: false,
         broken,
     }
@@ -59,10 +52,15 @@ fn leave(real: &mut Machine, tally: Tallying, region: &Region) -> RealTurn
 
 /// One step inside a region, which is `enclosed` where the region is skipped. The turn is played to its end, also where
 /// it breaks the region.
-fn step_inside(real: &mut Machine, tally: Tallying, region: &Region, enclosed: bool) -> RealTurn
+fn step_inside(
+    real: &mut Machine,
+    tally: &mut Tallying,
+    region: &Region,
+    enclosed: bool,
+) -> RealTurn
     requires { IsTrue (is_region region.now) }
     ensures { (enclosures : Enclosures) → enclosed ≡ is_skipped enclosures region.now →
-        Makes enclosures (Steps (Some region.now)) real.old tally real.new result }
+        Makes enclosures (Steps (Some region.now)) real.old tally.old real.new tally.new result }
 {
     let mut side = Guarding {
         tally,
@@ -73,24 +71,20 @@ fn step_inside(real: &mut Machine, tally: Tallying, region: &Region, enclosed: b
         broken: None,
     };
     let _ = turn_by(real, &mut side);
-    let Guarding { tally, broken, .. } = side;
-    RealTurn {
-        tally,
-        enclosed,
-        broken,
-    }
+    let broken = side.broken;
+    RealTurn { enclosed, broken }
 }
 
 /// One turn of the real run with these regions, of which those with these numbers are skipped.
 pub(crate) fn real_turn(
     real: &mut Machine,
-    tally: Tallying,
+    tally: &mut Tallying,
     regions: &Regions,
     skip: &[u16],
 ) -> RealTurn
     requires { IsTrue (may_leave regions.now.items real.old) }
     ensures { Makes (record { regions = regions.now.items; skip = skip.now })
-        (kind_of regions.now.items real.old.control) real.old tally real.new result }
+        (kind_of regions.now.items real.old.control) real.old tally.old real.new tally.new result }
 {
     match guest_turn(real, regions) {
         GuestTurn::Enters(region) => enter(real, tally, region, skip.contains(&region.id)),

@@ -45,36 +45,25 @@ fn real_reason(broken: Option<Break>, mode: Stepped, budget: u32, needed: u32) -
 
 /// One turn of the real run, and unless it is the entry of a skipped region or inside it one turn of the replay, which
 /// is lent the bits that crossed since its last turn.
-pub(crate) fn round(real: &mut Machine, tally: Tallying, replay: &mut Replay) -> Round
-    requires { Keeps real.old replay.old tally.bits tally.needed tally.budget }
-    ensures { Rounds replay.old.enclosures real.old tally replay.old real.new replay.new result }
+pub(crate) fn round(real: &mut Machine, tally: &mut Tallying, replay: &mut Replay) -> Round
+    requires { Keeps real.old replay.old tally.old.bits tally.old.needed tally.old.budget }
+    ensures { Rounds replay.old.enclosures real.old tally.old replay.old real.new tally.new replay.new result }
 {
     let turn = real_turn(real, tally, replay.regions(), replay.skip());
-    let RealTurn {
-        tally,
-        enclosed,
-        broken,
-    } = turn;
-    let mut tally = tally;
+    let RealTurn { enclosed, broken } = turn;
     if let Some(why) = real_reason(broken, real.mode(), tally.budget, tally.needed) {
         return Round {
-            tally,
             enclosed,
             why: Some(why),
         };
     }
     if enclosed {
         return Round {
-            tally,
             enclosed,
             why: None,
         };
     }
     let needed = tally.needed;
     let why = replay_beside(real, replay, &mut tally.bits, needed);
-    Round {
-        tally,
-        enclosed,
-        why,
-    }
+    Round { enclosed, why }
 }

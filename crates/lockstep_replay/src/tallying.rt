@@ -63,7 +63,6 @@ impl Tallying {
     }
 }
 
-#[tactic(auto, unfolding(crate::specs::Crossing::crossing, replay_machine::specs::Runs::passed, rv32im_machine::specs::Folds::real_end))]
 impl Passer for Tallying {
     ghost use Rattle.std.specs.Prelude.{◌≡◌, ℕ, List};
     ghost use Rattle.flow_base.specs.declared.points.Point.{Point as ThePoint};

@@ -1,6 +1,7 @@
 ghost use Rattle.std.specs.Prelude.{◌≡◌, IsTrue};
 ghost use Rattle.enclosure_regions.specs.Regions.{is_region};
-ghost use Rattle.replay_machine.specs.Breaking.{first_break, place_break as break_by_place, slot_break as break_by_slot};
+ghost use Rattle.replay_machine.specs.Breaking.{first_break};
+ghost use Rattle.replay_machine.specs.Breaking.{place_break as break_by_place, slot_break as break_by_slot};
 
 use enclosure_regions::{Break, Region, written_byte, written_register};
 use flow_base::{Registers, Slot};

@@ -15,7 +15,7 @@ loop-init c = record {
 pub returns-in-Some : goal.returns-in-Some
 returns-in-Some c = λ task begins limit.
     sym (step-rejects task (c.args.turns - suc c.loop.counter) c.loop.counter c.loop.real c.loop.tally c.loop.replay
-    c.round-made.new.real c.round-made.new.replay c.round-made.result c.in-Some.why
+    c.round-made.new.real c.round-made.new.tally c.round-made.new.replay c.round-made.result c.in-Some.why
     (c.loop.invariant.stands task begins)
     c.loop.invariant.keeps.kept c.round-made.ensures c.in-Some.is)
     ∙ (ap (λ n. judged_from task n c.loop.counter) (omega arith) ∙ c.loop.invariant.judged task begins)
@@ -25,7 +25,8 @@ returns-in-Some-exit_status c = λ task begins limit.
     let exits = rw (c.in-Some-exit_status.is, c.mode.ensures) at c.exit_status.ensures in
     c.accepted.ensures
     ∙ (sym (step-accepts task (c.args.turns - suc c.loop.counter) c.loop.counter c.loop.real c.loop.tally c.loop.replay
-    c.round-made.new.real c.round-made.new.replay c.round-made.result c.in-Some-exit_status.status
+    c.round-made.new.real c.round-made.new.tally c.round-made.new.replay c.round-made.result
+    c.in-Some-exit_status.status
     (c.loop.invariant.stands task begins) c.loop.invariant.keeps.kept c.round-made.ensures
     (none-of c.round-made.result.why c.in_default.not-Some) exits.0 exits.1)
     ∙ (ap (λ n. judged_from task n c.loop.counter) (omega arith) ∙ c.loop.invariant.judged task begins))
@@ -34,15 +35,17 @@ pub loop-preserved : goal.loop-preserved
 loop-preserved c = record {
   keeps = c.round-made.ensures.keeps (none-of c.round-made.result.why c.in_default.not-Some);
   stands = λ task begins.
-      subst (λ n. StandsAt task n c.round-made.new.real c.round-made.result.tally c.round-made.new.replay)
+      subst (λ n. StandsAt task n c.round-made.new.real c.round-made.new.tally c.round-made.new.replay)
       (sym (add-one c.loop.counter))
       (step-stands task c.loop.counter c.loop.real c.loop.tally c.loop.replay c.round-made.new.real
-      c.round-made.new.replay c.round-made.result (c.loop.invariant.stands task begins) c.round-made.ensures
+      c.round-made.new.tally c.round-made.new.replay c.round-made.result (c.loop.invariant.stands task begins)
+      c.round-made.ensures
       (none-of c.round-made.result.why c.in_default.not-Some));
   judged = λ task begins.
       ap (λ n. judged_from task (c.args.turns - n) n) (add-one c.loop.counter)
       ∙ (sym (step-goes task (c.args.turns - suc c.loop.counter) c.loop.counter c.loop.real c.loop.tally c.loop.replay
-      c.round-made.new.real c.round-made.new.replay c.round-made.result (c.loop.invariant.stands task begins)
+      c.round-made.new.real c.round-made.new.tally c.round-made.new.replay c.round-made.result
+      (c.loop.invariant.stands task begins)
       c.loop.invariant.keeps.kept c.round-made.ensures (none-of c.round-made.result.why c.in_default.not-Some)
       (rw (none-of c.exit_status.result c.in_default-exit_status.not-Some, c.mode.ensures) at c.exit_status.ensures))
       ∙ (ap (λ n. judged_from task n c.loop.counter) (omega arith) ∙ c.loop.invariant.judged task begins));

@@ -5,8 +5,9 @@ use Rattle.lockstep_replay.proofs.real_turns.leave.Goals as goal
 
 pub returns : goal.returns
 returns c = λ enclosures.
-    makes-leave enclosures c.args.real.now c.args.region.now c.args.tally c.leave_by.new.machine c.leave_by.new.passer
+    makes-leave enclosures c.args.real.now c.args.region.now c.args.tally.now c.leave_by.new.machine
+    c.leave_by.new.passer
     c.broken_at_leave-broken.result (rw (c.kept.ensures, c.registers.ensures) at c.broken_at_leave-broken.ensures)
     (walked-tallied (turn_walk c.args.real.now (leave c.args.region.now c.args.real.now.store.kept
     c.args.real.now.control))
-    c.args.tally c.leave_by.new.machine c.leave_by.new.passer c.leave_by.result c.leave_by.ensures)
+    c.args.tally.now c.leave_by.new.machine c.leave_by.new.passer c.leave_by.result c.leave_by.ensures)

@@ -4,6 +4,7 @@ use Rattle.lockstep_replay.proofs.real_turns.step.Goals as goal
 
 pub returns : goal.returns
 returns c = λ enclosures.
-    makes-step enclosures c.args.real.now c.args.tally c.turn_by.new.machine c.turn_by.new.passer
-    (walked-tallied (walk_of c.args.real.now) c.args.tally c.turn_by.new.machine c.turn_by.new.passer c.turn_by.result
+    makes-step enclosures c.args.real.now c.args.tally.now c.turn_by.new.machine c.turn_by.new.passer
+    (walked-tallied (walk_of c.args.real.now) c.args.tally.now c.turn_by.new.machine c.turn_by.new.passer
+    c.turn_by.result
     c.turn_by.ensures)
