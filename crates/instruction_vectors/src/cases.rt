@@ -11,7 +11,8 @@ pub(crate) struct Seen {
     pub(crate) bytes: u64,
 }
 
-/// One step of a guest: the word of its instruction, the address of the eight bytes, and what there is before and after.
+/// One step of a guest: the word of its instruction, the address of the eight bytes, and what there is before and
+/// after.
 #[derive(Clone, Copy, Debug, PartialEq, Eq)]
 pub(crate) struct Case {
     pub(crate) word: u32,
@@ -21,6 +22,11 @@ pub(crate) struct Case {
 }
 
 impl fmt::Display for Seen {
+    ghost use Rattle.std.specs.Prelude.{Some};
+    ghost use Rattle.instruction_vectors.specs.Trials.{seen_text};
+
+    ghost output = { λ seen. Some (seen_text seen) };
+
     fn fmt<W: fmt::Write>(&self, f: &mut fmt::Formatter<W>) -> fmt::Result {
         let Seen {
             pc,

@@ -33,8 +33,15 @@ impl LineKind {
 }
 
 impl fmt::Display for LineKind {
+    ghost use Rattle.std.specs.Prelude.{Some};
+    ghost use Rattle.std.specs.Fmt.{decimal};
+    ghost use Rattle.rv32im_asm.specs.Kinds.{number_of};
+
+    ghost output = { λ kind. Some (decimal (number_of kind)) };
+
     fn fmt<W: fmt::Write>(&self, f: &mut fmt::Formatter<W>) -> fmt::Result {
-        write!(f, "{}", self.number())
+        let number = self.number();
+        write!(f, "{number}")
     }
 }
 
