@@ -2,3 +2,4 @@ pub mod Tables
 pub mod Keys
 pub mod Ordered
 pub mod Longer
+pub mod HexText

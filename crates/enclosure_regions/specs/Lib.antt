@@ -1,6 +1,7 @@
 pub mod Regions
 pub mod Turns
 pub mod Breaks
+pub mod Texts
 pub mod Watching
 pub mod RegisterNames
 pub mod Words

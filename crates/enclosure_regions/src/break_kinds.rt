@@ -1,3 +1,4 @@
+use crate::hex_texts::Word;
 use std::fmt;
 
 /// What an instruction writes.
@@ -46,30 +47,51 @@ pub enum Break {
 }
 
 impl fmt::Display for WrittenPlace {
+    ghost use Rattle.std.specs.Prelude.{Some};
+    ghost use Rattle.enclosure_regions.specs.Texts.{place_text};
+
+    ghost output = { λ place. Some (place_text place) };
+
     fn fmt<W: fmt::Write>(&self, f: &mut fmt::Formatter<W>) -> fmt::Result {
-        match self {
+        match *self {
             WrittenPlace::Reg(register) => write!(f, "x{register}"),
-            WrittenPlace::Byte(address) => write!(f, "0x{address:08x}"),
+            WrittenPlace::Byte(address) => {
+                let address = Word(address);
+                write!(f, "{address}")
+            }
         }
     }
 }
 
 impl fmt::Display for Break {
+    ghost use Rattle.std.specs.Prelude.{Some};
+    ghost use Rattle.enclosure_regions.specs.Texts.{break_text};
+
+    ghost output = { λ broken. Some (break_text broken) };
+
     fn fmt<W: fmt::Write>(&self, f: &mut fmt::Formatter<W>) -> fmt::Result {
-        match self {
+        match *self {
             Break::UndeclaredWrite { region, pc, place } => {
-                write!(f, "region {region} undeclared {place} at 0x{pc:08x}")
+                let pc = Word(pc);
+                write!(f, "region {region} undeclared {place} at {pc}")
             }
             Break::KeepBroken {
                 region,
                 register,
                 before,
                 after,
-            } => write!(
-                f,
-                "region {region} keep x{register} before 0x{before:08x} after 0x{after:08x}"
-            ),
-            Break::CallInRegion { region, pc } => write!(f, "region {region} call at 0x{pc:08x}"),
+            } => {
+                let before = Word(before);
+                let after = Word(after);
+                write!(
+                    f,
+                    "region {region} keep x{register} before {before} after {after}"
+                )
+            }
+            Break::CallInRegion { region, pc } => {
+                let pc = Word(pc);
+                write!(f, "region {region} call at {pc}")
+            }
             Break::RangeOutside { region, range } => {
                 write!(f, "region {region} range {range} outside")
             }

@@ -34,6 +34,11 @@ pub enum RegionFault {
 }
 
 impl fmt::Display for RegionFault {
+    ghost use Rattle.std.specs.Prelude.{Some};
+    ghost use Rattle.enclosure_regions.specs.Texts.{fault_text};
+
+    ghost output = { λ fault. Some (fault_text fault) };
+
     fn fmt<W: fmt::Write>(&self, f: &mut fmt::Formatter<W>) -> fmt::Result {
         match self {
             RegionFault::Json => write!(f, "json"),

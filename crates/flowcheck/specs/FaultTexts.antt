@@ -1,4 +1,4 @@
--- The texts of what is wrong with a program file, a region file, a cut file and a source. Numbers are decimal; an
+-- The texts of what is wrong with a program file, a cut file and a source. Numbers are decimal; an
 -- address is 0x and eight digits in lower case, a byte 0x and two.
 use Rattle.std.specs.Prelude.{ℕ, ◌/◌, ◌%◌, List, [], ◌∷◌, ◌++◌, codes}
 use Rattle.std.specs.Fmt.{decimal}
@@ -7,8 +7,6 @@ use Rattle.elf32_loader.specs.declared.fault.ElfFault.{ElfFault}
 use Rattle.elf32_loader.specs.declared.fault.ElfFault.TheVariants as elf
 use Rattle.cut_file.specs.declared.faults.CutFault.{CutFault}
 use Rattle.cut_file.specs.declared.faults.CutFault.TheVariants as cut
-use Rattle.enclosure_regions.specs.declared.region_faults.RegionFault.{RegionFault}
-use Rattle.enclosure_regions.specs.declared.region_faults.RegionFault.TheVariants as regions
 use Rattle.rv32im_asm.specs.declared.fault.AsmFault.{AsmFault}
 use Rattle.rv32im_asm.specs.declared.fault.AsmFault.TheVariants as source
 use Rattle.rv32im_asm.specs.Kinds.{number_of}
@@ -40,16 +38,6 @@ cut_fault_text (cut.Order number) = codes "order " ++ decimal number
 cut_fault_text cut.Truncated = codes "truncated"
 cut_fault_text (cut.Trailing offset) = codes "trailing " ++ decimal offset
 cut_fault_text cut.Memory = codes "memory"
-
-abbrev pub region_fault_text : RegionFault → List ℕ
-region_fault_text regions.Json = codes "json"
-region_fault_text (regions.Shape index) = codes "shape " ++ decimal index
-region_fault_text (regions.SameAddress index) = codes "same-address " ++ decimal index
-region_fault_text (regions.EnterTwice index) = codes "enter-twice " ++ decimal index
-region_fault_text (regions.RegisterTwice index register) =
-    codes "register-twice " ++ (decimal index ++ (codes " x" ++ decimal register))
-region_fault_text (regions.TooMany count) = codes "too-many " ++ decimal count
-region_fault_text regions.Memory = codes "memory"
 
 abbrev pub source_fault_text : AsmFault → List ℕ
 source_fault_text (source.Line number kind) =

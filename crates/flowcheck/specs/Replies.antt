@@ -23,7 +23,8 @@ use Rattle.rv32im_asm.specs.Listing.{listing}
 use Rattle.flowcheck.specs.declared.limits.Limits.{Limits}
 use Rattle.flowcheck.specs.CommandLines.{Check, Command, Checks, Assembles, Lists, IsCommand}
 use Rattle.flowcheck.specs.Loading.{LoadRefusal, CannotLoad, IsTooLarge, loaded_from, command_wants}
-use Rattle.flowcheck.specs.FaultTexts.{cut_fault_text, program_fault_text, region_fault_text, source_fault_text}
+use Rattle.enclosure_regions.specs.Texts.{fault_text as region_fault_text}
+use Rattle.flowcheck.specs.FaultTexts.{cut_fault_text, program_fault_text, source_fault_text}
 use Rattle.flowcheck.specs.Texts.{check_text, accepted_count}
 
 -- a status and a whole text

@@ -4,11 +4,7 @@ use Rattle.std.specs.Fmt.{decimal}
 use Rattle.crossing_bits.specs.HexText.{hex_of}
 use Rattle.rv32im_machine.specs.declared.stepping.Fault.{Fault}
 use Rattle.rv32im_machine.specs.declared.stepping.Fault.TheVariants.{Illegal, FetchOutside, FetchUnaligned, LoadOutside, StoreOutside, Breakpoint, OutputLimit}
-use Rattle.enclosure_regions.specs.declared.break_kinds.Break.{Break}
-use Rattle.enclosure_regions.specs.declared.break_kinds.Break.TheVariants.{UndeclaredWrite, KeepBroken, CallInRegion}
-use Rattle.enclosure_regions.specs.declared.break_kinds.Break.TheVariants.{RangeOutside as BreakOutside}
-use Rattle.enclosure_regions.specs.declared.break_kinds.WrittenPlace.{WrittenPlace}
-use Rattle.enclosure_regions.specs.declared.break_kinds.WrittenPlace.TheVariants.{Reg, Byte}
+use Rattle.enclosure_regions.specs.Texts.{break_text, range_text}
 use Rattle.lockstep_replay.specs.declared.verdicts.Why.{Why}
 use Rattle.lockstep_replay.specs.declared.verdicts.Why.TheVariants.{RealFault, RegionBreak, BudgetOverrun, ReplayFault, Parted, OutputDiffers, TurnLimit, SecretLength}
 use Rattle.lockstep_replay.specs.declared.verdicts.ReplayStop.{ReplayStop}
@@ -26,26 +22,6 @@ fault_text (LoadOutside pc address) = codes "load-outside " ++ (hex_word pc ++ (
 fault_text (StoreOutside pc address) = codes "store-outside " ++ (hex_word pc ++ (codes " address " ++ hex_word address))
 fault_text (Breakpoint pc) = codes "breakpoint " ++ hex_word pc
 fault_text (OutputLimit pc) = codes "output-limit " ++ hex_word pc
-
--- a register, or the byte at an address
-abbrev pub place_text : WrittenPlace → List ℕ
-place_text (Reg register) = codes "x" ++ decimal register
-place_text (Byte address) = hex_word address
-
--- a range, counted from 0, of the region with a number
-abbrev pub range_text : ℕ → ℕ → List ℕ
-range_text region range =
-    codes "region " ++ (decimal region ++ (codes " range " ++ (decimal range ++ codes " outside")))
-
--- how a region is broken
-abbrev pub break_text : Break → List ℕ
-break_text (UndeclaredWrite region pc place) =
-    codes "region " ++ (decimal region ++ (codes " undeclared " ++ (place_text place ++ (codes " at " ++ hex_word pc))))
-break_text (KeepBroken region register before after) =
-    codes "region " ++ (decimal region ++ (codes " keep x" ++ (decimal register ++ (codes " before " ++ (hex_word before
-    ++ (codes " after " ++ hex_word after))))))
-break_text (CallInRegion region pc) = codes "region " ++ (decimal region ++ (codes " call at " ++ hex_word pc))
-break_text (BreakOutside region range) = range_text region range
 
 -- why a replay is stopped
 abbrev pub stop_text : ReplayStop → List ℕ

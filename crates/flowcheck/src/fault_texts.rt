@@ -1,6 +1,10 @@
 ghost use Rattle.std.specs.Prelude.{◌≡◌, IfOk};
-ghost use Rattle.elf32_loader.specs.declared.fault.ElfFault.TheVariants.{NotElf32 as TheNotElf32, EntryOutside as TheEntryOutside};
-ghost use Rattle.flowcheck.specs.FaultTexts.{cut_fault_text as cut_fault_text_of, hex_byte as hex_byte_of, program_fault_text as program_fault_text_of, region_fault_text as region_fault_text_of, source_fault_text as source_fault_text_of};
+ghost use Rattle.elf32_loader.specs.declared.fault.ElfFault.TheVariants.{EntryOutside as TheEntryOutside};
+ghost use Rattle.elf32_loader.specs.declared.fault.ElfFault.TheVariants.{NotElf32 as TheNotElf32};
+ghost use Rattle.enclosure_regions.specs.Texts.{fault_text as region_fault_text_of};
+ghost use Rattle.flowcheck.specs.FaultTexts.{cut_fault_text as cut_fault_text_of, hex_byte as hex_byte_of};
+ghost use Rattle.flowcheck.specs.FaultTexts.{program_fault_text as program_fault_text_of};
+ghost use Rattle.flowcheck.specs.FaultTexts.{source_fault_text as source_fault_text_of};
 
 use crate::texts::joined;
 use cut_file::CutFault;
@@ -82,17 +86,7 @@ pub fn cut_fault_text(alloc: Global, fault: &CutFault) -> Result<Bytes, NoMemory
 pub fn region_fault_text(alloc: Global, fault: &RegionFault) -> Result<Bytes, NoMemory>
     ensures { IfOk result (λ text. text ≡ region_fault_text_of fault.now) }
 {
-    let text = match *fault {
-        RegionFault::Json => return Bytes::from_slice(alloc, b"json"),
-        RegionFault::Shape { index } => format!(in alloc; "shape {index}")?,
-        RegionFault::SameAddress { index } => format!(in alloc; "same-address {index}")?,
-        RegionFault::EnterTwice { index } => format!(in alloc; "enter-twice {index}")?,
-        RegionFault::RegisterTwice { index, register } => {
-            format!(in alloc; "register-twice {index} x{register}")?
-        }
-        RegionFault::TooMany { count } => format!(in alloc; "too-many {count}")?,
-        RegionFault::Memory => return Bytes::from_slice(alloc, b"memory"),
-    };
+    let text = format!(in alloc; "{fault}")?;
     Ok(Bytes::from_vec(text.into_bytes()))
 }
 
@@ -101,10 +95,7 @@ pub fn source_fault_text(alloc: Global, fault: &AsmFault) -> Result<Bytes, NoMem
     ensures { IfOk result (λ text. text ≡ source_fault_text_of fault.now) }
 {
     let text = match *fault {
-        AsmFault::Line { number, kind } => {
-            let kind = kind.number();
-            format!(in alloc; "line {number} kind {kind}")?
-        }
+        AsmFault::Line { number, kind } => format!(in alloc; "line {number} kind {kind}")?,
         AsmFault::LabelTwice { number } => format!(in alloc; "label-twice {number}")?,
         AsmFault::LabelMissing { number } => format!(in alloc; "label-missing {number}")?,
         AsmFault::ImmediateRange { number } => format!(in alloc; "range {number}")?,

@@ -1,15 +1,15 @@
-ghost use Rattle.std.specs.Prelude.{◌≡◌, ◌<◌, ◌++◌, ◌+◌, ◌^◌, ℕ, codes, IfOk};
-ghost use Rattle.std.specs.Fmt.{decimal};
+ghost use Rattle.std.specs.Prelude.{◌≡◌, ◌++◌, IfOk};
 ghost use Rattle.flow_base.specs.HexWords.{hex_word as hex_word_of};
 ghost use Rattle.lockstep_replay.specs.Judgements.{judgement_of};
 ghost use Rattle.lockstep_replay.specs.Verdicts.{Accepts, Rejects};
 ghost use Rattle.lockstep_replay.specs.declared.verdicts.Why.TheVariants.{Parted};
-ghost use Rattle.enclosure_regions.specs.declared.break_kinds.Break.TheVariants.{UndeclaredWrite, KeepBroken};
-ghost use Rattle.flowcheck.specs.Texts.{break_text as break_text_of, place_text as place_text_of, range_text as range_text_of};
-ghost use Rattle.flowcheck.specs.Texts.{counts_line as counts_line_of, fault_text as fault_text_of, why_text as why_text_of, verdict_line as verdict_line_of, mark_text as mark_text_of, stop_text as stop_text_of};
+ghost use Rattle.enclosure_regions.specs.Texts.{break_text as break_text_of};
+ghost use Rattle.flowcheck.specs.Texts.{counts_line as counts_line_of, fault_text as fault_text_of};
+ghost use Rattle.flowcheck.specs.Texts.{mark_text as mark_text_of, stop_text as stop_text_of};
+ghost use Rattle.flowcheck.specs.Texts.{verdict_line as verdict_line_of, why_text as why_text_of};
 
 use crossing_bits::Bits;
-use enclosure_regions::{Break, WrittenPlace};
+use enclosure_regions::Break;
 use flow_base::{Bytes, NoMemory, Output, hex_word};
 use lockstep_replay::{ReplayStop, Verdict, Why};
 use replay_machine::Mark;
@@ -78,96 +78,12 @@ pub fn joined(alloc: Global, head: &str, rest: &Bytes) -> Result<Bytes, NoMemory
     Ok(Bytes::from_vec(text))
 }
 
-/// A register, or the byte at an address.
-fn place_text(alloc: Global, place: WrittenPlace) -> Result<Bytes, NoMemory>
-    ensures { IfOk result (λ text. text ≡ place_text_of place) }
-{
-    match place {
-        WrittenPlace::Reg(register) => {
-            let text = format!(in alloc; "x{register}")?;
-            Ok(Bytes::from_vec(text.into_bytes()))
-        }
-        WrittenPlace::Byte(address) => Bytes::from_slice(alloc, &hex_word(address)),
-    }
-}
-
-/// The number of a region, and a text behind it.
-fn of_region(alloc: Global, region: u16, rest: &Bytes) -> Result<Bytes, NoMemory>
-    ensures { IfOk result (λ text. text ≡ codes "region " ++ (decimal region ++ rest.now)) }
-{
-    let number = format!(in alloc; "{region}")?;
-    let rest = joined(alloc, number.as_str(), rest)?;
-    joined(alloc, "region ", &rest)
-}
-
-/// A write that a region does not declare, by the instruction at `pc`.
-fn undeclared_text(
-    alloc: Global,
-    region: u16,
-    pc: u32,
-    place: WrittenPlace,
-) -> Result<Bytes, NoMemory>
-    ensures { IfOk result (λ text. text ≡ break_text_of (UndeclaredWrite region pc place)) }
-{
-    let place = place_text(alloc, place)?;
-    let at = with_word(alloc, " at ", pc)?;
-    let mut both = place.as_slice().to_vec(alloc)?;
-    both.extend_from_slice(at.as_slice())?;
-    let rest = joined(alloc, " undeclared ", &Bytes::from_vec(both))?;
-    of_region(alloc, region, &rest)
-}
-
-/// A register with its values at the entry and at the leave of a region.
-fn values_text(alloc: Global, register: u8, before: u32, after: u32) -> Result<Bytes, NoMemory>
-    ensures { IfOk result (λ text. text ≡ decimal register ++ (codes " before " ++ (hex_word_of before
-        ++ (codes " after " ++ hex_word_of after)))) }
-{
-    let values = with_words(alloc, " before ", before, " after ", after)?;
-    let name = format!(in alloc; "{register}")?;
-    joined(alloc, name.as_str(), &values)
-}
-
-/// A kept register that is not given back.
-fn keep_text(
-    alloc: Global,
-    region: u16,
-    register: u8,
-    before: u32,
-    after: u32,
-) -> Result<Bytes, NoMemory>
-    ensures { IfOk result (λ text. text ≡ break_text_of (KeepBroken region register before after)) }
-{
-    let values = values_text(alloc, register, before, after)?;
-    let rest = joined(alloc, " keep x", &values)?;
-    of_region(alloc, region, &rest)
-}
-
-/// A range, counted from 0, of the region with a number.
-fn range_text(alloc: Global, region: u16, range: u32) -> Result<Bytes, NoMemory>
-    ensures { IfOk result (λ text. text ≡ range_text_of region range) }
-{
-    let text = format!(in alloc; "region {region} range {range} outside")?;
-    Ok(Bytes::from_vec(text.into_bytes()))
-}
-
 /// How a region is broken.
 fn break_text(alloc: Global, broken: Break) -> Result<Bytes, NoMemory>
     ensures { IfOk result (λ text. text ≡ break_text_of broken) }
 {
-    match broken {
-        Break::UndeclaredWrite { region, pc, place } => undeclared_text(alloc, region, pc, place),
-        Break::KeepBroken {
-            region,
-            register,
-            before,
-            after,
-        } => keep_text(alloc, region, register, before, after),
-        Break::CallInRegion { region, pc } => {
-            let rest = with_word(alloc, " call at ", pc)?;
-            of_region(alloc, region, &rest)
-        }
-        Break::RangeOutside { region, range } => range_text(alloc, region, range),
-    }
+    let text = format!(in alloc; "{broken}")?;
+    Ok(Bytes::from_vec(text.into_bytes()))
 }
 
 /// Why a replay is stopped.
@@ -176,7 +92,9 @@ fn stop_text(alloc: Global, stop: ReplayStop) -> Result<Bytes, NoMemory>
 {
     match stop {
         ReplayStop::Guest(fault) => joined(alloc, "guest ", &fault_text(alloc, fault)?),
-        ReplayStop::RangeOutside { region, range } => range_text(alloc, region, range),
+        ReplayStop::RangeOutside { region, range } => {
+            break_text(alloc, Break::RangeOutside { region, range })
+        }
         ReplayStop::Short { missing } => {
             let text = format!(in alloc; "short {missing}")?;
             Ok(Bytes::from_vec(text.into_bytes()))
