@@ -6,7 +6,6 @@ ghost use Rattle.crossing_bits.specs.Askers.{feed};
 ghost use Rattle.crossing_bits.specs.Streams.{left_of};
 ghost use Rattle.rv32im_machine.specs.declared.stepping.Stepped.TheVariants.{Ran};
 ghost use Rattle.rv32im_machine.specs.Start.{zeros};
-ghost use Rattle.replay_machine.specs.Enclosures.{is_skipped as skips};
 ghost use Rattle.replay_machine.specs.Guests.{replay_walk};
 ghost use Rattle.replay_machine.specs.Breaking.{range_outside};
 ghost use Rattle.replay_machine.specs.Runs.{ReplayPlace, Masks, replayed, replay_turn};
@@ -26,7 +25,7 @@ use crate::visit_masks::VisitMasks;
 use crossing_bits::Bits;
 use cut_file::Cut;
 use elf32_loader::Image;
-use enclosure_regions::{Region, Regions, copy_regions};
+use enclosure_regions::{Regions, copy_regions};
 use flow_base::{Bytes, List, NoMemory};
 use rv32im_machine::{Machine, Stepped};
 use std::alloc::Global;
@@ -262,12 +261,5 @@ impl Replay {
         ensures { result.now ≡ self.now.enclosures.skip }
     {
         self.skip.as_slice()
-    }
-
-    /// Whether a region is skipped.
-    pub fn is_skipped(&self, region: &Region) -> bool
-        ensures { result ≡ skips self.now.enclosures region.now }
-    {
-        self.skip.as_slice().contains(&region.id)
     }
 }

@@ -39,9 +39,8 @@ fn clean_labels() -> [Label; 32]
 }
 
 impl Shadow {
-    /// All labels clean, those that are kept too. It takes no memory. The run's memory begins at `base`, on which no
-    /// label depends.
-    pub fn new(alloc: Global, _base: u32) -> Shadow
+    /// All labels clean, those that are kept too. It takes no memory.
+    pub fn new(alloc: Global) -> Shadow
         ensures { result ≡ new_shades }
     {
         Shadow {

@@ -19,7 +19,7 @@ fn label(mask: u32) -> Label
 
 #[test]
 fn bytes_have_the_label_that_was_set_last(rt: HostRuntime) -> Result<(), Fail> {
-    let mut shadow = Shadow::new(rt.alloc(), 0x10000);
+    let mut shadow = Shadow::new(rt.alloc());
     assert_eq!(rt; shadow.byte(0x11000), Label::clean());
     shadow.set_byte(0x11000, label(0xff))?;
     shadow.set_byte(0x11001, label(0x80))?;
@@ -34,7 +34,7 @@ fn bytes_have_the_label_that_was_set_last(rt: HostRuntime) -> Result<(), Fail> {
 
 #[test]
 fn a_range_is_set_from_its_first_byte_to_its_last(rt: HostRuntime) -> Result<(), Fail> {
-    let mut shadow = Shadow::new(rt.alloc(), 0x10000);
+    let mut shadow = Shadow::new(rt.alloc());
     shadow.set_range(0x11004, 3, label(0x01))?;
     assert_eq!(rt; shadow.byte(0x11003), Label::clean());
     assert_eq!(rt; shadow.byte(0x11004), label(0x01));
@@ -51,7 +51,7 @@ fn a_range_is_set_from_its_first_byte_to_its_last(rt: HostRuntime) -> Result<(),
 
 #[test]
 fn listed_registers_get_the_label_that_was_kept(rt: HostRuntime) -> Result<(), Fail> {
-    let mut shadow = Shadow::new(rt.alloc(), 0x10000);
+    let mut shadow = Shadow::new(rt.alloc());
     shadow.set_reg(0, label(1));
     shadow.set_reg(5, label(2));
     shadow.set_reg(31, label(4));
