@@ -1,4 +1,5 @@
-ghost use Rattle.std.specs.Prelude.{◌≡◌, ◌≢◌, ◌≤◌, ◌<◌, ◌^◌, ℕ, length, map, string_bytes, IfErr, IfOk, IsTrue, ◌∷◌, []};
+ghost use Rattle.std.specs.Prelude.{◌≡◌, ◌≢◌, ◌≤◌, ◌<◌, ◌^◌, ℕ, length, map, string_bytes, IfErr, IfOk, IsTrue, ◌∷◌};
+ghost use Rattle.std.specs.Prelude.{[]};
 ghost use Rattle.elf32_loader.specs.Images.{picture_of};
 ghost use Rattle.cut_file.specs.Pictures.{picture_of as cut_of};
 ghost use Rattle.enclosure_regions.specs.declared.region_faults.RegionFault.TheVariants.{Memory as NoRoomForRegions};
@@ -6,7 +7,8 @@ ghost use Rattle.flow_base.specs.Counts.{Rose};
 ghost use Rattle.flowcheck.specs.Answering.{reply_of, is_one_of, Answers, CommandLoads, IsNoCommand, LoadsByTold};
 ghost use Rattle.flowcheck.specs.CommandLines.{Checks, IsCommand, highest_budget};
 ghost use Rattle.flowcheck.specs.Loading.{program_limit, cut_limit};
-ghost use Rattle.flowcheck.specs.Replies.{AreRegions, IsRegionFault, RepliesToCut, RepliesToRegions, RepliesToFiles, RepliesByTold};
+ghost use Rattle.flowcheck.specs.Replies.{AreRegions, IsRegionFault, RepliesToCut, RepliesToRegions, RepliesToFiles};
+ghost use Rattle.flowcheck.specs.Replies.{RepliesByTold};
 ghost use Rattle.flowcheck.specs.Stops.{AreShort};
 ghost use Rattle.flowcheck.specs.Words.{HasBudget, check_of, command_of};
 
@@ -37,7 +39,8 @@ fn reply_to_cut(
     requires cut { length loaded.now.cut ≤ cut_limit }
     requires short { AreShort loaded.now.secrets }
     requires within { limits.budget ≤ highest_budget }
-    ensures reply { IfOk result (λ reply. RepliesToCut (picture_of image.now) loaded.now.public_input regions.now.items loaded.now.cut limits loaded.now.secrets (reply_of reply)) }
+    ensures reply { IfOk result (λ reply. RepliesToCut (picture_of image.now) loaded.now.public_input
+        regions.now.items loaded.now.cut limits loaded.now.secrets (reply_of reply)) }
     ensures status { IfOk result (λ reply. IsTrue (is_one_of (0 ∷ 1 ∷ 3 ∷ []) reply.status)) }
 {
     match read_cut(alloc, loaded.cut.as_slice()) {
@@ -75,7 +78,8 @@ fn reply_to_regions(
     requires cut { length loaded.now.cut ≤ cut_limit }
     requires short { AreShort loaded.now.secrets }
     requires within { limits.budget ≤ highest_budget }
-    ensures reply { IfOk result (λ reply. RepliesToRegions (picture_of image.now) loaded.now.public_input loaded.now.regions loaded.now.cut limits loaded.now.secrets (reply_of reply)) }
+    ensures reply { IfOk result (λ reply. RepliesToRegions (picture_of image.now) loaded.now.public_input
+        loaded.now.regions loaded.now.cut limits loaded.now.secrets (reply_of reply)) }
     ensures status { IfOk result (λ reply. IsTrue (is_one_of (0 ∷ 1 ∷ 3 ∷ []) reply.status)) }
 {
     match regions_of(alloc, loaded) {
@@ -90,7 +94,8 @@ fn reply_to_files(alloc: Global, loaded: &Loaded, limits: Limits) -> Result<Repl
     requires cut { length loaded.now.cut ≤ cut_limit }
     requires short { AreShort loaded.now.secrets }
     requires within { limits.budget ≤ highest_budget }
-    ensures reply { IfOk result (λ reply. RepliesToFiles limits loaded.now.program loaded.now.public_input loaded.now.cut loaded.now.regions loaded.now.secrets (reply_of reply)) }
+    ensures reply { IfOk result (λ reply. RepliesToFiles limits loaded.now.program loaded.now.public_input
+        loaded.now.cut loaded.now.regions loaded.now.secrets (reply_of reply)) }
     ensures status { IfOk result (λ reply. IsTrue (is_one_of (0 ∷ 1 ∷ 3 ∷ []) reply.status)) }
 {
     match load_image(alloc, loaded.program.as_slice()) {
@@ -107,7 +112,8 @@ fn reply_to_check<F: Files>(
 ) -> Result<Reply, NoMemory>
     requires within { check.now.limits.budget ≤ highest_budget }
     ensures reply { IfOk result (λ reply. Answers (F.told files.old) (Checks (check_of check.now)) (reply_of reply)) }
-    ensures loads { IfOk result (λ reply. CommandLoads (F.told files.old) (Checks (check_of check.now)) (F.told files.new)) }
+    ensures loads { IfOk result (λ reply. CommandLoads (F.told files.old) (Checks (check_of check.now)) (F.told
+        files.new)) }
     ensures cause { IfOk result (λ reply. reply.status ≡ 5 → Rose (F.faults files.old) (F.faults files.new)) }
     ensures status { IfOk result (λ reply. IsTrue (is_one_of (0 ∷ 1 ∷ 3 ∷ 5 ∷ 6 ∷ []) reply.status)) }
 {
@@ -138,8 +144,10 @@ fn reply_to_command<F: Files>(
 
 /// The reply to the words of a command line.
 pub fn reply_to<F: Files>(alloc: Global, files: &mut F, words: &[String]) -> Result<Reply, NoMemory>
-    ensures reply { IfOk result (λ reply. RepliesByTold (F.told files.old) (map string_bytes words.now) (reply_of reply)) }
-    ensures loads { IfOk result (λ reply. LoadsByTold (F.told files.old) (map string_bytes words.now) (F.told files.new)) }
+    ensures reply { IfOk result (λ reply. RepliesByTold (F.told files.old) (map string_bytes words.now) (reply_of
+        reply)) }
+    ensures loads { IfOk result (λ reply. LoadsByTold (F.told files.old) (map string_bytes words.now) (F.told
+        files.new)) }
     ensures cause { IfOk result (λ reply. reply.status ≡ 5 → Rose (F.faults files.old) (F.faults files.new)) }
     ensures usage { IfOk result (λ reply. reply.status ≡ 2 → IsNoCommand (map string_bytes words.now)) }
     ensures refused { IfOk result (λ reply. IsNoCommand (map string_bytes words.now) → reply.status ≡ 2) }

@@ -32,7 +32,8 @@ fn judge(
 ) -> Result<Verdict, NoMemory>
     requires short { length secret.now ≤ secret_limit }
     requires within { limits.budget ≤ highest_budget }
-    ensures { IfOk result (λ verdict. judgement_of verdict ≡ First (picture_of image.now) public_input.now secret.now regions.now.items (cut_of cut.now) limits.budget limits.turns) }
+    ensures { IfOk result (λ verdict. judgement_of verdict ≡ First (picture_of image.now) public_input.now
+        secret.now regions.now.items (cut_of cut.now) limits.budget limits.turns) }
 {
     let lockstep = Lockstep::new(
         alloc,
@@ -85,8 +86,10 @@ fn lines_of(
 ) -> Result<Lines, NoMemory>
     requires short { AreShort secrets.now }
     requires within { limits.budget ≤ highest_budget }
-    ensures text { IfOk result (λ lines. lines.text.items ≡ verdict_lines 1 (judgements_of (picture_of image.now) public_input.now regions.now.items (cut_of cut.now) limits secrets.now)) }
-    ensures accepted { IfOk result (λ lines. lines.accepted ≡ accepted_count (judgements_of (picture_of image.now) public_input.now regions.now.items (cut_of cut.now) limits secrets.now)) }
+    ensures text { IfOk result (λ lines. lines.text.items ≡ verdict_lines 1 (judgements_of (picture_of image.now)
+        public_input.now regions.now.items (cut_of cut.now) limits secrets.now)) }
+    ensures accepted { IfOk result (λ lines. lines.accepted ≡ accepted_count (judgements_of (picture_of image.now)
+        public_input.now regions.now.items (cut_of cut.now) limits secrets.now)) }
 {
     let mut text = Vec::new(alloc);
     let mut number = 0;
@@ -114,7 +117,8 @@ pub fn check_all(
 ) -> Result<Reply, NoMemory>
     requires short { AreShort secrets.now }
     requires within { limits.budget ≤ highest_budget }
-    ensures reply { IfOk result (λ reply. reply_of reply ≡ check_reply (judgements_of (picture_of image.now) public_input.now regions.now.items (cut_of cut.now) limits secrets.now) limits.budget) }
+    ensures reply { IfOk result (λ reply. reply_of reply ≡ check_reply (judgements_of (picture_of image.now)
+        public_input.now regions.now.items (cut_of cut.now) limits secrets.now) limits.budget) }
     ensures status { IfOk result (λ reply. reply.status ≤ 1) }
 {
     let lines = lines_of(alloc, image, public_input, regions, cut, limits, secrets)?;

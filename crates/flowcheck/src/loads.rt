@@ -1,8 +1,11 @@
-ghost use Rattle.std.specs.Prelude.{◌≡◌, ◌≤◌, ◌+◌, ◌^◌, ◌<◌, ℕ, length, map, string_bytes, option_map, is_some, IfOk, [], ◌∷◌};
+ghost use Rattle.std.specs.Prelude.{◌≡◌, ◌≤◌, ◌+◌, ◌^◌, ◌<◌, ℕ, length, map, string_bytes, option_map, is_some, IfOk};
+ghost use Rattle.std.specs.Prelude.{[], ◌∷◌};
 ghost use Rattle.flow_base.specs.Counts.{Rose};
 ghost use Rattle.flow_base.specs.Loads.{after_load};
-ghost use Rattle.flowcheck.specs.Loading.{want, secret_wants, other_wants, wants_of, program_limit, public_limit, cut_limit};
-ghost use Rattle.flowcheck.specs.Stops.{LoadsAs, Leaves, StopHasCause, all_files, first_file, other_files, StopsBy, AreShort};
+ghost use Rattle.flowcheck.specs.Loading.{want, secret_wants, other_wants, wants_of, program_limit, public_limit};
+ghost use Rattle.flowcheck.specs.Loading.{cut_limit};
+ghost use Rattle.flowcheck.specs.Stops.{LoadsAs, Leaves, StopHasCause, all_files, first_file, other_files, StopsBy};
+ghost use Rattle.flowcheck.specs.Stops.{AreShort};
 ghost use Rattle.flowcheck.specs.Words.{check_of};
 
 use crate::words::CheckWords;
@@ -115,11 +118,14 @@ fn load_others<F: Files>(
     regions: Option<&str>,
     secrets: &[String],
 ) -> Result<Others, LoadStop>
-    ensures files { LoadsAs (F.told files.old) (other_wants (option_map (λ word. word.now) regions.entry) (map string_bytes secrets.now)) (other_files result) }
-    ensures leaves { Leaves (F.told files.old) (other_wants (option_map (λ word. word.now) regions.entry) (map string_bytes secrets.now)) (other_files result) (F.told files.new) }
+    ensures files { LoadsAs (F.told files.old) (other_wants (option_map (λ word. word.now) regions.entry) (map
+        string_bytes secrets.now)) (other_files result) }
+    ensures leaves { Leaves (F.told files.old) (other_wants (option_map (λ word. word.now) regions.entry) (map
+        string_bytes secrets.now)) (other_files result) (F.told files.new) }
     ensures cause { StopHasCause result (F.faults files.old) (F.faults files.new) }
     ensures faults { F.faults files.old ≤ F.faults files.new }
-    ensures named { IfOk result (λ others. is_some others.regions ≡ is_some (option_map (λ word. word.now) regions.entry)) }
+    ensures named { IfOk result (λ others. is_some others.regions ≡ is_some (option_map (λ word. word.now)
+        regions.entry)) }
     ensures short { IfOk result (λ others. AreShort others.secrets) }
 {
     let Some(name) = regions else {

@@ -29,7 +29,8 @@ pub fn number_of(
     ensures written { IfOk result (λ found. IfSome found (λ number. word.now ≡ decimal number)) }
     ensures above { IfOk result (λ found. IfSome found (λ number. lowest ≤ number)) }
     ensures below { IfOk result (λ found. IfSome found (λ number. number ≤ highest)) }
-    ensures none { result ≡ Ok None → (number : ℕ) → lowest ≤ number → number ≤ highest → ¬ (word.now ≡ decimal number) }
+    ensures none { result ≡ Ok None → (number : ℕ) → lowest ≤ number → number ≤ highest → ¬ (word.now ≡ decimal
+        number) }
 {
     let Some(number) = decimal_of(alloc, word)? else {
         return Ok(None);

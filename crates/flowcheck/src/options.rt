@@ -1,6 +1,9 @@
 ghost use Rattle.std.specs.Prelude.{◌≡◌, true, false, map, string_bytes, option_map, IfNone, IfSome};
 ghost use Rattle.std.specs.List.{before_first, after_first};
-ghost use Rattle.flowcheck.specs.Options.{has_equals, is_equals, is_name as is_name_of, options_of as options_of_of, options_onto as options_onto_of, set_behind as set_behind_of, set_beside as set_beside_of, set_named as set_named_of, set_regions as set_regions_of, set_turns as set_turns_of};
+ghost use Rattle.flowcheck.specs.Options.{has_equals, is_equals, is_name as is_name_of, options_of as options_of_of};
+ghost use Rattle.flowcheck.specs.Options.{options_onto as options_onto_of, set_behind as set_behind_of};
+ghost use Rattle.flowcheck.specs.Options.{set_beside as set_beside_of, set_named as set_named_of};
+ghost use Rattle.flowcheck.specs.Options.{set_regions as set_regions_of, set_turns as set_turns_of};
 ghost use Rattle.flowcheck.specs.Words.{values_of};
 
 /// The values of the options, where they are named.
@@ -24,7 +27,8 @@ pub fn is_name(word: &str) -> bool
 
 /// A limit of turns; None exactly where one is named before.
 fn set_turns<'a>(before: OptionWords<'a>, value: &'a str) -> Option<OptionWords<'a>>
-    ensures { option_map values_of result ≡ set_turns_of (values_of before.entry) (values_of before.entry).turns value.entry.now }
+    ensures { option_map values_of result ≡ set_turns_of (values_of before.entry) (values_of before.entry).turns
+        value.entry.now }
 {
     match before.turns {
         Some(_) => None,
@@ -37,7 +41,8 @@ fn set_turns<'a>(before: OptionWords<'a>, value: &'a str) -> Option<OptionWords<
 
 /// A region file; None exactly where one is named before.
 fn set_regions<'a>(before: OptionWords<'a>, value: &'a str) -> Option<OptionWords<'a>>
-    ensures { option_map values_of result ≡ set_regions_of (values_of before.entry) (values_of before.entry).regions value.entry.now }
+    ensures { option_map values_of result ≡ set_regions_of (values_of before.entry) (values_of before.entry).regions
+        value.entry.now }
 {
     match before.regions {
         Some(_) => None,
@@ -94,7 +99,8 @@ fn around_equals<'a>(word: &'a str) -> Option<(&'a str, &'a str)>
 
 /// The values of these options and of those before them; None exactly where they are no options, or one is named twice.
 fn options_onto<'a>(before: OptionWords<'a>, words: &'a [String]) -> Option<OptionWords<'a>>
-    ensures { option_map values_of result ≡ options_onto_of (values_of before.entry) (map string_bytes words.entry.now) }
+    ensures { option_map values_of result ≡ options_onto_of (values_of before.entry) (map string_bytes
+        words.entry.now) }
 {
     let [word, more @ ..] = words else {
         return Some(before);

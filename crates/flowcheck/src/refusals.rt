@@ -5,7 +5,9 @@ ghost use Rattle.enclosure_regions.specs.declared.region_faults.RegionFault.TheV
 ghost use Rattle.rv32im_asm.specs.declared.fault.AsmFault.TheVariants.{Memory as NoRoomForSource};
 ghost use Rattle.flowcheck.specs.Answering.{reply_of};
 ghost use Rattle.flowcheck.specs.Loading.{CannotLoad, IsTooLarge};
-ghost use Rattle.flowcheck.specs.Replies.{usage_reply as usage_reply_of, program_reply as program_reply_of, source_reply as source_reply_of, cut_reply as cut_reply_of, regions_reply as regions_reply_of, load_reply};
+ghost use Rattle.flowcheck.specs.Replies.{usage_reply as usage_reply_of, program_reply as program_reply_of};
+ghost use Rattle.flowcheck.specs.Replies.{source_reply as source_reply_of, cut_reply as cut_reply_of};
+ghost use Rattle.flowcheck.specs.Replies.{regions_reply as regions_reply_of, load_reply};
 ghost use Rattle.flowcheck.specs.Stops.{RepliesToStop};
 
 use crate::fault_texts::{

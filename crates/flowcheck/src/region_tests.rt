@@ -32,8 +32,8 @@ pub struct Answer {
     pub loads: u64,
 }
 
-/// The answer to words, by a program, a cut and a region file `r`, which is held as `-r` too. The file `large` has 65,537
-/// bytes, and the names `nocut`, `none` and `s9` are not held.
+/// The answer to words, by a program, a cut and a region file `r`, which is held as `-r` too. The file `large` has
+/// 65,537 bytes, and the names `nocut`, `none` and `s9` are not held.
 pub fn answered(
     alloc: Global,
     program: &[u8],

@@ -89,8 +89,8 @@ pub fn hold(
     })
 }
 
-/// The status and the bytes that a sink takes, by files of these bytes and five secrets; `taken` bytes of the put, where
-/// it is to fail.
+/// The status and the bytes that a sink takes, by files of these bytes and five secrets; `taken` bytes of the put,
+/// where it is to fail.
 fn answer(
     alloc: Global,
     program: &[u8],
@@ -172,6 +172,7 @@ const ONE: [&str; 7] = ["check", "prog", "public", "cut", "1", "s3", "s4"];
 
 const LONG: [&str; 7] = ["check", "prog", "public", "cut", "8", "s3", "s34"];
 
+/// Secrets of one call are judged each by itself, and counted.
 #[test]
 fn secrets_are_judged(rt: HostRuntime) -> Result<(), Fail> {
     let alloc = rt.alloc();
@@ -217,6 +218,7 @@ fn secrets_are_judged(rt: HostRuntime) -> Result<(), Fail> {
     Ok(())
 }
 
+/// Each reason for which a secret is rejected is told in its line.
 #[test]
 fn runs_are_rejected(rt: HostRuntime) -> Result<(), Fail> {
     let alloc = rt.alloc();
@@ -285,6 +287,7 @@ fn runs_are_rejected(rt: HostRuntime) -> Result<(), Fail> {
     Ok(())
 }
 
+/// Words that are no command, files that are none and loads that fail are answered each by its refusal.
 #[test]
 fn commands_are_refused(rt: HostRuntime) -> Result<(), Fail> {
     let alloc = rt.alloc();
@@ -352,6 +355,7 @@ fn commands_are_refused(rt: HostRuntime) -> Result<(), Fail> {
     Ok(())
 }
 
+/// 65 secrets are no command; a sink that fails keeps what it has taken.
 #[test]
 fn words_and_puts_fail(rt: HostRuntime) -> Result<(), Fail> {
     let alloc = rt.alloc();
@@ -377,6 +381,7 @@ const SOURCE: &str = "addi a0, x0, 0\naddi a7, x0, 93\necall\n";
 const LISTING: &str = "0x00010000 00000513 addi x10, x0, 0\n0x00010004 05d00893 addi x17, x0, 93\n\
     0x00010008 00000073 ecall\n";
 
+/// A source becomes a program file, and a program file its listing.
 #[test]
 fn sources_are_assembled_and_listed(rt: HostRuntime) -> Result<(), Fail> {
     let alloc = rt.alloc();

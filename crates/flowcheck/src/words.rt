@@ -1,8 +1,11 @@
-ghost use Rattle.std.specs.Prelude.{◌≡◌, ◌≤◌, ◌∷◌, [], ℕ, List as Seq, length, take, drop, map, string_bytes, option_map, IfNone, IfOk, IfSome};
+ghost use Rattle.std.specs.Prelude.{◌≡◌, ◌≤◌, ◌∷◌, [], ℕ, List as Seq, length, take, drop, map, string_bytes};
+ghost use Rattle.std.specs.Prelude.{option_map, IfNone, IfOk, IfSome};
 ghost use Rattle.flowcheck.specs.Answering.{IsNoCommand};
-ghost use Rattle.flowcheck.specs.CommandLines.{Check, IsCheck, IsCommand, IsOfOneFile, IsTurnLimit, HaveSecrets, are_names as are_names_of};
+ghost use Rattle.flowcheck.specs.CommandLines.{Check, IsCheck, IsCommand, IsOfOneFile, IsTurnLimit, HaveSecrets};
+ghost use Rattle.flowcheck.specs.CommandLines.{are_names as are_names_of};
 ghost use Rattle.flowcheck.specs.Options.{OptionValues};
-ghost use Rattle.flowcheck.specs.Words.{check_of, command_of, has_dash as has_dash_of, plain_count as plain_count_of, values_of};
+ghost use Rattle.flowcheck.specs.Words.{check_of, command_of, has_dash as has_dash_of, plain_count as plain_count_of};
+ghost use Rattle.flowcheck.specs.Words.{values_of};
 
 use crate::limits::Limits;
 use crate::numbers::number_of;
@@ -77,7 +80,8 @@ fn plain_count(words: &[String]) -> usize
 
 /// The limit of turns that a value names, or the one without a value; None exactly where it names none.
 fn turns_of(alloc: Global, value: Option<&str>) -> Result<Option<u32>, NoMemory>
-    ensures is { IfOk result (λ found. IfSome found (λ turns. IsTurnLimit (option_map (λ word. word.now) value.entry) turns)) }
+    ensures is { IfOk result (λ found. IfSome found (λ turns. IsTurnLimit (option_map (λ word. word.now)
+        value.entry) turns)) }
     ensures none { result ≡ Ok None → (turns : ℕ) → ¬ IsTurnLimit (option_map (λ word. word.now) value.entry) turns }
 {
     match value {
@@ -88,8 +92,10 @@ fn turns_of(alloc: Global, value: Option<&str>) -> Result<Option<u32>, NoMemory>
 
 /// The words before the first that begins with a dash, and the others.
 fn split_plain<'a>(words: &'a [String]) -> (&'a [String], &'a [String])
-    ensures plain { map string_bytes result.0.now ≡ take (plain_count_of (map string_bytes words.entry.now)) (map string_bytes words.entry.now) }
-    ensures options { map string_bytes result.1.now ≡ drop (plain_count_of (map string_bytes words.entry.now)) (map string_bytes words.entry.now) }
+    ensures plain { map string_bytes result.0.now ≡ take (plain_count_of (map string_bytes words.entry.now)) (map
+        string_bytes words.entry.now) }
+    ensures options { map string_bytes result.1.now ≡ drop (plain_count_of (map string_bytes words.entry.now)) (map
+        string_bytes words.entry.now) }
 {
     words.split_at(plain_count(words))
 }
@@ -103,8 +109,10 @@ struct SecretWords<'a> {
 
 /// The secrets that words name and the options behind them; None exactly where they are no such words.
 fn secret_words<'a>(words: &'a [String]) -> Option<SecretWords<'a>>
-    ensures is { IfSome result (λ named. HaveSecrets (map string_bytes words.entry.now) (map string_bytes named.secrets.now) (values_of named.options)) }
-    ensures none { IfNone result ((secrets : Seq (Seq ℕ)) (values : OptionValues) → ¬ HaveSecrets (map string_bytes words.entry.now) secrets values) }
+    ensures is { IfSome result (λ named. HaveSecrets (map string_bytes words.entry.now) (map string_bytes
+        named.secrets.now) (values_of named.options)) }
+    ensures none { IfNone result ((secrets : Seq (Seq ℕ)) (values : OptionValues) → ¬ HaveSecrets (map string_bytes
+        words.entry.now) secrets values) }
 {
     let (secrets, options) = split_plain(words);
     if secrets.is_empty() || secrets.len() > 64 || !are_names(secrets) {
@@ -121,7 +129,8 @@ pub fn check_words<'a>(
     alloc: Global,
     words: &'a [String],
 ) -> Result<Option<CheckWords<'a>>, NoMemory>
-    ensures is { IfOk result (λ found. IfSome found (λ check. IsCheck (map string_bytes words.entry.now) (check_of check))) }
+    ensures is { IfOk result (λ found. IfSome found (λ check. IsCheck (map string_bytes words.entry.now) (check_of
+        check))) }
     ensures none { result ≡ Ok None → (check : Check) → ¬ IsCheck (map string_bytes words.entry.now) check }
 {
     let [command, program, public_input, cut, budget, ..] = words else {
@@ -172,7 +181,8 @@ pub fn command_words<'a>(
     alloc: Global,
     words: &'a [String],
 ) -> Result<Option<CommandWords<'a>>, NoMemory>
-    ensures is { IfOk result (λ found. IfSome found (λ command. IsCommand (map string_bytes words.entry.now) (command_of command))) }
+    ensures is { IfOk result (λ found. IfSome found (λ command. IsCommand (map string_bytes words.entry.now)
+        (command_of command))) }
     ensures none { result ≡ Ok None → IsNoCommand (map string_bytes words.entry.now) }
 {
     if let Some(check) = check_words(alloc, words)? {

@@ -1,5 +1,5 @@
-//! Checks guests that gcc and clang made on secrets, and prints for each accepted run how many bytes it wrote and its exit
-//! status. What must be printed is what another implementation of RV32IM found of the same guests.
+//! Checks guests that gcc and clang made on secrets, and prints for each accepted run how many bytes it wrote and its
+//! exit status. What must be printed is what another implementation of RV32IM found of the same guests.
 #![tactic(auto)]
 
 mod runs;

@@ -69,7 +69,8 @@ fn judge(
     cut: &Cut,
 ) -> Option<Verdict>
     requires short { length secret.now < 2 ^ 32 }
-    ensures { IfSome result (λ verdict. judgement_of verdict ≡ First (picture_of image.now) public_input.now secret.now [] (cut_of cut.now) budget turns) }
+    ensures { IfSome result (λ verdict. judgement_of verdict ≡ First (picture_of image.now) public_input.now
+        secret.now [] (cut_of cut.now) budget turns) }
 {
     let regions = Regions::none(alloc);
     let Ok(lockstep) = Lockstep::new(
@@ -91,7 +92,8 @@ fn judge(
 fn verdict(alloc: Global, program: &[u8], cut: &[u8], run: &Run) -> Option<Verdict>
     requires program { length program.now < 2 ^ 32 }
     requires cut { length cut.now < 2 ^ 32 }
-    ensures { IfSome result (λ verdict. IsJudgement program.now cut.now run.now.public_input.now run.now.secret.now (judgement_of verdict)) }
+    ensures { IfSome result (λ verdict. IsJudgement program.now cut.now run.now.public_input.now run.now.secret.now
+        (judgement_of verdict)) }
 {
     let Ok(image) = load_image(alloc, program) else {
         return None;

@@ -1,6 +1,7 @@
 ghost use Rattle.std.specs.Prelude.{◌≡◌, ◌≤◌, ◌<◌, ◌+◌, ◌^◌, length, IfOk, IsTrue};
 ghost use Rattle.elf32_loader.specs.Segments.{are_inside, end_of, highest_end};
-ghost use Rattle.rv32im_asm.specs.Listing.{line as line_of, lines_from, listing, padding as padding_of, segment_lines as segment_lines_of, word_text as word_text_of};
+ghost use Rattle.rv32im_asm.specs.Listing.{line as line_of, lines_from, listing, padding as padding_of};
+ghost use Rattle.rv32im_asm.specs.Listing.{segment_lines as segment_lines_of, word_text as word_text_of};
 
 use crate::texts::instr_text;
 use elf32_loader::{Image, Segment};
@@ -86,9 +87,9 @@ fn lines_of(alloc: Global, base: u32, segments: &[Segment]) -> Result<Bytes, NoM
     Ok(Bytes::from_vec(text))
 }
 
-/// The listing of an image: for each segment in order and each multiple of 4 whose four bytes lie in the segment, a line
-/// with the address, the word in eight hexadecimal digits, and the instruction of the word or `-` where it is none.
-/// Want of memory answers [`NoMemory`].
+/// The listing of an image: for each segment in order and each multiple of 4 whose four bytes lie in the segment, a
+/// line with the address, the word in eight hexadecimal digits, and the instruction of the word or `-` where it is
+/// none. Want of memory answers [`NoMemory`].
 pub fn list(alloc: Global, image: &Image) -> Result<Bytes, NoMemory>
     ensures { IfOk result (λ text. text ≡ listing image.now.segments) }
 {

@@ -1,5 +1,7 @@
 ghost use Rattle.std.specs.Prelude.{◌≡◌};
-ghost use Rattle.rv32im_asm.specs.Mnemonics.{branch_name as branch_name_of, load_name as load_name_of, store_name as store_name_of, immediate_name as immediate_name_of, operation_name as operation_name_of};
+ghost use Rattle.rv32im_asm.specs.Mnemonics.{branch_name as branch_name_of, load_name as load_name_of};
+ghost use Rattle.rv32im_asm.specs.Mnemonics.{store_name as store_name_of, immediate_name as immediate_name_of};
+ghost use Rattle.rv32im_asm.specs.Mnemonics.{operation_name as operation_name_of};
 
 use rv32im_decode::{BranchKind, ImmKind, LoadKind, OpKind, StoreKind};
 

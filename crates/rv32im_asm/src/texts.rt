@@ -1,6 +1,8 @@
 ghost use Rattle.std.specs.Prelude.{◌≡◌, IfOk};
 ghost use Rattle.rv32im_decode.specs.declared.instructions.Instr.TheVariants.{Fence, Jal};
-ghost use Rattle.rv32im_asm.specs.InstructionTexts.{instruction_text, registers_text as registers_text_of, immediate_text as immediate_text_of, memory_text as memory_text_of, upper_text as upper_text_of};
+ghost use Rattle.rv32im_asm.specs.InstructionTexts.{instruction_text, registers_text as registers_text_of};
+ghost use Rattle.rv32im_asm.specs.InstructionTexts.{immediate_text as immediate_text_of, memory_text as memory_text_of};
+ghost use Rattle.rv32im_asm.specs.InstructionTexts.{upper_text as upper_text_of};
 
 use crate::mnemonics::{branch_name, immediate_name, load_name, operation_name, store_name};
 use flow_base::{Bytes, NoMemory};
@@ -73,9 +75,9 @@ fn fence_text(alloc: Global, rd: u8, rs1: u8, imm: u32) -> Result<Bytes, NoMemor
     Ok(Bytes::from_vec(text.into_bytes()))
 }
 
-/// The text of an instruction: its mnemonic (RISC-V Unprivileged ISA, "RV32/64G Instruction Set Listings"), one space, and
-/// its operands, with registers `x0` to `x31`, decimal numbers, `, ` between operands, and offsets of jumps and branches in
-/// bytes. ECALL and EBREAK are their mnemonic alone. Want of memory answers [`NoMemory`].
+/// The text of an instruction: its mnemonic (RISC-V Unprivileged ISA, "RV32/64G Instruction Set Listings"), one space,
+/// and its operands, with registers `x0` to `x31`, decimal numbers, `, ` between operands, and offsets of jumps and
+/// branches in bytes. ECALL and EBREAK are their mnemonic alone. Want of memory answers [`NoMemory`].
 pub fn instr_text(alloc: Global, instr: &Instr) -> Result<Bytes, NoMemory>
     ensures { IfOk result (λ text. text ≡ instruction_text instr.now) }
 {
