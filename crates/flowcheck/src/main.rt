@@ -31,11 +31,14 @@ pub use top::flowcheck;
 const HELP: &str = "flowcheck check PROG PUBLIC CUT BUDGET SECRET.. [--turns N] [--regions FILE]\n\
     flowcheck asm SOURCE\n\
     flowcheck list PROG\n\n\
-    check judges by lockstep replay whether a run of PROG on each secret gives away no bits but those of the cut, at most\n\
-    BUDGET of them. PROG is an ELF32 program of RV32IM, PUBLIC its public input, CUT a cut file, and each SECRET a file\n\
-    with a secret input; BUDGET is 0 to 1048576, and there are 1 to 64 secrets. A run that has not exited after N turns\n\
-    is rejected; N is 1 to 20000000, and 1000000 where it is not named. FILE is a region file; its\n\
-    regions are read, and change no line yet.\n\
+    check judges by lockstep replay whether a run of PROG on each secret gives away\n\
+    no bits but those of the cut, at most BUDGET of them. PROG is an ELF32 program\n\
+    of RV32IM, PUBLIC its public input, CUT a cut file, and each SECRET a file with\n\
+    a secret input; BUDGET is 0 to 1048576, and there are 1 to 64 secrets. A run\n\
+    that has not exited after N turns is rejected; N is 1 to 20000000, and 1000000\n\
+    where it is not named. FILE is a region file: it says of pieces of PROG which\n\
+    registers and bytes they may write, and a run that breaks this is rejected. The\n\
+    replay runs a region, or skips it where the cut names it.\n\
     asm writes the program file of an assembler source.\n\
     list writes the instructions of a program file.\n";
 
