@@ -18,8 +18,8 @@ is_one_of statuses status = list_any (λ one. one == status) statuses
 abbrev pub IsNoCommand : List (List ℕ) → Type 0
 IsNoCommand words = (command : Command) → ¬ IsCommand words command
 
--- What a source that tells its meanings has after a command: its loads are made up to the first that is refused, and for
--- other words none.
+-- What a source that tells its meanings has after a command: its loads are made up to the first that is refused, and
+-- for other words none.
 abbrev pub Loads : Told → List (List ℕ) → Told → Type 0
 Loads told words later =
     (IsNoCommand words × (later ≡ told))

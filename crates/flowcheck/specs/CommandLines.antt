@@ -45,7 +45,8 @@ pub record HaveSecrets (words secrets : List (List ℕ)) (values : OptionValues)
 -- the words are this command line; the budget stands in decimal without leading zeros
 pub record IsCheck (words : List (List ℕ)) (check : Check) : Type 0 where
   pub others : List (List ℕ)
-  pub line : words ≡ codes "check" ∷ check.program ∷ check.public_input ∷ check.cut ∷ decimal check.limits.budget ∷ others
+  pub line :
+      words ≡ codes "check" ∷ check.program ∷ check.public_input ∷ check.cut ∷ decimal check.limits.budget ∷ others
   pub names : are_names (check.program ∷ check.public_input ∷ check.cut ∷ []) ≡ true
   pub budget : check.limits.budget ≤ highest_budget
   pub options : OptionValues

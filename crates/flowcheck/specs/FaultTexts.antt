@@ -17,7 +17,8 @@ hex_byte byte = 48 ∷ 120 ∷ hex_digit (byte / 16 % 16) ∷ hex_digit (byte % 
 
 -- want of memory is never told as a fault of a file
 abbrev pub program_fault_text : ElfFault → List ℕ
-program_fault_text (elf.Truncated need have) = codes "truncated need " ++ (decimal need ++ (codes " have " ++ decimal have))
+program_fault_text (elf.Truncated need have) =
+    codes "truncated need " ++ (decimal need ++ (codes " have " ++ decimal have))
 program_fault_text (elf.NotElf32 offset byte) =
     codes "not-elf32 offset " ++ (decimal offset ++ (codes " byte " ++ hex_byte byte))
 program_fault_text (elf.WrongKind kind machine) =

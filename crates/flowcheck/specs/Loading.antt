@@ -62,7 +62,8 @@ abbrev pub and_file : List ℕ → Result (List (List ℕ)) LoadRefusal → Resu
 and_file file (Ok files) = Ok (file ∷ files)
 and_file file (Err refusal) = Err refusal
 
-abbrev pub and_load : Want → Result (List ℕ) LoadFault → Result (List (List ℕ)) LoadRefusal → Result (List (List ℕ)) LoadRefusal
+abbrev pub and_load :
+    Want → Result (List ℕ) LoadFault → Result (List (List ℕ)) LoadRefusal → Result (List (List ℕ)) LoadRefusal
 and_load w (Ok file) later = and_file file later
 and_load w (Err Failed) later = Err (CannotLoad w.name)
 and_load w (Err (TooLarge number)) later = Err (IsTooLarge w.name number)
@@ -80,4 +81,5 @@ after_answer (Err fault) told later = told
 
 abbrev pub after_loads : Told → List Want → Told
 after_loads told [] = told
-after_loads told (w ∷ wants) = after_answer (next_answer told w.name w.limit) (after_load told) (after_loads (after_load told) wants)
+after_loads told (w ∷ wants) =
+    after_answer (next_answer told w.name w.limit) (after_load told) (after_loads (after_load told) wants)

@@ -1,6 +1,7 @@
 -- Options with values: `--turns N` and `--regions FILE`, in any order, each at most once. An option is two words, of
 -- which the second does not begin with a dash, or one word with `=` between name and value. No value is empty.
-use Rattle.std.specs.Prelude.{ℕ, ◌==◌, nat_lt, not, List, [], ◌∷◌, codes, length, Bool, false, Option, None, Some, option_and_then, if◌then◌else◌}
+use Rattle.std.specs.Prelude.{ℕ, ◌==◌, nat_lt, not, List, [], ◌∷◌, codes, length, Bool, false, Option, None, Some}
+use Rattle.std.specs.Prelude.{option_and_then, if◌then◌else◌}
 use Rattle.std.specs.List.{position_or_len, before_first, after_first}
 use Rattle.std.specs.Str.{bytes_eq}
 

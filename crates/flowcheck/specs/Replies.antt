@@ -1,5 +1,6 @@
 -- The reply to a command line, given what the file source holds: words first, then loads, forms, and the run.
-use Rattle.std.specs.Prelude.{◌≡◌, ◌≢◌, ◌⊎◌, ℕ, ◌==◌, List, [], ◌∷◌, ◌++◌, length, codes, Option, Some, None, Result, Ok, Err, if◌then◌else◌}
+use Rattle.std.specs.Prelude.{◌≡◌, ◌≢◌, ◌⊎◌, ℕ, ◌==◌, List, [], ◌∷◌, ◌++◌, length, codes, Option, Some, None, Result}
+use Rattle.std.specs.Prelude.{Ok, Err, if◌then◌else◌}
 use Rattle.std.specs.Fmt.{decimal}
 use Rattle.flow_base.specs.Loads.{Told}
 use Rattle.elf32_loader.specs.Pictures.{Picture}
@@ -52,7 +53,10 @@ cut_reply fault = record { status = 3; text = codes "refused 3 cut " ++ (cut_fau
 abbrev pub load_reply : LoadRefusal → Reply
 load_reply (CannotLoad name) = record { status = 5; text = codes "refused 5 load " ++ (name ++ codes "\n") }
 load_reply (IsTooLarge name number) =
-    record { status = 6; text = codes "refused 6 too-large " ++ (name ++ (codes " " ++ (decimal number ++ codes "\n"))) }
+    record {
+      status = 6;
+      text = codes "refused 6 too-large " ++ (name ++ (codes " " ++ (decimal number ++ codes "\n")));
+    }
 
 -- status 0 where every secret is accepted, else 1
 abbrev pub check_reply : List Judgement → ℕ → Reply
@@ -65,10 +69,11 @@ check_reply judgements budget = record {
 abbrev pub judgements_of : Picture → List ℕ → List Region → CutPicture → Limits → List (List ℕ) → List Judgement
 judgements_of picture public_input regions cut limits [] = []
 judgements_of picture public_input regions cut limits (secret ∷ secrets) =
-    First picture public_input secret regions cut limits.budget limits.turns ∷ judgements_of picture public_input regions cut limits secrets
+    First picture public_input secret regions cut limits.budget limits.turns
+    ∷ judgements_of picture public_input regions cut limits secrets
 
 -- The reply once program and regions are read: to the first fault of the cut file, or to the cut of which it is the
--- text. The regions change no judgement yet.
+-- text, by which each secret is judged.
 abbrev pub RepliesToCut : Picture → List ℕ → List Region → List ℕ → Limits → List (List ℕ) → Reply → Type 0
 RepliesToCut picture public_input regions cut_file limits secrets reply =
     ((fault : CutFault) × FirstCutFault cut_file fault × (fault ≢ NoRoomForCut) × (reply ≡ cut_reply fault))

@@ -1,7 +1,8 @@
 -- The loads of a check: the files that are loaded, or the load that stops it.
 use Rattle.std.specs.Prelude.{◌≡◌, ◌≢◌, ℕ, ◌≤◌, List, [], ◌∷◌, length, All, Option, Some, None, Result, Ok, Err}
 use Rattle.flow_base.specs.declared.loading.LoadFault.{LoadFault}
-use Rattle.flow_base.specs.declared.loading.LoadFault.TheVariants.{Failed as Failed', TooLarge as TooLarge', Memory as Memory'}
+use Rattle.flow_base.specs.declared.loading.LoadFault.TheVariants.{Failed as Failed', TooLarge as TooLarge'}
+use Rattle.flow_base.specs.declared.loading.LoadFault.TheVariants.{Memory as Memory'}
 use Rattle.flow_base.specs.Counts.{Rose}
 use Rattle.flow_base.specs.Loads.{Told}
 use Rattle.flowcheck.specs.declared.loads.Loaded.{Loaded}

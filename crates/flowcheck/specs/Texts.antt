@@ -3,10 +3,12 @@ use Rattle.std.specs.Prelude.{ℕ, ◌+◌, List, [], ◌∷◌, ◌++◌, lengt
 use Rattle.std.specs.Fmt.{decimal}
 use Rattle.crossing_bits.specs.HexText.{hex_of}
 use Rattle.rv32im_machine.specs.declared.stepping.Fault.{Fault}
-use Rattle.rv32im_machine.specs.declared.stepping.Fault.TheVariants.{Illegal, FetchOutside, FetchUnaligned, LoadOutside, StoreOutside, Breakpoint, OutputLimit}
+use Rattle.rv32im_machine.specs.declared.stepping.Fault.TheVariants.{Illegal, FetchOutside, FetchUnaligned, LoadOutside}
+use Rattle.rv32im_machine.specs.declared.stepping.Fault.TheVariants.{StoreOutside, Breakpoint, OutputLimit}
 use Rattle.enclosure_regions.specs.Texts.{break_text, range_text}
 use Rattle.lockstep_replay.specs.declared.verdicts.Why.{Why}
-use Rattle.lockstep_replay.specs.declared.verdicts.Why.TheVariants.{RealFault, RegionBreak, BudgetOverrun, ReplayFault, Parted, OutputDiffers, TurnLimit, SecretLength}
+use Rattle.lockstep_replay.specs.declared.verdicts.Why.TheVariants.{RealFault, RegionBreak, BudgetOverrun, ReplayFault}
+use Rattle.lockstep_replay.specs.declared.verdicts.Why.TheVariants.{Parted, OutputDiffers, TurnLimit, SecretLength}
 use Rattle.lockstep_replay.specs.declared.verdicts.ReplayStop.{ReplayStop}
 use Rattle.lockstep_replay.specs.declared.verdicts.ReplayStop.TheVariants as stops
 use Rattle.replay_machine.specs.declared.marks.Mark.{Mark}
@@ -19,7 +21,8 @@ fault_text (Illegal pc word) = codes "illegal " ++ (hex_word pc ++ (codes " word
 fault_text (FetchOutside pc) = codes "fetch-outside " ++ hex_word pc
 fault_text (FetchUnaligned pc) = codes "fetch-unaligned " ++ hex_word pc
 fault_text (LoadOutside pc address) = codes "load-outside " ++ (hex_word pc ++ (codes " address " ++ hex_word address))
-fault_text (StoreOutside pc address) = codes "store-outside " ++ (hex_word pc ++ (codes " address " ++ hex_word address))
+fault_text (StoreOutside pc address) =
+    codes "store-outside " ++ (hex_word pc ++ (codes " address " ++ hex_word address))
 fault_text (Breakpoint pc) = codes "breakpoint " ++ hex_word pc
 fault_text (OutputLimit pc) = codes "output-limit " ++ hex_word pc
 
@@ -47,15 +50,17 @@ why_text (BudgetOverrun budget needed) = codes "budget " ++ (decimal budget ++ (
 why_text (ReplayFault stop) = codes "replay " ++ stop_text stop
 why_text (Parted real replay) = codes "parted real " ++ (mark_text real ++ (codes " replay " ++ mark_text replay))
 why_text (OutputDiffers index real replay) =
-    codes "output index " ++ (decimal index ++ (codes " real " ++ (decimal real ++ (codes " replay " ++ decimal replay))))
+    codes "output index " ++ (decimal index ++ (codes " real " ++ (decimal real
+    ++ (codes " replay " ++ decimal replay))))
 why_text (TurnLimit limit) = codes "turns " ++ decimal limit
 why_text (SecretLength cut got) = codes "secret-length cut " ++ (decimal cut ++ (codes " got " ++ decimal got))
 
 -- the line of the secret with this number
 abbrev pub verdict_line : ℕ → Judgement → List ℕ
 verdict_line number (Accepts bits output) =
-    codes "accepted " ++ (decimal number ++ (codes " bits " ++ (decimal (length bits) ++ (codes " crossing " ++ (hex_of bits
-    ++ (codes " output " ++ (decimal (length output.bytes) ++ (codes " status " ++ (decimal output.status ++ codes "\n")))))))))
+    codes "accepted " ++ (decimal number ++ (codes " bits " ++ (decimal (length bits)
+    ++ (codes " crossing " ++ (hex_of bits ++ (codes " output " ++ (decimal (length output.bytes)
+    ++ (codes " status " ++ (decimal output.status ++ codes "\n")))))))))
 verdict_line number (Rejects why) = codes "rejected " ++ (decimal number ++ (codes " " ++ (why_text why ++ codes "\n")))
 
 abbrev pub verdict_lines : ℕ → List Judgement → List ℕ

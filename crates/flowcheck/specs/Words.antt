@@ -1,5 +1,6 @@
 -- The command that words name.
-use Rattle.std.specs.Prelude.{ℕ, suc, ◌==◌, ◌≤◌, List, [], ◌∷◌, Bool, false, map, string_bytes, option_map, if◌then◌else◌}
+use Rattle.std.specs.Prelude.{ℕ, suc, ◌==◌, ◌≤◌, List, [], ◌∷◌, Bool, false, map, string_bytes, option_map}
+use Rattle.std.specs.Prelude.{if◌then◌else◌}
 use Rattle.flowcheck.specs.declared.words.CheckWords.{CheckWords}
 use Rattle.flowcheck.specs.declared.words.CommandWords.{CommandWords}
 use Rattle.flowcheck.specs.declared.words.CommandWords.TheVariants as words

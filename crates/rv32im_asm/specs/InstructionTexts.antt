@@ -3,7 +3,8 @@
 use Rattle.std.specs.Prelude.{ℕ, ℤ, List, ◌++◌, codes}
 use Rattle.std.specs.Fmt.{decimal, signed_decimal}
 use Rattle.rv32im_decode.specs.declared.instructions.Instr.{Instr}
-use Rattle.rv32im_decode.specs.declared.instructions.Instr.TheVariants.{Lui, Auipc, Jal, Jalr, Branch, Load, Store, OpImm, Op, Fence, Ecall, Ebreak}
+use Rattle.rv32im_decode.specs.declared.instructions.Instr.TheVariants.{Lui, Auipc, Jal, Jalr, Branch, Load, Store}
+use Rattle.rv32im_decode.specs.declared.instructions.Instr.TheVariants.{OpImm, Op, Fence, Ecall, Ebreak}
 use Rattle.rv32im_asm.specs.Mnemonics.{branch_name, load_name, store_name, immediate_name, operation_name}
 
 -- three registers
@@ -14,12 +15,14 @@ registers_text name first second third =
 -- two registers and a number
 abbrev pub immediate_text : List ℕ → ℕ → ℕ → ℤ → List ℕ
 immediate_text name first second number =
-    name ++ (codes " x" ++ (decimal first ++ (codes ", x" ++ (decimal second ++ (codes ", " ++ signed_decimal number)))))
+    name ++ (codes " x" ++ (decimal first ++ (codes ", x" ++ (decimal second
+    ++ (codes ", " ++ signed_decimal number)))))
 
 -- a register, and the place of memory at an offset from another
 abbrev pub memory_text : List ℕ → ℕ → ℤ → ℕ → List ℕ
 memory_text name register offset base =
-    name ++ (codes " x" ++ (decimal register ++ (codes ", " ++ (signed_decimal offset ++ (codes "(x" ++ (decimal base ++ codes ")"))))))
+    name ++ (codes " x" ++ (decimal register ++ (codes ", " ++ (signed_decimal offset
+    ++ (codes "(x" ++ (decimal base ++ codes ")"))))))
 
 -- a register and the upper bits of a word
 abbrev pub upper_text : List ℕ → ℕ → ℕ → List ℕ

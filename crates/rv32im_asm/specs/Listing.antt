@@ -12,7 +12,8 @@ word_text word = option_map_or instruction_text (decoded word) (codes "-")
 
 -- the address, the word in eight digits, and what it is
 abbrev pub line : ℕ → ℕ → List ℕ
-line address word = hex_word address ++ (codes " " ++ (hex_digits word ++ (codes " " ++ (word_text word ++ codes "\n"))))
+line address word =
+    hex_word address ++ (codes " " ++ (hex_digits word ++ (codes " " ++ (word_text word ++ codes "\n"))))
 
 -- the lines of bytes that stand from an address on, a word of four bytes each, the lowest byte first
 unfoldable pub lines_from : ℕ → List ℕ → List ℕ
