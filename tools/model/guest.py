@@ -245,12 +245,15 @@ class Guest:
         first = yield self.visit("u1", self.registers[instruction.first])
         second = yield self.visit("u2", self.registers[instruction.second])
         address = yield self.visit("ad", (first + instruction.immediate) & ALL)
-        width = WIDTHS[instruction.name]
+        return self.write_word(address, second, WIDTHS[instruction.name])
+
+    def write_word(self, address, value, width):
+        """Writes the lowest bytes of a value, as the entered region must have declared; the address of what is next."""
         if not self.is_inside(address, width):
             raise GuestFault(f"store-outside {shown(self.pc)} address {shown(address)}")
         self.declare_bytes(address, width)
         for index in range(width):
-            self.memory[address + index] = second >> 8 * index & 255
+            self.memory[address + index] = value >> 8 * index & 255
         return self.following()
 
     def immediate(self, instruction):

@@ -25,7 +25,7 @@ def store_value_first(self, instruction):
     second = yield self.visit("u2", self.registers[instruction.second])
     first = yield self.visit("u1", self.registers[instruction.first])
     address = yield self.visit("ad", (first + instruction.immediate) & ALL)
-    return stored(self, instruction, address, second)
+    return self.write_word(address, second, WIDTHS[instruction.name])
 
 
 def store_address_first(self, instruction):
@@ -33,18 +33,7 @@ def store_address_first(self, instruction):
     first = yield self.visit("u1", self.registers[instruction.first])
     address = yield self.visit("ad", (first + instruction.immediate) & ALL)
     second = yield self.visit("u2", self.registers[instruction.second])
-    return stored(self, instruction, address, second)
-
-
-def stored(self, instruction, address, value):
-    """The rest of a store."""
-    width = WIDTHS[instruction.name]
-    if not self.is_inside(address, width):
-        raise GuestFault(f"store-outside {guest.shown(self.pc)} address {guest.shown(address)}")
-    self.declare_bytes(address, width)
-    for index in range(width):
-        self.memory[address + index] = value >> 8 * index & 255
-    return self.following()
+    return self.write_word(address, second, WIDTHS[instruction.name])
 
 
 def jump_register_cleared_late(self, instruction):
