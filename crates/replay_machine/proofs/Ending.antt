@@ -32,7 +32,7 @@ use Rattle.rv32im_machine.specs.declared.language.Place.TheVariants.{Register, B
 use Rattle.rv32im_machine.specs.State.{State, Setting, Control, Store, onward, moved_to, ended, public_taken}
 use Rattle.rv32im_machine.specs.State.{secret_taken, break_moved, emitted, restored, with_register, with_byte}
 use Rattle.rv32im_machine.specs.Language.{Turn, Looks, Passes, Decides, Gives, Moves, Saves, Restores, Ends, Walk}
-use Rattle.rv32im_machine.specs.Language.{Looked, Passed, Decided, Gave, Moved, Saved, Restored, Ended, Held}
+use Rattle.rv32im_machine.specs.Language.{Looked, Passed, Moved, Saved, Restored, Ended, Held}
 use Rattle.rv32im_machine.specs.Language.{none_held, walked, shaped, value_of, put, hold, seen_value}
 use Rattle.rv32im_machine.specs.Calls.{public_reads, secret_reads, writes, planned}
 use Rattle.rv32im_machine.specs.Calls.{kind_row, call_row, read_plan, write_plan, break_plan}
@@ -59,9 +59,7 @@ Always Q (Ends control) = Q control
 -- this holds of the state at each end of a turn as it is walked
 abbrev pub AtEnds : (State → Type 0) → Walk → Type 0
 AtEnds P (Looked seen value walk) = AtEnds P walk
-AtEnds P (Passed point place work sources value go) = (other : ℕ) → AtEnds P (go other)
-AtEnds P (Decided point work sources value go) = (other : ℕ) → AtEnds P (go other)
-AtEnds P (Gave point place value go) = (other : ℕ) → AtEnds P (go other)
+AtEnds P (Passed passing go) = (other : ℕ) → AtEnds P (go other)
 AtEnds P (Moved place shape source value walk) = AtEnds P walk
 AtEnds P (Saved walk) = AtEnds P walk
 AtEnds P (Restored registers walk back) = AtEnds P walk × AtEnds P back
@@ -284,9 +282,7 @@ step_ends Q P state k j f h =
 pub real_at_end : (P : State → Type 0) (walk : Walk) → AtEnds P walk → P (real_end walk)
 unfolding real_end
 real_at_end P (Looked seen value walk) h = real_at_end P walk h
-real_at_end P (Passed point place work sources value go) h = real_at_end P (go value) (h value)
-real_at_end P (Decided point work sources value go) h = real_at_end P (go value) (h value)
-real_at_end P (Gave point place value go) h = real_at_end P (go value) (h value)
+real_at_end P (Passed passing go) h = real_at_end P (go passing.value) (h passing.value)
 real_at_end P (Moved place shape source value walk) h = real_at_end P walk h
 real_at_end P (Saved walk) h = real_at_end P walk h
 real_at_end P (Restored registers walk back) h = real_at_end P walk h.0
@@ -299,24 +295,12 @@ pub replayed_at_end :
 unfolding replayed
 replayed_at_end P masks past (Looked seen value walk) bits place rest h e =
     replayed_at_end P masks past walk bits place rest h e
-replayed_at_end P masks past (Passed point to work sources value go) bits place rest h e =
-    replayed_at_end P masks (point ∷ past) (go (patched value (mask_at masks past point)
-    (take (bit_count (mask_at masks past point)) bits)))
-    (drop (bit_count (mask_at masks past point)) bits) place rest (h _)
-    (feed_back (bit_count (mask_at masks past point)) (λ taken. replayed masks (point ∷ past)
-    (go (patched value (mask_at masks past point) taken))) bits place rest e)
-replayed_at_end P masks past (Decided point work sources value go) bits place rest h e =
-    replayed_at_end P masks (point ∷ past) (go (patched value (mask_at masks past point)
-    (take (bit_count (mask_at masks past point)) bits)))
-    (drop (bit_count (mask_at masks past point)) bits) place rest (h _)
-    (feed_back (bit_count (mask_at masks past point)) (λ taken. replayed masks (point ∷ past)
-    (go (patched value (mask_at masks past point) taken))) bits place rest e)
-replayed_at_end P masks past (Gave point to value go) bits place rest h e =
-    replayed_at_end P masks (point ∷ past) (go (patched value (mask_at masks past point)
-    (take (bit_count (mask_at masks past point)) bits)))
-    (drop (bit_count (mask_at masks past point)) bits) place rest (h _)
-    (feed_back (bit_count (mask_at masks past point)) (λ taken. replayed masks (point ∷ past)
-    (go (patched value (mask_at masks past point) taken))) bits place rest e)
+replayed_at_end P masks past (Passed passing go) bits place rest h e =
+    replayed_at_end P masks (passing.point ∷ past) (go (patched passing.value (mask_at masks past passing.point)
+    (take (bit_count (mask_at masks past passing.point)) bits)))
+    (drop (bit_count (mask_at masks past passing.point)) bits) place rest (h _)
+    (feed_back (bit_count (mask_at masks past passing.point)) (λ taken. replayed masks (passing.point ∷ past)
+    (go (patched passing.value (mask_at masks past passing.point) taken))) bits place rest e)
 replayed_at_end P masks past (Moved to shape source value walk) bits place rest h e =
     replayed_at_end P masks past walk bits place rest h e
 replayed_at_end P masks past (Saved walk) bits place rest h e =

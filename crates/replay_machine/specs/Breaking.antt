@@ -6,8 +6,11 @@ use Rattle.flow_base.specs.declared.points.Slot.TheVariants.{Decision, Number, A
 use Rattle.flow_base.specs.declared.points.Slot.TheVariants.{Status, OutReg, OutRange}
 use Rattle.rv32im_machine.specs.declared.language.Place.{Place}
 use Rattle.rv32im_machine.specs.declared.language.Place.TheVariants.{Register, Byte, First, Second}
+use Rattle.rv32im_machine.specs.declared.language.Aim.{Aim}
+use Rattle.rv32im_machine.specs.declared.language.Aim.TheVariants.{Put, Decide, Give}
+use Rattle.rv32im_machine.specs.declared.language.Passing.{Passing}
 use Rattle.rv32im_machine.specs.State.{State}
-use Rattle.rv32im_machine.specs.Language.{Walk, Looked, Passed, Decided, Gave, Moved, Saved, Restored, Ended}
+use Rattle.rv32im_machine.specs.Language.{Walk, Looked, Passed, Moved, Saved, Restored, Ended}
 use Rattle.rv32im_machine.specs.Rows.{walk_of}
 use Rattle.enclosure_regions.specs.declared.region_parts.Region.{Region}
 use Rattle.enclosure_regions.specs.declared.break_kinds.Break.{Break}
@@ -40,6 +43,15 @@ slot_break region pc Status = None
 slot_break region pc (OutReg register) = None
 slot_break region pc (OutRange range) = None
 
+-- what passes breaks the region where it is put into a place that is not declared, and where it decides about a call
+abbrev pub aim_break : Region → List ℕ → ℕ → Slot → Aim → Option Break
+aim_break region registers pc slot (Put place) = place_break region registers pc place
+aim_break region registers pc slot Decide = slot_break region pc slot
+aim_break region registers pc slot (Give place) = None
+
+abbrev pub passing_break : Region → List ℕ → ℕ → Passing → Option Break
+passing_break region registers pc passing = aim_break region registers pc passing.point.slot passing.aim
+
 abbrev pub first_break : Option Break → Option Break → Option Break
 first_break None later = later
 first_break (Some broken) later = Some broken
@@ -47,11 +59,8 @@ first_break (Some broken) later = Some broken
 -- the first break by a turn in which every value goes on as it is
 unfoldable pub walk_break : Region → List ℕ → ℕ → Walk → Option Break
 walk_break region registers pc (Looked seen value walk) = walk_break region registers pc walk
-walk_break region registers pc (Passed point place work sources value go) =
-    first_break (place_break region registers pc place) (walk_break region registers pc (go value))
-walk_break region registers pc (Decided point work sources value go) =
-    first_break (slot_break region pc point.slot) (walk_break region registers pc (go value))
-walk_break region registers pc (Gave point place value go) = walk_break region registers pc (go value)
+walk_break region registers pc (Passed passing go) =
+    first_break (passing_break region registers pc passing) (walk_break region registers pc (go passing.value))
 walk_break region registers pc (Moved place shape source value walk) =
     first_break (place_break region registers pc place) (walk_break region registers pc walk)
 walk_break region registers pc (Saved walk) = walk_break region registers pc walk

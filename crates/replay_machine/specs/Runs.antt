@@ -5,7 +5,7 @@ use Rattle.flow_base.specs.Words.{bit_count, patched}
 use Rattle.crossing_bits.specs.Askers.{Asker, Asks, Over, then_ask}
 use Rattle.cut_file.specs.Masks.{is_same_point}
 use Rattle.rv32im_machine.specs.State.{State}
-use Rattle.rv32im_machine.specs.Language.{Walk, Looked, Passed, Decided, Gave, Moved, Saved, Restored, Ended}
+use Rattle.rv32im_machine.specs.Language.{Walk, Looked, Passed, Moved, Saved, Restored, Ended}
 use Rattle.rv32im_machine.specs.Folds.{real_end}
 use Rattle.enclosure_regions.specs.declared.break_kinds.Break.{Break}
 use Rattle.replay_machine.specs.Enclosures.{Enclosures, is_enclosed}
@@ -50,9 +50,7 @@ mask_at masks past point = masks point (suc (times_passed point past))
 -- the points that have been passed after a turn in which every value goes on as it is
 unfoldable pub passed : List Point → Walk → List Point
 passed past (Looked seen value walk) = passed past walk
-passed past (Passed point place work sources value go) = passed (point ∷ past) (go value)
-passed past (Decided point work sources value go) = passed (point ∷ past) (go value)
-passed past (Gave point place value go) = passed (point ∷ past) (go value)
+passed past (Passed passing go) = passed (passing.point ∷ past) (go passing.value)
 passed past (Moved place shape source value walk) = passed past walk
 passed past (Saved walk) = passed past walk
 passed past (Restored registers walk replayed) = passed past walk
@@ -98,15 +96,9 @@ common_turns enclosures (suc turns) place =
 -- first, and that value goes on; at a leave the kept registers are put back
 unfoldable pub replayed : Masks → List Point → Walk → Asker ReplayPlace
 replayed masks past (Looked seen value walk) = replayed masks past walk
-replayed masks past (Passed point place work sources value go) =
-    Asks (bit_count (mask_at masks past point))
-    (λ bits. replayed masks (point ∷ past) (go (patched value (mask_at masks past point) bits)))
-replayed masks past (Decided point work sources value go) =
-    Asks (bit_count (mask_at masks past point))
-    (λ bits. replayed masks (point ∷ past) (go (patched value (mask_at masks past point) bits)))
-replayed masks past (Gave point place value go) =
-    Asks (bit_count (mask_at masks past point))
-    (λ bits. replayed masks (point ∷ past) (go (patched value (mask_at masks past point) bits)))
+replayed masks past (Passed passing go) =
+    Asks (bit_count (mask_at masks past passing.point))
+    (λ bits. replayed masks (passing.point ∷ past) (go (patched passing.value (mask_at masks past passing.point) bits)))
 replayed masks past (Moved place shape source value walk) = replayed masks past walk
 replayed masks past (Saved walk) = replayed masks past walk
 replayed masks past (Restored registers walk back) = replayed masks past back

@@ -1,4 +1,4 @@
-#![tactic(auto, unfolding(rv32im_machine::specs::Language::walked))]
+#![tactic(auto, unfolding(rv32im_machine::specs::Language::walked), using(rv32im_machine::proofs::Memories::known_inside))]
 
 ghost use Rattle.std.specs.Prelude.{◌≡◌, ◌+◌, ◌≤◌, ◌<◌, ◌^◌, length, IsTrue};
 ghost use Rattle.std.specs.List.{list_all};
@@ -7,7 +7,7 @@ ghost use Rattle.rv32im_machine.specs.declared.language.Place.TheVariants.{Regis
 ghost use Rattle.rv32im_machine.specs.declared.language.Shape.TheVariants.{Copied};
 ghost use Rattle.rv32im_machine.specs.declared.language.Source.TheVariants.{Constant};
 ghost use Rattle.rv32im_machine.specs.Language.{Turn, Moves, turn_walk};
-ghost use Rattle.rv32im_machine.specs.Playing.{Goes};
+ghost use Rattle.rv32im_machine.specs.Playing.{Goes, Knows};
 ghost use Rattle.enclosure_regions.specs.Regions.{is_range, is_register};
 ghost use Rattle.replay_machine.specs.Guests.{clears_bytes, clears_ranges, clears_registers};
 ghost use Rattle.replay_machine.specs.Within.{Stays, are_inside};
@@ -22,7 +22,9 @@ fn clear_register<P: Passer>(
     passer: &mut P,
     register: u8,
 ) -> Result<(), P::Stop>
-    requires { IsTrue (is_register register) }
+    requires memory { Knows (P.memory passer.old) machine.old.setting.base }
+    requires register { IsTrue (is_register register) }
+    ensures memory { Knows (P.memory passer.new) machine.new.setting.base }
     ensures goes { (turn : Turn) → Goes result (λ done. P.Plays passer.new (turn_walk machine.new turn))
         (P.Plays passer.old (turn_walk machine.old (Moves (Register register) Copied (Constant 0) turn))) }
     ensures stays { Stays machine.old machine.new }
@@ -39,7 +41,9 @@ fn clear_register<P: Passer>(
 
 /// A byte becomes 0.
 fn clear_byte<P: Passer>(machine: &mut Machine, passer: &mut P, address: u32) -> Result<(), P::Stop>
-    requires { IsTrue (is_inside machine.old.setting.base address 1) }
+    requires memory { Knows (P.memory passer.old) machine.old.setting.base }
+    requires inside { IsTrue (is_inside machine.old.setting.base address 1) }
+    ensures memory { Knows (P.memory passer.new) machine.new.setting.base }
     ensures goes { (turn : Turn) → Goes result (λ done. P.Plays passer.new (turn_walk machine.new turn))
         (P.Plays passer.old (turn_walk machine.old (Moves (Byte address) Copied (Constant 0) turn))) }
     ensures stays { Stays machine.old machine.new }
@@ -56,7 +60,9 @@ pub(crate) fn clear_registers<P: Passer>(
     passer: &mut P,
     registers: &[u8],
 ) -> Result<(), P::Stop>
-    requires { IsTrue (list_all is_register registers.now) }
+    requires memory { Knows (P.memory passer.old) machine.old.setting.base }
+    requires registers { IsTrue (list_all is_register registers.now) }
+    ensures memory { Knows (P.memory passer.new) machine.new.setting.base }
     ensures goes { (turn : Turn) → Goes result (λ done. P.Plays passer.new (turn_walk machine.new turn))
         (P.Plays passer.old (turn_walk machine.old (clears_registers registers.now turn))) }
     ensures stays { Stays machine.old machine.new }
@@ -75,8 +81,10 @@ fn clear_bytes<P: Passer>(
     address: u32,
     count: u32,
 ) -> Result<(), P::Stop>
+    requires memory { Knows (P.memory passer.old) machine.old.setting.base }
     requires inside { IsTrue (is_inside machine.old.setting.base address count) }
     requires end { address + count ≤ 2 ^ 32 }
+    ensures memory { Knows (P.memory passer.new) machine.new.setting.base }
     ensures goes { (turn : Turn) → Goes result (λ done. P.Plays passer.new (turn_walk machine.new turn))
         (P.Plays passer.old (turn_walk machine.old (clears_bytes address count turn))) }
     ensures stays { Stays machine.old machine.new }
@@ -98,8 +106,10 @@ pub(crate) fn clear_ranges<P: Passer>(
     registers: &Registers,
     ranges: &[Range],
 ) -> Result<(), P::Stop>
+    requires memory { Knows (P.memory passer.old) machine.old.setting.base }
     requires ranges { IsTrue (list_all is_range ranges.now) }
     requires inside { IsTrue (are_inside ranges.now registers.now machine.old.setting.base) }
+    ensures memory { Knows (P.memory passer.new) machine.new.setting.base }
     ensures goes { (turn : Turn) → Goes result (λ done. P.Plays passer.new (turn_walk machine.new turn))
         (P.Plays passer.old (turn_walk machine.old (clears_ranges registers.now ranges.now turn))) }
     ensures stays { Stays machine.old machine.new }

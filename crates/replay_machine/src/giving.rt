@@ -1,4 +1,4 @@
-#![tactic(auto, unfolding(rv32im_machine::specs::Language::walked))]
+#![tactic(auto, unfolding(rv32im_machine::specs::Language::walked), using(rv32im_machine::proofs::Memories::known_inside))]
 
 ghost use Rattle.std.specs.Prelude.{◌≡◌, ◌+◌, ◌≤◌, ◌<◌, ◌^◌, length, IsTrue};
 ghost use Rattle.std.specs.List.{list_all};
@@ -7,7 +7,7 @@ ghost use Rattle.flow_base.specs.Points.{is_slot};
 ghost use Rattle.guest_calls.specs.Calls.{is_inside};
 ghost use Rattle.rv32im_machine.specs.declared.language.Place.TheVariants.{Register, Byte};
 ghost use Rattle.rv32im_machine.specs.Language.{Turn, Gives, turn_walk};
-ghost use Rattle.rv32im_machine.specs.Playing.{Goes};
+ghost use Rattle.rv32im_machine.specs.Playing.{Goes, Knows};
 ghost use Rattle.enclosure_regions.specs.Regions.{is_range, is_region, is_register};
 ghost use Rattle.replay_machine.specs.Guests.{output_point as point_of};
 ghost use Rattle.replay_machine.specs.Guests.{gives, gives_bytes, gives_ranges, gives_registers};
@@ -15,7 +15,7 @@ ghost use Rattle.replay_machine.specs.Within.{Stays, are_inside};
 
 use enclosure_regions::{Range, Region, range_start};
 use flow_base::{Point, Registers, Slot};
-use rv32im_machine::{Machine, Passer, Place};
+use rv32im_machine::{Aim, Machine, Passer, Passing, Place, Shape, Source, Sources, Work};
 
 /// The point of an output of a region.
 fn output_point(region: &Region, slot: Slot) -> Point
@@ -36,14 +36,22 @@ fn give_register<P: Passer>(
     region: &Region,
     register: u8,
 ) -> Result<(), P::Stop>
-    requires { IsTrue (is_register register) }
+    requires memory { Knows (P.memory passer.old) machine.old.setting.base }
+    requires register { IsTrue (is_register register) }
+    ensures memory { Knows (P.memory passer.new) machine.new.setting.base }
     ensures goes { (turn : Turn) → Goes result (λ done. P.Plays passer.new (turn_walk machine.new turn))
         (P.Plays passer.old (turn_walk machine.old
         (Gives (point_of region.now (OutReg register)) (Register register) turn))) }
     ensures stays { Stays machine.old machine.new }
 {
-    let point = output_point(region, Slot::OutReg(register));
-    let value = passer.give(point, Place::Register(register), machine.register(register))?;
+    let place = Place::Register(register);
+    let value = passer.pass(Passing {
+        point: output_point(region, Slot::OutReg(register)),
+        aim: Aim::Give(place),
+        work: Work::Shaped(Shape::Copied),
+        sources: Sources::One(Source::At(place)),
+        value: machine.register(register),
+    })?;
     machine.set_register(register, value);
     Ok(())
 }
@@ -56,19 +64,23 @@ fn give_byte<P: Passer>(
     range: u8,
     address: u32,
 ) -> Result<(), P::Stop>
+    requires memory { Knows (P.memory passer.old) machine.old.setting.base }
     requires range { range < 64 }
     requires inside { IsTrue (is_inside machine.old.setting.base address 1) }
+    ensures memory { Knows (P.memory passer.new) machine.new.setting.base }
     ensures goes { (turn : Turn) → Goes result (λ done. P.Plays passer.new (turn_walk machine.new turn))
         (P.Plays passer.old (turn_walk machine.old
         (Gives (point_of region.now (OutRange range)) (Byte address) turn))) }
     ensures stays { Stays machine.old machine.new }
 {
-    let point = output_point(region, Slot::OutRange(range));
-    let value = passer.give(
-        point,
-        Place::Byte(address),
-        u32::from(machine.byte(address)),
-    )?;
+    let place = Place::Byte(address);
+    let value = passer.pass(Passing {
+        point: output_point(region, Slot::OutRange(range)),
+        aim: Aim::Give(place),
+        work: Work::Shaped(Shape::Copied),
+        sources: Sources::One(Source::At(place)),
+        value: u32::from(machine.byte(address)),
+    })?;
     machine.set_byte(address, value as u8);
     Ok(())
 }
@@ -81,7 +93,9 @@ fn give_registers<P: Passer>(
     region: &Region,
     registers: &[u8],
 ) -> Result<(), P::Stop>
-    requires { IsTrue (list_all is_register registers.now) }
+    requires memory { Knows (P.memory passer.old) machine.old.setting.base }
+    requires registers { IsTrue (list_all is_register registers.now) }
+    ensures memory { Knows (P.memory passer.new) machine.new.setting.base }
     ensures goes { (turn : Turn) → Goes result (λ done. P.Plays passer.new (turn_walk machine.new turn))
         (P.Plays passer.old (turn_walk machine.old (gives_registers region.now registers.now turn))) }
     ensures stays { Stays machine.old machine.new }
@@ -102,9 +116,11 @@ fn give_bytes<P: Passer>(
     address: u32,
     count: u32,
 ) -> Result<(), P::Stop>
+    requires memory { Knows (P.memory passer.old) machine.old.setting.base }
     requires range { range < 64 }
     requires inside { IsTrue (is_inside machine.old.setting.base address count) }
     requires end { address + count ≤ 2 ^ 32 }
+    ensures memory { Knows (P.memory passer.new) machine.new.setting.base }
     ensures goes { (turn : Turn) → Goes result (λ done. P.Plays passer.new (turn_walk machine.new turn))
         (P.Plays passer.old (turn_walk machine.old (gives_bytes region.now range address count turn))) }
     ensures stays { Stays machine.old machine.new }
@@ -129,9 +145,11 @@ fn give_ranges<P: Passer>(
     number: u8,
     ranges: &[Range],
 ) -> Result<(), P::Stop>
+    requires memory { Knows (P.memory passer.old) machine.old.setting.base }
     requires number { number + length ranges.now ≤ 64 }
     requires ranges { IsTrue (list_all is_range ranges.now) }
     requires inside { IsTrue (are_inside ranges.now registers.now machine.old.setting.base) }
+    ensures memory { Knows (P.memory passer.new) machine.new.setting.base }
     ensures goes { (turn : Turn) → Goes result (λ done. P.Plays passer.new (turn_walk machine.new turn))
         (P.Plays passer.old (turn_walk machine.old (gives_ranges region.now registers.now number ranges.now turn))) }
     ensures stays { Stays machine.old machine.new }
@@ -152,8 +170,10 @@ pub(crate) fn give_outputs<P: Passer>(
     region: &Region,
     registers: &Registers,
 ) -> Result<(), P::Stop>
+    requires memory { Knows (P.memory passer.old) machine.old.setting.base }
     requires rules { IsTrue (is_region region.now) }
     requires inside { IsTrue (are_inside region.now.ranges registers.now machine.old.setting.base) }
+    ensures memory { Knows (P.memory passer.new) machine.new.setting.base }
     ensures goes { (turn : Turn) → Goes result (λ done. P.Plays passer.new (turn_walk machine.new turn))
         (P.Plays passer.old (turn_walk machine.old (gives region.now registers.now turn))) }
     ensures stays { Stays machine.old machine.new }

@@ -1,5 +1,5 @@
 ghost use Rattle.std.specs.Prelude.{◌≡◌, IsTrue, List as Seq};
-ghost use Rattle.rv32im_machine.specs.Playing.{outcome};
+ghost use Rattle.rv32im_machine.specs.Playing.{Knows, outcome};
 ghost use Rattle.enclosure_regions.specs.declared.region_parts.Region.{Region as TheRegion};
 ghost use Rattle.enclosure_regions.specs.Regions.{is_region, stands_in};
 ghost use Rattle.replay_machine.specs.Guests.{entry_walk, guest_walk, kind_walk, replay_kind_walk};
@@ -18,6 +18,7 @@ pub fn kind_turn_by<P: Passer>(
     passer: &mut P,
     turn: GuestTurn<'_>,
 ) -> Result<(), P::Stop>
+    requires memory { Knows (P.memory passer.old) machine.old.setting.base }
     requires rules { IsTrue (has_rules (seen turn)) }
     requires leave { IsTrue (can_leave (seen turn) machine.old.store.kept machine.old.setting.base) }
     ensures { P.Plays passer.old (kind_walk (seen turn.entry) machine.old)
@@ -37,7 +38,8 @@ pub fn guest_turn_by<P: Passer>(
     passer: &mut P,
     regions: &Regions,
 ) -> Result<(), P::Stop>
-    requires { IsTrue (may_leave regions.now.items machine.old) }
+    requires memory { Knows (P.memory passer.old) machine.old.setting.base }
+    requires leave { IsTrue (may_leave regions.now.items machine.old) }
     ensures { P.Plays passer.old (guest_walk regions.now.items machine.old)
         (outcome result machine.new (P.tape passer.new)) }
 {
@@ -52,6 +54,7 @@ fn skip_or_enter<P: Passer>(
     region: &Region,
     skip: &[u16],
 ) -> Result<(), P::Stop>
+    requires memory { Knows (P.memory passer.old) machine.old.setting.base }
     requires rules { IsTrue (is_region region.now) }
     requires inside { IsTrue (are_inside region.now.ranges machine.old.store.registers machine.old.setting.base) }
     ensures { (regions : Seq TheRegion) →
@@ -72,6 +75,7 @@ pub(crate) fn replay_turn_by<P: Passer>(
     turn: GuestTurn<'_>,
     skip: &[u16],
 ) -> Result<(), P::Stop>
+    requires memory { Knows (P.memory passer.old) machine.old.setting.base }
     requires rules { IsTrue (has_rules (seen turn)) }
     requires leave { IsTrue (can_leave (seen turn) machine.old.store.kept machine.old.setting.base) }
     requires skip { IsTrue (can_skip (seen turn) machine.old.store.registers machine.old.setting.base) }

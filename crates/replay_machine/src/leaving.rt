@@ -2,7 +2,7 @@
 
 ghost use Rattle.std.specs.Prelude.{◌≡◌, ◌<◌, All, IsTrue};
 ghost use Rattle.rv32im_machine.specs.Language.{Turn, Restores, turn_walk};
-ghost use Rattle.rv32im_machine.specs.Playing.{Goes, outcome};
+ghost use Rattle.rv32im_machine.specs.Playing.{Goes, Knows, outcome};
 ghost use Rattle.enclosure_regions.specs.Regions.{is_region};
 ghost use Rattle.replay_machine.specs.Guests.{leave};
 ghost use Rattle.replay_machine.specs.Within.{Stays, are_inside};
@@ -17,7 +17,9 @@ fn put_back<P: Passer>(
     passer: &mut P,
     registers: &[u8],
 ) -> Result<(), P::Stop>
-    requires { All (λ register. register < 32) registers.now }
+    requires memory { Knows (P.memory passer.old) machine.old.setting.base }
+    requires registers { All (λ register. register < 32) registers.now }
+    ensures memory { Knows (P.memory passer.new) machine.new.setting.base }
     ensures goes { (turn : Turn) → Goes result (λ done. P.Plays passer.new (turn_walk machine.new turn))
         (P.Plays passer.old (turn_walk machine.old (Restores registers.now turn))) }
     ensures stays { Stays machine.old machine.new }
@@ -35,6 +37,7 @@ pub fn leave_by<P: Passer>(
     passer: &mut P,
     region: &Region,
 ) -> Result<(), P::Stop>
+    requires memory { Knows (P.memory passer.old) machine.old.setting.base }
     requires rules { IsTrue (is_region region.now) }
     requires inside { IsTrue (are_inside region.now.ranges machine.old.store.kept machine.old.setting.base) }
     ensures { P.Plays passer.old (turn_walk machine.old (leave region.now machine.old.store.kept machine.old.control))

@@ -12,7 +12,7 @@ ghost use Rattle.replay_machine.specs.Sides.{Side, Replays, fed_of};
 use crate::replays::Replaying;
 use crossing_bits::bit_count;
 use flow_base::Point;
-use rv32im_machine::{Passer, Place, Seen, Shape, Source, Sources, Work};
+use rv32im_machine::{Passer, Passing, Place, Seen, Shape, Source};
 
 impl Replaying {
     /// The value with the next bits in place of those under the mask of its point. Where too few are left, the number
@@ -45,7 +45,7 @@ impl Replaying {
 
 #[tactic(auto, unfolding(crate::specs::Runs::replayed))]
 impl Passer for Replaying {
-    ghost use Rattle.std.specs.Prelude.{◌≡◌, ℕ, List};
+    ghost use Rattle.std.specs.Prelude.{◌≡◌, ℕ, List, None};
     ghost use Rattle.flow_base.specs.declared.points.Point.{Point as ThePoint};
     ghost use Rattle.crossing_bits.specs.Streams.{left_of};
     ghost use Rattle.replay_machine.specs.Runs.{Masks, replayed};
@@ -59,6 +59,8 @@ impl Passer for Replaying {
 
     ghost tape = { λ side. record { ahead = side.masks; stream = side.bits; missing = side.missing } };
 
+    ghost memory = { λ side. None };
+
     ghost Plays = { λ side walk out. (masks : Masks) (past : List ThePoint) → IsAhead side.masks masks past →
         Replays masks side.bits (fed_of side.missing (replayed masks past walk) (left_of side.bits)) out };
 
@@ -66,29 +68,8 @@ impl Passer for Replaying {
         Ok(())
     }
 
-    fn pass(
-        &mut self,
-        point: Point,
-        _place: Place,
-        _work: Work,
-        _sources: Sources,
-        value: u32,
-    ) -> Result<u32, ()> {
-        Ok(self.patch(point, value))
-    }
-
-    fn decide(
-        &mut self,
-        point: Point,
-        _work: Work,
-        _sources: Sources,
-        value: u32,
-    ) -> Result<u32, ()> {
-        Ok(self.patch(point, value))
-    }
-
-    fn give(&mut self, point: Point, _place: Place, value: u32) -> Result<u32, ()> {
-        Ok(self.patch(point, value))
+    fn pass(&mut self, passing: Passing) -> Result<u32, ()> {
+        Ok(self.patch(passing.point, passing.value))
     }
 
     fn move_to(

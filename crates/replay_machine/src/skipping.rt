@@ -2,7 +2,7 @@
 
 ghost use Rattle.std.specs.Prelude.{◌≡◌, IsTrue};
 ghost use Rattle.rv32im_machine.specs.Language.{turn_walk};
-ghost use Rattle.rv32im_machine.specs.Playing.{outcome};
+ghost use Rattle.rv32im_machine.specs.Playing.{Knows, outcome};
 ghost use Rattle.enclosure_regions.specs.Regions.{is_region};
 ghost use Rattle.replay_machine.specs.Guests.{skip};
 ghost use Rattle.replay_machine.specs.Within.{are_inside};
@@ -18,6 +18,7 @@ pub fn skip_by<P: Passer>(
     passer: &mut P,
     region: &Region,
 ) -> Result<(), P::Stop>
+    requires memory { Knows (P.memory passer.old) machine.old.setting.base }
     requires rules { IsTrue (is_region region.now) }
     requires inside { IsTrue (are_inside region.now.ranges machine.old.store.registers machine.old.setting.base) }
     ensures { P.Plays passer.old

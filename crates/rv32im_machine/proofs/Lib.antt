@@ -1,5 +1,6 @@
 pub mod Rounds
 pub mod Laying
+pub mod Memories
 pub mod Steps
 pub mod Composing
 pub mod Slots

@@ -4,7 +4,7 @@ use Rattle.std.specs.Prelude.{slice_index_or}
 use Rattle.rv32im_machine.specs.declared.stepping.Stepped.{Stepped}
 use Rattle.rv32im_machine.specs.declared.stepping.Stepped.TheVariants.{Ran, Exited, Stopped}
 use Rattle.rv32im_machine.specs.Folds.{Ending, Passing, Visit, coming, real_end, visits_in}
-use Rattle.rv32im_machine.specs.Language.{Walk, Looked, Passed, Decided, Gave, Moved, Saved, Restored, Ended, none_held, walk, walked}
+use Rattle.rv32im_machine.specs.Language.{Walk, Looked, Passed, Moved, Saved, Restored, Ended, none_held, walk, walked}
 use Rattle.rv32im_machine.specs.Rows.{turn_in}
 use Rattle.rv32im_machine.specs.State.{State}
 
@@ -12,9 +12,7 @@ use Rattle.rv32im_machine.specs.State.{State}
 pub coming-end : (walk : Walk) → coming walk (map (λ visit. visit.value) (visits_in walk)) ≡ Ending (real_end walk)
 unfolding coming real_end visits_in
 coming-end (Looked seen value walk) = coming-end walk
-coming-end (Passed point place work sources value go) = coming-end (go value)
-coming-end (Decided point work sources value go) = coming-end (go value)
-coming-end (Gave point place value go) = coming-end (go value)
+coming-end (Passed passing go) = coming-end (go passing.value)
 coming-end (Moved place shape source value walk) = coming-end walk
 coming-end (Saved walk) = coming-end walk
 coming-end (Restored registers walk replayed) = coming-end walk
@@ -25,12 +23,8 @@ pub coming-visit : (walk : Walk) (count : ℕ) (other : Visit) → count < lengt
     → coming walk (map (λ visit. visit.value) (take count (visits_in walk))) ≡ Passing (slice_index_or (visits_in walk) count other)
 unfolding coming visits_in
 coming-visit (Looked seen value walk) count other below = coming-visit walk count other below
-coming-visit (Passed point place work sources value go) zero other below = refl
-coming-visit (Passed point place work sources value go) (suc count) other below = coming-visit (go value) count other (omega arith)
-coming-visit (Decided point work sources value go) zero other below = refl
-coming-visit (Decided point work sources value go) (suc count) other below = coming-visit (go value) count other (omega arith)
-coming-visit (Gave point place value go) zero other below = refl
-coming-visit (Gave point place value go) (suc count) other below = coming-visit (go value) count other (omega arith)
+coming-visit (Passed passing go) zero other below = refl
+coming-visit (Passed passing go) (suc count) other below = coming-visit (go passing.value) count other (omega arith)
 coming-visit (Moved place shape source value walk) count other below = coming-visit walk count other below
 coming-visit (Saved walk) count other below = coming-visit walk count other below
 coming-visit (Restored registers walk replayed) count other below = coming-visit walk count other below

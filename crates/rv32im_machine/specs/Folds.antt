@@ -2,7 +2,7 @@
 use Rattle.std.specs.Prelude.{◌≡◌, ℕ, zero, suc, List, [], ◌∷◌, refl}
 use Rattle.flow_base.specs.declared.points.Point.{Point}
 use Rattle.rv32im_machine.specs.State.{State}
-use Rattle.rv32im_machine.specs.Language.{Walk, Looked, Passed, Decided, Gave, Moved, Saved, Restored, Ended}
+use Rattle.rv32im_machine.specs.Language.{Walk, Looked, Passed, Moved, Saved, Restored, Ended}
 use Rattle.rv32im_machine.specs.Rows.{walk_of}
 
 -- a value that passes a point
@@ -18,12 +18,8 @@ pub data Coming : Type 0 where
 -- after these values have gone on from the passings of the turn so far
 unfoldable pub coming : Walk → List ℕ → Coming
 coming (Looked seen value walk) given = coming walk given
-coming (Passed point place work sources value go) [] = Passing (record { point = point; value = value })
-coming (Passed point place work sources value go) (other ∷ given) = coming (go other) given
-coming (Decided point work sources value go) [] = Passing (record { point = point; value = value })
-coming (Decided point work sources value go) (other ∷ given) = coming (go other) given
-coming (Gave point place value go) [] = Passing (record { point = point; value = value })
-coming (Gave point place value go) (other ∷ given) = coming (go other) given
+coming (Passed passing go) [] = Passing (record { point = passing.point; value = passing.value })
+coming (Passed passing go) (other ∷ given) = coming (go other) given
 coming (Moved place shape source value walk) given = coming walk given
 coming (Saved walk) given = coming walk given
 coming (Restored registers walk replayed) given = coming walk given
@@ -36,9 +32,7 @@ Next state given = coming (walk_of state) given
 -- the end of a turn in which every value goes on as it is
 unfoldable pub real_end : Walk → State
 real_end (Looked seen value walk) = real_end walk
-real_end (Passed point place work sources value go) = real_end (go value)
-real_end (Decided point work sources value go) = real_end (go value)
-real_end (Gave point place value go) = real_end (go value)
+real_end (Passed passing go) = real_end (go passing.value)
 real_end (Moved place shape source value walk) = real_end walk
 real_end (Saved walk) = real_end walk
 real_end (Restored registers walk replayed) = real_end walk
@@ -51,9 +45,8 @@ Step state = real_end (walk_of state)
 -- the points that a turn passes, with their values, where every value goes on as it is
 unfoldable pub visits_in : Walk → List Visit
 visits_in (Looked seen value walk) = visits_in walk
-visits_in (Passed point place work sources value go) = record { point = point; value = value } ∷ visits_in (go value)
-visits_in (Decided point work sources value go) = record { point = point; value = value } ∷ visits_in (go value)
-visits_in (Gave point place value go) = record { point = point; value = value } ∷ visits_in (go value)
+visits_in (Passed passing go) =
+    record { point = passing.point; value = passing.value } ∷ visits_in (go passing.value)
 visits_in (Moved place shape source value walk) = visits_in walk
 visits_in (Saved walk) = visits_in walk
 visits_in (Restored registers walk replayed) = visits_in walk

@@ -18,6 +18,9 @@ use Rattle.rv32im_machine.specs.declared.language.Operation.{Operation}
 use Rattle.rv32im_machine.specs.declared.language.Operation.TheVariants.{Result, Decision, Target}
 use Rattle.rv32im_machine.specs.declared.language.Work.{Work}
 use Rattle.rv32im_machine.specs.declared.language.Work.TheVariants.{Shaped as ShapedWork, Computed as ComputedWork}
+use Rattle.rv32im_machine.specs.declared.language.Aim.{Aim}
+use Rattle.rv32im_machine.specs.declared.language.Aim.TheVariants.{Put, Decide, Give}
+use Rattle.rv32im_machine.specs.declared.language.Passing.{Passing}
 use Rattle.rv32im_machine.specs.declared.language.Seen.{Seen}
 use Rattle.rv32im_machine.specs.declared.language.Seen.TheVariants.{Word, Base}
 use Rattle.rv32im_machine.specs.State.{Setting, Control, Store, State, register_of, byte_of, joined, word_at, with_register, with_byte, saved, restored}
@@ -46,9 +49,7 @@ pub data Turn : Type 0 where
 
 pub data Walk : Type 0 where
   Looked : Seen → ℕ → Walk → Walk
-  Passed : Point → Place → Work → Sources → ℕ → (ℕ → Walk) → Walk
-  Decided : Point → Work → Sources → ℕ → (ℕ → Walk) → Walk
-  Gave : Point → Place → ℕ → (ℕ → Walk) → Walk
+  Passed : Passing → (ℕ → Walk) → Walk
   Moved : Place → Shape → Source → ℕ → Walk → Walk
   Saved : Walk → Walk
   -- the registers, what follows where they stay, and what follows where they are put back
@@ -129,6 +130,11 @@ abbrev pub work_of : Making → List ℕ → Work
 work_of (Shaped shape) values = ShapedWork shape
 work_of (Computed operation) values = ComputedWork operation (first_of values) (second_of values)
 
+-- what passes a point, made in this way of these sources with these values
+abbrev pub passing : Point → Aim → Making → Sources → List ℕ → Passing
+passing point aim making sources values =
+    record { point = point; aim = aim; work = work_of making values; sources = sources; value = made making values }
+
 -- ---- writes
 
 abbrev pub put : ℕ → Place → ℕ → Store → Store
@@ -150,15 +156,13 @@ walked setting secret (Looks seen go) store held =
     Looked seen (seen_value setting.base store seen)
     (walked setting secret (go (seen_value setting.base store seen)) store held)
 walked setting secret (Passes point place making sources turn) store held =
-    Passed point place (work_of making (values_of setting secret store held sources)) sources
-    (made making (values_of setting secret store held sources))
+    Passed (passing point (Put place) making sources (values_of setting secret store held sources))
     (λ value. walked setting secret turn (put setting.base place value store) (hold place value held))
 walked setting secret (Decides point making sources go) store held =
-    Decided point (work_of making (values_of setting secret store held sources)) sources
-    (made making (values_of setting secret store held sources))
+    Passed (passing point Decide making sources (values_of setting secret store held sources))
     (λ value. walked setting secret (go value) store held)
 walked setting secret (Gives point place turn) store held =
-    Gave point place (at_place setting.base store held place)
+    Passed (passing point (Give place) (Shaped Copied) (One (At place)) (at_place setting.base store held place ∷ []))
     (λ value. walked setting secret turn (put setting.base place value store) (hold place value held))
 walked setting secret (Moves place shape source turn) store held =
     Moved place shape source (shaped shape (value_of setting secret store held source ∷ []))

@@ -4,6 +4,7 @@ pub mod Calls
 pub mod Rows
 pub mod Folds
 pub mod Parts
+pub mod Passings
 pub mod Playing
 pub mod Start
 pub mod Laws

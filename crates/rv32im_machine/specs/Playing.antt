@@ -1,11 +1,16 @@
 -- Whoever is handed the values of a turn that is walked.
-use Rattle.std.specs.Prelude.{◌+◌, ◌<◌, ◌^◌, Bool, true, false, Result, Ok, Err}
+use Rattle.std.specs.Prelude.{◌≡◌, ℕ, ◌+◌, ◌<◌, ◌^◌, Bool, true, false, IsTrue, Option, Some, None, Result, Ok, Err}
 use Rattle.rv32im_machine.specs.declared.language.Place.{Place}
 use Rattle.rv32im_machine.specs.declared.language.Place.TheVariants.{Register, Byte, First, Second}
+use Rattle.rv32im_machine.specs.declared.language.Aim.{Aim}
+use Rattle.rv32im_machine.specs.declared.language.Aim.TheVariants.{Put, Decide, Give}
 use Rattle.rv32im_machine.specs.declared.language.Source.{Source}
 use Rattle.rv32im_machine.specs.declared.language.Source.TheVariants.{At, Constant, Secret}
 use Rattle.rv32im_machine.specs.declared.language.Sources.{Sources}
 use Rattle.rv32im_machine.specs.declared.language.Sources.TheVariants.{One, Two, Byte as BytesOne, Half as BytesTwo, Word as BytesFour}
+use Rattle.rv32im_machine.specs.declared.language.Seen.{Seen}
+use Rattle.rv32im_machine.specs.declared.language.Seen.TheVariants.{Word, Base}
+use Rattle.guest_calls.specs.Calls.{is_inside}
 use Rattle.rv32im_machine.specs.State.{State}
 use Rattle.rv32im_machine.specs.Language.{Walk}
 
@@ -29,22 +34,43 @@ abbrev pub restored_or : Bool → Walk → Walk → Walk
 restored_or true real replayed = replayed
 restored_or false real replayed = real
 
+-- ---- guest memory
+
+-- whoever keeps something of the bytes of a guest memory keeps it of the one with this base
+abbrev pub Knows : Option ℕ → ℕ → Type 0
+Knows None base = Unit {0}
+Knows (Some known) base = known ≡ base
+
+-- so many bytes from an address on lie inside that guest memory
+abbrev pub InMemory : Option ℕ → ℕ → ℕ → Type 0
+InMemory None address count = Unit {0}
+InMemory (Some base) address count = IsTrue (is_inside base address count)
+
 -- ---- places that there are
 
-abbrev pub IsPlace : Place → Type 0
-IsPlace (Register register) = register < 32
-IsPlace (Byte address) = address < 2 ^ 32
-IsPlace First = Unit {0}
-IsPlace Second = Unit {0}
+abbrev pub IsPlace : Option ℕ → Place → Type 0
+IsPlace memory (Register register) = register < 32
+IsPlace memory (Byte address) = (address < 2 ^ 32) × InMemory memory address 1
+IsPlace memory First = Unit {0}
+IsPlace memory Second = Unit {0}
 
-abbrev pub IsSource : Source → Type 0
-IsSource (At place) = IsPlace place
-IsSource (Constant value) = Unit {0}
-IsSource (Secret index) = Unit {0}
+abbrev pub IsAim : Option ℕ → Aim → Type 0
+IsAim memory (Put place) = IsPlace memory place
+IsAim memory Decide = Unit {0}
+IsAim memory (Give place) = IsPlace memory place
 
-abbrev pub AreSources : Sources → Type 0
-AreSources (One source) = IsSource source
-AreSources (Two first second) = IsSource first × IsSource second
-AreSources (BytesOne address) = address < 2 ^ 32
-AreSources (BytesTwo address) = address + 1 < 2 ^ 32
-AreSources (BytesFour address) = address + 3 < 2 ^ 32
+abbrev pub IsSource : Option ℕ → Source → Type 0
+IsSource memory (At place) = IsPlace memory place
+IsSource memory (Constant value) = Unit {0}
+IsSource memory (Secret index) = Unit {0}
+
+abbrev pub AreSources : Option ℕ → Sources → Type 0
+AreSources memory (One source) = IsSource memory source
+AreSources memory (Two first second) = IsSource memory first × IsSource memory second
+AreSources memory (BytesOne address) = (address < 2 ^ 32) × InMemory memory address 1
+AreSources memory (BytesTwo address) = (address + 1 < 2 ^ 32) × InMemory memory address 2
+AreSources memory (BytesFour address) = (address + 3 < 2 ^ 32) × InMemory memory address 4
+
+abbrev pub IsSeen : Option ℕ → Seen → Type 0
+IsSeen memory (Word address) = (address + 3 < 2 ^ 32) × InMemory memory address 4
+IsSeen memory (Base register) = register < 32

@@ -79,6 +79,12 @@ store_checked kind setting control address =
     if is_inside setting.base address (store_size kind) then store_at kind address control
     else stops (StoreOutside control.pc address) control
 
+-- a store with this immediate as a word
+abbrev pub stores : StoreKind → ℕ → ℕ → ℕ → Setting → Control → Turn
+stores kind rs1 rs2 immediate setting control =
+    first_used rs1 control (second_used rs2 control
+    (addressed immediate control (λ address. store_checked kind setting control address)))
+
 -- a jump to the target, where it is a multiple of 4
 abbrev pub jumps : ℕ → Control → Turn
 jumps target control =
@@ -111,9 +117,7 @@ row (Branch kind rs1 rs2 offset) setting control =
     branches taken (word_of offset) control)))
 row (Load kind rd rs1 imm) setting control =
     first_used rs1 control (addressed (word_of imm) control (λ address. load_checked kind rd setting control address))
-row (StoreInstr kind rs1 rs2 imm) setting control =
-    first_used rs1 control (second_used rs2 control
-    (addressed (word_of imm) control (λ address. store_checked kind setting control address)))
+row (StoreInstr kind rs1 rs2 imm) setting control = stores kind rs1 rs2 (word_of imm) setting control
 row (OpImm kind rd rs1 imm) setting control =
     first_used rs1 control
     (Passes (point control ResultSlot) (Register rd) (Computed (Result (operation_of kind)))

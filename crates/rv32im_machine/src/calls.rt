@@ -1,16 +1,17 @@
-#![tactic(auto, unfolding(crate::specs::Language::walked))]
+#![tactic(auto, unfolding(crate::specs::Language::walked), using(crate::proofs::Memories::known_inside))]
 
 ghost use Rattle.std.specs.Prelude.{◌≡◌, ℕ, ◌+◌, ◌^◌, ◌<◌, ◌≤◌, length, IsTrue};
 ghost use Rattle.flow_base.specs.Points.{is_slot, width_of};
 ghost use Rattle.guest_calls.specs.Calls.{is_inside};
 ghost use Rattle.rv32im_machine.specs.State.{register_of};
-ghost use Rattle.rv32im_machine.specs.Language.{turn_walk, Walk, Decided};
+ghost use Rattle.rv32im_machine.specs.Language.{turn_walk};
 ghost use Rattle.rv32im_machine.specs.Rows.{row_walk};
 ghost use Rattle.rv32im_machine.specs.Calls.{point, read_plan, write_plan, break_plan, answered, public_reads, secret_reads, writes, planned, with_first, with_arguments, exits, kind_row, MayPerform};
-ghost use Rattle.rv32im_machine.specs.Playing.{Goes, outcome};
+ghost use Rattle.rv32im_machine.specs.Playing.{Goes, Knows, outcome};
 
-use crate::language::{Part, Place, Shape, Source, Sources, Work};
+use crate::language::{Aim, Part, Passing, Place, Shape, Source, Sources, Work};
 use crate::machines::Machine;
+use crate::operands::operand;
 use crate::passing::Passer;
 use crate::plans::{plan_break, plan_read, plan_write};
 use crate::stepping::{CallPlan, Stepped};
@@ -39,14 +40,13 @@ fn exit<P: Passer>(machine: &mut Machine, passer: &mut P) -> Result<(), P::Stop>
     ensures { P.Plays passer.old (turn_walk machine.old (exits machine.old.control))
         (outcome result machine.new (P.tape passer.new)) }
 {
-    let low = machine.register(10) & 0xff;
-    let sources = Sources::One(Source::At(Place::Register(10)));
-    let status = passer.decide(
-        machine.point(Slot::Status),
-        Work::Shaped(Shape::Part(Part::Byte0)),
-        sources,
-        low,
-    )?;
+    let status = passer.pass(Passing {
+        point: machine.point(Slot::Status),
+        aim: Aim::Decide,
+        work: Work::Shaped(Shape::Part(Part::Byte0)),
+        sources: Sources::One(Source::At(Place::Register(10))),
+        value: machine.register(10) & 0xff,
+    })?;
     machine.end(Stepped::Exited(status as u8));
     Ok(())
 }
@@ -58,6 +58,7 @@ fn read_public<P: Passer>(
     to: u32,
     count: u32,
 ) -> Result<(), P::Stop>
+    requires memory { Knows (P.memory passer.old) machine.old.setting.base }
     requires inside { IsTrue (is_inside machine.old.setting.base to count) }
     requires below { to + count ≤ 2 ^ 32 }
     requires left { machine.old.control.public_at + count ≤ length machine.old.setting.public_input }
@@ -93,6 +94,7 @@ fn read_secret<P: Passer>(
     to: u32,
     count: u32,
 ) -> Result<(), P::Stop>
+    requires memory { Knows (P.memory passer.old) machine.old.setting.base }
     requires inside { IsTrue (is_inside machine.old.setting.base to count) }
     requires below { to + count ≤ 2 ^ 32 }
     requires left { machine.old.control.secret_at + count ≤ machine.old.setting.secret_length }
@@ -102,15 +104,14 @@ fn read_secret<P: Passer>(
     for i in 0..count {
         let address = to + i;
         let byte = machine.next_secret();
-        let sources = Sources::One(Source::Secret(machine.secret_at()));
-        let point = machine.point(Slot::SecretIn);
-        let value = match passer.pass(
-            point,
-            Place::Byte(address),
-            Work::Shaped(Shape::Copied),
-            sources,
-            u32::from(byte),
-        ) {
+        let passing = Passing {
+            point: machine.point(Slot::SecretIn),
+            aim: Aim::Put(Place::Byte(address)),
+            work: Work::Shaped(Shape::Copied),
+            sources: Sources::One(Source::Secret(machine.secret_at())),
+            value: u32::from(byte),
+        };
+        let value = match passer.pass(passing) {
             Ok(value) => value,
             Err(stop) => return Err(stop),
         };
@@ -127,6 +128,7 @@ fn write_output<P: Passer>(
     from: u32,
     count: u32,
 ) -> Result<(), P::Stop>
+    requires memory { Knows (P.memory passer.old) machine.old.setting.base }
     requires inside { IsTrue (is_inside machine.old.setting.base from count) }
     requires below { from + count ≤ 2 ^ 32 }
     requires room { length machine.old.control.output + count ≤ machine.old.setting.output_limit }
@@ -135,15 +137,14 @@ fn write_output<P: Passer>(
 {
     for i in 0..count {
         let address = from + i;
-        let byte = machine.byte(address);
-        let sources = Sources::One(Source::At(Place::Byte(address)));
-        let point = machine.point(Slot::ByteOut);
-        let value = match passer.decide(
-            point,
-            Work::Shaped(Shape::Copied),
-            sources,
-            u32::from(byte),
-        ) {
+        let passing = Passing {
+            point: machine.point(Slot::ByteOut),
+            aim: Aim::Decide,
+            work: Work::Shaped(Shape::Copied),
+            sources: Sources::One(Source::At(Place::Byte(address))),
+            value: u32::from(machine.byte(address)),
+        };
+        let value = match passer.pass(passing) {
             Ok(value) => value,
             Err(stop) => return Err(stop),
         };
@@ -154,7 +155,8 @@ fn write_output<P: Passer>(
 
 /// A plan is carried out.
 fn perform<P: Passer>(machine: &mut Machine, passer: &mut P, plan: CallPlan) -> Result<(), P::Stop>
-    requires { MayPerform plan machine.old }
+    requires memory { Knows (P.memory passer.old) machine.old.setting.base }
+    requires plan { MayPerform plan machine.old }
     ensures { P.Plays passer.old (turn_walk machine.old (planned plan machine.old.setting machine.old.control))
         (outcome result machine.new (P.tape passer.new)) }
 {
@@ -175,65 +177,45 @@ fn perform<P: Passer>(machine: &mut Machine, passer: &mut P, plan: CallPlan) -> 
     }
 }
 
-/// The value of a register passes an argument's slot.
-fn argument<P: Passer>(
-    machine: &Machine,
-    passer: &mut P,
-    slot: Slot,
-    register: u8,
-) -> Result<u32, P::Stop>
-    requires slot { IsTrue (is_slot slot) }
-    requires width { width_of slot ≡ 4294967295 }
-    requires register { register < 32 }
-    ensures { (go : ℕ → Walk) → Goes result (λ other. P.Plays passer.new (go other))
-        (P.Plays passer.old (Decided (point machine.now.control slot) (Work.Shaped Shape.Copied)
-        (Sources.One (Source.At (Place.Register register))) (register_of machine.now.store register) go)) }
-{
-    let sources = Sources::One(Source::At(Place::Register(register)));
-    passer.decide(
-        machine.point(slot),
-        Work::Shaped(Shape::Copied),
-        sources,
-        machine.register(register),
-    )
-}
-
 /// A read call (63).
 fn read_turn<P: Passer>(machine: &mut Machine, passer: &mut P) -> Result<(), P::Stop>
+    requires memory { Knows (P.memory passer.old) machine.old.setting.base }
     ensures { P.Plays passer.old
         (turn_walk machine.old
         (with_arguments (read_plan machine.old.setting machine.old.control) machine.old.setting machine.old.control))
         (outcome result machine.new (P.tape passer.new)) }
 {
-    let descriptor = argument(machine, passer, Slot::Arg0, 10)?;
-    let to = argument(machine, passer, Slot::Arg1, 11)?;
-    let count = argument(machine, passer, Slot::Arg2, 12)?;
+    let descriptor = operand(machine, passer, Slot::Arg0, Aim::Decide, 10)?;
+    let to = operand(machine, passer, Slot::Arg1, Aim::Decide, 11)?;
+    let count = operand(machine, passer, Slot::Arg2, Aim::Decide, 12)?;
     let plan = plan_read(machine, descriptor, to, count);
     perform(machine, passer, plan)
 }
 
 /// A write call (64).
 fn write_turn<P: Passer>(machine: &mut Machine, passer: &mut P) -> Result<(), P::Stop>
+    requires memory { Knows (P.memory passer.old) machine.old.setting.base }
     ensures { P.Plays passer.old
         (turn_walk machine.old
         (with_arguments (write_plan machine.old.setting machine.old.control) machine.old.setting machine.old.control))
         (outcome result machine.new (P.tape passer.new)) }
 {
-    let descriptor = argument(machine, passer, Slot::Arg0, 10)?;
-    let from = argument(machine, passer, Slot::Arg1, 11)?;
-    let count = argument(machine, passer, Slot::Arg2, 12)?;
+    let descriptor = operand(machine, passer, Slot::Arg0, Aim::Decide, 10)?;
+    let from = operand(machine, passer, Slot::Arg1, Aim::Decide, 11)?;
+    let count = operand(machine, passer, Slot::Arg2, Aim::Decide, 12)?;
     let plan = plan_write(machine, descriptor, from, count);
     perform(machine, passer, plan)
 }
 
 /// A brk call (214).
 fn break_turn<P: Passer>(machine: &mut Machine, passer: &mut P) -> Result<(), P::Stop>
+    requires memory { Knows (P.memory passer.old) machine.old.setting.base }
     ensures { P.Plays passer.old
         (turn_walk machine.old
         (with_first (break_plan machine.old.setting machine.old.control) machine.old.setting machine.old.control))
         (outcome result machine.new (P.tape passer.new)) }
 {
-    let request = argument(machine, passer, Slot::Arg0, 10)?;
+    let request = operand(machine, passer, Slot::Arg0, Aim::Decide, 10)?;
     let plan = plan_break(machine, request);
     perform(machine, passer, plan)
 }
@@ -244,6 +226,7 @@ fn kind_turn<P: Passer>(
     passer: &mut P,
     kind: CallKind,
 ) -> Result<(), P::Stop>
+    requires memory { Knows (P.memory passer.old) machine.old.setting.base }
     ensures { P.Plays passer.old (turn_walk machine.old (kind_row kind machine.old.setting machine.old.control))
         (outcome result machine.new (P.tape passer.new)) }
 {
@@ -258,9 +241,10 @@ fn kind_turn<P: Passer>(
 
 /// ECALL.
 pub(crate) fn call_turn<P: Passer>(machine: &mut Machine, passer: &mut P) -> Result<(), P::Stop>
+    requires memory { Knows (P.memory passer.old) machine.old.setting.base }
     ensures { P.Plays passer.old (row_walk Instr.Ecall machine.old)
         (outcome result machine.new (P.tape passer.new)) }
 {
-    let number = argument(machine, passer, Slot::Number, 17)?;
+    let number = operand(machine, passer, Slot::Number, Aim::Decide, 17)?;
     kind_turn(machine, passer, call_kind(number))
 }

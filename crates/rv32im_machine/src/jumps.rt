@@ -7,7 +7,7 @@ ghost use Rattle.rv32im_machine.specs.Language.{walk, Held};
 ghost use Rattle.rv32im_machine.specs.Rows.{row_walk, jumps, links, branches};
 ghost use Rattle.rv32im_machine.specs.Playing.{outcome};
 
-use crate::language::{Operation, Place, Shape, Source, Work};
+use crate::language::{Aim, Operation, Passing, Place, Shape, Source, Work};
 use crate::machines::Machine;
 use crate::operands::{compute, offset_sources, operand, operand_sources};
 use crate::passing::Passer;
@@ -42,16 +42,16 @@ pub(crate) fn jump_register_turn<P: Passer>(
     ensures { P.Plays passer.old (row_walk (Instr.Jalr rd rs1 imm) machine.old)
         (outcome result machine.new (P.tape passer.new)) }
 {
-    let first = operand(machine, passer, Slot::First, Place::First, rs1)?;
+    let first = operand(machine, passer, Slot::First, Aim::Put(Place::First), rs1)?;
     let second = imm.cast_unsigned();
     let made = compute(Operation::Target, first, second);
-    let work = Work::Computed(Operation::Target, first, second);
-    let target = passer.decide(
-        machine.point(Slot::Address),
-        work,
-        offset_sources(second),
-        made,
-    )?;
+    let target = passer.pass(Passing {
+        point: machine.point(Slot::Address),
+        aim: Aim::Decide,
+        work: Work::Computed(Operation::Target, first, second),
+        sources: offset_sources(second),
+        value: made,
+    })?;
     link(machine, passer, rd, target)
 }
 
@@ -68,12 +68,17 @@ pub(crate) fn branch_turn<P: Passer>(
     ensures { P.Plays passer.old (row_walk (Instr.Branch kind rs1 rs2 offset) machine.old)
         (outcome result machine.new (P.tape passer.new)) }
 {
-    let first = operand(machine, passer, Slot::First, Place::First, rs1)?;
-    let second = operand(machine, passer, Slot::Second, Place::Second, rs2)?;
+    let first = operand(machine, passer, Slot::First, Aim::Put(Place::First), rs1)?;
+    let second = operand(machine, passer, Slot::Second, Aim::Put(Place::Second), rs2)?;
     let operation = Operation::Decision(kind);
     let made = compute(operation, first, second);
-    let work = Work::Computed(operation, first, second);
-    let taken = passer.decide(machine.point(Slot::Decision), work, operand_sources(), made)?;
+    let taken = passer.pass(Passing {
+        point: machine.point(Slot::Decision),
+        aim: Aim::Decide,
+        work: Work::Computed(operation, first, second),
+        sources: operand_sources(),
+        value: made,
+    })?;
     branch_to(machine, passer, taken, offset)
 }
 

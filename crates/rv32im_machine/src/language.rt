@@ -1,3 +1,4 @@
+use flow_base::Point;
 use rv32im_decode::{BranchKind, LoadKind, OpKind};
 
 /// Where a value of a turn stands: a register (0 to 31), a byte of guest memory at its address, or one of the two
@@ -59,6 +60,25 @@ pub enum Operation {
 pub enum Work {
     Shaped(Shape),
     Computed(Operation, u32, u32),
+}
+
+/// What becomes of the value that goes on from a passing: it is put into a place, the rest of the turn may depend on it,
+/// or, as an output of a region at its leave, it is put back to the place that it came from.
+#[derive(Clone, Copy, Debug, PartialEq, Eq)]
+pub enum Aim {
+    Put(Place),
+    Decide,
+    Give(Place),
+}
+
+/// A value that passes a point: how it is made and from what, and what becomes of the value that goes on.
+#[derive(Clone, Copy, Debug, PartialEq, Eq)]
+pub struct Passing {
+    pub point: Point,
+    pub aim: Aim,
+    pub work: Work,
+    pub sources: Sources,
+    pub value: u32,
 }
 
 /// What a turn looks at without a passing: the fetched word at an address, or the base register of a region's range.

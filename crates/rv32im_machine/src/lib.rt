@@ -19,7 +19,7 @@ mod starting;
 mod stepping;
 mod walker;
 
-pub use language::{Operation, Part, Place, Seen, Shape, Source, Sources, Work};
+pub use language::{Aim, Operation, Part, Passing, Place, Seen, Shape, Source, Sources, Work};
 pub use laws::{ended_machines_stand_still, next_follows_the_step, parts_compose};
 pub use machines::Machine;
 pub use passing::Passer;

@@ -1,15 +1,15 @@
-#![tactic(auto, unfolding(crate::specs::Language::walked))]
+#![tactic(auto, unfolding(crate::specs::Language::walked), using(crate::proofs::Memories::known_inside))]
 
 ghost use Rattle.std.specs.Prelude.{◌≡◌, ◌+◌, ◌^◌, ◌<◌, ◌≤◌, IsTrue};
 ghost use Rattle.rv32im_decode.specs.Operations.{load_size, store_size};
 ghost use Rattle.rv32im_decode.specs.Encoding.{InRange};
 ghost use Rattle.guest_calls.specs.Calls.{is_inside};
 ghost use Rattle.rv32im_machine.specs.State.{joined};
-ghost use Rattle.rv32im_machine.specs.Language.{shaped, part_of, walk, Held, bytes_at};
-ghost use Rattle.rv32im_machine.specs.Rows.{row_walk, load_checked, store_checked, load_at, store_at, loaded_from};
-ghost use Rattle.rv32im_machine.specs.Playing.{outcome};
+ghost use Rattle.rv32im_machine.specs.Language.{shaped, part_of, turn_walk, walk, Held, bytes_at};
+ghost use Rattle.rv32im_machine.specs.Rows.{row_walk, load_checked, store_checked, stores, load_at, store_at, loaded_from};
+ghost use Rattle.rv32im_machine.specs.Playing.{Knows, outcome};
 
-use crate::language::{Part, Place, Shape, Source, Sources, Work};
+use crate::language::{Aim, Part, Passing, Place, Shape, Source, Sources, Work};
 use crate::machines::Machine;
 use crate::operands::{decided_address, operand};
 use crate::passing::Passer;
@@ -26,11 +26,12 @@ pub(crate) fn load_turn<P: Passer>(
     rs1: u8,
     imm: i32,
 ) -> Result<(), P::Stop>
-    requires { InRange (Instr.Load kind rd rs1 imm) }
+    requires memory { Knows (P.memory passer.old) machine.old.setting.base }
+    requires range { InRange (Instr.Load kind rd rs1 imm) }
     ensures { P.Plays passer.old (row_walk (Instr.Load kind rd rs1 imm) machine.old)
         (outcome result machine.new (P.tape passer.new)) }
 {
-    let first = operand(machine, passer, Slot::First, Place::First, rs1)?;
+    let first = operand(machine, passer, Slot::First, Aim::Put(Place::First), rs1)?;
     let address = decided_address(machine, passer, first, imm.cast_unsigned())?;
     checked_load(machine, passer, kind, rd, address)
 }
@@ -43,7 +44,8 @@ fn checked_load<P: Passer>(
     rd: u8,
     address: u32,
 ) -> Result<(), P::Stop>
-    requires { rd < 32 }
+    requires memory { Knows (P.memory passer.old) machine.old.setting.base }
+    requires rd { rd < 32 }
     ensures { (held : Held) →
         P.Plays passer.old (walk machine.old (load_checked kind rd machine.old.setting machine.old.control address)
         machine.old.store held)
@@ -66,6 +68,7 @@ fn load_from<P: Passer>(
     rd: u8,
     address: u32,
 ) -> Result<(), P::Stop>
+    requires memory { Knows (P.memory passer.old) machine.old.setting.base }
     requires rd { rd < 32 }
     requires inside { IsTrue (is_inside machine.old.setting.base address (load_size kind)) }
     requires below { address + load_size kind ≤ 2 ^ 32 }
@@ -73,15 +76,13 @@ fn load_from<P: Passer>(
         P.Plays passer.old (walk machine.old (load_at kind rd address machine.old.control) machine.old.store held)
         (outcome result machine.new (P.tape passer.new)) }
 {
-    let value = loaded(machine, kind, address);
-    let sources = load_sources(kind, address);
-    let value = passer.pass(
-        machine.point(Slot::Result),
-        Place::Register(rd),
-        Work::Shaped(Shape::Extended(kind)),
-        sources,
-        value,
-    )?;
+    let value = passer.pass(Passing {
+        point: machine.point(Slot::Result),
+        aim: Aim::Put(Place::Register(rd)),
+        work: Work::Shaped(Shape::Extended(kind)),
+        sources: load_sources(kind, address),
+        value: loaded(machine, kind, address),
+    })?;
     machine.set_register(rd, value);
     machine.onward();
     Ok(())
@@ -131,14 +132,36 @@ pub(crate) fn store_turn<P: Passer>(
     rs2: u8,
     imm: i32,
 ) -> Result<(), P::Stop>
-    requires { InRange (Instr.Store kind rs1 rs2 imm) }
+    requires memory { Knows (P.memory passer.old) machine.old.setting.base }
+    requires range { InRange (Instr.Store kind rs1 rs2 imm) }
     ensures { P.Plays passer.old (row_walk (Instr.Store kind rs1 rs2 imm) machine.old)
         (outcome result machine.new (P.tape passer.new)) }
 {
-    let first = operand(machine, passer, Slot::First, Place::First, rs1)?;
-    let word = operand(machine, passer, Slot::Second, Place::Second, rs2)?;
-    let address = decided_address(machine, passer, first, imm.cast_unsigned())?;
-    checked_store(machine, passer, kind, address, word)
+    store_by(machine, passer, kind, rs1, rs2, imm.cast_unsigned())
+}
+
+/// A store with this immediate as a word.
+fn store_by<P: Passer>(
+    machine: &mut Machine,
+    passer: &mut P,
+    kind: StoreKind,
+    rs1: u8,
+    rs2: u8,
+    immediate: u32,
+) -> Result<(), P::Stop>
+    requires memory { Knows (P.memory passer.old) machine.old.setting.base }
+    requires first { rs1 < 32 }
+    requires second { rs2 < 32 }
+    ensures { P.Plays passer.old
+        (turn_walk machine.old (stores kind rs1 rs2 immediate machine.old.setting machine.old.control))
+        (outcome result machine.new (P.tape passer.new)) }
+{
+    let first = operand(machine, passer, Slot::First, Aim::Put(Place::First), rs1)?;
+    let word = operand(machine, passer, Slot::Second, Aim::Put(Place::Second), rs2)?;
+    match decided_address(machine, passer, first, immediate) {
+        Ok(address) => checked_store(machine, passer, kind, address, word),
+        Err(stop) => Err(stop),
+    }
 }
 
 /// The rest of a store, once its address is decided.
@@ -149,6 +172,7 @@ fn checked_store<P: Passer>(
     address: u32,
     word: u32,
 ) -> Result<(), P::Stop>
+    requires memory { Knows (P.memory passer.old) machine.old.setting.base }
     ensures { (held : Held) → held.second ≡ word →
         P.Plays passer.old (walk machine.old (store_checked kind machine.old.setting machine.old.control address)
         machine.old.store held)
@@ -171,6 +195,7 @@ fn store_to<P: Passer>(
     address: u32,
     word: u32,
 ) -> Result<(), P::Stop>
+    requires memory { Knows (P.memory passer.old) machine.old.setting.base }
     requires inside { IsTrue (is_inside machine.old.setting.base address (store_size kind)) }
     requires below { address + store_size kind ≤ 2 ^ 32 }
     ensures { (held : Held) → held.second ≡ word →
@@ -191,6 +216,7 @@ fn store_byte_to<P: Passer>(
     address: u32,
     word: u32,
 ) -> Result<(), P::Stop>
+    requires memory { Knows (P.memory passer.old) machine.old.setting.base }
     requires inside { IsTrue (is_inside machine.old.setting.base address 1) }
     ensures { (held : Held) → held.second ≡ word →
         P.Plays passer.old (walk machine.old (store_at StoreKind.Sb address machine.old.control) machine.old.store held)
@@ -215,6 +241,7 @@ fn store_half_to<P: Passer>(
     address: u32,
     word: u32,
 ) -> Result<(), P::Stop>
+    requires memory { Knows (P.memory passer.old) machine.old.setting.base }
     requires inside { IsTrue (is_inside machine.old.setting.base address 2) }
     requires below { address + 2 ≤ 2 ^ 32 }
     ensures { (held : Held) → held.second ≡ word →
@@ -248,6 +275,7 @@ fn store_word_to<P: Passer>(
     address: u32,
     word: u32,
 ) -> Result<(), P::Stop>
+    requires memory { Knows (P.memory passer.old) machine.old.setting.base }
     requires inside { IsTrue (is_inside machine.old.setting.base address 4) }
     requires below { address + 4 ≤ 2 ^ 32 }
     ensures { (held : Held) → held.second ≡ word →

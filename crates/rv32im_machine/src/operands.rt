@@ -2,12 +2,11 @@
 
 ghost use Rattle.std.specs.Prelude.{◌≡◌, ℕ, ◌<◌, IsTrue};
 ghost use Rattle.flow_base.specs.Points.{is_slot, width_of};
-ghost use Rattle.rv32im_machine.specs.State.{register_of};
-ghost use Rattle.rv32im_machine.specs.Calls.{point};
-ghost use Rattle.rv32im_machine.specs.Language.{Walk, Passed, Decided, computed};
-ghost use Rattle.rv32im_machine.specs.Playing.{Goes, IsPlace};
+ghost use Rattle.rv32im_machine.specs.Language.{Walk, Passed, computed};
+ghost use Rattle.rv32im_machine.specs.Passings.{copy_of, sum_of};
+ghost use Rattle.rv32im_machine.specs.Playing.{Goes, IsAim};
 
-use crate::language::{Operation, Place, Shape, Source, Sources, Work};
+use crate::language::{Aim, Operation, Passing, Place, Shape, Source, Sources, Work};
 use crate::machines::Machine;
 use crate::passing::Passer;
 use flow_base::Slot;
@@ -49,30 +48,29 @@ pub(crate) fn operand_sources() -> Sources
     Sources::Two(Source::At(Place::First), Source::At(Place::Second))
 }
 
-/// The value of a register passes an operand's slot and goes on.
+/// The value of a register passes a slot and goes on.
 pub(crate) fn operand<P: Passer>(
     machine: &Machine,
     passer: &mut P,
     slot: Slot,
-    place: Place,
+    aim: Aim,
     register: u8,
 ) -> Result<u32, P::Stop>
     requires slot { IsTrue (is_slot slot) }
     requires width { width_of slot ≡ 4294967295 }
-    requires place { IsPlace place }
+    requires aim { IsAim (P.memory passer.old) aim }
     requires register { register < 32 }
-    ensures { (go : ℕ → Walk) → Goes result (λ other. P.Plays passer.new (go other))
-        (P.Plays passer.old (Passed (point machine.now.control slot) place (Work.Shaped Shape.Copied)
-        (Sources.One (Source.At (Place.Register register))) (register_of machine.now.store register) go)) }
+    ensures memory { P.memory passer.new ≡ P.memory passer.old }
+    ensures goes { (go : ℕ → Walk) → Goes result (λ other. P.Plays passer.new (go other))
+        (P.Plays passer.old (Passed (copy_of machine.now slot aim register) go)) }
 {
-    let sources = Sources::One(Source::At(Place::Register(register)));
-    passer.pass(
-        machine.point(slot),
-        place,
-        Work::Shaped(Shape::Copied),
-        sources,
-        machine.register(register),
-    )
+    passer.pass(Passing {
+        point: machine.point(slot),
+        aim,
+        work: Work::Shaped(Shape::Copied),
+        sources: Sources::One(Source::At(Place::Register(register))),
+        value: machine.register(register),
+    })
 }
 
 /// The sum of the first operand and the immediate passes as the address of a load or store.
@@ -82,17 +80,15 @@ pub(crate) fn decided_address<P: Passer>(
     first: u32,
     immediate: u32,
 ) -> Result<u32, P::Stop>
-    ensures { (go : ℕ → Walk) → Goes result (λ other. P.Plays passer.new (go other))
-        (P.Plays passer.old (Decided (point machine.now.control Slot.Address)
-        (Work.Computed (Operation.Result OpKind.Add) first immediate)
-        (Sources.Two (Source.At Place.First) (Source.Constant immediate))
-        (computed (Operation.Result OpKind.Add) first immediate) go)) }
+    ensures memory { P.memory passer.new ≡ P.memory passer.old }
+    ensures goes { (go : ℕ → Walk) → Goes result (λ other. P.Plays passer.new (go other))
+        (P.Plays passer.old (Passed (sum_of machine.now first immediate) go)) }
 {
-    let made = compute(SUM, first, immediate);
-    passer.decide(
-        machine.point(Slot::Address),
-        Work::Computed(SUM, first, immediate),
-        offset_sources(immediate),
-        made,
-    )
+    passer.pass(Passing {
+        point: machine.point(Slot::Address),
+        aim: Aim::Decide,
+        work: Work::Computed(SUM, first, immediate),
+        sources: offset_sources(immediate),
+        value: compute(SUM, first, immediate),
+    })
 }

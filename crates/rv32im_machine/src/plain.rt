@@ -1,12 +1,11 @@
 ghost use Rattle.std.specs.Prelude.{◌≡◌};
 ghost use Rattle.rv32im_machine.specs.Folds.{Step};
 
-use crate::language::{Place, Seen, Shape, Source, Sources, Work};
+use crate::language::{Passing, Place, Seen, Shape, Source};
 use crate::machines::Machine;
 use crate::passing::Passer;
 use crate::stepping::Stepped;
 use crate::walker::turn_by;
-use flow_base::Point;
 use std::convert::Infallible;
 
 /// Every value goes on as it is.
@@ -15,7 +14,7 @@ struct Plain;
 
 #[tactic(auto, unfolding(crate::specs::Folds::real_end))]
 impl Passer for Plain {
-    ghost use Rattle.std.specs.Prelude.{◌≡◌, ℕ};
+    ghost use Rattle.std.specs.Prelude.{◌≡◌, ℕ, None};
     ghost use Rattle.rv32im_machine.specs.State.{State};
     ghost use Rattle.std.proofs.Common.{ap};
     ghost use Rattle.rv32im_machine.specs.Folds.{real_end, real-Ended};
@@ -27,35 +26,16 @@ impl Passer for Plain {
 
     ghost tape = { λ p. tt };
 
+    ghost memory = { λ p. None };
+
     ghost Plays = { λ p walk out. Finished (real_end walk) tt ≡ out };
 
     fn look(&mut self, _seen: Seen, _value: u32) -> Result<(), Infallible> {
         Ok(())
     }
 
-    fn pass(
-        &mut self,
-        _point: Point,
-        _place: Place,
-        _work: Work,
-        _sources: Sources,
-        value: u32,
-    ) -> Result<u32, Infallible> {
-        Ok(value)
-    }
-
-    fn decide(
-        &mut self,
-        _point: Point,
-        _work: Work,
-        _sources: Sources,
-        value: u32,
-    ) -> Result<u32, Infallible> {
-        Ok(value)
-    }
-
-    fn give(&mut self, _point: Point, _place: Place, value: u32) -> Result<u32, Infallible> {
-        Ok(value)
+    fn pass(&mut self, passing: Passing) -> Result<u32, Infallible> {
+        Ok(passing.value)
     }
 
     fn move_to(

@@ -4,7 +4,7 @@ ghost use Rattle.rv32im_decode.specs.Encoding.{InRange};
 ghost use Rattle.rv32im_machine.specs.Rows.{row_walk};
 ghost use Rattle.rv32im_machine.specs.Playing.{outcome};
 
-use crate::language::{Operation, Place, Shape, Source, Work};
+use crate::language::{Aim, Operation, Passing, Place, Shape, Source, Work};
 use crate::machines::Machine;
 use crate::operands::{compute, offset_sources, operand, operand_sources};
 use crate::passing::Passer;
@@ -24,17 +24,16 @@ pub(crate) fn register_turn<P: Passer>(
     ensures { P.Plays passer.old (row_walk (Instr.Op kind rd rs1 rs2) machine.old)
         (outcome result machine.new (P.tape passer.new)) }
 {
-    let first = operand(machine, passer, Slot::First, Place::First, rs1)?;
-    let second = operand(machine, passer, Slot::Second, Place::Second, rs2)?;
+    let first = operand(machine, passer, Slot::First, Aim::Put(Place::First), rs1)?;
+    let second = operand(machine, passer, Slot::Second, Aim::Put(Place::Second), rs2)?;
     let made = compute(Operation::Result(kind), first, second);
-    let work = Work::Computed(Operation::Result(kind), first, second);
-    let value = passer.pass(
-        machine.point(Slot::Result),
-        Place::Register(rd),
-        work,
-        operand_sources(),
-        made,
-    )?;
+    let value = passer.pass(Passing {
+        point: machine.point(Slot::Result),
+        aim: Aim::Put(Place::Register(rd)),
+        work: Work::Computed(Operation::Result(kind), first, second),
+        sources: operand_sources(),
+        value: made,
+    })?;
     machine.set_register(rd, value);
     machine.onward();
     Ok(())
@@ -53,18 +52,17 @@ pub(crate) fn immediate_turn<P: Passer>(
     ensures { P.Plays passer.old (row_walk (Instr.OpImm kind rd rs1 imm) machine.old)
         (outcome result machine.new (P.tape passer.new)) }
 {
-    let first = operand(machine, passer, Slot::First, Place::First, rs1)?;
+    let first = operand(machine, passer, Slot::First, Aim::Put(Place::First), rs1)?;
     let second = imm.cast_unsigned();
     let operation = Operation::Result(kind.operation());
     let made = compute(operation, first, second);
-    let work = Work::Computed(operation, first, second);
-    let value = passer.pass(
-        machine.point(Slot::Result),
-        Place::Register(rd),
-        work,
-        offset_sources(second),
-        made,
-    )?;
+    let value = passer.pass(Passing {
+        point: machine.point(Slot::Result),
+        aim: Aim::Put(Place::Register(rd)),
+        work: Work::Computed(operation, first, second),
+        sources: offset_sources(second),
+        value: made,
+    })?;
     machine.set_register(rd, value);
     machine.onward();
     Ok(())

@@ -1,11 +1,11 @@
-#![tactic(auto, unfolding(crate::specs::Language::walked))]
+#![tactic(auto, unfolding(crate::specs::Language::walked), using(crate::proofs::Memories::known_inside))]
 
 ghost use Rattle.std.specs.Prelude.{◌≡◌};
 ghost use Rattle.rv32im_decode.specs.Encoding.{InRange, decoded};
 ghost use Rattle.rv32im_machine.specs.State.{onward};
 ghost use Rattle.rv32im_machine.specs.Language.{turn_walk, Ends};
 ghost use Rattle.rv32im_machine.specs.Rows.{row_walk, stops, fetched, running, walk_of};
-ghost use Rattle.rv32im_machine.specs.Playing.{outcome};
+ghost use Rattle.rv32im_machine.specs.Playing.{Knows, outcome};
 
 use crate::calls::call_turn;
 use crate::jumps::{branch_turn, jump_register_turn, jump_turn};
@@ -20,6 +20,7 @@ use rv32im_decode::{Instr, decode};
 /// One turn of a machine, each of its values handed to a passer; a machine that has exited or is stopped stands still.
 /// Where the passer stops the turn, the machine is left in the middle of it.
 pub fn turn_by<P: Passer>(machine: &mut Machine, passer: &mut P) -> Result<(), P::Stop>
+    requires memory { Knows (P.memory passer.old) machine.old.setting.base }
     ensures { P.Plays passer.old (walk_of machine.old) (outcome result machine.new (P.tape passer.new)) }
 {
     match machine.mode() {
@@ -31,6 +32,7 @@ pub fn turn_by<P: Passer>(machine: &mut Machine, passer: &mut P) -> Result<(), P
 
 /// The turn of a machine that has not ended.
 fn running_turn<P: Passer>(machine: &mut Machine, passer: &mut P) -> Result<(), P::Stop>
+    requires memory { Knows (P.memory passer.old) machine.old.setting.base }
     ensures { P.Plays passer.old (turn_walk machine.old (running machine.old.setting machine.old.control))
         (outcome result machine.new (P.tape passer.new)) }
 {
@@ -46,6 +48,7 @@ fn running_turn<P: Passer>(machine: &mut Machine, passer: &mut P) -> Result<(), 
 
 /// The turn of a fetched word.
 fn fetched_turn<P: Passer>(machine: &mut Machine, passer: &mut P, word: u32) -> Result<(), P::Stop>
+    requires memory { Knows (P.memory passer.old) machine.old.setting.base }
     ensures { P.Plays passer.old
         (turn_walk machine.old (fetched (decoded word) word machine.old.setting machine.old.control))
         (outcome result machine.new (P.tape passer.new)) }
@@ -61,7 +64,8 @@ fn fetched_turn<P: Passer>(machine: &mut Machine, passer: &mut P, word: u32) -> 
 
 /// The turn of an instruction.
 fn instr_turn<P: Passer>(machine: &mut Machine, passer: &mut P, instr: Instr) -> Result<(), P::Stop>
-    requires { InRange instr }
+    requires memory { Knows (P.memory passer.old) machine.old.setting.base }
+    requires range { InRange instr }
     ensures { P.Plays passer.old (row_walk instr machine.old) (outcome result machine.new (P.tape passer.new)) }
 {
     match instr {

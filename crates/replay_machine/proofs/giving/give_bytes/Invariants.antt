@@ -1,6 +1,6 @@
 use Rattle.std.proofs.Common.{◌+◌, ◌-◌}
 use Rattle.rv32im_machine.specs.Language.{Turn, turn_walk}
-use Rattle.rv32im_machine.specs.Playing.{Played}
+use Rattle.rv32im_machine.specs.Playing.{Knows, Played}
 use Rattle.replay_machine.specs.Guests.{gives_bytes}
 use Rattle.replay_machine.specs.Within.{Stays}
 use Rattle.replay_machine.proofs.giving.give_bytes.Given as goal
@@ -8,6 +8,7 @@ use Rattle.replay_machine.proofs.giving.give_bytes.Given as goal
 abbrev pub invariant-loop-i : goal.invariant-loop-i
 invariant-loop-i g l = record {
   stays : Stays l.fn.machine l.machine;
+  memory : Knows (g.P.Passer.memory l.passer) l.machine.setting.base;
   rest : (turn : Turn) (out : Played g.row.P-Stop.Denot g.P.Passer.Tape) →
       g.P.Passer.Plays l.passer
       (turn_walk l.machine (gives_bytes l.region l.range (l.address + l.i) (l.count - l.i) turn)) out →

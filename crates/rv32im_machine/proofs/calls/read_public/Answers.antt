@@ -20,6 +20,7 @@ loop-i-preserved g c =
     record {
       setting = rw (c.set_byte.ensures, c.take_public.ensures) c.loop-i.invariant.setting;
       read = rw (c.set_byte.ensures, c.take_public.ensures) (omega (arith, c.loop-i.invariant.read));
+      memory = rw (c.set_byte.ensures, c.take_public.ensures, c.move_to.ensures.memory) c.loop-i.invariant.memory;
       rest = λ out after. c.loop-i.invariant.rest out (rw more (goes _ out (rw (c.set_byte.ensures, c.take_public.ensures, c.next_public-byte.ensures, next) at after)));
     }
 

@@ -8,18 +8,19 @@ pub returns-in-Err : goal.returns-in-Err
 unfolding walked
 returns-in-Err g c =
     let more = secret_reads-more (c.args.count - c.loop-i.i) (c.args.count - (c.loop-i.i + 1)) (c.args.to + c.loop-i.i) c.args.count c.loop-i.machine.control (omega arith) in
-    let goes = rw (c.point-point.ensures, c.secret_at.ensures, c.from.ensures, c.next_secret-byte.ensures) at c.in-Err.ensures.goes in
+    let goes = rw (c.point.ensures, c.secret_at.ensures, c.from.ensures, c.next_secret-byte.ensures) at c.in-Err.ensures.goes in
     c.loop-i.invariant.rest _ (rw more (goes _))
 
 pub loop-i-preserved : goal.loop-i-preserved
 unfolding walked secret_taken
 loop-i-preserved g c =
     let more = secret_reads-more (c.args.count - c.loop-i.i) (c.args.count - (c.loop-i.i + 1)) (c.args.to + c.loop-i.i) c.args.count c.loop-i.machine.control (omega arith) in
-    let goes = rw (c.point-point.ensures, c.secret_at.ensures, c.from.ensures, c.next_secret-byte.ensures) at c.in-Ok.ensures.goes in
+    let goes = rw (c.point.ensures, c.secret_at.ensures, c.from.ensures, c.next_secret-byte.ensures) at c.in-Ok.ensures.goes in
     let next : c.args.to + (c.loop-i.i + 1) ≡ c.args.to + c.loop-i.i + 1 = omega arith in
     record {
       setting = rw (c.set_byte.ensures, c.take_secret.ensures) c.loop-i.invariant.setting;
       read = rw (c.set_byte.ensures, c.take_secret.ensures) (omega (arith, c.loop-i.invariant.read));
+      memory = rw (c.set_byte.ensures, c.take_secret.ensures, c.pass.ensures.memory) c.loop-i.invariant.memory;
       rest = λ out after. c.loop-i.invariant.rest out (rw more (goes _ out (rw (c.set_byte.ensures, c.take_secret.ensures, next) at after)));
     }
 

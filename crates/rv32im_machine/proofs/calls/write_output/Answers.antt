@@ -8,18 +8,19 @@ pub returns-in-Err : goal.returns-in-Err
 unfolding walked
 returns-in-Err g c =
     let more = writes-more (c.args.count - c.loop-i.i) (c.args.count - (c.loop-i.i + 1)) (c.args.from + c.loop-i.i) c.args.count c.loop-i.machine.control (omega arith) in
-    let goes = rw (c.point-point.ensures, c.from.ensures, c.byte-byte.ensures) at c.in-Err.ensures.goes in
+    let goes = rw (c.point.ensures, c.from.ensures, c.byte.ensures) at c.in-Err.ensures.goes in
     c.loop-i.invariant.rest _ (rw more (goes _))
 
 pub loop-i-preserved : goal.loop-i-preserved
 unfolding walked emitted
 loop-i-preserved g c =
     let more = writes-more (c.args.count - c.loop-i.i) (c.args.count - (c.loop-i.i + 1)) (c.args.from + c.loop-i.i) c.args.count c.loop-i.machine.control (omega arith) in
-    let goes = rw (c.point-point.ensures, c.from.ensures, c.byte-byte.ensures) at c.in-Ok.ensures.goes in
+    let goes = rw (c.point.ensures, c.from.ensures, c.byte.ensures) at c.in-Ok.ensures.goes in
     let next : c.args.from + (c.loop-i.i + 1) ≡ c.args.from + c.loop-i.i + 1 = omega arith in
     record {
       setting = rw c.emit.ensures c.loop-i.invariant.setting;
       written = rw (c.emit.ensures, length-append c.loop-i.machine.control.output (c.in-Ok.value ∷ [])) (omega (arith, c.loop-i.invariant.written));
+      memory = rw (c.emit.ensures, c.pass.ensures.memory) c.loop-i.invariant.memory;
       rest = λ out after. c.loop-i.invariant.rest out (rw more (goes _ out (rw (c.emit.ensures, next) at after)));
     }
 

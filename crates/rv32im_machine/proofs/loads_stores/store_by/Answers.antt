@@ -1,0 +1,14 @@
+use Rattle.std.proofs.Common.{refl}
+use Rattle.rv32im_machine.specs.Language.{walked}
+use Rattle.rv32im_machine.proofs.loads_stores.store_by.Goals as goal
+
+pub returns-in-Err : goal.returns-in-Err
+unfolding walked
+returns-in-Err g c =
+    c.in_ok-first.ensures.goes _ _ (c.in_ok-word.ensures.goes _ _ (c.in-Err.ensures.goes _))
+
+pub returns-in-Ok : goal.returns-in-Ok
+unfolding walked
+returns-in-Ok g c =
+    c.in_ok-first.ensures.goes _ _ (c.in_ok-word.ensures.goes _ _ (c.in-Ok.ensures.goes _ _
+    (c.checked_store.ensures (record { first = c.in_ok-first.first; second = c.in_ok-word.word }) refl)))
