@@ -5,16 +5,15 @@ use Rattle.flow_base.specs.Words.{bits_under}
 use Rattle.rv32im_machine.specs.declared.language.Place.{Place}
 use Rattle.rv32im_machine.specs.declared.language.Shape.{Shape}
 use Rattle.rv32im_machine.specs.declared.language.Source.{Source}
-use Rattle.rv32im_machine.specs.declared.language.Sources.{Sources}
-use Rattle.rv32im_machine.specs.declared.language.Work.{Work}
+use Rattle.rv32im_machine.specs.declared.language.Passing.{Passing}
 use Rattle.rv32im_machine.specs.declared.language.Seen.{Seen}
 use Rattle.rv32im_machine.specs.State.{State}
-use Rattle.rv32im_machine.specs.Language.{Walk, Looked, Passed, Decided, Gave, Moved, Saved, Restored}
+use Rattle.rv32im_machine.specs.Language.{Walk, Looked, Passed, Moved, Saved, Restored}
 use Rattle.rv32im_machine.specs.Folds.{real_end}
 use Rattle.rv32im_machine.specs.Playing.{Played, Finished, Halted}
 use Rattle.enclosure_regions.specs.declared.region_parts.Region.{Region}
 use Rattle.enclosure_regions.specs.declared.break_kinds.Break.{Break}
-use Rattle.replay_machine.specs.Breaking.{place_break, slot_break, first_break, walk_break}
+use Rattle.replay_machine.specs.Breaking.{place_break, passing_break, first_break, walk_break}
 use Rattle.replay_machine.specs.Runs.{Masks, mask_at, passed, visited}
 use Rattle.lockstep_replay.specs.Crossing.{crossing, crossing_unless}
 use Rattle.lockstep_replay.specs.Tapes.{Tallies, Guard, Guards, visit_bits, visit_past}
@@ -108,55 +107,18 @@ guards-moved false a b masks past region kept pc place shape source value walk o
     (walk_break region kept pc walk) (real_end walk) out same e n h
 
 pub guards-passed : {Stop : Type 0} (enclosed : Bool) (a b : Guard) (masks : Masks) (past : List Point)
-    (region : Region) (kept : List ℕ) (pc : ℕ) (point : Point) (place : Place) (work : Work) (sources : Sources)
-    (value : ℕ) (go : ℕ → Walk) (out : Played Stop Guard) → a.tally.budget < 4294967295 →
-    Tallies a.tally (visit_bits enclosed masks past point value) b.tally →
-    b.broken ≡ first_break a.broken (place_break region kept pc place) → b.lent ≡ a.lent →
-    Guarded enclosed b masks (visit_past enclosed past point) region kept pc (go value) out →
-    Guarded enclosed a masks past region kept pc (Passed point place work sources value go) out
+    (region : Region) (kept : List ℕ) (pc : ℕ) (passing : Passing) (go : ℕ → Walk) (out : Played Stop Guard) →
+    a.tally.budget < 4294967295 →
+    Tallies a.tally (visit_bits enclosed masks past passing.point passing.value) b.tally →
+    b.broken ≡ first_break a.broken (passing_break region kept pc passing) → b.lent ≡ a.lent →
+    Guarded enclosed b masks (visit_past enclosed past passing.point) region kept pc (go passing.value) out →
+    Guarded enclosed a masks past region kept pc (Passed passing go) out
 unfolding crossing passed walk_break real_end
-guards-passed true a b masks past region kept pc point place work sources value go out small t e n h =
-    guards-more a b masks past [] [] (place_break region kept pc place) (walk_break region kept pc (go value))
-    (real_end (go value)) out small t e n h
-guards-passed false a b masks past region kept pc point place work sources value go out small t e n h =
-    guards-more a b masks (passed (visit_past false past point) (go value))
-    (bits_under value (mask_at masks past point))
-    (crossing masks (visit_past false past point) (go value)) (place_break region kept pc place)
-    (walk_break region kept pc (go value)) (real_end (go value)) out small t e n h
-
-pub guards-decided : {Stop : Type 0} (enclosed : Bool) (a b : Guard) (masks : Masks) (past : List Point)
-    (region : Region) (kept : List ℕ) (pc : ℕ) (point : Point) (work : Work) (sources : Sources)
-    (value : ℕ) (go : ℕ → Walk) (out : Played Stop Guard) → a.tally.budget < 4294967295 →
-    Tallies a.tally (visit_bits enclosed masks past point value) b.tally →
-    b.broken ≡ first_break a.broken (slot_break region pc point.slot) → b.lent ≡ a.lent →
-    Guarded enclosed b masks (visit_past enclosed past point) region kept pc (go value) out →
-    Guarded enclosed a masks past region kept pc (Decided point work sources value go) out
-unfolding crossing passed walk_break real_end
-guards-decided true a b masks past region kept pc point work sources value go out small t e n h =
-    guards-more a b masks past [] [] (slot_break region pc point.slot) (walk_break region kept pc (go value))
-    (real_end (go value)) out small t e n h
-guards-decided false a b masks past region kept pc point work sources value go out small t e n h =
-    guards-more a b masks (passed (visit_past false past point) (go value))
-    (bits_under value (mask_at masks past point))
-    (crossing masks (visit_past false past point) (go value)) (slot_break region pc point.slot)
-    (walk_break region kept pc (go value)) (real_end (go value)) out small t e n h
-
-first-nothing : (broken : Option Break) → broken ≡ first_break broken None
-first-nothing None = refl
-first-nothing (Some broken) = refl
-
-pub guards-gave : {Stop : Type 0} (enclosed : Bool) (a b : Guard) (masks : Masks) (past : List Point)
-    (region : Region) (kept : List ℕ) (pc : ℕ) (point : Point) (place : Place)
-    (value : ℕ) (go : ℕ → Walk) (out : Played Stop Guard) → a.tally.budget < 4294967295 →
-    Tallies a.tally (visit_bits enclosed masks past point value) b.tally → b.broken ≡ a.broken → b.lent ≡ a.lent →
-    Guarded enclosed b masks (visit_past enclosed past point) region kept pc (go value) out →
-    Guarded enclosed a masks past region kept pc (Gave point place value go) out
-unfolding crossing passed walk_break real_end
-guards-gave true a b masks past region kept pc point place value go out small t e n h =
-    guards-more a b masks past [] [] None (walk_break region kept pc (go value))
-    (real_end (go value)) out small t (e ∙ first-nothing a.broken) n h
-guards-gave false a b masks past region kept pc point place value go out small t e n h =
-    guards-more a b masks (passed (visit_past false past point) (go value))
-    (bits_under value (mask_at masks past point))
-    (crossing masks (visit_past false past point) (go value)) None
-    (walk_break region kept pc (go value)) (real_end (go value)) out small t (e ∙ first-nothing a.broken) n h
+guards-passed true a b masks past region kept pc passing go out small t e n h =
+    guards-more a b masks past [] [] (passing_break region kept pc passing) (walk_break region kept pc (go passing.value))
+    (real_end (go passing.value)) out small t e n h
+guards-passed false a b masks past region kept pc passing go out small t e n h =
+    guards-more a b masks (passed (visit_past false past passing.point) (go passing.value))
+    (bits_under passing.value (mask_at masks past passing.point))
+    (crossing masks (visit_past false past passing.point) (go passing.value)) (passing_break region kept pc passing)
+    (walk_break region kept pc (go passing.value)) (real_end (go passing.value)) out small t e n h

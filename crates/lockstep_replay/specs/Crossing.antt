@@ -2,7 +2,7 @@
 use Rattle.std.specs.Prelude.{ℕ, zero, suc, List, [], ◌∷◌, ◌++◌, Bool, true, false, Option, Some, None}
 use Rattle.flow_base.specs.declared.points.Point.{Point}
 use Rattle.flow_base.specs.Words.{bits_under}
-use Rattle.rv32im_machine.specs.Language.{Walk, Looked, Passed, Decided, Gave, Moved, Saved, Restored, Ended}
+use Rattle.rv32im_machine.specs.Language.{Walk, Looked, Passed, Moved, Saved, Restored, Ended}
 use Rattle.enclosure_regions.specs.declared.break_kinds.Break.{Break}
 use Rattle.replay_machine.specs.Enclosures.{Enclosures, is_enclosed}
 use Rattle.replay_machine.specs.Guests.{guest_walk}
@@ -11,12 +11,8 @@ use Rattle.replay_machine.specs.Runs.{Place, Masks, mask_at, real_after}
 -- the bits of the values of a turn under the masks, visit by visit, lowest bit first
 unfoldable pub crossing : Masks → List Point → Walk → List Bool
 crossing masks past (Looked seen value walk) = crossing masks past walk
-crossing masks past (Passed point place work sources value go) =
-    bits_under value (mask_at masks past point) ++ crossing masks (point ∷ past) (go value)
-crossing masks past (Decided point work sources value go) =
-    bits_under value (mask_at masks past point) ++ crossing masks (point ∷ past) (go value)
-crossing masks past (Gave point place value go) =
-    bits_under value (mask_at masks past point) ++ crossing masks (point ∷ past) (go value)
+crossing masks past (Passed passing go) =
+    bits_under passing.value (mask_at masks past passing.point) ++ crossing masks (passing.point ∷ past) (go passing.value)
 crossing masks past (Moved place shape source value walk) = crossing masks past walk
 crossing masks past (Saved walk) = crossing masks past walk
 crossing masks past (Restored registers walk replayed) = crossing masks past walk

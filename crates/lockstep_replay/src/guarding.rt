@@ -8,9 +8,9 @@ ghost use Rattle.lockstep_replay.specs.Sides.{tally_of};
 
 use crate::guards::Guarding;
 use crate::tallies::Tallying;
-use crate::watching::{earlier, place_break, slot_break};
+use crate::watching::{earlier, passing_break, place_break};
 use flow_base::Point;
-use rv32im_machine::{Passer, Place, Seen, Shape, Source, Sources, Work};
+use rv32im_machine::{Passer, Passing, Place, Seen, Shape, Source};
 use std::convert::Infallible;
 
 /// A value passes its point, unless the turn is inside a skipped region, where nothing is visited.
@@ -29,7 +29,7 @@ fn visit(tally: &mut Tallying, enclosed: bool, point: Point, value: u32)
 }
 
 impl Passer for Guarding<'_> {
-    ghost use Rattle.std.specs.Prelude.{◌≡◌, ℕ, List};
+    ghost use Rattle.std.specs.Prelude.{◌≡◌, ℕ, List, None};
     ghost use Rattle.flow_base.specs.declared.points.Point.{Point as ThePoint};
     ghost use Rattle.rv32im_machine.specs.Folds.{real_end};
     ghost use Rattle.replay_machine.specs.Breaking.{first_break, walk_break};
@@ -47,6 +47,8 @@ impl Passer for Guarding<'_> {
 
     ghost tape = { λ side. guard_of side };
 
+    ghost memory = { λ side. None };
+
     ghost Plays = { λ side walk out. (masks : Masks) (past : List ThePoint) → IsAhead side.tally.now.masks masks past →
         Guards (guard_of side) masks (visited side.enclosed past walk) (crossing_unless side.enclosed masks past walk)
         (first_break side.broken (walk_break side.region.now side.kept side.pc walk)) (real_end walk) out };
@@ -55,36 +57,11 @@ impl Passer for Guarding<'_> {
         Ok(())
     }
 
-    fn pass(
-        &mut self,
-        point: Point,
-        place: Place,
-        _work: Work,
-        _sources: Sources,
-        value: u32,
-    ) -> Result<u32, Infallible> {
-        visit(self.tally, self.enclosed, point, value);
-        let broken = place_break(self.region, &self.kept, self.pc, place);
+    fn pass(&mut self, passing: Passing) -> Result<u32, Infallible> {
+        visit(self.tally, self.enclosed, passing.point, passing.value);
+        let broken = passing_break(self.region, &self.kept, self.pc, &passing);
         self.broken = earlier(self.broken, broken);
-        Ok(value)
-    }
-
-    fn decide(
-        &mut self,
-        point: Point,
-        _work: Work,
-        _sources: Sources,
-        value: u32,
-    ) -> Result<u32, Infallible> {
-        visit(self.tally, self.enclosed, point, value);
-        let broken = slot_break(self.region, self.pc, point.slot);
-        self.broken = earlier(self.broken, broken);
-        Ok(value)
-    }
-
-    fn give(&mut self, point: Point, _place: Place, value: u32) -> Result<u32, Infallible> {
-        visit(self.tally, self.enclosed, point, value);
-        Ok(value)
+        Ok(passing.value)
     }
 
     fn move_to(

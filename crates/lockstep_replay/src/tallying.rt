@@ -11,7 +11,7 @@ ghost use Rattle.lockstep_replay.specs.Sides.{tally_of};
 use crate::tallies::Tallying;
 use crossing_bits::{Bits, bit_count};
 use flow_base::Point;
-use rv32im_machine::{Passer, Place, Seen, Shape, Source, Sources, Work};
+use rv32im_machine::{Passer, Passing, Place, Seen, Shape, Source};
 use std::convert::Infallible;
 
 /// Counts the bits of a value under a mask, and keeps them as long as the budget holds; the answer is the number so
@@ -64,7 +64,7 @@ impl Tallying {
 }
 
 impl Passer for Tallying {
-    ghost use Rattle.std.specs.Prelude.{◌≡◌, ℕ, List};
+    ghost use Rattle.std.specs.Prelude.{◌≡◌, ℕ, List, None};
     ghost use Rattle.flow_base.specs.declared.points.Point.{Point as ThePoint};
     ghost use Rattle.rv32im_machine.specs.Folds.{real_end};
     ghost use Rattle.replay_machine.specs.Runs.{Masks, passed};
@@ -81,6 +81,8 @@ impl Passer for Tallying {
 
     ghost tape = { λ side. tally_of side };
 
+    ghost memory = { λ side. None };
+
     ghost Plays = { λ side walk out. (masks : Masks) (past : List ThePoint) → IsAhead side.masks masks past →
         Crosses (tally_of side) masks (passed past walk) (crossing masks past walk) (real_end walk) out };
 
@@ -88,32 +90,9 @@ impl Passer for Tallying {
         Ok(())
     }
 
-    fn pass(
-        &mut self,
-        point: Point,
-        _place: Place,
-        _work: Work,
-        _sources: Sources,
-        value: u32,
-    ) -> Result<u32, Infallible> {
-        self.cross(point, value);
-        Ok(value)
-    }
-
-    fn decide(
-        &mut self,
-        point: Point,
-        _work: Work,
-        _sources: Sources,
-        value: u32,
-    ) -> Result<u32, Infallible> {
-        self.cross(point, value);
-        Ok(value)
-    }
-
-    fn give(&mut self, point: Point, _place: Place, value: u32) -> Result<u32, Infallible> {
-        self.cross(point, value);
-        Ok(value)
+    fn pass(&mut self, passing: Passing) -> Result<u32, Infallible> {
+        self.cross(passing.point, passing.value);
+        Ok(passing.value)
     }
 
     fn move_to(

@@ -2,10 +2,11 @@ ghost use Rattle.std.specs.Prelude.{◌≡◌, IsTrue};
 ghost use Rattle.enclosure_regions.specs.Regions.{is_region};
 ghost use Rattle.replay_machine.specs.Breaking.{first_break};
 ghost use Rattle.replay_machine.specs.Breaking.{place_break as break_by_place, slot_break as break_by_slot};
+ghost use Rattle.replay_machine.specs.Breaking.{passing_break as break_by_passing};
 
 use enclosure_regions::{Break, Region, written_byte, written_register};
 use flow_base::{Registers, Slot};
-use rv32im_machine::Place;
+use rv32im_machine::{Aim, Passing, Place};
 
 /// The earlier of two breaks.
 pub(crate) fn earlier(first: Option<Break>, second: Option<Break>) -> Option<Break>
@@ -31,7 +32,7 @@ pub(crate) fn place_break(region: &Region, kept: &Registers, pc: u32, place: Pla
 }
 
 /// How a decision of the instruction at an address breaks the region, if it does: the number of a call.
-pub(crate) fn slot_break(region: &Region, pc: u32, slot: Slot) -> Option<Break>
+fn slot_break(region: &Region, pc: u32, slot: Slot) -> Option<Break>
     ensures { result ≡ break_by_slot region.now pc slot }
 {
     match slot {
@@ -40,5 +41,22 @@ pub(crate) fn slot_break(region: &Region, pc: u32, slot: Slot) -> Option<Break>
             pc,
         }),
         _ => None,
+    }
+}
+
+/// How what passes breaks the region, if it does.
+pub(crate) fn passing_break(
+    region: &Region,
+    kept: &Registers,
+    pc: u32,
+    passing: &Passing,
+) -> Option<Break>
+    requires { IsTrue (is_region region.now) }
+    ensures { result ≡ break_by_passing region.now kept.now pc passing.now }
+{
+    match passing.aim {
+        Aim::Put(place) => place_break(region, kept, pc, place),
+        Aim::Decide => slot_break(region, pc, passing.point.slot),
+        Aim::Give(_) => None,
     }
 }

@@ -5,6 +5,7 @@ use Rattle.lockstep_replay.proofs.guarding.GuardingPasser.move_to.Goals as goal
 
 pub returns : goal.returns
 returns c = record {
+  memory = refl;
   goes = λ walk out after masks past ahead.
       guards-moved c.args.self.now.enclosed (guard_of c.args.self.now)
       (record {

@@ -12,7 +12,7 @@ returns-clause-goes c = λ go out after masks past ahead.
       broken = c.earlier-self.result;
       lent = c.args.self.now.tally.ghost_name;
     }) masks past
-    c.args.self.now.region.now c.args.self.now.kept c.args.self.now.pc c.args.point c.args.place c.args._work
-    c.args._sources c.args.value go out c.args.self.now.tally.now.small (c.visit.ensures.tally masks past ahead)
-    (rw (sym c.place_break-broken.ensures) c.earlier-self.ensures) refl
-    (after masks (visit_past c.args.self.now.enclosed past c.args.point) (c.visit.ensures.ahead masks past ahead))
+    c.args.self.now.region.now c.args.self.now.kept c.args.self.now.pc c.args.passing go out
+    c.args.self.now.tally.now.small (c.visit.ensures.tally masks past ahead)
+    (rw (sym c.passing_break-broken.ensures) c.earlier-self.ensures) refl
+    (after masks (visit_past c.args.self.now.enclosed past c.args.passing.point) (c.visit.ensures.ahead masks past ahead))

@@ -11,8 +11,8 @@ pub returns-clause-goes : goal.returns-clause-goes
 unfolding crossing real_end passed
 returns-clause-goes c = λ go out after masks past ahead.
     crosses-more (tally_of c.args.self.now) (tally_of c.cross.new.self) masks
-    (passed (c.args.point ∷ past) (go c.args.value))
-    (bits_under c.args.value (mask_at masks past c.args.point))
-    (crossing masks (c.args.point ∷ past) (go c.args.value))
-    (real_end (go c.args.value)) out c.args.self.now.small (c.cross.ensures.tally masks past ahead)
-    (after masks (c.args.point ∷ past) (c.cross.ensures.ahead masks past ahead))
+    (passed (c.args.passing.point ∷ past) (go c.args.passing.value))
+    (bits_under c.args.passing.value (mask_at masks past c.args.passing.point))
+    (crossing masks (c.args.passing.point ∷ past) (go c.args.passing.value))
+    (real_end (go c.args.passing.value)) out c.args.self.now.small (c.cross.ensures.tally masks past ahead)
+    (after masks (c.args.passing.point ∷ past) (c.cross.ensures.ahead masks past ahead))

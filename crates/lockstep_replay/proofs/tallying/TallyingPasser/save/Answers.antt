@@ -1,3 +1,4 @@
+use Rattle.std.proofs.Common.{refl}
 use Rattle.rv32im_machine.specs.Folds.{real_end}
 use Rattle.replay_machine.specs.Runs.{passed}
 use Rattle.lockstep_replay.specs.Crossing.{crossing}
@@ -5,4 +6,4 @@ use Rattle.lockstep_replay.proofs.tallying.TallyingPasser.save.Goals as goal
 
 pub returns : goal.returns
 unfolding crossing real_end passed
-returns c = record { goes = λ walk out after masks past ahead. after masks past ahead }
+returns c = record { memory = refl; goes = λ walk out after masks past ahead. after masks past ahead }
