@@ -9,75 +9,72 @@ use Rattle.flow_base.specs.Loads.{Told, after_load, next_answer, held_answer}
 use Rattle.elf32_loader.specs.Pictures.{Picture}
 use Rattle.elf32_loader.specs.Programs.{IsImage}
 use Rattle.enclosure_regions.specs.declared.region_parts.Region.{Region}
-use Rattle.cut_file.specs.Cuts.{CutPicture}
-use Rattle.cut_file.specs.Masks.{MaskAt}
+use Rattle.lockstep_replay.specs.Tasks.{Task, Limits, task_of}
 use Rattle.lockstep_replay.specs.Acceptance.{Accept, IsOutput}
 use Rattle.lockstep_replay.specs.Verdicts.{Judgement, Accepts, Rejects, First}
-use Rattle.lockstep_replay.specs.VerdictLaws.{enclosures_of}
-use Rattle.lockstep_replay.proofs.Bounds.{bound_law}
+use Rattle.lockstep_replay.proofs.Bounds.{done_law, bound_law}
 use Rattle.lockstep_replay.proofs.Accepting.{accepted_law}
 use Rattle.lockstep_replay.proofs.Judging.{rejected_law}
 use Rattle.lockstep_replay.proofs.Causes.{causes_law}
-use Rattle.flowcheck.specs.declared.limits.Limits.{Limits}
 use Rattle.flowcheck.specs.CommandLines.{Check, IsCheck, Checks, Assembles, Lists}
 use Rattle.flowcheck.specs.Loading.{Want, LoadRefusal, CannotLoad, IsTooLarge, and_load, loaded_from, other_wants, wants_of, secret_wants}
-use Rattle.flowcheck.specs.Replies.{Reply, RepliesByTold, Replies, AreRegions, RepliesToLoads, RepliesToOthers, RepliesToFiles, RepliesToRegions, RepliesToCut, judgements_of, load_reply}
+use Rattle.flowcheck.specs.Replies.{Reply, RepliesByTold, Replies, AreRegions, RepliesToLoads, RepliesToOthers, RepliesToFiles, RepliesToRegions, RepliesToCut, limits_of, judgements_of, load_reply}
 use Rattle.flowcheck.specs.Headline.{HeadlineByTold}
 use Rattle.flowcheck.specs.Replies.{RepliesByTold}
 use Rattle.flowcheck.specs.Headline.{AreHeld, IsHeld, Says, AllSay, IsAmong, AreFewOfAll, AreFew, Headline}
 
 -- ---- each judgement says what it means
 
-says : (picture : Picture) (public_input : List ℕ) (regions : List Region) (cut : CutPicture) (limits : Limits) (secret : List ℕ) (judgement : Judgement) →
-    First picture public_input secret regions cut limits.budget limits.turns ≡ judgement → Says picture public_input regions cut limits secret judgement
-says picture public_input regions cut limits secret (Accepts bits output) e =
-    let law = accepted_law picture public_input secret regions cut limits.budget limits.turns bits output e in
+says : (task : Task) (limits : Limits) (secret : List ℕ) (judgement : Judgement) →
+    First task limits secret ≡ judgement → Says task limits secret judgement
+says task limits secret (Accepts bits output) e =
+    let law = accepted_law task limits secret bits output e in
     record {
       accept = law.0;
       few = rw law.1 law.0.within;
-      replay = rw law.1 law.0.replay;
+      replay = rw law.1 (done_law task limits secret output law.0);
       real = law.0.exits;
     }
-says picture public_input regions cut limits secret (Rejects why) e = record {
-  refused = rejected_law picture public_input secret regions cut limits.budget limits.turns why e;
-  cause = causes_law picture public_input secret regions cut limits.budget limits.turns why e;
+says task limits secret (Rejects why) e = record {
+  refused = rejected_law task limits secret why e;
+  cause = causes_law task limits secret why e;
 }
 
-all-say : (picture : Picture) (public_input : List ℕ) (regions : List Region) (cut : CutPicture) (limits : Limits) (secrets : List (List ℕ)) →
-    AllSay picture public_input regions cut limits secrets (judgements_of picture public_input regions cut limits secrets)
-all-say picture public_input regions cut limits [] = tt
-all-say picture public_input regions cut limits (secret ∷ secrets) =
-    (says picture public_input regions cut limits secret (First picture public_input secret regions cut limits.budget limits.turns) refl, all-say picture public_input regions cut limits secrets)
+all-say : (task : Task) (limits : Limits) (secrets : List (List ℕ)) →
+    AllSay task limits secrets (judgements_of task limits secrets)
+all-say task limits [] = tt
+all-say task limits (secret ∷ secrets) =
+    (says task limits secret (First task limits secret) refl, all-say task limits secrets)
 
 -- ---- the bound
 
-among-output : (picture : Picture) (public_input : List ℕ) (regions : List Region) (cut : CutPicture) (limits : Limits) (secrets : List (List ℕ)) (judgements : List Judgement) (output : Output) →
-    AllSay picture public_input regions cut limits secrets judgements → IsAmong judgements output →
-    IsOutput picture public_input (enclosures_of regions cut) (MaskAt cut.points) cut.secret_length limits.budget limits.turns output
-among-output picture public_input regions cut limits [] [] output say among = absurd among
-among-output picture public_input regions cut limits [] (judgement ∷ judgements) output say among = absurd say
-among-output picture public_input regions cut limits (secret ∷ secrets) [] output say among = absurd say
-among-output picture public_input regions cut limits (secret ∷ secrets) (Accepts bits other ∷ judgements) output say (inl same) =
-    (secret, subst (λ o. Accept picture public_input (enclosures_of regions cut) (MaskAt cut.points) cut.secret_length limits.budget limits.turns secret o) same say.0.accept)
-among-output picture public_input regions cut limits (secret ∷ secrets) (Accepts bits other ∷ judgements) output say (inr among) =
-    among-output picture public_input regions cut limits secrets judgements output say.1 among
-among-output picture public_input regions cut limits (secret ∷ secrets) (Rejects why ∷ judgements) output say among =
-    among-output picture public_input regions cut limits secrets judgements output say.1 among
+among-output : (task : Task) (limits : Limits) (secrets : List (List ℕ)) (judgements : List Judgement) (output : Output) →
+    AllSay task limits secrets judgements → IsAmong judgements output →
+    IsOutput task limits output
+among-output task limits [] [] output say among = absurd among
+among-output task limits [] (judgement ∷ judgements) output say among = absurd say
+among-output task limits (secret ∷ secrets) [] output say among = absurd say
+among-output task limits (secret ∷ secrets) (Accepts bits other ∷ judgements) output say (inl same) =
+    (secret, subst (λ o. Accept task limits secret o) same say.0.accept)
+among-output task limits (secret ∷ secrets) (Accepts bits other ∷ judgements) output say (inr among) =
+    among-output task limits secrets judgements output say.1 among
+among-output task limits (secret ∷ secrets) (Rejects why ∷ judgements) output say among =
+    among-output task limits secrets judgements output say.1 among
 
-all-outputs : (picture : Picture) (public_input : List ℕ) (regions : List Region) (cut : CutPicture) (limits : Limits) (secrets : List (List ℕ)) (judgements : List Judgement) (outputs : List Output) →
-    AllSay picture public_input regions cut limits secrets judgements → AllByRecursion (IsAmong judgements) outputs →
-    AllByRecursion (IsOutput picture public_input (enclosures_of regions cut) (MaskAt cut.points) cut.secret_length limits.budget limits.turns) outputs
-all-outputs picture public_input regions cut limits secrets judgements [] say among = tt
-all-outputs picture public_input regions cut limits secrets judgements (output ∷ outputs) say among = (
-  among-output picture public_input regions cut limits secrets judgements output say among.0,
-  all-outputs picture public_input regions cut limits secrets judgements outputs say among.1,
+all-outputs : (task : Task) (limits : Limits) (secrets : List (List ℕ)) (judgements : List Judgement) (outputs : List Output) →
+    AllSay task limits secrets judgements → AllByRecursion (IsAmong judgements) outputs →
+    AllByRecursion (IsOutput task limits) outputs
+all-outputs task limits secrets judgements [] say among = tt
+all-outputs task limits secrets judgements (output ∷ outputs) say among = (
+  among-output task limits secrets judgements output say among.0,
+  all-outputs task limits secrets judgements outputs say among.1,
 )
 
-are-few : (picture : Picture) (public_input : List ℕ) (regions : List Region) (cut : CutPicture) (limits : Limits) (secrets : List (List ℕ)) (judgements : List Judgement) →
-    AllSay picture public_input regions cut limits secrets judgements → AreFew judgements limits.budget
-are-few picture public_input regions cut limits secrets judgements say outputs different among =
-    bound_law picture public_input (enclosures_of regions cut) (MaskAt cut.points) cut.secret_length limits.budget limits.turns outputs
-    (all-outputs picture public_input regions cut limits secrets judgements outputs say among) different
+are-few : (task : Task) (limits : Limits) (secrets : List (List ℕ)) (judgements : List Judgement) →
+    AllSay task limits secrets judgements → AreFew judgements limits.budget
+are-few task limits secrets judgements say outputs different among =
+    bound_law task limits outputs
+    (all-outputs task limits secrets judgements outputs say among) different
 
 -- ---- what is loaded is held
 
@@ -153,10 +150,10 @@ refusal-status : (refusal : LoadRefusal) → 1 < (load_reply refusal).status
 refusal-status (CannotLoad name) = omega arith
 refusal-status (IsTooLarge name number) = omega arith
 
-are-few-of-all : (picture : Picture) (public_input : List ℕ) (regions : List Region) (cut : CutPicture) (limits : Limits) →
-    AreFewOfAll picture public_input regions cut limits
-are-few-of-all picture public_input regions cut limits outputs different each =
-    bound_law picture public_input (enclosures_of regions cut) (MaskAt cut.points) cut.secret_length limits.budget limits.turns outputs each different
+are-few-of-all : (task : Task) (limits : Limits) →
+    AreFewOfAll task limits
+are-few-of-all task limits outputs different each =
+    bound_law task limits outputs each different
 
 from-cut : (told : Told) (words : List (List ℕ)) (check : Check) (picture : Picture) (program_file public_input cut_file : List ℕ) (region_file : Option (List ℕ)) (regions : List Region) (secrets : List (List ℕ)) (reply : Reply) →
     IsCheck words check → IsImage program_file picture → AreRegions region_file regions →
@@ -166,8 +163,10 @@ from-cut : (told : Told) (words : List (List ℕ)) (check : Check) (picture : Pi
 from-cut told words check picture program_file public_input cut_file region_file regions secrets reply is image are held regions-held low (inl (fault, first, room, e)) =
     absurd (low-status reply.status 3 (ap (λ r. r.status) e) low (omega arith))
 from-cut told words check picture program_file public_input cut_file region_file regions secrets reply is image are held regions-held low (inr (cut, text, e)) =
-    let judgements : List Judgement = judgements_of picture public_input regions cut check.limits secrets in
-    let say = all-say picture public_input regions cut check.limits secrets in
+    let task : Task = task_of picture public_input regions cut in
+    let limits : Limits = limits_of check.limits in
+    let judgements : List Judgement = judgements_of task limits secrets in
+    let say = all-say task limits secrets in
     record {
       check = check;
       is_check = is;
@@ -187,8 +186,8 @@ from-cut told words check picture program_file public_input cut_file region_file
       judgements = judgements;
       lines = ap (λ r. r.text) e;
       say = say;
-      bound = are-few-of-all picture public_input regions cut check.limits;
-      lines_bound = are-few picture public_input regions cut check.limits secrets judgements say;
+      bound = are-few-of-all task limits;
+      lines_bound = are-few task limits secrets judgements say;
       status_is = ap (λ r. r.status) e;
     }
 

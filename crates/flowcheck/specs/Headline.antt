@@ -9,17 +9,14 @@ use Rattle.elf32_loader.specs.Programs.{IsImage}
 use Rattle.crossing_bits.specs.Askers.{AllDifferent}
 use Rattle.lockstep_replay.specs.declared.verdicts.Why.{Why}
 use Rattle.cut_file.specs.Cuts.{CutPicture}
-use Rattle.cut_file.specs.Masks.{MaskAt}
 use Rattle.cut_file.specs.Texts.{CutText}
-use Rattle.replay_machine.specs.Runs.{real_after}
-use Rattle.replay_machine.specs.Starts.{guest}
+use Rattle.lockstep_replay.specs.Tasks.{Task, Limits, task_of, real_of}
 use Rattle.lockstep_replay.specs.Acceptance.{Accept, Done, HasExited, IsOutput}
 use Rattle.lockstep_replay.specs.Verdicts.{Judgement, Accepts, Rejects}
-use Rattle.lockstep_replay.specs.VerdictLaws.{Cause, enclosures_of}
-use Rattle.flowcheck.specs.declared.limits.Limits.{Limits}
+use Rattle.lockstep_replay.specs.VerdictLaws.{Cause}
 use Rattle.flowcheck.specs.CommandLines.{Check, IsCheck}
 use Rattle.flowcheck.specs.Texts.{check_text, accepted_count}
-use Rattle.flowcheck.specs.Replies.{AreRegions}
+use Rattle.flowcheck.specs.Replies.{AreRegions, limits_of}
 use Rattle.enclosure_regions.specs.declared.region_parts.Region.{Region}
 
 -- the source holds these files under these names
@@ -36,45 +33,32 @@ IsHeld told None (Some file) = ⊥
 IsHeld told (Some name) None = ⊥
 IsHeld told (Some name) (Some file) = told.held name ≡ Some file
 
--- An accepted secret: it is accepted within the budget; there are at most so many bits; the replay of these bits, on
--- the program, the public input, the regions, the cut and the length of the secret alone, is done with the output of
--- the secret's real run.
-pub record IsAccepted (picture : Picture) (public_input : List ℕ) (regions : List Region) (cut : CutPicture)
-    (limits : Limits) (secret : List ℕ) (bits : List Bool) (output : Output) : Type 0 where
-  pub accept :
-      Accept picture public_input (enclosures_of regions cut) (MaskAt cut.points) cut.secret_length limits.budget
-      limits.turns secret output
+-- An accepted secret: it is accepted within the limits; there are at most so many bits; the replay of these bits, on
+-- the task alone, is done with the output of the secret's real run.
+pub record IsAccepted (task : Task) (limits : Limits) (secret : List ℕ) (bits : List Bool) (output : Output) :
+    Type 0 where
+  pub accept : Accept task limits secret output
   pub few : length bits ≤ limits.budget
-  pub replay :
-      Done picture public_input (enclosures_of regions cut) (MaskAt cut.points) cut.secret_length limits.turns bits
-      output
-  pub real :
-      HasExited (real_after (enclosures_of regions cut) limits.turns (guest picture public_input secret)).state output
+  pub replay : Done task limits.turns bits output
+  pub real : HasExited (real_of task secret limits.turns).state output
 
 -- A rejected secret: no output of it is accepted, and the reason that is printed holds.
-pub record IsRejected (picture : Picture) (public_input : List ℕ) (regions : List Region) (cut : CutPicture)
-    (limits : Limits) (secret : List ℕ) (why : Why) : Type 0 where
-  pub refused :
-      (output : Output) →
-      ¬ Accept picture public_input (enclosures_of regions cut) (MaskAt cut.points) cut.secret_length limits.budget
-      limits.turns secret output
-  pub cause : Cause picture public_input secret regions cut limits.budget limits.turns why
+pub record IsRejected (task : Task) (limits : Limits) (secret : List ℕ) (why : Why) : Type 0 where
+  pub refused : (output : Output) → ¬ Accept task limits secret output
+  pub cause : Cause task limits secret why
 
 -- what the judgement of a secret says
-abbrev pub Says : Picture → List ℕ → List Region → CutPicture → Limits → List ℕ → Judgement → Type 0
-Says picture public_input regions cut limits secret (Accepts bits output) =
-    IsAccepted picture public_input regions cut limits secret bits output
-Says picture public_input regions cut limits secret (Rejects why) =
-    IsRejected picture public_input regions cut limits secret why
+abbrev pub Says : Task → Limits → List ℕ → Judgement → Type 0
+Says task limits secret (Accepts bits output) = IsAccepted task limits secret bits output
+Says task limits secret (Rejects why) = IsRejected task limits secret why
 
 -- a judgement for each secret, in order
-abbrev pub AllSay : Picture → List ℕ → List Region → CutPicture → Limits → List (List ℕ) → List Judgement → Type 0
-AllSay picture public_input regions cut limits [] [] = Unit {0}
-AllSay picture public_input regions cut limits [] (judgement ∷ judgements) = ⊥
-AllSay picture public_input regions cut limits (secret ∷ secrets) [] = ⊥
-AllSay picture public_input regions cut limits (secret ∷ secrets) (judgement ∷ judgements) =
-    Says picture public_input regions cut limits secret judgement
-    × AllSay picture public_input regions cut limits secrets judgements
+abbrev pub AllSay : Task → Limits → List (List ℕ) → List Judgement → Type 0
+AllSay task limits [] [] = Unit {0}
+AllSay task limits [] (judgement ∷ judgements) = ⊥
+AllSay task limits (secret ∷ secrets) [] = ⊥
+AllSay task limits (secret ∷ secrets) (judgement ∷ judgements) =
+    Says task limits secret judgement × AllSay task limits secrets judgements
 
 -- an output of one of the accepted secrets
 abbrev pub IsAmong : List Judgement → Output → Type 0
@@ -82,13 +66,11 @@ IsAmong [] output = ⊥
 IsAmong (Accepts bits other ∷ judgements) output = (other ≡ output) ⊎ IsAmong judgements output
 IsAmong (Rejects why ∷ judgements) output = IsAmong judgements output
 
--- At most 2 to the budget different outputs arise of all secrets that are accepted, by this check or any other with the
--- same program, public input, regions, cut and limits.
-abbrev pub AreFewOfAll : Picture → List ℕ → List Region → CutPicture → Limits → Type 0
-AreFewOfAll picture public_input regions cut limits =
-    (outputs : List Output) → AllDifferent outputs
-    → AllByRecursion (IsOutput picture public_input (enclosures_of regions cut) (MaskAt cut.points) cut.secret_length
-    limits.budget limits.turns) outputs
+-- At most 2 to the budget different outputs arise of all secrets that are accepted, by this check or any other of the
+-- same task within the same limits.
+abbrev pub AreFewOfAll : Task → Limits → Type 0
+AreFewOfAll task limits =
+    (outputs : List Output) → AllDifferent outputs → AllByRecursion (IsOutput task limits) outputs
     → length outputs ≤ 2 ^ limits.budget
 
 -- and at most so many of the accepted secrets of one check
@@ -118,8 +100,8 @@ pub record Headline (told : Told) (words : List (List ℕ)) (status : ℕ) (text
   pub is_cut : CutText cut_file cut
   pub judgements : List Judgement
   pub lines : text ≡ check_text judgements check.limits.budget
-  pub say : AllSay picture public_input regions cut check.limits secrets judgements
-  pub bound : AreFewOfAll picture public_input regions cut check.limits
+  pub say : AllSay (task_of picture public_input regions cut) (limits_of check.limits) secrets judgements
+  pub bound : AreFewOfAll (task_of picture public_input regions cut) (limits_of check.limits)
   pub lines_bound : AreFew judgements check.limits.budget
   pub status_is : status ≡ (if accepted_count judgements == length judgements then 0 else 1)
 

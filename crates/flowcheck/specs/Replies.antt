@@ -17,6 +17,7 @@ use Rattle.enclosure_regions.specs.declared.region_faults.RegionFault.{RegionFau
 use Rattle.enclosure_regions.specs.declared.region_faults.RegionFault.TheVariants.{Memory as NoRoomForRegions}
 use Rattle.enclosure_regions.specs.declared.region_parts.Region.{Region}
 use Rattle.enclosure_regions.specs.Reading.{FirstRegionFault, Spells}
+use Rattle.lockstep_replay.specs.Tasks.{Task, Limits as CheckLimits, task_of}
 use Rattle.lockstep_replay.specs.Verdicts.{Judgement, First}
 use Rattle.rv32im_asm.specs.declared.fault.AsmFault.{AsmFault}
 use Rattle.rv32im_asm.specs.Assembling.{assembled}
@@ -65,12 +66,14 @@ check_reply judgements budget = record {
   text = check_text judgements budget;
 }
 
+-- the limits that a command line names, as those of a check
+abbrev pub limits_of : Limits → CheckLimits
+limits_of limits = record { budget = limits.budget; turns = limits.turns }
+
 -- each secret is judged from a fresh start
-abbrev pub judgements_of : Picture → List ℕ → List Region → CutPicture → Limits → List (List ℕ) → List Judgement
-judgements_of picture public_input regions cut limits [] = []
-judgements_of picture public_input regions cut limits (secret ∷ secrets) =
-    First picture public_input secret regions cut limits.budget limits.turns
-    ∷ judgements_of picture public_input regions cut limits secrets
+abbrev pub judgements_of : Task → CheckLimits → List (List ℕ) → List Judgement
+judgements_of task limits [] = []
+judgements_of task limits (secret ∷ secrets) = First task limits secret ∷ judgements_of task limits secrets
 
 -- The reply once program and regions are read: to the first fault of the cut file, or to the cut of which it is the
 -- text, by which each secret is judged.
@@ -78,7 +81,8 @@ abbrev pub RepliesToCut : Picture → List ℕ → List Region → List ℕ → 
 RepliesToCut picture public_input regions cut_file limits secrets reply =
     ((fault : CutFault) × FirstCutFault cut_file fault × (fault ≢ NoRoomForCut) × (reply ≡ cut_reply fault))
     ⊎ ((cut : CutPicture) × CutText cut_file cut
-    × (reply ≡ check_reply (judgements_of picture public_input regions cut limits secrets) limits.budget))
+    × (reply ≡ check_reply (judgements_of (task_of picture public_input regions cut) (limits_of limits) secrets)
+    limits.budget))
 
 -- the first fault of a region file, where there is one
 abbrev pub IsRegionFault : Option (List ℕ) → RegionFault → Type 0

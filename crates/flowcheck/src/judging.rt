@@ -2,10 +2,11 @@ ghost use Rattle.std.specs.Prelude.{◌≡◌, ◌==◌, ◌≤◌, length, IfOk
 ghost use Rattle.elf32_loader.specs.Images.{picture_of};
 ghost use Rattle.cut_file.specs.Pictures.{picture_of as cut_of};
 ghost use Rattle.lockstep_replay.specs.Judgements.{judgement_of};
+ghost use Rattle.lockstep_replay.specs.Tasks.{task_of};
 ghost use Rattle.lockstep_replay.specs.Verdicts.{First};
 ghost use Rattle.flowcheck.specs.Answering.{reply_of};
 ghost use Rattle.flowcheck.specs.CommandLines.{highest_budget};
-ghost use Rattle.flowcheck.specs.Replies.{check_reply, judgements_of};
+ghost use Rattle.flowcheck.specs.Replies.{check_reply, judgements_of, limits_of};
 ghost use Rattle.flowcheck.specs.Stops.{AreShort};
 ghost use Rattle.flowcheck.specs.Loading.{secret_limit};
 ghost use Rattle.flowcheck.specs.Texts.{accepted_count, verdict_lines};
@@ -32,8 +33,9 @@ fn judge(
 ) -> Result<Verdict, NoMemory>
     requires short { length secret.now ≤ secret_limit }
     requires within { limits.budget ≤ highest_budget }
-    ensures { IfOk result (λ verdict. judgement_of verdict ≡ First (picture_of image.now) public_input.now
-        secret.now regions.now.items (cut_of cut.now) limits.budget limits.turns) }
+    ensures { IfOk result (λ verdict. judgement_of verdict ≡ First
+        (task_of (picture_of image.now) public_input.now regions.now.items (cut_of cut.now)) (limits_of limits)
+        secret.now) }
 {
     let lockstep = Lockstep::new(
         alloc,
@@ -86,10 +88,12 @@ fn lines_of(
 ) -> Result<Lines, NoMemory>
     requires short { AreShort secrets.now }
     requires within { limits.budget ≤ highest_budget }
-    ensures text { IfOk result (λ lines. lines.text.items ≡ verdict_lines 1 (judgements_of (picture_of image.now)
-        public_input.now regions.now.items (cut_of cut.now) limits secrets.now)) }
-    ensures accepted { IfOk result (λ lines. lines.accepted ≡ accepted_count (judgements_of (picture_of image.now)
-        public_input.now regions.now.items (cut_of cut.now) limits secrets.now)) }
+    ensures text { IfOk result (λ lines. lines.text.items ≡ verdict_lines 1 (judgements_of
+        (task_of (picture_of image.now) public_input.now regions.now.items (cut_of cut.now)) (limits_of limits)
+        secrets.now)) }
+    ensures accepted { IfOk result (λ lines. lines.accepted ≡ accepted_count (judgements_of
+        (task_of (picture_of image.now) public_input.now regions.now.items (cut_of cut.now)) (limits_of limits)
+        secrets.now)) }
 {
     let mut text = Vec::new(alloc);
     let mut number = 0;
@@ -117,8 +121,9 @@ pub fn check_all(
 ) -> Result<Reply, NoMemory>
     requires short { AreShort secrets.now }
     requires within { limits.budget ≤ highest_budget }
-    ensures reply { IfOk result (λ reply. reply_of reply ≡ check_reply (judgements_of (picture_of image.now)
-        public_input.now regions.now.items (cut_of cut.now) limits secrets.now) limits.budget) }
+    ensures reply { IfOk result (λ reply. reply_of reply ≡ check_reply (judgements_of
+        (task_of (picture_of image.now) public_input.now regions.now.items (cut_of cut.now)) (limits_of limits)
+        secrets.now) limits.budget) }
     ensures status { IfOk result (λ reply. reply.status ≤ 1) }
 {
     let lines = lines_of(alloc, image, public_input, regions, cut, limits, secrets)?;

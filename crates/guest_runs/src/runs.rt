@@ -1,9 +1,10 @@
 ghost use Rattle.std.specs.Prelude.{◌≡◌, ◌<◌, ◌^◌, [], length, IfSome};
 ghost use Rattle.lockstep_replay.specs.Judgements.{judgement_of};
 ghost use Rattle.cut_file.specs.Pictures.{picture_of as cut_of};
+ghost use Rattle.lockstep_replay.specs.Tasks.{task_of};
 ghost use Rattle.lockstep_replay.specs.Verdicts.{First};
 ghost use Rattle.elf32_loader.specs.Images.{picture_of};
-ghost use Rattle.guest_runs.specs.Accepted.{IsAccepted, IsJudgement, budget, turns};
+ghost use Rattle.guest_runs.specs.Accepted.{IsAccepted, IsJudgement, limits};
 
 use cut_file::{Cut, read_cut};
 use elf32_loader::{Image, load_image};
@@ -69,8 +70,8 @@ fn judge(
     cut: &Cut,
 ) -> Option<Verdict>
     requires short { length secret.now < 2 ^ 32 }
-    ensures { IfSome result (λ verdict. judgement_of verdict ≡ First (picture_of image.now) public_input.now
-        secret.now [] (cut_of cut.now) budget turns) }
+    ensures { IfSome result (λ verdict. judgement_of verdict ≡ First
+        (task_of (picture_of image.now) public_input.now [] (cut_of cut.now)) limits secret.now) }
 {
     let regions = Regions::none(alloc);
     let Ok(lockstep) = Lockstep::new(

@@ -1,9 +1,8 @@
--- The laws of the bound: prefixes, crossing strings, outputs, and more turns.
+-- The laws of acceptance: the replay is done, prefixes, crossing strings, outputs, and greater limits.
 use Rattle.std.proofs.Common.{◌≡◌, ℕ, zero, suc, ◌≤◌, inl, inr, List, [], ◌∷◌, length, ap, sym, subst, ◌∙◌, Bool, None}
-use Rattle.std.proofs.Common.{arith}
+use Rattle.std.proofs.Common.{false, arith}
 use Rattle.std.specs.List.{AllByRecursion}
 use Rattle.flow_base.specs.declared.outputs.Output.{Output}
-use Rattle.elf32_loader.specs.Pictures.{Picture}
 use Rattle.crossing_bits.specs.Askers.{Asker, Over, then_ask, Uses, IsReached}
 use Rattle.crossing_bits.specs.Weights.{IsUsed, HaveAtMost, IsPrefixFree}
 use Rattle.crossing_bits.proofs.Feeding.{le_or_lt, prefix_law}
@@ -11,76 +10,87 @@ use Rattle.crossing_bits.proofs.Outputs.{outputs_few, reached_through, strings_f
 use Rattle.crossing_bits.proofs.Weighing.{kraft}
 use Rattle.rv32im_machine.specs.declared.stepping.Stepped.{Stepped}
 use Rattle.rv32im_machine.specs.declared.stepping.Stepped.TheVariants.{Ran, Exited, Stopped}
-use Rattle.replay_machine.specs.Enclosures.{Enclosures}
-use Rattle.replay_machine.specs.Runs.{Place, ReplayPlace, Masks, real_after, common_turns, Replay}
-use Rattle.lockstep_replay.specs.Crossing.{Cross}
-use Rattle.replay_machine.specs.Starts.{guest, replay_guest}
-use Rattle.lockstep_replay.specs.Acceptance.{HasExited, EndAlike, SameMark, Done, Follows, Accept, PrefixesLaw, IsCross}
-use Rattle.lockstep_replay.specs.Acceptance.{CrossesLaw, IsOutput, BoundLaw, MoreTurnsLaw}
+use Rattle.replay_machine.specs.Runs.{Place, ReplayPlace, real_after}
+use Rattle.lockstep_replay.specs.Tasks.{Task, Limits, real_start, real_of, enclosed_of, common_of, Cross}
+use Rattle.lockstep_replay.specs.Tasks.{replay_start, replay_of}
+use Rattle.lockstep_replay.specs.Acceptance.{HasExited, EndAlike, SameMark, Done, Follows, Accept, DoneLaw, PrefixesLaw}
+use Rattle.lockstep_replay.specs.Acceptance.{IsCross, CrossesLaw, IsOutput, BoundLaw, GreaterLimitsLaw}
 use Rattle.replay_machine.proofs.Stillness.{IsOver}
 use Rattle.lockstep_replay.proofs.Stillness.{real_later, cross_later, replay_later}
-use Rattle.lockstep_replay.proofs.Runs.{common_grows}
+use Rattle.lockstep_replay.proofs.Runs.{common_grows, common_most}
 use Rattle.lockstep_replay.proofs.Exits.{exposed_exit}
 
+-- ---- the replay of an accepted secret
+
+-- it follows the real run after the last turn
+follows_last :
+    (task : Task) (turns : ℕ) (secret : List ℕ) (output : Output) → (real_of task secret turns).broken ≡ None →
+    HasExited (real_of task secret turns).state output → ((turn : ℕ) → suc turn ≤ turns →
+    enclosed_of task secret turn ≡ false → Follows task secret (suc turn)) → Follows task secret turns
+unfolding real_after
+follows_last task zero secret output unbroken exits follows =
+    let never : Ran ≡ Exited output.status = exits.status in absurd (cc)
+follows_last task (suc turns) secret output unbroken exits follows =
+    follows turns (omega arith) (exposed_exit task.enclosures (real_start task secret) turns output.status unbroken
+    exits.status)
+
+pub over_exited : (mode : Stepped) (status : ℕ) → mode ≡ Exited status → IsOver mode
+over_exited mode status e = subst (λ m. IsOver m) (sym e) tt
+
+pub accepted_last :
+    (task : Task) (limits : Limits) (secret : List ℕ) (output : Output) → Accept task limits secret output →
+    Follows task secret limits.turns
+accepted_last task limits secret output accept =
+    follows_last task limits.turns secret output accept.unbroken accept.exits accept.follows
+
+pub done_law : DoneLaw
+done_law task limits secret output accept =
+    let last : Follows task secret limits.turns = accepted_last task limits secret output accept in
+    let exited : HasExited last.place.state output = accept.replay_exits last in record {
+      place = last.place;
+      uses =
+          replay_later task.enclosures task.masks (replay_start task) (common_of task secret limits.turns) limits.turns
+          (Cross task secret limits.turns) last.place [] (common_most task.enclosures limits.turns
+          (real_start task secret)) last.inside (over_exited last.place.state.control.mode output.status exited.status)
+          last.uses;
+      inside = last.inside;
+      exited = exited;
+    }
+
 pub prefixes_law : PrefixesLaw
-prefixes_law picture public_input enclosures masks secret_length turns first second output other p q h =
-    prefix_law ReplayPlace (Replay enclosures masks turns (replay_guest picture public_input secret_length)) first
-    second p.place q.place p.uses q.uses h
+prefixes_law task turns first second output other p q h =
+    prefix_law ReplayPlace (replay_of task turns) first second p.place q.place p.uses q.uses h
 
 -- ---- crossing strings
 
 used_of :
-    (picture : Picture) (public_input : List ℕ) (enclosures : Enclosures) (masks : Masks)
-    (secret_length budget turns : ℕ) (bits : List Bool) →
-    IsCross picture public_input enclosures masks secret_length budget turns bits →
-    IsUsed (Replay enclosures masks turns (replay_guest picture public_input secret_length)) bits
-used_of picture public_input enclosures masks secret_length budget turns bits (secret, (output, h, e)) = (
-  h.replay.place,
-  subst (λ s. Uses (Replay enclosures masks turns
-      (replay_guest picture public_input secret_length)) s h.replay.place) e h.replay.uses,
-)
+    (task : Task) (limits : Limits) (bits : List Bool) → IsCross task limits bits →
+    IsUsed (replay_of task limits.turns) bits
+used_of task limits bits (secret, (output, accept, e)) =
+    let done : Done task limits.turns (Cross task secret limits.turns) output =
+    done_law task limits secret output accept in
+    (done.place, subst (λ s. Uses (replay_of task limits.turns) s done.place) e done.uses)
 
-short_of :
-    (picture : Picture) (public_input : List ℕ) (enclosures : Enclosures) (masks : Masks)
-    (secret_length budget turns : ℕ) (bits : List Bool) →
-    IsCross picture public_input enclosures masks secret_length budget turns bits → length bits ≤ budget
-short_of picture public_input enclosures masks secret_length budget turns bits (secret, (output, h, e)) =
-    subst (λ s. length s ≤ budget) e h.within
+short_of : (task : Task) (limits : Limits) (bits : List Bool) → IsCross task limits bits → length bits ≤ limits.budget
+short_of task limits bits (secret, (output, accept, e)) = subst (λ s. length s ≤ limits.budget) e accept.within
 
 all_used :
-    (picture : Picture) (public_input : List ℕ) (enclosures : Enclosures) (masks : Masks)
-    (secret_length budget turns : ℕ)
-    (strings : List (List Bool)) →
-    AllByRecursion (IsCross picture public_input enclosures masks secret_length budget turns) strings →
-    AllByRecursion (IsUsed (Replay enclosures masks turns (replay_guest picture public_input secret_length))) strings
-all_used picture public_input enclosures masks secret_length budget turns [] h = tt
-all_used picture public_input enclosures masks secret_length budget turns (bits ∷ strings) (h, hs) = (
-  used_of picture public_input enclosures masks secret_length budget turns bits h,
-  all_used picture public_input enclosures masks secret_length budget turns strings hs,
-)
+    (task : Task) (limits : Limits) (strings : List (List Bool)) → AllByRecursion (IsCross task limits) strings →
+    AllByRecursion (IsUsed (replay_of task limits.turns)) strings
+all_used task limits [] h = tt
+all_used task limits (bits ∷ strings) (h, hs) = (used_of task limits bits h, all_used task limits strings hs)
 
 all_short :
-    (picture : Picture) (public_input : List ℕ) (enclosures : Enclosures) (masks : Masks)
-    (secret_length budget turns : ℕ)
-    (strings : List (List Bool)) →
-    AllByRecursion (IsCross picture public_input enclosures masks secret_length budget turns) strings →
-    HaveAtMost budget strings
-all_short picture public_input enclosures masks secret_length budget turns [] h = tt
-all_short picture public_input enclosures masks secret_length budget turns (bits ∷ strings) (h, hs) = (
-  short_of picture public_input enclosures masks secret_length budget turns bits h,
-  all_short picture public_input enclosures masks secret_length budget turns strings hs,
-)
+    (task : Task) (limits : Limits) (strings : List (List Bool)) → AllByRecursion (IsCross task limits) strings →
+    HaveAtMost limits.budget strings
+all_short task limits [] h = tt
+all_short task limits (bits ∷ strings) (h, hs) = (short_of task limits bits h, all_short task limits strings hs)
 
 pub crosses_law : CrossesLaw
-crosses_law picture public_input enclosures masks secret_length budget turns strings h different =
+crosses_law task limits strings h different =
     let free : IsPrefixFree strings =
-    strings_free ReplayPlace (Replay enclosures masks turns (replay_guest picture public_input secret_length)) strings
-    different
-    (all_used picture public_input enclosures masks secret_length budget turns strings h) in (
-      free,
-      kraft budget strings (all_short picture public_input enclosures masks secret_length budget turns strings h)
-          free,
-    )
+    strings_free ReplayPlace (replay_of task limits.turns) strings different (all_used task limits strings h) in
+    (free, kraft limits.budget strings (all_short task limits strings h) free)
 
 -- ---- outputs
 
@@ -100,43 +110,35 @@ exited_output : (place : ReplayPlace) (output : Output) → HasExited place.stat
 exited_output place output h =
     ap (λ bytes. output_at bytes place.state.control.mode) h.bytes ∙ ap (λ mode. output_at output.bytes mode) h.status
 
-abbrev pub output_asker : Picture → List ℕ → Enclosures → Masks → ℕ → ℕ → Asker Output
-output_asker picture public_input enclosures masks secret_length turns =
-    then_ask (Replay enclosures masks turns (replay_guest picture public_input secret_length))
-    (λ place. Over (output_of place))
+abbrev pub output_asker : Task → ℕ → Asker Output
+output_asker task turns = then_ask (replay_of task turns) (λ place. Over (output_of place))
 
 reached_of :
-    (picture : Picture) (public_input : List ℕ) (enclosures : Enclosures) (masks : Masks)
-    (secret_length budget turns : ℕ) (output : Output) →
-    IsOutput picture public_input enclosures masks secret_length budget turns output →
-    IsReached (output_asker picture public_input enclosures masks secret_length turns) budget output
-reached_of picture public_input enclosures masks secret_length budget turns output (secret, h) =
-    subst (λ o. IsReached (output_asker picture public_input enclosures masks secret_length turns) budget o)
-    (exited_output h.replay.place output h.replay.exited)
-    (reached_through (Replay enclosures masks turns (replay_guest picture public_input secret_length)) output_of budget
-    (Cross enclosures masks turns (guest picture public_input secret)) h.replay.place h.within h.replay.uses)
+    (task : Task) (limits : Limits) (output : Output) → IsOutput task limits output →
+    IsReached (output_asker task limits.turns) limits.budget output
+reached_of task limits output (secret, accept) =
+    let done : Done task limits.turns (Cross task secret limits.turns) output =
+    done_law task limits secret output accept in
+    subst (λ o. IsReached (output_asker task limits.turns) limits.budget o)
+    (exited_output done.place output done.exited) (reached_through (replay_of task limits.turns) output_of limits.budget
+    (Cross task secret limits.turns) done.place accept.within done.uses)
 
 all_reached :
-    (picture : Picture) (public_input : List ℕ) (enclosures : Enclosures) (masks : Masks)
-    (secret_length budget turns : ℕ)
-    (outputs : List Output) →
-    AllByRecursion (IsOutput picture public_input enclosures masks secret_length budget turns) outputs →
-    AllByRecursion (IsReached (output_asker picture public_input enclosures masks secret_length turns) budget) outputs
-all_reached picture public_input enclosures masks secret_length budget turns [] h = tt
-all_reached picture public_input enclosures masks secret_length budget turns (output ∷ outputs) (h, hs) = (
-  reached_of picture public_input enclosures masks secret_length budget turns output h,
-  all_reached picture public_input enclosures masks secret_length budget turns outputs hs,
+    (task : Task) (limits : Limits) (outputs : List Output) → AllByRecursion (IsOutput task limits) outputs →
+    AllByRecursion (IsReached (output_asker task limits.turns) limits.budget) outputs
+all_reached task limits [] h = tt
+all_reached task limits (output ∷ outputs) (h, hs) = (
+  reached_of task limits output h,
+  all_reached task limits outputs
+      hs,
 )
 
 pub bound_law : BoundLaw
-bound_law picture public_input enclosures masks secret_length budget turns outputs h different =
-    outputs_few Output (output_asker picture public_input enclosures masks secret_length turns) budget outputs different
-    (all_reached picture public_input enclosures masks secret_length budget turns outputs h)
+bound_law task limits outputs h different =
+    outputs_few Output (output_asker task limits.turns) limits.budget outputs different
+    (all_reached task limits outputs h)
 
--- ---- more turns
-
-pub over_exited : (mode : Stepped) (status : ℕ) → mode ≡ Exited status → IsOver mode
-over_exited mode status e = subst (λ m. IsOver m) (sym e) tt
+-- ---- greater limits
 
 pub over_alike : (real copy : Stepped) → EndAlike real copy → IsOver real → IsOver copy
 over_alike Ran copy h over = absurd over
@@ -146,83 +148,65 @@ over_alike (Exited status) (Stopped fault) h over = absurd h
 over_alike (Stopped fault) copy h over = absurd h
 
 -- where the real run is over the replay follows it in every later turn
-follows_later :
-    (picture : Picture) (public_input : List ℕ) (enclosures : Enclosures) (masks : Masks) (secret_length : ℕ)
-    (secret : List ℕ) (turns more : ℕ) → turns ≤ more →
-    IsOver (real_after enclosures turns (guest picture public_input secret)).state.control.mode →
-    Follows picture public_input enclosures masks secret_length secret turns →
-    Follows picture public_input enclosures masks secret_length secret more
-follows_later picture public_input enclosures masks secret_length secret turns more h over follows = record {
+pub follows_later :
+    (task : Task) (secret : List ℕ) (turns more : ℕ) → turns ≤ more →
+    IsOver (real_of task secret turns).state.control.mode → Follows task secret turns → Follows task secret more
+follows_later task secret turns more h over follows = record {
   place = follows.place;
   uses =
-      replay_later enclosures masks (replay_guest picture public_input secret_length)
-      (common_turns enclosures turns (guest picture public_input secret))
-      (common_turns enclosures more (guest picture public_input secret))
-      (Cross enclosures masks more (guest picture public_input secret)) follows.place []
-      (common_grows enclosures (guest picture public_input secret) turns more h) follows.inside
-      (over_alike (real_after enclosures turns (guest picture public_input secret)).state.control.mode
-      follows.place.state.control.mode follows.mark.ended over)
-      (subst (λ s. Uses (Replay enclosures masks (common_turns enclosures turns (guest picture public_input secret))
-      (replay_guest picture public_input secret_length)) s follows.place)
-      (sym (cross_later enclosures masks (guest picture public_input secret) turns more h over)) follows.uses);
+      replay_later task.enclosures task.masks (replay_start task) (common_of task secret turns)
+      (common_of task secret more) (Cross task secret more) follows.place []
+      (common_grows task.enclosures (real_start task secret) turns more h) follows.inside
+      (over_alike (real_of task secret turns).state.control.mode follows.place.state.control.mode follows.mark.ended
+      over) (subst (λ s. Uses (replay_of task (common_of task secret turns)) s follows.place)
+      (sym (cross_later task.enclosures task.masks (real_start task secret) turns more h over)) follows.uses);
   inside = follows.inside;
-  mark = subst (λ (p : Place). SameMark p.state follows.place.state)
-      (sym (real_later enclosures (guest picture public_input secret) turns more h over)) follows.mark;
+  mark =
+      subst (λ (p : Place). SameMark p.state follows.place.state)
+      (sym (real_later task.enclosures (real_start task secret) turns more h over)) follows.mark;
 }
 
-done_later :
-    (picture : Picture) (public_input : List ℕ) (enclosures : Enclosures) (masks : Masks)
-    (secret_length turns more : ℕ) (bits : List Bool) (output : Output) → turns ≤ more →
-    Done picture public_input enclosures masks secret_length turns bits output →
-    Done picture public_input enclosures masks secret_length more bits output
-done_later picture public_input enclosures masks secret_length turns more bits output h done = record {
-  place = done.place;
-  uses =
-      replay_later enclosures masks (replay_guest picture public_input secret_length) turns more bits done.place [] h
-      done.inside
-      (over_exited done.place.state.control.mode output.status done.exited.status) done.uses;
-  inside = done.inside;
-  exited = done.exited;
-}
+same_place :
+    (asker : Asker ReplayPlace) (bits : List Bool) (first second : ReplayPlace) → Uses asker bits first →
+    Uses asker bits second → first ≡ second
+same_place asker bits first second u v = cc
 
--- the replay of an accepted secret follows the real run after its last turn
-follows_last :
-    (picture : Picture) (public_input : List ℕ) (enclosures : Enclosures) (masks : Masks)
-    (secret_length budget turns : ℕ) (secret : List ℕ) (output : Output) →
-    Accept picture public_input enclosures masks secret_length budget turns secret output →
-    Follows picture public_input enclosures masks secret_length secret turns
-unfolding real_after
-follows_last picture public_input enclosures masks secret_length budget zero secret output accept =
-    let never : Ran ≡ Exited output.status = accept.exits.status in absurd (cc)
-follows_last picture public_input enclosures masks secret_length budget (suc turns) secret output accept =
-    accept.follows turns (omega arith)
-    (exposed_exit enclosures (guest picture public_input secret) turns output.status accept.unbroken
-    accept.exits.status)
+-- a replay follows in one place alone
+pub same_follows :
+    (task : Task) (secret : List ℕ) (turns : ℕ) (first second : Follows task secret turns) → first.place ≡ second.place
+same_follows task secret turns first second =
+    same_place (replay_of task (common_of task secret turns)) (Cross task secret turns) first.place second.place
+    first.uses second.uses
 
-pub more_turns_law : MoreTurnsLaw
-more_turns_law picture public_input enclosures masks secret_length budget turns more secret output h accept =
-    let over : IsOver (real_after enclosures turns (guest picture public_input secret)).state.control.mode =
-    over_exited (real_after enclosures turns (guest picture public_input secret)).state.control.mode output.status
-    accept.exits.status in
-    let real : real_after enclosures turns (guest picture public_input secret)
-    ≡ real_after enclosures more (guest picture public_input secret) =
-    sym (real_later enclosures (guest picture public_input secret) turns more h over) in
-    let crosses : Cross enclosures masks turns (guest picture public_input secret)
-    ≡ Cross enclosures masks more (guest picture public_input secret) =
-    sym (cross_later enclosures masks (guest picture public_input secret) turns more h over) in record {
+-- and where the real run is over in that place still
+pub later_follows :
+    (task : Task) (secret : List ℕ) (turns more : ℕ) → turns ≤ more →
+    IsOver (real_of task secret turns).state.control.mode → (first : Follows task secret turns) →
+    (later : Follows task secret more) → first.place ≡ later.place
+unfolding follows_later
+later_follows task secret turns more h over first later =
+    same_follows task secret more (follows_later task secret turns more h over first) later
+
+pub greater_limits_law : GreaterLimitsLaw
+greater_limits_law task limits greater secret output bits h accept =
+    let over : IsOver (real_of task secret limits.turns).state.control.mode =
+    over_exited (real_of task secret limits.turns).state.control.mode output.status accept.exits.status in
+    let real : real_of task secret limits.turns ≡ real_of task secret greater.turns =
+    sym (real_later task.enclosures (real_start task secret) limits.turns greater.turns h over) in
+    let crosses : Cross task secret limits.turns ≡ Cross task secret greater.turns =
+    sym (cross_later task.enclosures task.masks (real_start task secret) limits.turns greater.turns h over) in
+    let last : Follows task secret limits.turns = accepted_last task limits secret output accept in record {
       has_length = accept.has_length;
       unbroken = subst (λ (p : Place). p.broken ≡ None) real accept.unbroken;
       exits = subst (λ (p : Place). HasExited p.state output) real accept.exits;
-      within = subst (λ s. length s ≤ budget) crosses accept.within;
-      follows = λ j below exposed. elim (le_or_lt (suc j) turns) [
+      within = omega (arith, bits, accept.within, ap length crosses);
+      follows = λ j below exposed. elim (le_or_lt (suc j) limits.turns) [
         | inl early ↦ accept.follows j (omega (arith, early)) exposed
         | inr late ↦
-            let after : turns ≤ suc j = omega (arith, late) in
-            follows_later picture public_input enclosures masks secret_length secret turns (suc j) after over
-            (follows_last picture public_input enclosures masks secret_length budget turns secret output accept)
+            let after : limits.turns ≤ suc j = omega (arith, late) in
+            follows_later task secret limits.turns (suc j) after over last
       ];
-      replay =
-          subst (λ s. Done picture public_input enclosures masks secret_length more s output) crosses
-          (done_later picture public_input enclosures masks secret_length turns more
-          (Cross enclosures masks turns (guest picture public_input secret)) output h accept.replay);
+      replay_exits = λ later.
+          subst (λ (p : ReplayPlace). HasExited p.state output)
+          (later_follows task secret limits.turns greater.turns h over last later) (accept.replay_exits last);
     }

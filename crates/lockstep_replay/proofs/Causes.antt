@@ -3,185 +3,136 @@ use Rattle.std.proofs.Common.{◌≡◌, ℕ, zero, suc, ◌+◌, ◌==◌, ◌<
 use Rattle.std.proofs.Common.{Bool, true, false, arith}
 use Rattle.std.proofs.lemmas.Bool.Decides.{Decides-eqb}
 use Rattle.std.specs.Prelude.{if◌then◌else◌, Option, Some, None}
-use Rattle.elf32_loader.specs.Pictures.{Picture}
 use Rattle.crossing_bits.proofs.Feeding.{le_or_lt}
-use Rattle.cut_file.specs.Cuts.{CutPicture}
-use Rattle.cut_file.specs.Masks.{MaskAt}
 use Rattle.rv32im_machine.specs.declared.stepping.Stepped.{Stepped}
 use Rattle.rv32im_machine.specs.declared.stepping.Stepped.TheVariants.{Ran, Exited, Stopped}
-use Rattle.enclosure_regions.specs.declared.region_parts.Region.{Region}
-use Rattle.replay_machine.specs.Enclosures.{Enclosures}
-use Rattle.replay_machine.specs.Runs.{real_after}
-use Rattle.replay_machine.specs.Starts.{guest}
+use Rattle.replay_machine.specs.Runs.{ReplayPlace, real_after}
+use Rattle.lockstep_replay.specs.Tasks.{Task, Limits, real_start, real_of, enclosed_of, common_of, Cross, replay_of}
 use Rattle.lockstep_replay.specs.declared.verdicts.Why.{Why}
 use Rattle.lockstep_replay.specs.declared.verdicts.Why.TheVariants.{RealFault, RegionBreak, BudgetOverrun, ReplayFault}
 use Rattle.lockstep_replay.specs.declared.verdicts.Why.TheVariants.{Parted}
 use Rattle.lockstep_replay.specs.declared.verdicts.Why.TheVariants.{OutputDiffers, TurnLimit, SecretLength}
-use Rattle.lockstep_replay.specs.Verdicts.{Judgement, Rejects, task_of, why_after, judged_mode, judged_after}
+use Rattle.lockstep_replay.specs.Verdicts.{Judgement, Rejects, why_after, judged_mode, judged_after}
 use Rattle.lockstep_replay.specs.Verdicts.{judged_from}
-use Rattle.lockstep_replay.specs.VerdictLaws.{enclosures_of, Agrees, Arises, Cause, CausesLaw}
+use Rattle.lockstep_replay.specs.VerdictLaws.{Agrees, Arises, Cause, CausesLaw}
 use Rattle.lockstep_replay.proofs.Exits.{ran_enclosed}
-use Rattle.lockstep_replay.proofs.Fine.{alike_same, holds_of}
-use Rattle.lockstep_replay.proofs.Accepting.{real_of, cross_of, common_of, replay_of, enclosed_of, FineAt, fine_at}
+use Rattle.lockstep_replay.proofs.Fine.{holds_of}
+use Rattle.lockstep_replay.proofs.Accepting.{FineAt, fine_at, follows_fine, place_fine}
 
 -- ---- no condition fails
 
 agrees_fine :
-    (picture : Picture) (public_input secret : List ℕ) (regions : List Region) (cut : CutPicture) (budget j : ℕ) →
-    FineAt picture public_input secret regions cut budget j →
-    Agrees picture public_input (enclosures_of regions cut) (MaskAt cut.points) cut.secret_length budget secret j
-agrees_fine picture public_input secret regions cut budget j fine = record {
+    (task : Task) (limits : Limits) (secret : List ℕ) (j : ℕ) → FineAt task limits secret j →
+    Agrees task limits secret j
+agrees_fine task limits secret j fine = record {
   unbroken = fine.unbroken;
   unstopped = fine.running;
   within = fine.within;
   beside = λ exposed. record {
-    follows = record {
-      place = (fine.beside exposed).place;
-      uses = (fine.beside exposed).uses;
-      inside = (fine.beside exposed).inside;
-      mark = record {
-        address = (fine.beside exposed).address;
-        written = ap length (fine.beside exposed).output;
-        ended =
-            alike_same (real_of picture public_input secret regions cut (suc j)).state.control.mode
-            (fine.beside exposed).place.state.control.mode (fine.beside exposed).mode;
-      };
-    };
-    output = (fine.beside exposed).output;
+    follows = follows_fine task limits secret j fine exposed;
+    output =
+        (fine.beside exposed).output
+        ∙ ap (λ (p : ReplayPlace). p.state.control.output)
+        (place_fine task limits secret j fine exposed (follows_fine task limits secret j fine exposed));
   };
 }
 
 -- in no earlier turn
-abbrev AgreesTo : Picture → List ℕ → List ℕ → List Region → CutPicture → ℕ → ℕ → Type 0
-AgreesTo picture public_input secret regions cut budget j =
-    (i : ℕ) → i < j →
-    Agrees picture public_input (enclosures_of regions cut) (MaskAt cut.points) cut.secret_length budget secret i
+abbrev AgreesTo : Task → Limits → List ℕ → ℕ → Type 0
+AgreesTo task limits secret j =
+    (i : ℕ) → i < j → Agrees task limits secret i
 
 agrees_next :
-    (picture : Picture) (public_input secret : List ℕ) (regions : List Region) (cut : CutPicture) (budget turns j : ℕ) →
-    AgreesTo picture public_input secret regions cut budget j →
-    why_after (task_of picture public_input secret regions cut budget turns) j ≡ None →
-    AgreesTo picture public_input secret regions cut budget (suc j)
-agrees_next picture public_input secret regions cut budget turns j agree n i below = elim (le_or_lt (suc i) j) [
+    (task : Task) (limits : Limits) (secret : List ℕ) (j : ℕ) → AgreesTo task limits secret j →
+    why_after task limits secret j ≡ None → AgreesTo task limits secret (suc j)
+agrees_next task limits secret j agree n i below = elim (le_or_lt (suc i) j) [
   | inl early ↦ agree i (omega (arith, early))
   | inr late ↦
       let same : j ≡ i = omega (arith, below, late) in
-      subst (λ k. Agrees picture public_input (enclosures_of regions cut) (MaskAt cut.points) cut.secret_length budget
-      secret k) same
-      (agrees_fine picture public_input secret regions cut budget j
-      (fine_at picture public_input secret regions cut budget turns j n))
+      subst (λ k. Agrees task limits secret k) same (agrees_fine task limits secret j (fine_at task limits secret j n))
 ]
 
 -- ---- a condition fails
 
 -- what arises within the limit is a cause
 cause_arises :
-    (picture : Picture) (public_input secret : List ℕ) (regions : List Region) (cut : CutPicture) (budget turns : ℕ)
-    (why : Why) →
-    Arises picture public_input (enclosures_of regions cut) (MaskAt cut.points) cut.secret_length budget turns secret
-    why →
-    Cause picture public_input secret regions cut budget turns why
-cause_arises picture public_input secret regions cut budget turns (RealFault fault) arises = arises
-cause_arises picture public_input secret regions cut budget turns (RegionBreak broken) arises = arises
-cause_arises picture public_input secret regions cut budget turns (BudgetOverrun limit needed) arises = arises
-cause_arises picture public_input secret regions cut budget turns (ReplayFault stop) arises = arises
-cause_arises picture public_input secret regions cut budget turns (Parted mark other) arises = arises
-cause_arises picture public_input secret regions cut budget turns (OutputDiffers index byte other) arises = arises
-cause_arises picture public_input secret regions cut budget turns (TurnLimit limit) arises = absurd arises.holds
-cause_arises picture public_input secret regions cut budget turns (SecretLength wanted got) arises = absurd arises.holds
+    (task : Task) (limits : Limits) (secret : List ℕ) (why : Why) → Arises task limits secret why →
+    Cause task limits secret why
+cause_arises task limits secret (RealFault fault) arises = arises
+cause_arises task limits secret (RegionBreak broken) arises = arises
+cause_arises task limits secret (BudgetOverrun limit needed) arises = arises
+cause_arises task limits secret (ReplayFault stop) arises = arises
+cause_arises task limits secret (Parted mark other) arises = arises
+cause_arises task limits secret (OutputDiffers index byte other) arises = arises
+cause_arises task limits secret (TurnLimit limit) arises = absurd arises.holds
+cause_arises task limits secret (SecretLength wanted got) arises = absurd arises.holds
 
 cause_mode :
-    (picture : Picture) (public_input secret : List ℕ) (regions : List Region) (cut : CutPicture) (budget turns j : ℕ)
-    (why : Why) (later : Judgement) (mode : Stepped) →
-    ((real_of picture public_input secret regions cut (suc j)).state.control.mode ≡ Ran → later ≡ Rejects why →
-    Cause picture public_input secret regions cut budget turns why) →
-    FineAt picture public_input secret regions cut budget j →
-    (real_of picture public_input secret regions cut (suc j)).state.control.mode ≡ mode →
-    judged_mode mode (real_of picture public_input secret regions cut (suc j)).state
-    (cross_of picture public_input secret regions cut (suc j)) later ≡ Rejects why →
-    Cause picture public_input secret regions cut budget turns why
-cause_mode picture public_input secret regions cut budget turns j why later Ran go fine m e = go m e
-cause_mode picture public_input secret regions cut budget turns j why later (Exited status) go fine m e = absurd (cc)
-cause_mode picture public_input secret regions cut budget turns j why later (Stopped fault) go fine m e =
+    (task : Task) (limits : Limits) (secret : List ℕ) (j : ℕ) (why : Why) (later : Judgement) (mode : Stepped) →
+    ((real_of task secret (suc j)).state.control.mode ≡ Ran → later ≡ Rejects why → Cause task limits secret why) →
+    FineAt task limits secret j → (real_of task secret (suc j)).state.control.mode ≡ mode →
+    judged_mode mode (real_of task secret (suc j)).state (Cross task secret (suc j)) later ≡ Rejects why →
+    Cause task limits secret why
+cause_mode task limits secret j why later Ran go fine m e = go m e
+cause_mode task limits secret j why later (Exited status) go fine m e = absurd (cc)
+cause_mode task limits secret j why later (Stopped fault) go fine m e =
     absurd (fine.running fault m)
 
 cause_exposed :
-    (picture : Picture) (public_input secret : List ℕ) (regions : List Region) (cut : CutPicture) (budget turns j : ℕ)
-    (why : Why) (later : Judgement) (enclosed : Bool) →
-    ((real_of picture public_input secret regions cut (suc j)).state.control.mode ≡ Ran → later ≡ Rejects why →
-    Cause picture public_input secret regions cut budget turns why) →
-    FineAt picture public_input secret regions cut budget j →
-    enclosed_of picture public_input secret regions cut j ≡ enclosed →
-    judged_after None enclosed (real_of picture public_input secret regions cut (suc j)).state
-    (cross_of picture public_input secret regions cut (suc j)) later ≡ Rejects why →
-    Cause picture public_input secret regions cut budget turns why
-cause_exposed picture public_input secret regions cut budget turns j why later true go fine o e =
-    go (ran_enclosed (enclosures_of regions cut) (guest picture public_input secret) j o fine.unbroken fine.running) e
-cause_exposed picture public_input secret regions cut budget turns j why later false go fine o e =
-    cause_mode picture public_input secret regions cut budget turns j why later
-    (real_of picture public_input secret regions cut (suc j)).state.control.mode go fine refl e
+    (task : Task) (limits : Limits) (secret : List ℕ) (j : ℕ) (why : Why) (later : Judgement) (enclosed : Bool) →
+    ((real_of task secret (suc j)).state.control.mode ≡ Ran → later ≡ Rejects why → Cause task limits secret why) →
+    FineAt task limits secret j → enclosed_of task secret j ≡ enclosed →
+    judged_after None enclosed (real_of task secret (suc j)).state (Cross task secret (suc j)) later ≡ Rejects why →
+    Cause task limits secret why
+cause_exposed task limits secret j why later true go fine o e =
+    go (ran_enclosed task.enclosures (real_start task secret) j o fine.unbroken fine.running) e
+cause_exposed task limits secret j why later false go fine o e =
+    cause_mode task limits secret j why later (real_of task secret (suc j)).state.control.mode go fine refl e
 
 cause_why :
-    (picture : Picture) (public_input secret : List ℕ) (regions : List Region) (cut : CutPicture) (budget turns j : ℕ)
-    (why : Why) (later : Judgement) (here : Option Why) → j < turns →
-    AgreesTo picture public_input secret regions cut budget j →
-    (why_after (task_of picture public_input secret regions cut budget turns) j ≡ None →
-    (real_of picture public_input secret regions cut (suc j)).state.control.mode ≡ Ran → later ≡ Rejects why →
-    Cause picture public_input secret regions cut budget turns why) →
-    why_after (task_of picture public_input secret regions cut budget turns) j ≡ here →
-    judged_after here (enclosed_of picture public_input secret regions cut j)
-    (real_of picture public_input secret regions cut (suc j)).state
-    (cross_of picture public_input secret regions cut (suc j)) later ≡ Rejects why →
-    Cause picture public_input secret regions cut budget turns why
-cause_why picture public_input secret regions cut budget turns j why later None below agree go n e =
-    cause_exposed picture public_input secret regions cut budget turns j why later
-    (enclosed_of picture public_input secret regions cut j) (go n)
-    (fine_at picture public_input secret regions cut budget turns j n) refl e
-cause_why picture public_input secret regions cut budget turns j why later (Some other) below agree go n e =
+    (task : Task) (limits : Limits) (secret : List ℕ) (j : ℕ) (why : Why) (later : Judgement) (here : Option Why) →
+    j < limits.turns → AgreesTo task limits secret j → (why_after task limits secret j ≡ None →
+    (real_of task secret (suc j)).state.control.mode ≡ Ran → later ≡ Rejects why → Cause task limits secret why) →
+    why_after task limits secret j ≡ here → judged_after here (enclosed_of task secret j)
+    (real_of task secret (suc j)).state (Cross task secret (suc j)) later ≡ Rejects why → Cause task limits secret why
+cause_why task limits secret j why later None below agree go n e =
+    cause_exposed task limits secret j why later (enclosed_of task secret j) (go n) (fine_at task limits secret j n)
+    refl e
+cause_why task limits secret j why later (Some other) below agree go n e =
     let same : other ≡ why = cc in
-    cause_arises picture public_input secret regions cut budget turns why (record {
+    cause_arises task limits secret why (record {
       turn = j;
       within = below;
       earlier = agree;
       holds =
-          holds_of budget (enclosed_of picture public_input secret regions cut j)
-          (real_of picture public_input secret regions cut (suc j))
-          (cross_of picture public_input secret regions cut (suc j))
-          (replay_of picture public_input regions cut (common_of picture public_input secret regions cut (suc j))) why
-          (n ∙ ap (λ w. Some w) same);
+          holds_of limits.budget (enclosed_of task secret j) (real_of task secret (suc j)) (Cross task secret (suc j))
+          (replay_of task (common_of task secret (suc j))) why (n ∙ ap (λ w. Some w) same);
     })
 
 caused :
-    (left : ℕ) (picture : Picture) (public_input secret : List ℕ) (regions : List Region) (cut : CutPicture)
-    (budget turns j : ℕ) (why : Why) → j + left ≡ turns →
-    AgreesTo picture public_input secret regions cut budget j →
-    (real_of picture public_input secret regions cut j).state.control.mode ≡ Ran →
-    judged_from (task_of picture public_input secret regions cut budget turns) left j ≡ Rejects why →
-    Cause picture public_input secret regions cut budget turns why
+    (left : ℕ) (task : Task) (limits : Limits) (secret : List ℕ) (j : ℕ) (why : Why) → j + left ≡ limits.turns →
+    AgreesTo task limits secret j → (real_of task secret j).state.control.mode ≡ Ran →
+    judged_from task limits secret left j ≡ Rejects why → Cause task limits secret why
 unfolding judged_from
-caused zero picture public_input secret regions cut budget turns j why s agree ran e =
-    let limit : Rejects (TurnLimit turns) ≡ Rejects why = e in
-    let same : TurnLimit turns ≡ why = cc in
-    let last : j ≡ turns = omega (arith, s) in
-    subst (λ w. Cause picture public_input secret regions cut budget turns w) same (record {
+caused zero task limits secret j why s agree ran e =
+    let limit : Rejects (TurnLimit limits.turns) ≡ Rejects why = e in
+    let same : TurnLimit limits.turns ≡ why = cc in
+    let last : j ≡ limits.turns = omega (arith, s) in
+    subst (λ w. Cause task limits secret w) same (record {
       limit_is = refl;
       earlier = λ i early. agree i (omega (arith, early, last));
-      runs = subst (λ i. (real_of picture public_input secret regions cut i).state.control.mode ≡ Ran) last ran;
+      runs = subst (λ i. (real_of task secret i).state.control.mode ≡ Ran) last ran;
     })
-caused (suc left) picture public_input secret regions cut budget turns j why s agree ran e =
-    let sum : suc j + left ≡ turns = omega (arith, s) in
-    let below : j < turns = omega (arith, s) in
-    cause_why picture public_input secret regions cut budget turns j why
-    (judged_from (task_of picture public_input secret regions cut budget turns) left (suc j))
-    (why_after (task_of picture public_input secret regions cut budget turns) j) below agree
-    (λ none mode later. caused left picture public_input secret regions cut budget turns (suc j) why sum
-    (agrees_next picture public_input secret regions cut budget turns j agree none) mode later) refl e
+caused (suc left) task limits secret j why s agree ran e =
+    let sum : suc j + left ≡ limits.turns = omega (arith, s) in
+    let below : j < limits.turns = omega (arith, s) in
+    cause_why task limits secret j why (judged_from task limits secret left (suc j)) (why_after task limits secret j)
+    below agree (λ none mode later. caused left task limits secret (suc j) why sum
+    (agrees_next task limits secret j agree none) mode later) refl e
 
-pub start_runs :
-    (picture : Picture) (public_input secret : List ℕ) (enclosures : Enclosures) →
-    (real_after enclosures zero (guest picture public_input secret)).state.control.mode ≡ Ran
+pub start_runs : (task : Task) (secret : List ℕ) → (real_of task secret zero).state.control.mode ≡ Ran
 unfolding real_after
-start_runs picture public_input secret enclosures = refl
+start_runs task secret = refl
 
 rejects_if :
     (test : Bool) (judgement : Judgement) (other why : Why) →
@@ -194,21 +145,18 @@ wrong_length : (cut got : ℕ) → (got == cut) ≡ false → cut ≡ got → �
 wrong_length cut got e h = let same : (got == cut) ≡ true = (Decides-eqb got cut).1 (sym h) in cc
 
 agrees_first :
-    (picture : Picture) (public_input secret : List ℕ) (regions : List Region) (cut : CutPicture) (budget : ℕ) →
-    AgreesTo picture public_input secret regions cut budget zero
-agrees_first picture public_input secret regions cut budget i below = absurd (omega (arith, below))
+    (task : Task) (limits : Limits) (secret : List ℕ) → AgreesTo task limits secret zero
+agrees_first task limits secret i below = absurd (omega (arith, below))
 
 pub causes_law : CausesLaw
-causes_law picture public_input secret regions cut budget turns why e =
-    elim (rejects_if (length secret == cut.secret_length) (judged_from
-    (task_of picture public_input secret regions cut budget turns) turns zero)
-    (SecretLength cut.secret_length (length secret)) why e) [
+causes_law task limits secret why e =
+    elim (rejects_if (length secret == task.secret_length) (judged_from task limits secret limits.turns zero)
+    (SecretLength task.secret_length (length secret)) why e) [
       | inl judged ↦
-          let sum : zero + turns ≡ turns = omega arith in
-          caused turns picture public_input secret regions cut budget turns zero why sum
-          (agrees_first picture public_input secret regions cut budget)
-          (start_runs picture public_input secret (enclosures_of regions cut)) judged
+          let sum : zero + limits.turns ≡ limits.turns = omega arith in
+          caused limits.turns task limits secret zero why sum (agrees_first task limits secret) (start_runs task secret)
+          judged
       | inr length_differs ↦
-          subst (λ w. Cause picture public_input secret regions cut budget turns w) length_differs.1
-          (refl, (refl, wrong_length cut.secret_length (length secret) length_differs.0))
+          subst (λ w. Cause task limits secret w) length_differs.1
+          (refl, (refl, wrong_length task.secret_length (length secret) length_differs.0))
     ]

@@ -12,43 +12,45 @@ use Rattle.replay_machine.specs.Runs.{Place, ReplayPlace, Masks, turn_unless, re
 use Rattle.replay_machine.specs.Runs.{replay_inside, replay_unless, replay_turn, Replay}
 use Rattle.replay_machine.proofs.Feeds.{Between, between}
 use Rattle.replay_machine.proofs.Growth.{Longer, longer_self, longer_more, real_grows, replay_grows}
-use Rattle.lockstep_replay.specs.Crossing.{crossing_unless, crossing_unbroken, crossing_of, Cross}
+use Rattle.lockstep_replay.specs.Crossing.{crossing_unless, crossing_unbroken, crossing_of, cross_after}
 
 -- ---- crossing bits
 
 -- the crossing bits begin with what they were
 pub cross_begins :
-    (enclosures : Enclosures) (masks : Masks) (place : Place) (j n : ℕ) → j ≤ n →
-    (more : List Bool) × (Cross enclosures masks n place ≡ Cross enclosures masks j place ++ more)
-unfolding Cross
+    (enclosures : Enclosures) (masks : Masks) (place : Place) (j n : ℕ) → j ≤ n → (more : List Bool)
+    × (cross_after enclosures masks n place ≡ cross_after enclosures masks j place ++ more)
+unfolding cross_after
 cross_begins enclosures masks place j zero h =
     let same : zero ≡ j = omega (arith, h) in (
       [],
-      ap (λ i. Cross enclosures masks i place) same ∙ sym (append-nil (Cross enclosures masks j place)),
+      ap (λ i. cross_after enclosures masks i place) same ∙ sym (append-nil (cross_after enclosures masks j place)),
     )
 cross_begins enclosures masks place j (suc n) h = elim (le_or_lt j n) [
   | inl k ↦
-      let before : (more : List Bool) × (Cross enclosures masks n place ≡ Cross enclosures masks j place ++ more) =
+      let before : (more : List Bool) × (cross_after enclosures masks n place ≡ cross_after enclosures masks j place
+      ++ more) =
       cross_begins enclosures masks place j n k in (
         before.0 ++ crossing_of enclosures masks (real_after enclosures n place),
         ap (λ s. s ++ crossing_of enclosures masks (real_after enclosures n place)) before.1
-            ∙ append_assoc (Cross enclosures masks j place) before.0
+            ∙ append_assoc (cross_after enclosures masks j place) before.0
             (crossing_of enclosures masks (real_after enclosures n place)),
       )
   | inr k ↦
       let same : suc n ≡ j = omega (arith, h, k) in (
         [],
-        ap (λ i. Cross enclosures masks i place) same ∙ sym (append-nil (Cross enclosures masks j place)),
+        ap (λ i. cross_after enclosures masks i place) same ∙ sym (append-nil (cross_after enclosures masks j place)),
       )
 ]
 
 pub cross_grows :
     (enclosures : Enclosures) (masks : Masks) (place : Place) (j n : ℕ) → j ≤ n →
-    length (Cross enclosures masks j place) ≤ length (Cross enclosures masks n place)
+    length (cross_after enclosures masks j place) ≤ length (cross_after enclosures masks n place)
 cross_grows enclosures masks place j n h =
-    let begins : (more : List Bool) × (Cross enclosures masks n place ≡ Cross enclosures masks j place ++ more) =
+    let begins : (more : List Bool) × (cross_after enclosures masks n place ≡ cross_after enclosures masks j place
+    ++ more) =
     cross_begins enclosures masks place j n h in
-    omega (arith, ap length begins.1, length-append (Cross enclosures masks j place) begins.0)
+    omega (arith, ap length begins.1, length-append (cross_after enclosures masks j place) begins.0)
 
 -- ---- common turns
 
@@ -92,8 +94,8 @@ common_grows enclosures place j zero h =
     omega (arith, equal)
 common_grows enclosures place j (suc n) h = elim (le_or_lt j n) [
   | inl k ↦
-      no_less (is_enclosed enclosures (real_after enclosures n place).state.control)
-      (common_turns enclosures n place) (common_turns enclosures j place) (common_grows enclosures place j n k)
+      no_less (is_enclosed enclosures (real_after enclosures n place).state.control) (common_turns enclosures n place)
+      (common_turns enclosures j place) (common_grows enclosures place j n k)
   | inr k ↦
       let same : j ≡ suc n = omega (arith, h, k) in
       let equal : common_turns enclosures j place ≡ common_turns enclosures (suc n) place =
@@ -110,30 +112,30 @@ real_next enclosures turns place = refl
 
 pub cross_next :
     (enclosures : Enclosures) (masks : Masks) (turns : ℕ) (place : Place) →
-    Cross enclosures masks (suc turns) place
-    ≡ Cross enclosures masks turns place ++ crossing_of enclosures masks (real_after enclosures turns place)
-unfolding Cross
+    cross_after enclosures masks (suc turns) place ≡ cross_after enclosures masks turns place ++ crossing_of enclosures
+    masks (real_after enclosures turns place)
+unfolding cross_after
 cross_next enclosures masks turns place = refl
 
 -- the replay uses up the real run's crossing bits so far in the common turns so far, and is at a place
 abbrev pub IsAt : Enclosures → Masks → Place → ReplayPlace → ℕ → ReplayPlace → Type 0
 IsAt enclosures masks real copy turns place =
-    Uses (Replay enclosures masks (common_turns enclosures turns real) copy) (Cross enclosures masks turns real) place
+    Uses (Replay enclosures masks (common_turns enclosures turns real) copy) (cross_after enclosures masks turns real)
+    place
 
 -- where the replay has used up the bits so far, one more turn of it takes the bits of one more turn
 pub fed_next :
     (enclosures : Enclosures) (masks : Masks) (turns : ℕ) (real : Place) (copy place : ReplayPlace) →
     is_enclosed enclosures (real_after enclosures turns real).state.control ≡ false →
-    IsAt enclosures masks real copy turns place →
-    feed (Replay enclosures masks (common_turns enclosures (suc turns) real) copy)
-    (Cross enclosures masks (suc turns) real)
-    ≡ feed (replay_turn enclosures masks place) (crossing_of enclosures masks (real_after enclosures turns real))
-unfolding Replay Cross
+    IsAt enclosures masks real copy turns place → feed (Replay enclosures masks
+    (common_turns enclosures (suc turns) real) copy) (cross_after enclosures masks (suc turns) real) ≡ feed
+    (replay_turn enclosures masks place) (crossing_of enclosures masks (real_after enclosures turns real))
+unfolding Replay cross_after
 fed_next enclosures masks turns real copy place exposed h =
-    ap (λ n. feed (Replay enclosures masks n copy) (Cross enclosures masks (suc turns) real))
+    ap (λ n. feed (Replay enclosures masks n copy) (cross_after enclosures masks (suc turns) real))
     (common_exposed enclosures turns real exposed)
     ∙ feed_after (Replay enclosures masks (common_turns enclosures turns real) copy) (replay_turn enclosures masks)
-    (Cross enclosures masks turns real) (crossing_of enclosures masks (real_after enclosures turns real)) place h
+    (cross_after enclosures masks turns real) (crossing_of enclosures masks (real_after enclosures turns real)) place h
 
 quiet_unless : (broken : Option Break) (enclosures : Enclosures) (masks : Masks) (place : Place) →
     is_enclosed enclosures place.state.control ≡ true → crossing_unbroken broken enclosures masks place ≡ []
@@ -149,12 +151,12 @@ quiet_enclosed enclosures masks place e = quiet_unless place.broken enclosures m
 pub cross_enclosed :
     (enclosures : Enclosures) (masks : Masks) (turns : ℕ) (place : Place) →
     is_enclosed enclosures (real_after enclosures turns place).state.control ≡ true →
-    Cross enclosures masks (suc turns) place ≡ Cross enclosures masks turns place
+    cross_after enclosures masks (suc turns) place ≡ cross_after enclosures masks turns place
 cross_enclosed enclosures masks turns place e =
     cross_next enclosures masks turns place
-    ∙ (ap (λ bits. Cross enclosures masks turns place ++ bits)
+    ∙ (ap (λ bits. cross_after enclosures masks turns place ++ bits)
     (quiet_enclosed enclosures masks (real_after enclosures turns place) e)
-    ∙ append-nil (Cross enclosures masks turns place))
+    ∙ append-nil (cross_after enclosures masks turns place))
 
 -- and the replay stays where it is
 pub at_enclosed :
@@ -162,7 +164,7 @@ pub at_enclosed :
     is_enclosed enclosures (real_after enclosures turns real).state.control ≡ true →
     IsAt enclosures masks real copy turns place → IsAt enclosures masks real copy (suc turns) place
 at_enclosed enclosures masks real copy turns place e h =
-    ap (λ n. feed (Replay enclosures masks n copy) (Cross enclosures masks (suc turns) real))
+    ap (λ n. feed (Replay enclosures masks n copy) (cross_after enclosures masks (suc turns) real))
     (common_enclosed enclosures turns real e)
     ∙ (ap (λ bits. feed (Replay enclosures masks (common_turns enclosures turns real) copy) bits)
     (cross_enclosed enclosures masks turns real e) ∙ h)
@@ -199,9 +201,8 @@ over_grows place other last bits rest same e =
 
 inside_grows :
     (outside : Option Outside) (enclosures : Enclosures) (masks : Masks) (place : ReplayPlace) (bits : List Bool)
-    (last : ReplayPlace) (rest : List Bool) →
-    feed (replay_inside outside enclosures masks place) bits ≡ Fed' last rest →
-    Longer (rewritten place) (rewritten last)
+    (last : ReplayPlace) (rest : List Bool) → feed (replay_inside outside enclosures masks place) bits ≡ Fed' last
+    rest → Longer (rewritten place) (rewritten last)
 inside_grows None enclosures masks place bits last rest e =
     replay_grows enclosures masks place.past place.state bits last rest e
 inside_grows (Some outside) enclosures masks place bits last rest e =
@@ -209,17 +210,16 @@ inside_grows (Some outside) enclosures masks place bits last rest e =
 
 outside_grows :
     (outside : Option Outside) (enclosures : Enclosures) (masks : Masks) (place : ReplayPlace) (bits : List Bool)
-    (last : ReplayPlace) (rest : List Bool) →
-    feed (replay_unless outside enclosures masks place) bits ≡ Fed' last rest →
-    Longer (rewritten place) (rewritten last)
+    (last : ReplayPlace) (rest : List Bool) → feed (replay_unless outside enclosures masks place) bits ≡ Fed' last
+    rest → Longer (rewritten place) (rewritten last)
 outside_grows None enclosures masks place bits last rest e =
     inside_grows (range_outside enclosures.regions place.state) enclosures masks place bits last rest e
 outside_grows (Some outside) enclosures masks place bits last rest e = over_grows place place last bits rest refl e
 
 replay_turn_grows :
     (enclosures : Enclosures) (masks : Masks) (place : ReplayPlace) (bits : List Bool) (last : ReplayPlace)
-    (rest : List Bool) →
-    feed (replay_turn enclosures masks place) bits ≡ Fed' last rest → Longer (rewritten place) (rewritten last)
+    (rest : List Bool) → feed (replay_turn enclosures masks place) bits ≡ Fed' last rest →
+    Longer (rewritten place) (rewritten last)
 replay_turn_grows enclosures masks place bits last rest e =
     outside_grows place.outside enclosures masks place bits last rest e
 
@@ -234,8 +234,8 @@ real_run_grows enclosures place j zero h =
 real_run_grows enclosures place j (suc n) h = elim (le_or_lt j n) [
   | inl k ↦
       longer_more (written (real_after enclosures j place)) (written (real_after enclosures n place))
-      (written (real_after enclosures (suc n) place))
-      (real_run_grows enclosures place j n k) (turn_grows enclosures (real_after enclosures n place))
+      (written (real_after enclosures (suc n) place)) (real_run_grows enclosures place j n k)
+      (turn_grows enclosures (real_after enclosures n place))
   | inr k ↦ let same : j ≡ suc n = omega (arith, h, k) in real_same enclosures place j (suc n) same
 ]
 

@@ -14,7 +14,7 @@ use Rattle.replay_machine.specs.Breaking.{Breaks, kind_break}
 use Rattle.replay_machine.specs.Runs.{Place, ReplayPlace, Masks, passed, visited, turn_unless, real_turn, real_after}
 use Rattle.replay_machine.specs.Runs.{replay_turn, Replay}
 use Rattle.replay_machine.proofs.Stillness.{IsOver, still_kind, still_guest, still_replay}
-use Rattle.lockstep_replay.specs.Crossing.{crossing, crossing_unless, crossing_unbroken, crossing_of, Cross}
+use Rattle.lockstep_replay.specs.Crossing.{crossing, crossing_unless, crossing_unbroken, crossing_of, cross_after}
 
 -- ---- a guest that has ended
 
@@ -44,8 +44,8 @@ abbrev placed : State → List Point → Option Break → Place
 placed state past broken = record { state = state; past = past; broken = broken }
 
 same_place :
-    (first second : State) (before after : List Point) (broken other : Option Break) → first ≡ second →
-    before ≡ after → broken ≡ other → placed first before broken ≡ placed second after other
+    (first second : State) (before after : List Point) (broken other : Option Break) → first ≡ second → before ≡ after →
+    broken ≡ other → placed first before broken ≡ placed second after other
 same_place first second before after broken other e f g = cc
 
 still_unless : (broken : Option Break) (enclosures : Enclosures) (place : Place) → place.broken ≡ broken →
@@ -56,8 +56,7 @@ still_unless None enclosures place is h =
     place.state h in
     same_place (real_end (guest_walk enclosures.regions place.state)) place.state
     (visited (is_enclosed enclosures place.state.control) place.past (guest_walk enclosures.regions place.state))
-    place.past
-    (Breaks enclosures.regions place.state) place.broken (still_end enclosures place.state h)
+    place.past (Breaks enclosures.regions place.state) place.broken (still_end enclosures place.state h)
     (ap (λ w. visited (is_enclosed enclosures place.state.control) place.past w) ends
     ∙ visited_ended (is_enclosed enclosures place.state.control) place.past place.state)
     (still_breaks enclosures place.state h ∙ sym is)
@@ -122,24 +121,25 @@ unbroken_before enclosures place turns more h none =
 pub cross_later :
     (enclosures : Enclosures) (masks : Masks) (place : Place) (turns more : ℕ) → turns ≤ more →
     IsOver (real_after enclosures turns place).state.control.mode →
-    Cross enclosures masks more place ≡ Cross enclosures masks turns place
-unfolding Cross
+    cross_after enclosures masks more place ≡ cross_after enclosures masks turns place
+unfolding cross_after
 cross_later enclosures masks place turns zero h over =
-    let same : zero ≡ turns = omega arith in ap (λ n. Cross enclosures masks n place) same
+    let same : zero ≡ turns = omega arith in ap (λ n. cross_after enclosures masks n place) same
 cross_later enclosures masks place turns (suc more) h over = elim (le_or_lt turns more) [
   | inl k ↦
       let quiet : crossing_of enclosures masks (real_after enclosures more place) ≡ [] =
       ap (λ p. crossing_of enclosures masks p) (real_later enclosures place turns more k over)
       ∙ still_crossing enclosures masks (real_after enclosures turns place) over in
-      ap (λ bits. Cross enclosures masks more place ++ bits) quiet ∙ (append-nil (Cross enclosures masks more place)
+      ap (λ bits. cross_after enclosures masks more place ++ bits) quiet
+      ∙ (append-nil (cross_after enclosures masks more place)
       ∙ cross_later enclosures masks place turns more k over)
-  | inr k ↦ let same : suc more ≡ turns = omega arith in ap (λ n. Cross enclosures masks n place) same
+  | inr k ↦ let same : suc more ≡ turns = omega arith in ap (λ n. cross_after enclosures masks n place) same
 ]
 
 pub replay_later :
     (enclosures : Enclosures) (masks : Masks) (first : ReplayPlace) (turns more : ℕ) (bits : List Bool)
-    (place : ReplayPlace) (rest : List Bool) → turns ≤ more → place.outside ≡ None →
-    IsOver place.state.control.mode → feed (Replay enclosures masks turns first) bits ≡ Fed' place rest →
+    (place : ReplayPlace) (rest : List Bool) → turns ≤ more → place.outside ≡ None → IsOver place.state.control.mode →
+    feed (Replay enclosures masks turns first) bits ≡ Fed' place rest →
     feed (Replay enclosures masks more first) bits ≡ Fed' place rest
 unfolding Replay
 replay_later enclosures masks first turns zero bits place rest h inside over e =

@@ -33,8 +33,8 @@ crossing_unbroken (Some broken) enclosures masks place = []
 abbrev pub crossing_of : Enclosures → Masks → Place → List Bool
 crossing_of enclosures masks place = crossing_unbroken place.broken enclosures masks place
 
--- Cross: the crossing bits of so many turns of the real run
-unfoldable pub Cross : Enclosures → Masks → ℕ → Place → List Bool
-Cross enclosures masks zero place = []
-Cross enclosures masks (suc turns) place =
-    Cross enclosures masks turns place ++ crossing_of enclosures masks (real_after enclosures turns place)
+-- the crossing bits of so many turns of the real run
+unfoldable pub cross_after : Enclosures → Masks → ℕ → Place → List Bool
+cross_after enclosures masks zero place = []
+cross_after enclosures masks (suc turns) place =
+    cross_after enclosures masks turns place ++ crossing_of enclosures masks (real_after enclosures turns place)

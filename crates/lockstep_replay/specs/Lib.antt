@@ -1,4 +1,5 @@
 pub mod Crossing
+pub mod Tasks
 pub mod Acceptance
 pub mod Marks
 pub mod Differences
@@ -9,4 +10,4 @@ pub mod Tapes
 pub mod Sides
 pub mod Ends
 pub mod Turning
-pub mod Tasks
+pub mod Checks

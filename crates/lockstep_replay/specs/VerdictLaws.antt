@@ -1,18 +1,12 @@
 -- What a verdict says of the two whole runs: it accepts what is accepted and nothing else, and each reason holds.
 use Rattle.std.specs.Prelude.{◌≡◌, ◌≢◌, ℕ, suc, ◌-◌, ◌≤◌, ◌<◌, List, [], length, Bool, false, Some, None}
 use Rattle.flow_base.specs.declared.outputs.Output.{Output}
-use Rattle.elf32_loader.specs.Pictures.{Picture}
-use Rattle.crossing_bits.specs.Askers.{Fed, Fed', Short, feed}
-use Rattle.cut_file.specs.Cuts.{CutPicture}
-use Rattle.cut_file.specs.Masks.{MaskAt}
+use Rattle.crossing_bits.specs.Askers.{Fed, Fed', Short}
 use Rattle.rv32im_machine.specs.declared.stepping.Stepped.TheVariants.{Ran, Stopped}
 use Rattle.rv32im_machine.specs.State.{State}
 use Rattle.replay_machine.specs.declared.marks.Mark.{Mark}
 use Rattle.rv32im_machine.specs.declared.stepping.Fault.{Fault}
-use Rattle.enclosure_regions.specs.declared.region_parts.Region.{Region}
-use Rattle.replay_machine.specs.Enclosures.{Enclosures, is_enclosed}
-use Rattle.replay_machine.specs.Runs.{Place, ReplayPlace, Masks, real_after, common_turns, Replay}
-use Rattle.replay_machine.specs.Starts.{guest, replay_guest}
+use Rattle.replay_machine.specs.Runs.{Place, ReplayPlace}
 use Rattle.lockstep_replay.specs.declared.differences.Difference.{Difference}
 use Rattle.lockstep_replay.specs.declared.verdicts.ReplayStop.{ReplayStop}
 use Rattle.lockstep_replay.specs.declared.verdicts.ReplayStop.TheVariants.{Guest, RangeOutside, Short as TooShort}
@@ -20,46 +14,30 @@ use Rattle.lockstep_replay.specs.declared.verdicts.Why.{Why}
 use Rattle.lockstep_replay.specs.declared.verdicts.Why.TheVariants.{RealFault, RegionBreak, BudgetOverrun, ReplayFault}
 use Rattle.lockstep_replay.specs.declared.verdicts.Why.TheVariants.{Parted}
 use Rattle.lockstep_replay.specs.declared.verdicts.Why.TheVariants.{OutputDiffers, TurnLimit, SecretLength}
-use Rattle.lockstep_replay.specs.Crossing.{Cross}
 use Rattle.lockstep_replay.specs.Marks.{mark_of}
 use Rattle.lockstep_replay.specs.Differences.{difference_of}
+use Rattle.lockstep_replay.specs.Tasks.{Task, Limits, real_of, enclosed_of, Cross}
 use Rattle.lockstep_replay.specs.Acceptance.{Follows, Accept}
-use Rattle.lockstep_replay.specs.Verdicts.{Accepts, Rejects, First, counted_bits}
-
--- the regions, with those that a cut skips
-abbrev pub enclosures_of : List Region → CutPicture → Enclosures
-enclosures_of regions cut = record { regions = regions; skip = cut.skip }
+use Rattle.lockstep_replay.specs.Verdicts.{Accepts, Rejects, First, counted_bits, fed_of}
 
 -- a verdict that accepts names an accepted secret's crossing bits and output
 abbrev pub AcceptedLaw : Type 0
 AcceptedLaw =
-    (picture : Picture) (public_input secret : List ℕ) (regions : List Region) (cut : CutPicture) (budget turns : ℕ)
-    (bits : List Bool)
-    (output : Output) →
-    First picture public_input secret regions cut budget turns ≡ Accepts bits output →
-    Accept picture public_input (enclosures_of regions cut) (MaskAt cut.points) cut.secret_length budget turns secret
-    output
-    × (bits ≡ Cross (enclosures_of regions cut) (MaskAt cut.points) turns (guest picture public_input secret))
+    (task : Task) (limits : Limits) (secret : List ℕ) (bits : List Bool) (output : Output) →
+    First task limits secret ≡ Accepts bits output →
+    Accept task limits secret output × (bits ≡ Cross task secret limits.turns)
 
 -- the verdict on an accepted secret is its crossing bits and its output
 abbrev pub AcceptsLaw : Type 0
 AcceptsLaw =
-    (picture : Picture) (public_input secret : List ℕ) (regions : List Region) (cut : CutPicture) (budget turns : ℕ)
-    (output : Output) →
-    Accept picture public_input (enclosures_of regions cut) (MaskAt cut.points) cut.secret_length budget turns secret
-    output →
-    First picture public_input secret regions cut budget turns
-    ≡ Accepts (Cross (enclosures_of regions cut) (MaskAt cut.points) turns (guest picture public_input secret)) output
+    (task : Task) (limits : Limits) (secret : List ℕ) (output : Output) → Accept task limits secret output →
+    First task limits secret ≡ Accepts (Cross task secret limits.turns) output
 
 -- a rejected secret is not accepted, whatever the output
 abbrev pub RejectedLaw : Type 0
 RejectedLaw =
-    (picture : Picture) (public_input secret : List ℕ) (regions : List Region) (cut : CutPicture) (budget turns : ℕ)
-    (why : Why) →
-    First picture public_input secret regions cut budget turns ≡ Rejects why →
-    (output : Output) →
-    Accept picture public_input (enclosures_of regions cut) (MaskAt cut.points) cut.secret_length budget turns secret
-    output → ⊥
+    (task : Task) (limits : Limits) (secret : List ℕ) (why : Why) → First task limits secret ≡ Rejects why →
+    (output : Output) → Accept task limits secret output → ⊥
 
 -- ---- the reasons
 
@@ -101,79 +79,46 @@ Holds budget enclosed real cross fed (TurnLimit limit) = ⊥
 Holds budget enclosed real cross fed (SecretLength wanted got) = ⊥
 
 -- after so many turns of the real run the replay follows, with the same output
-pub record Beside (picture : Picture) (public_input : List ℕ) (enclosures : Enclosures) (masks : Masks)
-    (secret_length : ℕ) (secret : List ℕ) (turns : ℕ) : Type 0 where
-  pub follows : Follows picture public_input enclosures masks secret_length secret turns
-  pub output :
-      (real_after enclosures turns (guest picture public_input secret)).state.control.output
-      ≡ follows.place.state.control.output
+pub record Beside (task : Task) (secret : List ℕ) (turns : ℕ) : Type 0 where
+  pub follows : Follows task secret turns
+  pub output : (real_of task secret turns).state.control.output ≡ follows.place.state.control.output
 
 -- no condition fails in the turn after so many turns
-pub record Agrees (picture : Picture) (public_input : List ℕ) (enclosures : Enclosures) (masks : Masks)
-    (secret_length budget : ℕ) (secret : List ℕ) (turns : ℕ) : Type 0 where
-  pub unbroken : (real_after enclosures (suc turns) (guest picture public_input secret)).broken ≡ None
-  pub unstopped :
-      (fault : Fault) →
-      (real_after enclosures (suc turns) (guest picture public_input secret)).state.control.mode ≢ Stopped fault
-  pub within : length (Cross enclosures masks (suc turns) (guest picture public_input secret)) ≤ budget
-  pub beside :
-      is_enclosed enclosures (real_after enclosures turns (guest picture public_input secret)).state.control ≡ false →
-      Beside picture public_input enclosures masks secret_length secret (suc turns)
+pub record Agrees (task : Task) (limits : Limits) (secret : List ℕ) (turns : ℕ) : Type 0 where
+  pub unbroken : (real_of task secret (suc turns)).broken ≡ None
+  pub unstopped : (fault : Fault) → (real_of task secret (suc turns)).state.control.mode ≢ Stopped fault
+  pub within : length (Cross task secret (suc turns)) ≤ limits.budget
+  pub beside : enclosed_of task secret turns ≡ false → Beside task secret (suc turns)
 
 -- a reason holds of the turn after so many turns, within the limit, and no condition fails in an earlier turn
-pub record Arises (picture : Picture) (public_input : List ℕ) (enclosures : Enclosures) (masks : Masks)
-    (secret_length budget turns : ℕ) (secret : List ℕ) (why : Why) : Type 0 where
+pub record Arises (task : Task) (limits : Limits) (secret : List ℕ) (why : Why) : Type 0 where
   pub turn : ℕ
-  pub within : turn < turns
-  pub earlier :
-      (i : ℕ) → i < turn → Agrees picture public_input enclosures masks secret_length budget secret i
+  pub within : turn < limits.turns
+  pub earlier : (i : ℕ) → i < turn → Agrees task limits secret i
   pub holds :
-      Holds budget
-      (is_enclosed enclosures (real_after enclosures turn (guest picture public_input secret)).state.control)
-      (real_after enclosures (suc turn) (guest picture public_input secret))
-      (Cross enclosures masks (suc turn) (guest picture public_input secret))
-      (feed (Replay enclosures masks (common_turns enclosures (suc turn) (guest picture public_input secret))
-      (replay_guest picture public_input secret_length))
-      (Cross enclosures masks (suc turn) (guest picture public_input secret))) why
+      Holds limits.budget (enclosed_of task secret turn) (real_of task secret (suc turn))
+      (Cross task secret (suc turn)) (fed_of task secret (suc turn)) why
 
 -- the limit of turns is this, no condition fails in any turn, and the real run goes on
-pub record RunsOut (picture : Picture) (public_input : List ℕ) (enclosures : Enclosures) (masks : Masks)
-    (secret_length budget turns : ℕ) (secret : List ℕ) (limit : ℕ) : Type 0 where
-  pub limit_is : limit ≡ turns
-  pub earlier :
-      (i : ℕ) → i < turns → Agrees picture public_input enclosures masks secret_length budget secret i
-  pub runs : (real_after enclosures turns (guest picture public_input secret)).state.control.mode ≡ Ran
+pub record RunsOut (task : Task) (limits : Limits) (secret : List ℕ) (limit : ℕ) : Type 0 where
+  pub limit_is : limit ≡ limits.turns
+  pub earlier : (i : ℕ) → i < limits.turns → Agrees task limits secret i
+  pub runs : (real_of task secret limits.turns).state.control.mode ≡ Ran
 
 -- what the reason of a rejection says
-abbrev pub Cause : Picture → List ℕ → List ℕ → List Region → CutPicture → ℕ → ℕ → Why → Type 0
-Cause picture public_input secret regions cut budget turns (RealFault fault) =
-    Arises picture public_input (enclosures_of regions cut) (MaskAt cut.points) cut.secret_length budget turns secret
-    (RealFault fault)
-Cause picture public_input secret regions cut budget turns (RegionBreak broken) =
-    Arises picture public_input (enclosures_of regions cut) (MaskAt cut.points) cut.secret_length budget turns secret
-    (RegionBreak broken)
-Cause picture public_input secret regions cut budget turns (BudgetOverrun limit needed) =
-    Arises picture public_input (enclosures_of regions cut) (MaskAt cut.points) cut.secret_length budget turns secret
-    (BudgetOverrun limit needed)
-Cause picture public_input secret regions cut budget turns (ReplayFault stop) =
-    Arises picture public_input (enclosures_of regions cut) (MaskAt cut.points) cut.secret_length budget turns secret
-    (ReplayFault stop)
-Cause picture public_input secret regions cut budget turns (Parted mark other) =
-    Arises picture public_input (enclosures_of regions cut) (MaskAt cut.points) cut.secret_length budget turns secret
-    (Parted mark other)
-Cause picture public_input secret regions cut budget turns (OutputDiffers index byte other) =
-    Arises picture public_input (enclosures_of regions cut) (MaskAt cut.points) cut.secret_length budget turns secret
-    (OutputDiffers index byte other)
-Cause picture public_input secret regions cut budget turns (TurnLimit limit) =
-    RunsOut picture public_input (enclosures_of regions cut) (MaskAt cut.points) cut.secret_length budget turns secret
-    limit
-Cause picture public_input secret regions cut budget turns (SecretLength wanted got) =
-    (wanted ≡ cut.secret_length) × ((got ≡ length secret) × (wanted ≢ got))
+abbrev pub Cause : Task → Limits → List ℕ → Why → Type 0
+Cause task limits secret (RealFault fault) = Arises task limits secret (RealFault fault)
+Cause task limits secret (RegionBreak broken) = Arises task limits secret (RegionBreak broken)
+Cause task limits secret (BudgetOverrun limit needed) = Arises task limits secret (BudgetOverrun limit needed)
+Cause task limits secret (ReplayFault stop) = Arises task limits secret (ReplayFault stop)
+Cause task limits secret (Parted mark other) = Arises task limits secret (Parted mark other)
+Cause task limits secret (OutputDiffers index byte other) = Arises task limits secret (OutputDiffers index byte other)
+Cause task limits secret (TurnLimit limit) = RunsOut task limits secret limit
+Cause task limits secret (SecretLength wanted got) =
+    (wanted ≡ task.secret_length) × ((got ≡ length secret) × (wanted ≢ got))
 
 -- the reason of a rejection holds, and in no earlier turn does a condition fail
 abbrev pub CausesLaw : Type 0
 CausesLaw =
-    (picture : Picture) (public_input secret : List ℕ) (regions : List Region) (cut : CutPicture) (budget turns : ℕ)
-    (why : Why) →
-    First picture public_input secret regions cut budget turns ≡ Rejects why →
-    Cause picture public_input secret regions cut budget turns why
+    (task : Task) (limits : Limits) (secret : List ℕ) (why : Why) → First task limits secret ≡ Rejects why →
+    Cause task limits secret why

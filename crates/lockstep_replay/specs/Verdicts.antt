@@ -2,28 +2,21 @@
 use Rattle.std.specs.Prelude.{ℕ, zero, suc, ◌-◌, ◌==◌, min, nat_lt, List, length, Bool, true, false, Option, Some, None}
 use Rattle.std.specs.Prelude.{if◌then◌else◌}
 use Rattle.flow_base.specs.declared.outputs.Output.{Output}
-use Rattle.elf32_loader.specs.Pictures.{Picture}
 use Rattle.crossing_bits.specs.Askers.{Fed, Fed', Short, feed}
 use Rattle.rv32im_machine.specs.declared.stepping.Stepped.{Stepped}
 use Rattle.rv32im_machine.specs.declared.stepping.Stepped.TheVariants.{Ran, Exited, Stopped}
 use Rattle.rv32im_machine.specs.State.{State}
-use Rattle.rv32im_machine.specs.Start.{start, zeros}
 use Rattle.lockstep_replay.specs.declared.differences.Difference.{Difference}
 use Rattle.lockstep_replay.specs.declared.verdicts.ReplayStop.TheVariants.{Guest, RangeOutside, Short as TooShort}
 use Rattle.lockstep_replay.specs.declared.verdicts.Why.{Why}
 use Rattle.lockstep_replay.specs.declared.verdicts.Why.TheVariants.{RealFault, RegionBreak, BudgetOverrun, ReplayFault}
 use Rattle.lockstep_replay.specs.declared.verdicts.Why.TheVariants.{Parted}
 use Rattle.lockstep_replay.specs.declared.verdicts.Why.TheVariants.{OutputDiffers, TurnLimit, SecretLength}
-use Rattle.cut_file.specs.Cuts.{CutPicture}
-use Rattle.cut_file.specs.Masks.{MaskAt}
 use Rattle.replay_machine.specs.declared.marks.Mark.{Mark}
-use Rattle.enclosure_regions.specs.declared.region_parts.Region.{Region}
 use Rattle.enclosure_regions.specs.declared.break_kinds.Break.{Break}
-use Rattle.replay_machine.specs.Enclosures.{Enclosures, is_enclosed}
 use Rattle.replay_machine.specs.Breaking.{Outside}
-use Rattle.replay_machine.specs.Runs.{Place, ReplayPlace, Masks, fresh, replay_fresh, real_after, common_turns, Replay}
-use Rattle.lockstep_replay.specs.Crossing.{Cross}
-use Rattle.replay_machine.specs.Starts.{output_limit}
+use Rattle.replay_machine.specs.Runs.{Place, ReplayPlace}
+use Rattle.lockstep_replay.specs.Tasks.{Task, Limits, real_of, enclosed_of, common_of, Cross, replay_of}
 use Rattle.lockstep_replay.specs.Marks.{mark_of, is_same_mark}
 use Rattle.lockstep_replay.specs.Differences.{difference_of}
 
@@ -31,28 +24,6 @@ use Rattle.lockstep_replay.specs.Differences.{difference_of}
 pub data Judgement : Type 0 where
   Accepts : List Bool → Output → Judgement
   Rejects : Why → Judgement
-
--- what a check is given: the real run's start and the replay's, the regions with those that a cut skips, the masks and
--- the secret length of the cut, a budget, a limit of turns
-pub record Task : Type 0 where
-  pub real : State
-  pub copy : State
-  pub enclosures : Enclosures
-  pub masks : Masks
-  pub secret_length : ℕ
-  pub budget : ℕ
-  pub turns : ℕ
-
-abbrev pub task_of : Picture → List ℕ → List ℕ → List Region → CutPicture → ℕ → ℕ → Task
-task_of picture public_input secret regions cut budget turns = record {
-  real = start picture public_input secret output_limit;
-  copy = start picture public_input (zeros cut.secret_length) output_limit;
-  enclosures = record { regions = regions; skip = cut.skip };
-  masks = MaskAt cut.points;
-  secret_length = cut.secret_length;
-  budget = budget;
-  turns = turns;
-}
 
 -- a number of bits as it is printed: 4,294,967,295 stands for that number and all greater ones
 abbrev pub counted_bits : ℕ → ℕ
@@ -116,26 +87,15 @@ why_of budget enclosed real cross fed =
     (why_mode real.state.control.mode budget (length cross)
     (why_common enclosed (why_replay real.state (length cross) fed)))
 
--- the turn of the real run after so many turns is a skipped region's entry or inside it
-abbrev pub enclosed_after : Task → ℕ → Bool
-enclosed_after task turns =
-    is_enclosed task.enclosures (real_after task.enclosures turns (fresh task.real)).state.control
-
--- the crossing bits of so many turns
-abbrev pub cross_after : Task → ℕ → List Bool
-cross_after task turns = Cross task.enclosures task.masks turns (fresh task.real)
-
--- the replay of these, in the common turns of so many turns
-abbrev pub fed_after : Task → ℕ → Fed ReplayPlace
-fed_after task turns =
-    feed (Replay task.enclosures task.masks (common_turns task.enclosures turns (fresh task.real))
-    (replay_fresh task.copy)) (cross_after task turns)
+-- the replay of the crossing bits of so many turns, in their common turns
+abbrev pub fed_of : Task → List ℕ → ℕ → Fed ReplayPlace
+fed_of task secret turns = feed (replay_of task (common_of task secret turns)) (Cross task secret turns)
 
 -- the condition that fails first in the turn after so many turns, if one does
-abbrev pub why_after : Task → ℕ → Option Why
-why_after task turns =
-    why_of task.budget (enclosed_after task turns) (real_after task.enclosures (suc turns) (fresh task.real))
-    (cross_after task (suc turns)) (fed_after task (suc turns))
+abbrev pub why_after : Task → Limits → List ℕ → ℕ → Option Why
+why_after task limits secret turns =
+    why_of limits.budget (enclosed_of task secret turns) (real_of task secret (suc turns))
+    (Cross task secret (suc turns)) (fed_of task secret (suc turns))
 
 -- after a turn in which no condition fails: accepted where the run has exited, and else the later judgement
 abbrev pub judged_mode : Stepped → State → List Bool → Judgement → Judgement
@@ -150,19 +110,15 @@ judged_after None true real cross later = later
 judged_after None false real cross later = judged_mode real.control.mode real cross later
 
 -- the judgement from a turn on, with so many turns to go
-unfoldable pub judged_from : Task → ℕ → ℕ → Judgement
-judged_from task zero turns = Rejects (TurnLimit task.turns)
-judged_from task (suc left) turns =
-    judged_after (why_after task turns) (enclosed_after task turns)
-    (real_after task.enclosures (suc turns) (fresh task.real)).state (cross_after task (suc turns))
-    (judged_from task left (suc turns))
-
-abbrev pub judged : Task → Judgement
-judged task =
-    if task.real.setting.secret_length == task.secret_length then judged_from task task.turns 0
-    else Rejects (SecretLength task.secret_length task.real.setting.secret_length)
+unfoldable pub judged_from : Task → Limits → List ℕ → ℕ → ℕ → Judgement
+judged_from task limits secret zero turns = Rejects (TurnLimit limits.turns)
+judged_from task limits secret (suc left) turns =
+    judged_after (why_after task limits secret turns) (enclosed_of task secret turns)
+    (real_of task secret (suc turns)).state (Cross task secret (suc turns))
+    (judged_from task limits secret left (suc turns))
 
 -- First: the verdict on a secret
-abbrev pub First : Picture → List ℕ → List ℕ → List Region → CutPicture → ℕ → ℕ → Judgement
-First picture public_input secret regions cut budget turns =
-    judged (task_of picture public_input secret regions cut budget turns)
+abbrev pub First : Task → Limits → List ℕ → Judgement
+First task limits secret =
+    if length secret == task.secret_length then judged_from task limits secret limits.turns 0
+    else Rejects (SecretLength task.secret_length (length secret))

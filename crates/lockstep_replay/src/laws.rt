@@ -1,14 +1,16 @@
-ghost use Rattle.lockstep_replay.specs.Acceptance.{PrefixesLaw, CrossesLaw, BoundLaw, MoreTurnsLaw};
+ghost use Rattle.lockstep_replay.specs.Acceptance.{DoneLaw, PrefixesLaw, CrossesLaw, BoundLaw, GreaterLimitsLaw};
 ghost use Rattle.lockstep_replay.specs.VerdictLaws.{AcceptedLaw, AcceptsLaw, RejectedLaw, CausesLaw};
 
-/// Two strings on which the replay of one program, public input, secret length and cut is done are equal, or neither is
-/// a prefix of the other; different crossing strings of accepted secrets are prefix-free and weigh at most 2 to the
-/// budget; at most that many different outputs arise; and a greater limit of turns accepts no less.
+/// The replay of an accepted secret's crossing bits is done with the output of its real run; two strings on which the
+/// replay of one task is done are equal, or neither is a prefix of the other; different crossing strings of accepted
+/// secrets are prefix-free and weigh at most 2 to the budget; at most that many different outputs arise; and greater
+/// limits accept no less.
 pub fn accepted_runs_are_bounded()
+    ensures done { DoneLaw }
     ensures prefixes { PrefixesLaw }
     ensures crosses { CrossesLaw }
     ensures bound { BoundLaw }
-    ensures more_turns { MoreTurnsLaw }
+    ensures greater { GreaterLimitsLaw }
 {}
 
 /// A verdict that accepts names the crossing bits and the output of an accepted secret; the verdict on an accepted

@@ -1,11 +1,12 @@
-ghost use Rattle.std.specs.Prelude.{◌≡◌, ◌<◌, ◌^◌, [], length, false, IfOk};
+ghost use Rattle.std.specs.Prelude.{◌≡◌, ℕ, ◌<◌, ◌^◌, List, [], length, false, IfOk};
 ghost use Rattle.elf32_loader.specs.Images.{picture_of};
 ghost use Rattle.cut_file.specs.Pictures.{picture_of as cut_picture};
 ghost use Rattle.rv32im_machine.specs.declared.stepping.Stepped.TheVariants.{Exited};
 ghost use Rattle.lockstep_replay.specs.Judgements.{judgement_of};
-ghost use Rattle.lockstep_replay.specs.Tasks.{Begins, Ends, IsTask};
+ghost use Rattle.lockstep_replay.specs.Checks.{Begins, Ends, IsCheck};
+ghost use Rattle.lockstep_replay.specs.Tasks.{Task, Limits, task_of};
 ghost use Rattle.lockstep_replay.specs.Turning.{Keeps};
-ghost use Rattle.lockstep_replay.specs.Verdicts.{Task, Accepts, judged, judged_from, task_of};
+ghost use Rattle.lockstep_replay.specs.Verdicts.{Accepts, First, judged_from};
 
 use crate::rounds::round;
 use crate::tallies::Tallying;
@@ -40,8 +41,9 @@ impl Lockstep {
     ) -> Result<Lockstep, NoMemory>
         requires secret { length secret.now < 2 ^ 32 }
         requires budget { budget < 4294967295 }
-        ensures { IfOk result (λ lockstep. IsTask lockstep (task_of (picture_of image.now) public.now secret.now
-            regions.now.items (cut_picture cut.now) budget turns)) }
+        ensures { IfOk result (λ lockstep. IsCheck lockstep
+            (task_of (picture_of image.now) public.now regions.now.items (cut_picture cut.now))
+            (record { budget = budget; turns = turns }) secret.now) }
     {
         let real = Machine::new(alloc, image, public, secret, OUTPUT_LIMIT)?;
         let masks = VisitMasks::new(alloc, cut)?;
@@ -68,7 +70,8 @@ impl Lockstep {
 
     /// The verdict on the secret: accepted, or the first condition that fails. It takes no memory.
     pub fn run(self) -> Verdict
-        ensures { (task : Task) → IsTask self task → judgement_of result ≡ judged task }
+        ensures { (task : Task) (limits : Limits) (secret : List ℕ) → IsCheck self task limits secret →
+            judgement_of result ≡ First task limits secret }
     {
         let Lockstep {
             runs,
@@ -115,7 +118,8 @@ fn exit_status(enclosed: bool, mode: Stepped) -> Option<u8>
 fn run_turns(runs: TwoRuns, turns: u32) -> Verdict
     requires empty { runs.tally.bits.bits ≡ [] }
     requires keeps { Keeps runs.real runs.replay runs.tally.bits runs.tally.needed runs.tally.budget }
-    ensures { (task : Task) → Begins runs task → turns ≡ task.turns → judgement_of result ≡ judged_from task turns 0 }
+    ensures { (task : Task) (limits : Limits) (secret : List ℕ) → Begins runs task limits secret →
+        turns ≡ limits.turns → judgement_of result ≡ judged_from task limits secret turns 0 }
 {
     let TwoRuns {
         real,

@@ -6,15 +6,15 @@ use Rattle.lockstep_replay.specs.Verdicts.{Rejects, judged_from}
 use Rattle.lockstep_replay.proofs.tasks.Lockstep.run.Goals as goal
 
 pub returns-then-got-wanted : goal.returns-then-got-wanted
-returns-then-got-wanted c = λ task is.
-    let real : task.real.setting.secret_length ≡ c.args.self.got =
+returns-then-got-wanted c = λ task limits secret is.
+    let real : length secret ≡ c.args.self.got =
     ap (λ (s : State). s.setting.secret_length) is.begins.real ∙ sym c.args.self.got_is in
-    let test : (task.real.setting.secret_length == task.secret_length) ≡ true =
-    eq-eqb task.real.setting.secret_length task.secret_length (real ∙ (c.if-got-wanted.true ∙ is.wanted)) in
-    c.run_turns.ensures task is.begins is.turns
-    ∙ (ap (λ n. judged_from task n 0) is.turns
-    ∙ sym (ap (λ b. if b then judged_from task task.turns 0
-    else Rejects (SecretLength task.secret_length task.real.setting.secret_length)) test))
+    let test : (length secret == task.secret_length) ≡ true =
+    eq-eqb (length secret) task.secret_length (real ∙ (c.if-got-wanted.true ∙ is.wanted)) in
+    c.run_turns.ensures task limits secret is.begins is.turns
+    ∙ (ap (λ n. judged_from task limits secret n 0) is.turns
+    ∙ sym (ap (λ b. if b then judged_from task limits secret limits.turns 0 else Rejects
+    (SecretLength task.secret_length (length secret))) test))
 
 pub run_turns-requires-clause-keeps : goal.run_turns-requires-clause-keeps
 run_turns-requires-clause-keeps c = record {
