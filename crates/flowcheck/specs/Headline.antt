@@ -11,8 +11,8 @@ use Rattle.lockstep_replay.specs.declared.verdicts.Why.{Why}
 use Rattle.cut_file.specs.Cuts.{CutPicture}
 use Rattle.cut_file.specs.Masks.{MaskAt}
 use Rattle.cut_file.specs.Texts.{CutText}
-use Rattle.replay_machine.specs.Runs.{real_after}
-use Rattle.replay_machine.specs.Starts.{guest}
+use Rattle.region_machine.specs.Runs.{real_after}
+use Rattle.region_machine.specs.Starts.{guest}
 use Rattle.lockstep_replay.specs.Acceptance.{Accept, Done, HasExited, IsOutput}
 use Rattle.lockstep_replay.specs.Verdicts.{Judgement, Accepts, Rejects}
 use Rattle.lockstep_replay.specs.VerdictLaws.{Cause, enclosures_of}

@@ -13,16 +13,18 @@ use Rattle.enclosure_regions.specs.declared.region_parts.Region.{Region}
 use Rattle.lockstep_replay.specs.declared.verdicts.Why.{Why}
 use Rattle.cut_file.specs.Cuts.{CutPicture}
 use Rattle.cut_file.specs.Masks.{MaskAt}
-use Rattle.replay_machine.specs.Enclosures.{is_enclosed}
-use Rattle.replay_machine.specs.Runs.{Place, ReplayPlace, fresh, real_after, common_turns, Replay}
+use Rattle.region_machine.specs.Enclosures.{is_enclosed}
+use Rattle.region_machine.specs.Runs.{Place, fresh, real_after, common_turns}
+use Rattle.replay_machine.specs.Runs.{ReplayPlace, Replay}
 use Rattle.lockstep_replay.specs.Crossing.{Cross}
-use Rattle.replay_machine.specs.Starts.{guest, replay_guest}
+use Rattle.region_machine.specs.Starts.{guest}
+use Rattle.replay_machine.specs.Starts.{replay_guest}
 use Rattle.lockstep_replay.specs.Acceptance.{HasExited, Follows, Accept}
 use Rattle.lockstep_replay.specs.Verdicts.{Judgement, Accepts, Rejects, Task, task_of, why_after, enclosed_after}
 use Rattle.lockstep_replay.specs.Verdicts.{cross_after}
 use Rattle.lockstep_replay.specs.Verdicts.{judged_mode, judged_after, judged_from}
 use Rattle.lockstep_replay.specs.VerdictLaws.{enclosures_of, AcceptedLaw}
-use Rattle.replay_machine.proofs.Stillness.{IsOver}
+use Rattle.region_machine.proofs.Stillness.{IsOver}
 use Rattle.lockstep_replay.proofs.Stillness.{cross_later, replay_later}
 use Rattle.lockstep_replay.proofs.Runs.{common_most}
 use Rattle.lockstep_replay.proofs.Bounds.{over_exited, more_turns_law}

@@ -11,13 +11,15 @@ use Rattle.crossing_bits.proofs.Outputs.{outputs_few, reached_through, strings_f
 use Rattle.crossing_bits.proofs.Weighing.{kraft}
 use Rattle.rv32im_machine.specs.declared.stepping.Stepped.{Stepped}
 use Rattle.rv32im_machine.specs.declared.stepping.Stepped.TheVariants.{Ran, Exited, Stopped}
-use Rattle.replay_machine.specs.Enclosures.{Enclosures}
-use Rattle.replay_machine.specs.Runs.{Place, ReplayPlace, Masks, real_after, common_turns, Replay}
+use Rattle.region_machine.specs.Enclosures.{Enclosures}
+use Rattle.region_machine.specs.Runs.{Place, real_after, common_turns}
+use Rattle.replay_machine.specs.Runs.{ReplayPlace, Masks, Replay}
 use Rattle.lockstep_replay.specs.Crossing.{Cross}
-use Rattle.replay_machine.specs.Starts.{guest, replay_guest}
+use Rattle.region_machine.specs.Starts.{guest}
+use Rattle.replay_machine.specs.Starts.{replay_guest}
 use Rattle.lockstep_replay.specs.Acceptance.{HasExited, EndAlike, SameMark, Done, Follows, Accept, PrefixesLaw, IsCross}
 use Rattle.lockstep_replay.specs.Acceptance.{CrossesLaw, IsOutput, BoundLaw, MoreTurnsLaw}
-use Rattle.replay_machine.proofs.Stillness.{IsOver}
+use Rattle.region_machine.proofs.Stillness.{IsOver}
 use Rattle.lockstep_replay.proofs.Stillness.{real_later, cross_later, replay_later}
 use Rattle.lockstep_replay.proofs.Runs.{common_grows}
 use Rattle.lockstep_replay.proofs.Exits.{exposed_exit}

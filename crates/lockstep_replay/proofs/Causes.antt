@@ -10,9 +10,9 @@ use Rattle.cut_file.specs.Masks.{MaskAt}
 use Rattle.rv32im_machine.specs.declared.stepping.Stepped.{Stepped}
 use Rattle.rv32im_machine.specs.declared.stepping.Stepped.TheVariants.{Ran, Exited, Stopped}
 use Rattle.enclosure_regions.specs.declared.region_parts.Region.{Region}
-use Rattle.replay_machine.specs.Enclosures.{Enclosures}
-use Rattle.replay_machine.specs.Runs.{real_after}
-use Rattle.replay_machine.specs.Starts.{guest}
+use Rattle.region_machine.specs.Enclosures.{Enclosures}
+use Rattle.region_machine.specs.Runs.{real_after}
+use Rattle.region_machine.specs.Starts.{guest}
 use Rattle.lockstep_replay.specs.declared.verdicts.Why.{Why}
 use Rattle.lockstep_replay.specs.declared.verdicts.Why.TheVariants.{RealFault, RegionBreak, BudgetOverrun, ReplayFault}
 use Rattle.lockstep_replay.specs.declared.verdicts.Why.TheVariants.{Parted}

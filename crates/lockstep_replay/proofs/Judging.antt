@@ -13,15 +13,17 @@ use Rattle.enclosure_regions.specs.declared.region_parts.Region.{Region}
 use Rattle.lockstep_replay.specs.declared.verdicts.Why.TheVariants.{SecretLength}
 use Rattle.cut_file.specs.Cuts.{CutPicture}
 use Rattle.cut_file.specs.Masks.{MaskAt}
-use Rattle.replay_machine.specs.Enclosures.{Enclosures}
-use Rattle.replay_machine.specs.Runs.{Place, ReplayPlace, real_after}
-use Rattle.replay_machine.specs.Starts.{guest, replay_guest}
+use Rattle.region_machine.specs.Enclosures.{Enclosures}
+use Rattle.region_machine.specs.Runs.{Place, real_after}
+use Rattle.replay_machine.specs.Runs.{ReplayPlace}
+use Rattle.region_machine.specs.Starts.{guest}
+use Rattle.replay_machine.specs.Starts.{replay_guest}
 use Rattle.lockstep_replay.specs.Acceptance.{HasExited, Follows, Accept}
 use Rattle.lockstep_replay.specs.Verdicts.{Judgement, Accepts, Rejects, task_of, why_after, judged_mode, judged_after}
 use Rattle.lockstep_replay.specs.Verdicts.{judged_from}
 use Rattle.lockstep_replay.specs.VerdictLaws.{enclosures_of, AcceptsLaw, RejectedLaw}
-use Rattle.replay_machine.proofs.Stillness.{IsOver}
-use Rattle.replay_machine.proofs.Growth.{Longer}
+use Rattle.region_machine.proofs.Stillness.{IsOver}
+use Rattle.region_machine.proofs.Growth.{Longer}
 use Rattle.lockstep_replay.proofs.Stillness.{real_later, unbroken_before, cross_later, replay_later}
 use Rattle.lockstep_replay.proofs.Runs.{cross_begins, cross_grows, common_most, written, rewritten, real_run_grows}
 use Rattle.lockstep_replay.proofs.Runs.{replay_more_grows, same_beginning}

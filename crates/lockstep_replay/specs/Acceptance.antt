@@ -8,9 +8,11 @@ use Rattle.crossing_bits.specs.Weights.{IsPrefixFree, weight}
 use Rattle.rv32im_machine.specs.declared.stepping.Stepped.{Stepped}
 use Rattle.rv32im_machine.specs.declared.stepping.Stepped.TheVariants.{Ran, Exited, Stopped}
 use Rattle.rv32im_machine.specs.State.{State}
-use Rattle.replay_machine.specs.Enclosures.{Enclosures, is_enclosed}
-use Rattle.replay_machine.specs.Runs.{ReplayPlace, Masks, real_after, common_turns, Replay}
-use Rattle.replay_machine.specs.Starts.{guest, replay_guest}
+use Rattle.region_machine.specs.Enclosures.{Enclosures, is_enclosed}
+use Rattle.region_machine.specs.Runs.{real_after, common_turns}
+use Rattle.replay_machine.specs.Runs.{ReplayPlace, Masks, Replay}
+use Rattle.region_machine.specs.Starts.{guest}
+use Rattle.replay_machine.specs.Starts.{replay_guest}
 use Rattle.lockstep_replay.specs.Crossing.{Cross}
 
 -- a run has exited with an output, which is the bytes that were written and the status

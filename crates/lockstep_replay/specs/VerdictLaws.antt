@@ -10,9 +10,11 @@ use Rattle.rv32im_machine.specs.State.{State}
 use Rattle.replay_machine.specs.declared.marks.Mark.{Mark}
 use Rattle.rv32im_machine.specs.declared.stepping.Fault.{Fault}
 use Rattle.enclosure_regions.specs.declared.region_parts.Region.{Region}
-use Rattle.replay_machine.specs.Enclosures.{Enclosures, is_enclosed}
-use Rattle.replay_machine.specs.Runs.{Place, ReplayPlace, Masks, real_after, common_turns, Replay}
-use Rattle.replay_machine.specs.Starts.{guest, replay_guest}
+use Rattle.region_machine.specs.Enclosures.{Enclosures, is_enclosed}
+use Rattle.region_machine.specs.Runs.{Place, real_after, common_turns}
+use Rattle.replay_machine.specs.Runs.{ReplayPlace, Masks, Replay}
+use Rattle.region_machine.specs.Starts.{guest}
+use Rattle.replay_machine.specs.Starts.{replay_guest}
 use Rattle.lockstep_replay.specs.declared.differences.Difference.{Difference}
 use Rattle.lockstep_replay.specs.declared.verdicts.ReplayStop.{ReplayStop}
 use Rattle.lockstep_replay.specs.declared.verdicts.ReplayStop.TheVariants.{Guest, RangeOutside, Short as TooShort}

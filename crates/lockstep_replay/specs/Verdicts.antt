@@ -19,11 +19,12 @@ use Rattle.cut_file.specs.Masks.{MaskAt}
 use Rattle.replay_machine.specs.declared.marks.Mark.{Mark}
 use Rattle.enclosure_regions.specs.declared.region_parts.Region.{Region}
 use Rattle.enclosure_regions.specs.declared.break_kinds.Break.{Break}
-use Rattle.replay_machine.specs.Enclosures.{Enclosures, is_enclosed}
-use Rattle.replay_machine.specs.Breaking.{Outside}
-use Rattle.replay_machine.specs.Runs.{Place, ReplayPlace, Masks, fresh, replay_fresh, real_after, common_turns, Replay}
+use Rattle.region_machine.specs.Enclosures.{Enclosures, is_enclosed}
+use Rattle.replay_machine.specs.ReplayTurns.{Outside}
+use Rattle.region_machine.specs.Runs.{Place, fresh, real_after, common_turns}
+use Rattle.replay_machine.specs.Runs.{ReplayPlace, Masks, replay_fresh, Replay}
 use Rattle.lockstep_replay.specs.Crossing.{Cross}
-use Rattle.replay_machine.specs.Starts.{output_limit}
+use Rattle.region_machine.specs.Starts.{output_limit}
 use Rattle.lockstep_replay.specs.Marks.{mark_of, is_same_mark}
 use Rattle.lockstep_replay.specs.Differences.{difference_of}
 
