@@ -14,7 +14,7 @@ use Rattle.lockstep_replay.specs.Acceptance.{HasExited, Follows, Accept}
 use Rattle.lockstep_replay.specs.Verdicts.{Judgement, Accepts, Rejects, fed_of, why_after}
 use Rattle.lockstep_replay.specs.Verdicts.{judged_mode, judged_after, judged_from}
 use Rattle.lockstep_replay.specs.VerdictLaws.{AcceptedLaw}
-use Rattle.replay_machine.proofs.Stillness.{IsOver}
+use Rattle.region_machine.proofs.Stillness.{IsOver}
 use Rattle.lockstep_replay.proofs.Stillness.{cross_later}
 use Rattle.lockstep_replay.proofs.Bounds.{over_exited, same_follows, greater_limits_law}
 use Rattle.lockstep_replay.proofs.Fine.{Alike, Fine, fine_of, alike_same, same_status}

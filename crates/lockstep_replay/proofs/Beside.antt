@@ -15,7 +15,7 @@ use Rattle.replay_machine.specs.declared.turns.ReplayTurn.TheVariants.{RangeOuts
 use Rattle.lockstep_replay.specs.Marks.{mark_of, is_same_mark}
 use Rattle.replay_machine.specs.Standing.{Standing, Stands, Turned, mode_answer, end_answer, turn_answer, taken_after}
 use Rattle.cut_file.specs.Masks.{MaskAt}
-use Rattle.replay_machine.specs.Breaking.{Outside}
+use Rattle.replay_machine.specs.ReplayTurns.{Outside}
 use Rattle.replay_machine.specs.Runs.{ReplayPlace, Masks}
 use Rattle.lockstep_replay.specs.declared.differences.Difference.{Difference}
 use Rattle.lockstep_replay.specs.declared.verdicts.ReplayStop.TheVariants.{Guest, RangeOutside, Short as TooShort}

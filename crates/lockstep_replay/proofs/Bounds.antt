@@ -10,12 +10,13 @@ use Rattle.crossing_bits.proofs.Outputs.{outputs_few, reached_through, strings_f
 use Rattle.crossing_bits.proofs.Weighing.{kraft}
 use Rattle.rv32im_machine.specs.declared.stepping.Stepped.{Stepped}
 use Rattle.rv32im_machine.specs.declared.stepping.Stepped.TheVariants.{Ran, Exited, Stopped}
-use Rattle.replay_machine.specs.Runs.{Place, ReplayPlace, real_after}
+use Rattle.region_machine.specs.Runs.{Place, real_after}
+use Rattle.replay_machine.specs.Runs.{ReplayPlace}
 use Rattle.lockstep_replay.specs.Tasks.{Task, Limits, real_start, real_of, enclosed_of, common_of, Cross}
 use Rattle.lockstep_replay.specs.Tasks.{replay_start, replay_of}
 use Rattle.lockstep_replay.specs.Acceptance.{HasExited, EndAlike, SameMark, Done, Follows, Accept, DoneLaw, PrefixesLaw}
 use Rattle.lockstep_replay.specs.Acceptance.{IsCross, CrossesLaw, IsOutput, BoundLaw, GreaterLimitsLaw}
-use Rattle.replay_machine.proofs.Stillness.{IsOver}
+use Rattle.region_machine.proofs.Stillness.{IsOver}
 use Rattle.lockstep_replay.proofs.Stillness.{real_later, cross_later, replay_later}
 use Rattle.lockstep_replay.proofs.Runs.{common_grows, common_most}
 use Rattle.lockstep_replay.proofs.Exits.{exposed_exit}

@@ -5,11 +5,11 @@ use Rattle.rv32im_machine.specs.declared.stepping.Fault.{Fault}
 use Rattle.rv32im_machine.specs.declared.stepping.Stepped.{Stepped}
 use Rattle.rv32im_machine.specs.declared.stepping.Stepped.TheVariants.{Ran, Exited, Stopped}
 use Rattle.enclosure_regions.specs.declared.break_kinds.Break.{Break}
-use Rattle.replay_machine.specs.Enclosures.{Enclosures, is_enclosed}
-use Rattle.replay_machine.specs.Guests.{guest_walk}
-use Rattle.replay_machine.specs.Runs.{Place, turn_unless, real_turn, real_after}
-use Rattle.replay_machine.specs.Standing.{has_exited}
-use Rattle.replay_machine.proofs.Enclosed.{enclosed_runs_on}
+use Rattle.region_machine.specs.Enclosures.{Enclosures, is_enclosed}
+use Rattle.region_machine.specs.Guests.{guest_walk}
+use Rattle.region_machine.specs.Runs.{Place, turn_unless, real_turn, real_after}
+use Rattle.region_machine.specs.Runs.{has_exited}
+use Rattle.region_machine.proofs.Enclosed.{enclosed_runs_on}
 use Rattle.lockstep_replay.proofs.Runs.{real_next}
 
 stays_unless : (broken : Option Break) (enclosures : Enclosures) (place : Place) (status : ℕ) → place.broken ≡ broken →

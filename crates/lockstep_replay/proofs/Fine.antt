@@ -15,8 +15,9 @@ use Rattle.rv32im_machine.specs.declared.stepping.Stepped.TheVariants.{Ran, Exit
 use Rattle.rv32im_machine.specs.State.{State}
 use Rattle.replay_machine.specs.declared.marks.Mark.{Mark}
 use Rattle.enclosure_regions.specs.declared.break_kinds.Break.{Break}
-use Rattle.replay_machine.specs.Breaking.{Outside}
-use Rattle.replay_machine.specs.Runs.{Place, ReplayPlace}
+use Rattle.replay_machine.specs.ReplayTurns.{Outside}
+use Rattle.region_machine.specs.Runs.{Place}
+use Rattle.replay_machine.specs.Runs.{ReplayPlace}
 use Rattle.lockstep_replay.specs.declared.differences.Difference.{Difference}
 use Rattle.lockstep_replay.specs.declared.verdicts.ReplayStop.TheVariants.{Guest, RangeOutside, Short as TooShort}
 use Rattle.lockstep_replay.specs.declared.verdicts.Why.{Why}
@@ -24,7 +25,7 @@ use Rattle.lockstep_replay.specs.declared.verdicts.Why.TheVariants.{RealFault, R
 use Rattle.lockstep_replay.specs.declared.verdicts.Why.TheVariants.{Parted}
 use Rattle.lockstep_replay.specs.declared.verdicts.Why.TheVariants.{OutputDiffers}
 use Rattle.lockstep_replay.specs.Acceptance.{EndAlike}
-use Rattle.replay_machine.specs.Standing.{has_exited}
+use Rattle.region_machine.specs.Runs.{has_exited}
 use Rattle.lockstep_replay.specs.Marks.{mark_of, is_same_mark}
 use Rattle.lockstep_replay.specs.Differences.{byte_difference, status_difference, first_of, difference_of}
 use Rattle.lockstep_replay.specs.Verdicts.{counted_bits, why_output, why_stopped, why_copy, why_replay}

@@ -13,8 +13,9 @@ use Rattle.rv32im_machine.specs.Folds.{real_end}
 use Rattle.rv32im_machine.specs.Playing.{Played, Finished, Halted}
 use Rattle.enclosure_regions.specs.declared.region_parts.Region.{Region}
 use Rattle.enclosure_regions.specs.declared.break_kinds.Break.{Break}
-use Rattle.replay_machine.specs.Breaking.{place_break, passing_break, first_break, walk_break}
-use Rattle.replay_machine.specs.Runs.{Masks, mask_at, passed, visited}
+use Rattle.region_machine.specs.Breaking.{place_break, passing_break, first_break, walk_break}
+use Rattle.region_machine.specs.Runs.{passed, visited}
+use Rattle.replay_machine.specs.Runs.{Masks, mask_at}
 use Rattle.lockstep_replay.specs.Crossing.{crossing, crossing_unless}
 use Rattle.lockstep_replay.specs.Tapes.{Tallies, Guard, Guards, visit_bits, visit_past}
 use Rattle.lockstep_replay.proofs.Tapes.{tallies-more}

@@ -9,15 +9,16 @@ use Rattle.rv32im_machine.specs.declared.stepping.Fault.{Fault}
 use Rattle.rv32im_machine.specs.declared.stepping.Stepped.{Stepped}
 use Rattle.rv32im_machine.specs.declared.stepping.Stepped.TheVariants.{Ran, Exited, Stopped}
 use Rattle.lockstep_replay.specs.declared.verdicts.Why.TheVariants.{SecretLength}
-use Rattle.replay_machine.specs.Runs.{Place, ReplayPlace}
+use Rattle.region_machine.specs.Runs.{Place}
+use Rattle.replay_machine.specs.Runs.{ReplayPlace}
 use Rattle.lockstep_replay.specs.Tasks.{Task, Limits, real_start, real_of, enclosed_of, common_of, Cross}
 use Rattle.lockstep_replay.specs.Tasks.{replay_start, replay_of}
 use Rattle.lockstep_replay.specs.Acceptance.{HasExited, Done, Follows, Accept}
 use Rattle.lockstep_replay.specs.Verdicts.{Judgement, Accepts, Rejects, fed_of, why_after}
 use Rattle.lockstep_replay.specs.Verdicts.{judged_mode, judged_after, judged_from}
 use Rattle.lockstep_replay.specs.VerdictLaws.{AcceptsLaw, RejectedLaw}
-use Rattle.replay_machine.proofs.Stillness.{IsOver}
-use Rattle.replay_machine.proofs.Growth.{Longer}
+use Rattle.region_machine.proofs.Stillness.{IsOver}
+use Rattle.region_machine.proofs.Growth.{Longer}
 use Rattle.lockstep_replay.proofs.Stillness.{real_later, unbroken_before, cross_later}
 use Rattle.lockstep_replay.proofs.Runs.{cross_begins, cross_grows, common_most, written, rewritten, real_run_grows}
 use Rattle.lockstep_replay.proofs.Runs.{replay_more_grows, same_beginning}

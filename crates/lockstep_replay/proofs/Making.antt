@@ -13,10 +13,11 @@ use Rattle.enclosure_regions.specs.declared.region_parts.Range.{Range}
 use Rattle.enclosure_regions.specs.declared.region_parts.Region.{Region}
 use Rattle.enclosure_regions.specs.declared.break_kinds.Break.{Break}
 use Rattle.enclosure_regions.specs.Breaks.{range_break, keep_break}
-use Rattle.replay_machine.specs.Enclosures.{Enclosures, Kind, Enters, Leaves, Steps, is_skipped}
-use Rattle.replay_machine.specs.Guests.{entry, looks, looks_at, leave}
-use Rattle.replay_machine.specs.Breaking.{first_break, walk_break}
-use Rattle.replay_machine.specs.Runs.{Masks, passed, visited}
+use Rattle.region_machine.specs.Enclosures.{Enclosures, Kind, Enters, Leaves, Steps, is_skipped}
+use Rattle.region_machine.specs.Guests.{entry, looks, looks_at, leave}
+use Rattle.region_machine.specs.Breaking.{first_break, walk_break}
+use Rattle.region_machine.specs.Runs.{passed, visited}
+use Rattle.replay_machine.specs.Runs.{Masks}
 use Rattle.replay_machine.specs.Visits.{IsAhead}
 use Rattle.replay_machine.proofs.Tables.{ahead-self}
 use Rattle.lockstep_replay.specs.declared.tallies.Tallying.{Tallying}

@@ -11,15 +11,16 @@ use Rattle.rv32im_machine.specs.declared.stepping.Stepped.TheVariants.{Ran, Exit
 use Rattle.rv32im_machine.specs.State.{State}
 use Rattle.enclosure_regions.specs.declared.break_kinds.Break.{Break}
 use Rattle.enclosure_regions.specs.Regions.{are_regions}
-use Rattle.replay_machine.specs.Enclosures.{Enclosures, kind_of, is_enclosed}
-use Rattle.replay_machine.specs.Guests.{guest_walk}
-use Rattle.replay_machine.specs.Breaking.{Breaks}
-use Rattle.replay_machine.specs.Runs.{ReplayPlace, Masks, visited}
+use Rattle.region_machine.specs.Enclosures.{Enclosures, kind_of, is_enclosed}
+use Rattle.region_machine.specs.Guests.{guest_walk}
+use Rattle.region_machine.specs.Breaking.{Breaks}
+use Rattle.region_machine.specs.Runs.{visited}
+use Rattle.replay_machine.specs.Runs.{ReplayPlace, Masks}
 use Rattle.replay_machine.specs.Standing.{Standing, Stands}
 use Rattle.replay_machine.specs.Visits.{IsAhead}
-use Rattle.replay_machine.specs.Within.{may_leave}
-use Rattle.replay_machine.proofs.Growth.{real_grows}
-use Rattle.replay_machine.proofs.Keeping.{guest_keeps}
+use Rattle.region_machine.specs.Within.{may_leave}
+use Rattle.region_machine.proofs.Growth.{real_grows}
+use Rattle.region_machine.proofs.Keeping.{guest_keeps}
 use Rattle.replay_machine.proofs.Tables.{ahead-self}
 use Rattle.lockstep_replay.specs.declared.tallies.Tallying.{Tallying}
 use Rattle.lockstep_replay.specs.declared.turned.RealTurn.{RealTurn}

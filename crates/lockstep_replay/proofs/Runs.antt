@@ -5,13 +5,15 @@ use Rattle.std.specs.Prelude.{if◌then◌else◌}
 use Rattle.crossing_bits.specs.Askers.{Over, Uses, Fed', feed}
 use Rattle.crossing_bits.proofs.Feeding.{le_or_lt, feed_after, feed_more}
 use Rattle.enclosure_regions.specs.declared.break_kinds.Break.{Break}
-use Rattle.replay_machine.specs.Enclosures.{Enclosures, is_enclosed}
-use Rattle.replay_machine.specs.Guests.{guest_walk}
-use Rattle.replay_machine.specs.Breaking.{Outside, range_outside}
-use Rattle.replay_machine.specs.Runs.{Place, ReplayPlace, Masks, turn_unless, real_turn, real_after, common_turns}
+use Rattle.region_machine.specs.Enclosures.{Enclosures, is_enclosed}
+use Rattle.region_machine.specs.Guests.{guest_walk}
+use Rattle.replay_machine.specs.ReplayTurns.{Outside, range_outside}
+use Rattle.region_machine.specs.Runs.{Place, turn_unless, real_turn, real_after, common_turns}
+use Rattle.replay_machine.specs.Runs.{ReplayPlace, Masks}
 use Rattle.replay_machine.specs.Runs.{replay_inside, replay_unless, replay_turn, Replay}
 use Rattle.replay_machine.proofs.Feeds.{Between, between}
-use Rattle.replay_machine.proofs.Growth.{Longer, longer_self, longer_more, real_grows, replay_grows}
+use Rattle.region_machine.proofs.Growth.{Longer, longer_self, longer_more, real_grows}
+use Rattle.replay_machine.proofs.ReplayEnds.{replay_grows}
 use Rattle.lockstep_replay.specs.Crossing.{crossing_unless, crossing_unbroken, crossing_of, cross_after}
 
 -- ---- crossing bits

@@ -8,11 +8,13 @@ use Rattle.rv32im_machine.specs.declared.stepping.Stepped.TheVariants.{Ran, Exit
 use Rattle.rv32im_machine.specs.State.{State}
 use Rattle.rv32im_machine.specs.Folds.{real_end}
 use Rattle.enclosure_regions.specs.declared.break_kinds.Break.{Break}
-use Rattle.replay_machine.specs.Enclosures.{Enclosures, is_enclosed}
-use Rattle.replay_machine.specs.Guests.{guest_walk}
-use Rattle.replay_machine.specs.Breaking.{Breaks}
-use Rattle.replay_machine.specs.Runs.{Place, ReplayPlace, Masks, visited, unbroken_turn}
-use Rattle.replay_machine.specs.Runs.{turn_unless, real_after, common_turns, Replay}
+use Rattle.region_machine.specs.Enclosures.{Enclosures, is_enclosed}
+use Rattle.region_machine.specs.Guests.{guest_walk}
+use Rattle.region_machine.specs.Breaking.{Breaks}
+use Rattle.region_machine.specs.Runs.{Place, visited, unbroken_turn}
+use Rattle.replay_machine.specs.Runs.{ReplayPlace, Masks}
+use Rattle.region_machine.specs.Runs.{turn_unless, real_after, common_turns}
+use Rattle.replay_machine.specs.Runs.{Replay}
 use Rattle.replay_machine.specs.Standing.{Standing, Stands}
 use Rattle.replay_machine.specs.Visits.{IsAhead}
 use Rattle.lockstep_replay.specs.declared.tallies.Tallying.{Tallying}

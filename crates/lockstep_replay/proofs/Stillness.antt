@@ -8,12 +8,14 @@ use Rattle.rv32im_machine.specs.State.{State}
 use Rattle.rv32im_machine.specs.Language.{Ended}
 use Rattle.rv32im_machine.specs.Folds.{real_end}
 use Rattle.enclosure_regions.specs.declared.break_kinds.Break.{Break}
-use Rattle.replay_machine.specs.Enclosures.{Enclosures, is_enclosed}
-use Rattle.replay_machine.specs.Guests.{guest_walk}
-use Rattle.replay_machine.specs.Breaking.{Breaks, kind_break}
-use Rattle.replay_machine.specs.Runs.{Place, ReplayPlace, Masks, passed, visited, turn_unless, real_turn, real_after}
+use Rattle.region_machine.specs.Enclosures.{Enclosures, is_enclosed}
+use Rattle.region_machine.specs.Guests.{guest_walk}
+use Rattle.region_machine.specs.Breaking.{Breaks, kind_break}
+use Rattle.region_machine.specs.Runs.{Place, passed, visited, turn_unless, real_turn, real_after}
+use Rattle.replay_machine.specs.Runs.{ReplayPlace, Masks}
 use Rattle.replay_machine.specs.Runs.{replay_turn, Replay}
-use Rattle.replay_machine.proofs.Stillness.{IsOver, still_kind, still_guest, still_replay}
+use Rattle.region_machine.proofs.Stillness.{IsOver, still_kind, still_guest}
+use Rattle.replay_machine.proofs.Stillness.{still_replay}
 use Rattle.lockstep_replay.specs.Crossing.{crossing, crossing_unless, crossing_unbroken, crossing_of, cross_after}
 
 -- ---- a guest that has ended

@@ -4,9 +4,10 @@ use Rattle.flow_base.specs.declared.points.Point.{Point}
 use Rattle.flow_base.specs.Words.{bits_under}
 use Rattle.rv32im_machine.specs.Language.{Walk, Looked, Passed, Moved, Saved, Restored, Ended}
 use Rattle.enclosure_regions.specs.declared.break_kinds.Break.{Break}
-use Rattle.replay_machine.specs.Enclosures.{Enclosures, is_enclosed}
-use Rattle.replay_machine.specs.Guests.{guest_walk}
-use Rattle.replay_machine.specs.Runs.{Place, Masks, mask_at, real_after}
+use Rattle.region_machine.specs.Enclosures.{Enclosures, is_enclosed}
+use Rattle.region_machine.specs.Guests.{guest_walk}
+use Rattle.region_machine.specs.Runs.{Place, real_after}
+use Rattle.replay_machine.specs.Runs.{Masks, mask_at}
 
 -- the bits of the values of a turn under the masks, visit by visit, lowest bit first
 unfoldable pub crossing : Masks → List Point → Walk → List Bool

@@ -8,8 +8,9 @@ use Rattle.rv32im_machine.specs.Folds.{real_end}
 use Rattle.rv32im_machine.specs.Playing.{Finished}
 use Rattle.enclosure_regions.specs.declared.break_kinds.Break.{Break}
 use Rattle.enclosure_regions.specs.declared.region_parts.Region.{Region}
-use Rattle.replay_machine.specs.Breaking.{first_break, walk_break}
-use Rattle.replay_machine.specs.Runs.{Masks, passed, visited}
+use Rattle.region_machine.specs.Breaking.{first_break, walk_break}
+use Rattle.region_machine.specs.Runs.{passed, visited}
+use Rattle.replay_machine.specs.Runs.{Masks}
 use Rattle.replay_machine.specs.Visits.{IsAhead}
 use Rattle.lockstep_replay.specs.Crossing.{crossing, crossing_unless}
 use Rattle.lockstep_replay.specs.Tapes.{Tally, Tallies, Crosses, Guard, Guards}

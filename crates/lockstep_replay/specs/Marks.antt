@@ -3,7 +3,7 @@ use Rattle.std.specs.Prelude.{ℕ, ◌==◌, ◌&&◌, length, Bool}
 use Rattle.std.proofs.Math.Bool.{beq}
 use Rattle.rv32im_machine.specs.State.{State}
 use Rattle.replay_machine.specs.declared.marks.Mark.{Mark}
-use Rattle.replay_machine.specs.Standing.{has_exited}
+use Rattle.region_machine.specs.Runs.{has_exited}
 
 -- the mark of a run in this state, of which so many bits have crossed so far, or which has used so many
 abbrev pub mark_of : State → ℕ → Mark

@@ -5,9 +5,11 @@ use Rattle.crossing_bits.specs.Askers.{Asker}
 use Rattle.cut_file.specs.Cuts.{CutPicture}
 use Rattle.cut_file.specs.Masks.{MaskAt}
 use Rattle.enclosure_regions.specs.declared.region_parts.Region.{Region}
-use Rattle.replay_machine.specs.Enclosures.{Enclosures, is_enclosed}
-use Rattle.replay_machine.specs.Runs.{Place, ReplayPlace, Masks, real_after, common_turns, Replay}
-use Rattle.replay_machine.specs.Starts.{guest, replay_guest}
+use Rattle.region_machine.specs.Enclosures.{Enclosures, is_enclosed}
+use Rattle.region_machine.specs.Runs.{Place, real_after, common_turns}
+use Rattle.replay_machine.specs.Runs.{ReplayPlace, Masks, Replay}
+use Rattle.region_machine.specs.Starts.{guest}
+use Rattle.replay_machine.specs.Starts.{replay_guest}
 use Rattle.lockstep_replay.specs.Crossing.{cross_after}
 
 -- a program with its public input, its regions with those that the replay skips, the masks at the visits of points, and

@@ -8,13 +8,14 @@ use Rattle.rv32im_machine.specs.State.{State}
 use Rattle.rv32im_machine.specs.Folds.{real_end}
 use Rattle.rv32im_machine.specs.declared.stepping.Stepped.{Stepped}
 use Rattle.enclosure_regions.specs.declared.break_kinds.Break.{Break}
-use Rattle.replay_machine.specs.Enclosures.{Enclosures, Kind, is_enclosed, is_enclosed_kind}
-use Rattle.replay_machine.specs.Guests.{guest_walk, kind_walk}
-use Rattle.replay_machine.specs.Breaking.{Breaks, kind_break}
-use Rattle.replay_machine.specs.Runs.{ReplayPlace, Masks, visited, replay_turn}
+use Rattle.region_machine.specs.Enclosures.{Enclosures, Kind, is_enclosed, is_enclosed_kind}
+use Rattle.region_machine.specs.Guests.{guest_walk, kind_walk}
+use Rattle.region_machine.specs.Breaking.{Breaks, kind_break}
+use Rattle.region_machine.specs.Runs.{visited}
+use Rattle.replay_machine.specs.Runs.{ReplayPlace, Masks, replay_turn}
 use Rattle.replay_machine.specs.Standing.{Standing, Stands}
 use Rattle.replay_machine.specs.Visits.{IsAhead}
-use Rattle.replay_machine.specs.Within.{may_leave}
+use Rattle.region_machine.specs.Within.{may_leave}
 use Rattle.lockstep_replay.specs.Marks.{mark_of}
 use Rattle.lockstep_replay.specs.declared.tallies.Tallying.{Tallying}
 use Rattle.lockstep_replay.specs.declared.turned.RealTurn.{RealTurn}

@@ -6,7 +6,8 @@ use Rattle.rv32im_machine.specs.declared.stepping.Stepped.TheVariants.{Ran, Stop
 use Rattle.rv32im_machine.specs.State.{State}
 use Rattle.replay_machine.specs.declared.marks.Mark.{Mark}
 use Rattle.rv32im_machine.specs.declared.stepping.Fault.{Fault}
-use Rattle.replay_machine.specs.Runs.{Place, ReplayPlace}
+use Rattle.region_machine.specs.Runs.{Place}
+use Rattle.replay_machine.specs.Runs.{ReplayPlace}
 use Rattle.lockstep_replay.specs.declared.differences.Difference.{Difference}
 use Rattle.lockstep_replay.specs.declared.verdicts.ReplayStop.{ReplayStop}
 use Rattle.lockstep_replay.specs.declared.verdicts.ReplayStop.TheVariants.{Guest, RangeOutside, Short as TooShort}

@@ -14,8 +14,9 @@ use Rattle.lockstep_replay.specs.declared.verdicts.Why.TheVariants.{Parted}
 use Rattle.lockstep_replay.specs.declared.verdicts.Why.TheVariants.{OutputDiffers, TurnLimit, SecretLength}
 use Rattle.replay_machine.specs.declared.marks.Mark.{Mark}
 use Rattle.enclosure_regions.specs.declared.break_kinds.Break.{Break}
-use Rattle.replay_machine.specs.Breaking.{Outside}
-use Rattle.replay_machine.specs.Runs.{Place, ReplayPlace}
+use Rattle.replay_machine.specs.ReplayTurns.{Outside}
+use Rattle.region_machine.specs.Runs.{Place}
+use Rattle.replay_machine.specs.Runs.{ReplayPlace}
 use Rattle.lockstep_replay.specs.Tasks.{Task, Limits, real_of, enclosed_of, common_of, Cross, replay_of}
 use Rattle.lockstep_replay.specs.Marks.{mark_of, is_same_mark}
 use Rattle.lockstep_replay.specs.Differences.{difference_of}

@@ -1,6 +1,6 @@
 ghost use Rattle.std.specs.Prelude.{◌≡◌, ◌+◌, ◌≤◌, ◌<◌, ◌^◌, length, take};
 ghost use Rattle.lockstep_replay.specs.Differences.{byte_difference, status_difference as difference_of_ends};
-ghost use Rattle.replay_machine.specs.Standing.{has_exited as is_over};
+ghost use Rattle.region_machine.specs.Runs.{has_exited as is_over};
 ghost use Rattle.lockstep_replay.specs.Marks.{mark_of, is_same_mark};
 ghost use Rattle.rv32im_machine.specs.declared.stepping.Stepped.TheVariants.{Exited};
 

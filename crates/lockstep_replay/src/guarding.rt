@@ -32,8 +32,9 @@ impl Passer for Guarding<'_> {
     ghost use Rattle.std.specs.Prelude.{◌≡◌, ℕ, List, None};
     ghost use Rattle.flow_base.specs.declared.points.Point.{Point as ThePoint};
     ghost use Rattle.rv32im_machine.specs.Folds.{real_end};
-    ghost use Rattle.replay_machine.specs.Breaking.{first_break, walk_break};
-    ghost use Rattle.replay_machine.specs.Runs.{Masks, visited};
+    ghost use Rattle.region_machine.specs.Breaking.{first_break, walk_break};
+    ghost use Rattle.region_machine.specs.Runs.{visited};
+    ghost use Rattle.replay_machine.specs.Runs.{Masks};
     ghost use Rattle.replay_machine.specs.Visits.{IsAhead};
     ghost use Rattle.lockstep_replay.specs.Crossing.{crossing_unless};
     ghost use Rattle.lockstep_replay.specs.Tapes.{Guard, Guards};

@@ -1,7 +1,7 @@
 ghost use Rattle.std.specs.Prelude.{◌≡◌, IsTrue, None};
 ghost use Rattle.enclosure_regions.specs.Regions.{is_region};
-ghost use Rattle.replay_machine.specs.Enclosures.{Enclosures, Enters, Leaves, Steps, is_skipped, kind_of};
-ghost use Rattle.replay_machine.specs.Within.{are_inside, may_leave};
+ghost use Rattle.region_machine.specs.Enclosures.{Enclosures, Enters, Leaves, Steps, is_skipped, kind_of};
+ghost use Rattle.region_machine.specs.Within.{are_inside, may_leave};
 ghost use Rattle.std.specs.Prelude.{Some};
 ghost use Rattle.lockstep_replay.specs.Turning.{Makes};
 
@@ -9,7 +9,7 @@ use crate::guards::Guarding;
 use crate::tallies::Tallying;
 use crate::turned::RealTurn;
 use enclosure_regions::{Region, Regions, broken_at_entry, broken_at_leave};
-use replay_machine::{GuestTurn, enter_by, guest_turn, leave_by};
+use region_machine::{GuestTurn, enter_by, guest_turn, leave_by};
 use rv32im_machine::{Machine, turn_by};
 
 /// One step outside regions, or none where the run has ended.

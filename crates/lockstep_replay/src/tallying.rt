@@ -67,7 +67,8 @@ impl Passer for Tallying {
     ghost use Rattle.std.specs.Prelude.{◌≡◌, ℕ, List, None};
     ghost use Rattle.flow_base.specs.declared.points.Point.{Point as ThePoint};
     ghost use Rattle.rv32im_machine.specs.Folds.{real_end};
-    ghost use Rattle.replay_machine.specs.Runs.{Masks, passed};
+    ghost use Rattle.region_machine.specs.Runs.{passed};
+    ghost use Rattle.replay_machine.specs.Runs.{Masks};
     ghost use Rattle.replay_machine.specs.Visits.{IsAhead};
     ghost use Rattle.lockstep_replay.specs.Crossing.{crossing};
     ghost use Rattle.lockstep_replay.specs.Tapes.{Tally, Crosses};

@@ -1,5 +1,5 @@
 ghost use Rattle.std.specs.Prelude.{◌≡◌, [], IsTrue};
-ghost use Rattle.replay_machine.specs.Within.{may_leave};
+ghost use Rattle.region_machine.specs.Within.{may_leave};
 
 use crate::two_runs::TwoRuns;
 

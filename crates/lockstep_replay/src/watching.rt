@@ -1,8 +1,8 @@
 ghost use Rattle.std.specs.Prelude.{◌≡◌, IsTrue};
 ghost use Rattle.enclosure_regions.specs.Regions.{is_region};
-ghost use Rattle.replay_machine.specs.Breaking.{first_break};
-ghost use Rattle.replay_machine.specs.Breaking.{place_break as break_by_place, slot_break as break_by_slot};
-ghost use Rattle.replay_machine.specs.Breaking.{passing_break as break_by_passing};
+ghost use Rattle.region_machine.specs.Breaking.{first_break};
+ghost use Rattle.region_machine.specs.Breaking.{place_break as break_by_place, slot_break as break_by_slot};
+ghost use Rattle.region_machine.specs.Breaking.{passing_break as break_by_passing};
 
 use enclosure_regions::{Break, Region, written_byte, written_register};
 use flow_base::{Registers, Slot};

@@ -1,12 +1,8 @@
-pub mod Staying
 pub mod RunsAhead
 pub mod Searching
 pub mod Tables
 pub mod Widths
 pub mod Feeds
-pub mod Ending
-pub mod Growth
-pub mod Keeping
-pub mod Enclosed
+pub mod ReplayEnds
 pub mod Passings
 pub mod Stillness

@@ -1,7 +1,4 @@
-pub mod Enclosures
-pub mod Guests
-pub mod Breaking
-pub mod Within
+pub mod ReplayTurns
 pub mod Runs
 pub mod Starts
 pub mod Visits

@@ -1,5 +1,5 @@
 -- Where a replay stands, and what a turn of it answers.
-use Rattle.std.specs.Prelude.{◌≡◌, ℕ, zero, suc, ◌+◌, ◌-◌, ◌^◌, min, List, length, Bool, true, false, Option}
+use Rattle.std.specs.Prelude.{◌≡◌, ℕ, zero, suc, ◌+◌, ◌-◌, ◌^◌, min, List, length, Bool, Option}
 use Rattle.std.specs.Prelude.{Some, None}
 use Rattle.cut_file.specs.declared.points.CutPoint.{CutPoint}
 use Rattle.crossing_bits.specs.Askers.{Fed, Fed', Short}
@@ -13,8 +13,9 @@ use Rattle.replay_machine.specs.declared.turns.ReplayTurn.TheVariants.{Ran as Re
 use Rattle.replay_machine.specs.declared.turns.ReplayTurn.TheVariants.{Exited as ReplayExited}
 use Rattle.replay_machine.specs.declared.turns.ReplayTurn.TheVariants.{Stopped as ReplayStopped}
 use Rattle.replay_machine.specs.declared.turns.ReplayTurn.TheVariants.{RangeOutside}
-use Rattle.replay_machine.specs.Enclosures.{Enclosures}
-use Rattle.replay_machine.specs.Breaking.{Outside}
+use Rattle.region_machine.specs.Enclosures.{Enclosures}
+use Rattle.replay_machine.specs.ReplayTurns.{Outside}
+use Rattle.region_machine.specs.Runs.{has_exited}
 use Rattle.replay_machine.specs.Runs.{ReplayPlace, Masks}
 use Rattle.replay_machine.specs.Visits.{IsAhead}
 
@@ -68,11 +69,6 @@ Turned masks (Short missing) after stream answer = Lacked missing after answer
 -- the number of bits that are taken, up to the greatest number of 64 bits
 abbrev pub taken_after : ℕ → Stream → Stream → ℕ
 taken_after taken before after = min (taken + (length (left_of before) - length (left_of after))) (2 ^ 64 - 1)
-
-abbrev pub has_exited : Stepped → Bool
-has_exited Ran = false
-has_exited (Exited status) = true
-has_exited (Stopped fault) = false
 
 abbrev pub mark_of : Standing → Mark
 mark_of standing = record {

@@ -6,13 +6,14 @@ ghost use Rattle.crossing_bits.specs.Askers.{feed};
 ghost use Rattle.crossing_bits.specs.Streams.{left_of};
 ghost use Rattle.rv32im_machine.specs.declared.stepping.Stepped.TheVariants.{Ran};
 ghost use Rattle.rv32im_machine.specs.Start.{zeros};
-ghost use Rattle.replay_machine.specs.Guests.{replay_walk};
-ghost use Rattle.replay_machine.specs.Breaking.{range_outside};
+ghost use Rattle.replay_machine.specs.ReplayTurns.{replay_walk};
+ghost use Rattle.replay_machine.specs.ReplayTurns.{range_outside};
 ghost use Rattle.replay_machine.specs.Runs.{ReplayPlace, Masks, replayed, replay_turn};
 ghost use Rattle.replay_machine.specs.Starts.{replay_guest};
 ghost use Rattle.replay_machine.specs.Visits.{IsAhead};
 ghost use Rattle.replay_machine.specs.Sides.{Side, Comes};
-ghost use Rattle.replay_machine.specs.Standing.{Stands, Turned, end_answer, turn_answer, taken_after, has_exited};
+ghost use Rattle.region_machine.specs.Runs.{has_exited};
+ghost use Rattle.replay_machine.specs.Standing.{Stands, Turned, end_answer, turn_answer, taken_after};
 ghost use Rattle.replay_machine.specs.Standing.{mark_of};
 
 use crate::copies::copy_numbers;
@@ -48,7 +49,7 @@ pub struct Replay {
 impl Model for Replay {
     ghost use Rattle.std.specs.Prelude.{◌≡◌, ◌<◌, ◌^◌, IsTrue};
     ghost use Rattle.replay_machine.specs.Standing.{Standing};
-    ghost use Rattle.replay_machine.specs.Within.{may_leave};
+    ghost use Rattle.region_machine.specs.Within.{may_leave};
 
     ghost Value = { Standing };
 

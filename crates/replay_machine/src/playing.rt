@@ -7,13 +7,13 @@ ghost use Rattle.enclosure_regions.specs.Regions.{is_region};
 ghost use Rattle.replay_machine.specs.Runs.{Masks, replayed};
 ghost use Rattle.replay_machine.specs.Visits.{IsAhead};
 ghost use Rattle.replay_machine.specs.Sides.{Side, Comes};
-ghost use Rattle.replay_machine.specs.Guests.{replay_kind_walk, replay_walk};
-ghost use Rattle.replay_machine.specs.Breaking.{kind_outside_range, outside_of, range_outside};
+ghost use Rattle.replay_machine.specs.ReplayTurns.{replay_kind_walk, replay_walk};
+ghost use Rattle.replay_machine.specs.ReplayTurns.{kind_outside_range, outside_of, range_outside};
 ghost use Rattle.enclosure_regions.specs.Breaks.{outside_range};
-ghost use Rattle.replay_machine.specs.Within.{are_inside, can_leave, can_skip, has_rules, may_leave, seen};
+ghost use Rattle.region_machine.specs.Within.{are_inside, can_leave, can_skip, has_rules, may_leave, seen};
 
-use crate::guests::replay_turn_by;
-use crate::kinds::{GuestTurn, guest_turn};
+use crate::replay_turns::replay_turn_by;
+use region_machine::{GuestTurn, guest_turn};
 use crate::outsides::Outside;
 use crate::replays::Replaying;
 use crossing_bits::Bits;

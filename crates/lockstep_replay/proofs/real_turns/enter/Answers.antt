@@ -1,5 +1,5 @@
 use Rattle.rv32im_machine.specs.Language.{turn_walk}
-use Rattle.replay_machine.specs.Guests.{entry}
+use Rattle.region_machine.specs.Guests.{entry}
 use Rattle.lockstep_replay.proofs.Making.{walked-tallied, makes-entry}
 use Rattle.lockstep_replay.proofs.real_turns.enter.Goals as goal
 

@@ -1,4 +1,4 @@
-use Rattle.replay_machine.specs.Enclosures.{Enclosures, Enters, Leaves, Steps, kind_of}
+use Rattle.region_machine.specs.Enclosures.{Enclosures, Enters, Leaves, Steps, kind_of}
 use Rattle.std.specs.Prelude.{Some, None}
 use Rattle.lockstep_replay.proofs.Making.{makes-kind}
 use Rattle.lockstep_replay.proofs.real_turns.real_turn.Goals as goal

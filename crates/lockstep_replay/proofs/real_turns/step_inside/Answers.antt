@@ -1,5 +1,5 @@
 use Rattle.std.proofs.Common.{Some, subst, rules}
-use Rattle.replay_machine.specs.Enclosures.{Steps}
+use Rattle.region_machine.specs.Enclosures.{Steps}
 use Rattle.rv32im_machine.specs.Rows.{walk_of}
 use Rattle.lockstep_replay.specs.Turning.{Makes}
 use Rattle.lockstep_replay.specs.declared.tallies.Tallying.{Tallying}

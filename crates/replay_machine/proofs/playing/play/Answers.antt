@@ -1,12 +1,13 @@
 use Rattle.std.proofs.Common.{[], refl, sym}
 use Rattle.crossing_bits.specs.Streams.{left_of}
 use Rattle.cut_file.specs.Masks.{MaskAt}
-use Rattle.replay_machine.specs.Guests.{replay_kind_walk}
-use Rattle.replay_machine.specs.Within.{seen}
-use Rattle.replay_machine.specs.Enclosures.{Enclosures}
+use Rattle.replay_machine.specs.ReplayTurns.{replay_kind_walk}
+use Rattle.region_machine.specs.Within.{seen}
+use Rattle.region_machine.specs.Enclosures.{Enclosures}
 use Rattle.replay_machine.proofs.Tables.{ahead-self}
 use Rattle.replay_machine.proofs.Passings.{comes-so}
-use Rattle.replay_machine.proofs.Keeping.{CanGoOn, replay_kind_keeps}
+use Rattle.region_machine.proofs.Keeping.{CanGoOn}
+use Rattle.replay_machine.proofs.ReplayEnds.{replay_kind_keeps}
 use Rattle.replay_machine.proofs.playing.play.Goals as goal
 
 pub returns-in-None-clause-leave : goal.returns-in-None-clause-leave

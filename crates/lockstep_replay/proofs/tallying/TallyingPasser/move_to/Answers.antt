@@ -1,6 +1,6 @@
 use Rattle.std.proofs.Common.{refl}
 use Rattle.rv32im_machine.specs.Folds.{real_end}
-use Rattle.replay_machine.specs.Runs.{passed}
+use Rattle.region_machine.specs.Runs.{passed}
 use Rattle.lockstep_replay.specs.Crossing.{crossing}
 use Rattle.lockstep_replay.proofs.tallying.TallyingPasser.move_to.Goals as goal
 

@@ -1,7 +1,8 @@
 use Rattle.std.proofs.Common.{◌∷◌}
 use Rattle.flow_base.specs.Words.{bits_under}
 use Rattle.rv32im_machine.specs.Folds.{real_end}
-use Rattle.replay_machine.specs.Runs.{mask_at, passed}
+use Rattle.region_machine.specs.Runs.{passed}
+use Rattle.replay_machine.specs.Runs.{mask_at}
 use Rattle.lockstep_replay.specs.Crossing.{crossing}
 use Rattle.lockstep_replay.specs.Sides.{tally_of}
 use Rattle.lockstep_replay.proofs.Tapes.{crosses-more}

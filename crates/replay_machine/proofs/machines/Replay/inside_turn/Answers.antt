@@ -3,10 +3,11 @@ use Rattle.cut_file.specs.Masks.{MaskAt}
 use Rattle.crossing_bits.specs.Streams.{Stream}
 use Rattle.rv32im_machine.specs.declared.stepping.Stepped.{Stepped}
 use Rattle.rv32im_machine.specs.State.{State}
-use Rattle.replay_machine.specs.Enclosures.{kind_of}
-use Rattle.replay_machine.specs.Guests.{replay_walk}
+use Rattle.region_machine.specs.Enclosures.{kind_of}
+use Rattle.replay_machine.specs.ReplayTurns.{replay_walk}
 use Rattle.replay_machine.specs.Standing.{Standing}
-use Rattle.replay_machine.proofs.Growth.{EndsLonger, longer_self, replay_kind_extends}
+use Rattle.region_machine.proofs.Growth.{EndsLonger, longer_self}
+use Rattle.replay_machine.proofs.ReplayEnds.{replay_kind_extends}
 use Rattle.replay_machine.proofs.Tables.{ahead-self}
 use Rattle.replay_machine.proofs.Passings.{comes-bits, comes-room, comes-so}
 use Rattle.replay_machine.proofs.Stillness.{ended-turn, none-or}

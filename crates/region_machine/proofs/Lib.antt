@@ -1,0 +1,6 @@
+pub mod Staying
+pub mod Ending
+pub mod Growth
+pub mod Keeping
+pub mod Enclosed
+pub mod Stillness

@@ -1,0 +1,5 @@
+use Rattle.region_machine.proofs.Staying.{stays_register}
+use Rattle.region_machine.proofs.clearing.clear_register.Goals as goal
+
+pub returns-clause-stays : goal.returns-clause-stays
+returns-clause-stays g c = rw c.set_register.ensures (stays_register c.args.machine.now c.args.register _)

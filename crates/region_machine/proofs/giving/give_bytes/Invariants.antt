@@ -1,0 +1,16 @@
+use Rattle.std.proofs.Common.{◌+◌, ◌-◌}
+use Rattle.rv32im_machine.specs.Language.{Turn, turn_walk}
+use Rattle.rv32im_machine.specs.Playing.{Knows, Played}
+use Rattle.region_machine.specs.Guests.{gives_bytes}
+use Rattle.region_machine.specs.Within.{Stays}
+use Rattle.region_machine.proofs.giving.give_bytes.Given as goal
+
+abbrev pub invariant-loop-i : goal.invariant-loop-i
+invariant-loop-i g l = record {
+  stays : Stays l.fn.machine l.machine;
+  memory : Knows (g.P.Passer.memory l.passer) l.machine.setting.base;
+  rest : (turn : Turn) (out : Played g.row.P-Stop.Denot g.P.Passer.Tape) →
+      g.P.Passer.Plays l.passer
+      (turn_walk l.machine (gives_bytes l.region l.range (l.address + l.i) (l.count - l.i) turn)) out →
+      g.P.Passer.Plays l.fn.passer (turn_walk l.fn.machine (gives_bytes l.region l.range l.address l.count turn)) out;
+}

@@ -1,0 +1,6 @@
+pub mod Enclosures
+pub mod Guests
+pub mod Breaking
+pub mod Within
+pub mod Runs
+pub mod Starts

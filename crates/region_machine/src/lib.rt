@@ -1,0 +1,17 @@
+//! The guest with regions: which turn it makes next, the entry, the leave and the skip of a region, what breaks one, and
+//! the real run.
+#![tactic(auto)]
+
+mod clearing;
+mod entering;
+mod giving;
+mod guests;
+mod kinds;
+mod leaving;
+mod skipping;
+
+pub use entering::enter_by;
+pub use guests::{guest_turn_by, kind_turn_by};
+pub use kinds::{GuestTurn, guest_turn};
+pub use leaving::leave_by;
+pub use skipping::skip_by;

@@ -1,5 +1,0 @@
-use Rattle.replay_machine.proofs.Staying.{stays_register}
-use Rattle.replay_machine.proofs.clearing.clear_register.Goals as goal
-
-pub returns-clause-stays : goal.returns-clause-stays
-returns-clause-stays g c = rw c.set_register.ensures (stays_register c.args.machine.now c.args.register _)

@@ -1,5 +1,0 @@
-use Rattle.std.proofs.Common.{length}
-use Rattle.replay_machine.proofs.entering.+look_at_bases.Given as goal
-
-abbrev pub decreases-look_at_bases : goal.decreases-look_at_bases
-decreases-look_at_bases g l = length l.ranges.now
