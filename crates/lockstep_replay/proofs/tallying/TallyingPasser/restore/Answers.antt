@@ -8,4 +8,5 @@ pub returns : goal.returns
 unfolding crossing real_end passed
 returns c = record {
   memory = refl;
-  goes = λ walk back out after masks past ahead. after masks past ahead }
+  goes = λ walk back out after masks past ahead. after masks past ahead;
+}
