@@ -10,8 +10,8 @@ mod event_lists;
 mod events;
 mod finishing;
 mod graphs;
+mod named_links;
 mod nodes;
-mod places;
 #[cfg(test)]
 mod tests;
 
@@ -21,5 +21,5 @@ pub use ends::{Arc, End};
 pub use event_lists::EventList;
 pub use events::{Event, Events};
 pub use graphs::Graph;
+pub use named_links::{NamedEnd, NamedLink};
 pub use nodes::Node;
-pub use places::{Join, Place};
