@@ -22,10 +22,11 @@ use Rattle.flow_graph.specs.declared.events.Event.{Event}
 use Rattle.flow_graph.specs.declared.nodes.Node.{Node}
 use Rattle.flow_graph.specs.Graphs.{point_cmp, ascend, node_cmp, has_capacity, are_points}
 use Rattle.flow_graph.specs.EventGraphs.{is_same, capacity_at, has_passed, HasFewPoints}
-use Rattle.flow_graph.specs.Builders.{has_point, ArePositive, is_positive, is_sound, StandsFor}
+use Rattle.flow_graph.specs.Builders.{has_point, ArePositive, StandsFor}
+use Rattle.flow_graph.specs.Keeping.{is_positive, is_sound}
 use Rattle.flow_graph.proofs.Points.{point_total}
 use Rattle.flow_graph.proofs.Indices.{is_in}
-use Rattle.flow_graph.proofs.Adding.{all_more, has-same}
+use Rattle.flow_graph.proofs.Keeping.{all_more, known-same}
 
 abbrev pub pair_of : Node → Point × ℕ
 pair_of node = (node.point, node.capacity)
@@ -116,7 +117,8 @@ few_kept builder events stands few ordered =
     let small : length (tree.keys builder.capacities) < 2 ^ 32 = few (tree.keys builder.capacities) ordered
     (all_by_index (has_passed events) (tree.keys builder.capacities)
     (λ k d below.
-    sym (has-same builder events stands (get_or (tree.keys builder.capacities) k d))
+    sym (known-same builder.capacities.entries builder.links.keys events stands
+    (get_or (tree.keys builder.capacities) k d))
     ∙ some_true (tree.get point_cmp builder.capacities (get_or (tree.keys builder.capacities) k d))
     (All-keys_found point_total builder.capacities ordered k d below))) in
     let count : length (tree.keys builder.capacities) ≡ length builder.capacities.entries =

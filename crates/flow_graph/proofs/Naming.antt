@@ -22,7 +22,8 @@ use Rattle.flow_graph.specs.Graphs.{point_cmp, arc_cmp, ascend, is_relay, is_ori
 use Rattle.flow_graph.specs.Graphs.{leads_on}
 use Rattle.flow_graph.specs.EventGraphs.{no_point, link_cmp, is_among, named_end, named, is_relay_of}
 use Rattle.flow_graph.specs.EventGraphs.{names_relay}
-use Rattle.flow_graph.specs.Builders.{index_in, end_at, arc_at, is_there, may_lead, is_sound}
+use Rattle.flow_graph.specs.Builders.{index_in, end_at, arc_at}
+use Rattle.flow_graph.specs.Keeping.{is_there, may_lead, is_sound}
 use Rattle.flow_graph.proofs.Indices.{is_in, index-order, index_inside, same_at_index, nat_cmp-itself}
 
 abbrev end_cmp : End → End → Ordering

@@ -8,7 +8,8 @@ ghost use Rattle.std.specs.Ordering.{nat_cmp};
 ghost use Rattle.flow_graph.specs.declared.events.Event.{Event as AnEvent};
 ghost use Rattle.flow_graph.specs.Graphs.{are_relays, point_cmp};
 ghost use Rattle.flow_graph.specs.EventGraphs.{IsGraphOf, is_relay_of, link_cmp, names_relay};
-ghost use Rattle.flow_graph.specs.Builders.{ArePositive, StandsFor, arc_at, end_at, has_point, index_in, is_sound};
+ghost use Rattle.flow_graph.specs.Keeping.{is_sound};
+ghost use Rattle.flow_graph.specs.Builders.{ArePositive, StandsFor, arc_at, end_at, has_point, index_in};
 
 use crate::builders::Builder;
 use crate::ends::{Arc, End};

@@ -1,4 +1,4 @@
-use Rattle.std.proofs.Common.{◌≡◌, ℕ, ◌<◌, true, map, slice_index, unwrap_or, sym, ap, ◌∙◌, subst}
+use Rattle.std.proofs.Common.{◌≡◌, ℕ, ◌<◌, true, map, slice_index, unwrap_or, ap, ◌∙◌, subst}
 use Rattle.std.proofs.lemmas.List.{length-map}
 use Rattle.std.specs.BTreeMap.{is_at}
 use Rattle.std.specs.Map.{lookup}
@@ -6,10 +6,11 @@ use Rattle.std.specs.List.{list_all}
 use Rattle.std.specs.List.Sorted.{IsStrictlySortedBy}
 use Rattle.flow_graph.specs.Graphs.{point_cmp, are_links}
 use Rattle.flow_graph.specs.EventGraphs.{named_links, is_among, named}
-use Rattle.flow_graph.specs.Builders.{arc_at, is_sound}
+use Rattle.flow_graph.specs.Builders.{arc_at}
+use Rattle.flow_graph.specs.Keeping.{is_sound}
 use Rattle.flow_graph.proofs.Indices.{is_in}
 use Rattle.flow_graph.proofs.Naming.{arcs_ascend, links_there, named-among}
-use Rattle.flow_graph.proofs.Regions.{same_relays, contains-among, relay_there}
+use Rattle.flow_graph.proofs.Regions.{same_relays, relay_there}
 use Rattle.flow_graph.proofs.Kept.{capacity-lookup, sound_names, names_ordered, points_kept}
 use Rattle.flow_graph.proofs.builders.Builder.finish.Goals as goal
 
@@ -62,8 +63,8 @@ returns c = λ events stands.
       points = λ q. capacity-lookup c.in_ok-points.points q ∙
           (ap (λ es. unwrap_or (lookup (is_at (point_cmp q)) es) 0) c.in_ok-points.ensures.nodes ∙ stands.counted q);
       relays = λ r. c.in_ok-relays.ensures.relays r ∙ same_relays r c.args.self.now.links.keys (named_links events)
-          (λ j. sym (contains-among c.args.self.now.links j) ∙ stands.links j);
+          stands.linked;
       links = λ j. ap (λ l. is_among (map (named c.in_ok-points.points) l) j) links ∙
           (named-among c.in_ok-points.points c.args.self.now.links.keys j sound ∙
-          (sym (contains-among c.args.self.now.links j) ∙ stands.links j));
+          stands.linked j);
     }
