@@ -21,7 +21,7 @@ use Rattle.flow_graph.specs.Keeping.{Keeps, TakesLinks, capacity_in, count_in, i
 use Rattle.flow_graph.specs.Keeping.{is_sound, is_there, may_lead}
 use Rattle.flow_graph.proofs.Bits.{bit_count_bound}
 
-passed-push : (events : List Event) (e : Event) (q : Point) → passed (events ++ e ∷ []) q ≡ passed events q + bits_at
+pub passed-push : (events : List Event) (e : Event) (q : Point) → passed (events ++ e ∷ []) q ≡ passed events q + bits_at
     q e
 passed-push events e q =
     let all : sum_by (bits_at q) (events ++ e ∷ []) ≡ sum_by (bits_at q) events + sum_by (bits_at q) (e ∷ []) =
@@ -64,7 +64,7 @@ named_links-push : (events : List Event) (e : Event) → named_links (events ++ 
     (has_passed events) e
 named_links-push events e = links_after-push [] events e
 
-among-push : (events : List Event) (e : Event) (j : NamedLink) → is_among (named_links (events ++ e ∷ [])) j ≡
+pub among-push : (events : List Event) (e : Event) (j : NamedLink) → is_among (named_links (events ++ e ∷ [])) j ≡
     (is_among (named_links events) j || is_among (links_by (has_passed events) e) j)
 among-push events e j = ap (λ js. is_among js j) (named_links-push events e) ∙ list_any-append _ (named_links events)
     (links_by (has_passed events) e)

@@ -126,8 +126,9 @@ impl Builder {
     }
 }
 
-/// Where what decides a region's way flows on: its relay, and for region 0 the sink.
-fn outlet(region: u16) -> NamedEnd
+/// Where what decides the way that a run goes on in a region flows on: to the relay of the region, and for region 0 to the
+/// sink.
+pub fn outlet(region: u16) -> NamedEnd
     ensures { result ≡ outlet_of region }
 {
     if region == 0 {

@@ -15,7 +15,7 @@ mod nodes;
 #[cfg(test)]
 mod tests;
 
-pub use builders::Builder;
+pub use builders::{Builder, outlet};
 pub use collapsing::{graph_of, has_few_events};
 pub use ends::{Arc, End};
 pub use event_lists::EventList;

@@ -1,2 +1,5 @@
 pub mod Same
 pub mod Putting
+pub mod Marking
+pub mod Limiting
+pub mod Taking

@@ -10,7 +10,7 @@ use Rattle.std.specs.Option.{is_some}
 use Rattle.flow_base.specs.declared.points.Point.{Point}
 use Rattle.flow_base.specs.Words.{bit_count}
 use Rattle.flow_graph.specs.EventGraphs.{is_same}
-use Rattle.flow_graph.specs.Keeping.{capacity_in, count_in, is_known}
+use Rattle.flow_graph.specs.Keeping.{capacity_in, count_in, is_known, is_positive}
 use Rattle.indexmap.specs.IndexMap.{IndexMap, keys, get, insert_entry, set_value_at}
 use Rattle.indexmap.proofs.CallerLemmas.{updates-with_value_at}
 use Rattle.location_collapse.specs.Limits.{HoldsAt, is_small}
@@ -95,3 +95,20 @@ counted_put old new p n bits put sum q =
 pub longer : (b : Bool) (new old : ℕ) → old < 65536 → new ≡ old + (if b then 0 else 1) → new ≤ 65536
 longer true new old few e = omega (arith, few, e)
 longer false new old few e = omega (arith, few, e)
+
+-- what follows from two clauses of one value
+pub both_ok : {T E P Q R : Type 0} (r : Result T E) → (P → Q → R) → OnOk r P → OnOk r Q → OnOk r R
+both_ok (Ok x) f p q = f p q
+both_ok (Err x) f p q = tt
+
+positive_chosen : (b : Bool) (e : Point × ℕ) (o : Option ℕ) → is_small e ≡ true → is_positive o ≡ true →
+    is_positive (cond b (Some e.1) o) ≡ true
+positive_chosen true e o small rest = (and_parts (nat_lt 0 e.1) (nat_lt e.1 (2 ^ 48)) small).0
+positive_chosen false e o small rest = rest
+
+pub found_positive : (test : Point → Bool) (es : List (Point × ℕ)) → list_all is_small es ≡ true →
+    is_positive (lookup test es) ≡ true
+found_positive test [] all = refl
+found_positive test (e ∷ es) all =
+    let parts = and_parts (is_small e) (list_all is_small es) all in
+    positive_chosen (test e.0) e (lookup test es) parts.0 (found_positive test es parts.1)

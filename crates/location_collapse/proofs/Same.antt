@@ -31,7 +31,7 @@ points_alike = eq_by_cmp_equiv point_laws.total-law
 pub links_alike : IsEquivalence is_same_link
 links_alike = eq_by_cmp_equiv link_laws.total-law
 
-any_flipped : (keys : List NamedLink) (j : NamedLink) → list_any (is_same_link j) keys ≡ is_among keys j
+pub any_flipped : (keys : List NamedLink) (j : NamedLink) → list_any (is_same_link j) keys ≡ is_among keys j
 any_flipped [] j = refl
 any_flipped (k ∷ ks) j =
     ap (λ b. b || list_any (is_same_link j) ks) (links_alike.symm j k) ∙ ap (λ b. is_same_link k j || b)

@@ -41,19 +41,24 @@ ExceedsLimit events = HasMorePoints events 65536 ⊎ (HasMoreLinks events 104857
 abbrev pub is_small : Point × ℕ → Bool
 is_small entry = nat_lt 0 entry.1 && nat_lt entry.1 (2 ^ 48)
 
--- 65,536 different points or more are kept
-pub record IsFull (capacities : List (Point × ℕ)) : Type 0 where
+-- as many different points are kept as a graph may have
+pub record HasAllPoints (capacities : List (Point × ℕ)) : Type 0 where
   pub differ : IsDistinct is_same (keys_of capacities)
   pub full : 65536 ≤ length capacities
 
--- a mask other than 0 passes a point that is not kept, and 65,536 points or more are kept
+-- a mask other than 0 passes a point that is not kept, where as many are kept as a graph may have
 pub record LacksRoom (capacities : List (Point × ℕ)) (point : Point) (mask : ℕ) : Type 0 where
   pub some : 0 < bit_count mask
   pub unknown : is_known capacities point ≡ false
-  pub full : IsFull capacities
+  pub full : HasAllPoints capacities
 
 -- the point is kept at this index, with this capacity
 pub record HoldsAt (capacities : List (Point × ℕ)) (point : Point) (index capacity : ℕ) : Type 0 where
   pub key : Point
   pub same : is_same point key ≡ true
   pub at : slice_get capacities index ≡ Some (key, capacity)
+
+-- as many different links are kept as a graph may have
+pub record HasAllLinks (links : List NamedLink) : Type 0 where
+  pub differ : IsDistinct is_same_link links
+  pub full : 1048576 ≤ length links

@@ -8,7 +8,7 @@ ghost use Rattle.flow_base.specs.declared.points.Point.{Point as ThePoint};
 ghost use Rattle.flow_base.specs.Words.{bit_count};
 ghost use Rattle.flow_graph.specs.EventGraphs.{is_same};
 ghost use Rattle.flow_graph.specs.Keeping.{capacity_in, count_in, is_known};
-ghost use Rattle.location_collapse.specs.Limits.{HoldsAt, IsFull, LacksRoom, is_small};
+ghost use Rattle.location_collapse.specs.Limits.{HoldsAt, HasAllPoints, LacksRoom, is_small};
 
 use crate::faults::CollapseFault;
 use flow_base::Point;
@@ -18,7 +18,7 @@ use std::alloc::Global;
 /// The points that have passed a mask other than 0, in the order in which they were first seen, each with its capacity
 /// in bits. They are at most 65,536, and capacities are below 2^48.
 #[derive(Drop)]
-pub(crate) struct KeptPoints {
+pub struct KeptPoints {
     pub capacities: IndexMap<Point, u64>,
     ghost small: { IsTrue (list_all is_small capacities.entries) },
     ghost few: { length capacities.entries ≤ 65536 },
@@ -67,7 +67,7 @@ impl KeptPoints {
         ensures ok { OnOk result ((q : ThePoint) → capacity_in self.new.capacities.entries q ≡ cond (is_same point q)
             (Some bits) (capacity_in self.old.capacities.entries q)) }
         ensures err { OnErr result (self.new.capacities.entries ≡ self.old.capacities.entries) }
-        ensures full { result ≡ Err CollapseFault.Limit → IsFull self.old.capacities.entries }
+        ensures full { result ≡ Err CollapseFault.Limit → HasAllPoints self.old.capacities.entries }
     {
         if self.capacities.len() >= 65_536 {
             return Err(CollapseFault::Limit);

@@ -2,7 +2,15 @@
 //! links by the names of their ends. No event is kept.
 #![tactic(auto)]
 
+mod adding;
+mod collapses;
 mod faults;
+mod kept_links;
 mod kept_points;
 
+pub use collapses::Collapse;
 pub use faults::CollapseFault;
+#[doc(hidden)]
+pub use kept_links::KeptLinks;
+#[doc(hidden)]
+pub use kept_points::KeptPoints;
