@@ -3,3 +3,4 @@ pub mod Putting
 pub mod Marking
 pub mod Limiting
 pub mod Taking
+pub mod Sorted

@@ -1,8 +1,8 @@
 -- The graph of the events for which a collapse stands exceeds no limit, and the graph of those with one more does where
 -- there is no room for it.
-use Rattle.std.proofs.Common.{◌≡◌, ◌⊎◌, ℕ, ◌+◌, ◌≤◌, ◌<◌, ◌^◌, ◌==◌, ◌&&◌, ◌||◌, ◌++◌, ◌∷◌, [], cond, not, Bool, true}
-use Rattle.std.proofs.Common.{false, List, length, Some, None, Option, unwrap_or, refl, sym, ap, ◌∙◌, subst, inl, inr}
-use Rattle.std.proofs.Common.{⊎_elim, arith, eqb}
+use Rattle.std.proofs.Common.{◌≡◌, ℕ, ◌+◌, ◌≤◌, ◌<◌, ◌^◌, ◌==◌, ◌||◌, ◌++◌, ◌∷◌, [], cond, not, Bool, true}
+use Rattle.std.proofs.Common.{false, List, length, refl, sym, ap, ◌∙◌, inl, inr}
+use Rattle.std.proofs.Common.{⊎_elim, arith}
 use Rattle.std.specs.List.{list_all, list_any, IsDistinct}
 use Rattle.std.specs.Map.{keys_of, lookup}
 use Rattle.std.specs.Option.{is_some}
@@ -17,9 +17,9 @@ use Rattle.flow_graph.specs.declared.events.Event.{Event}
 use Rattle.flow_graph.specs.declared.events.Event.TheVariants.{Pass}
 use Rattle.flow_graph.specs.declared.named_links.NamedLink.{NamedLink}
 use Rattle.flow_graph.specs.EventGraphs.{is_same, bits_at, passed, has_passed, named_links, is_among, links_by}
-use Rattle.flow_graph.specs.Keeping.{Keeps, capacity_in, count_in, is_known}
+use Rattle.flow_graph.specs.Keeping.{Keeps, count_in, is_known}
 use Rattle.flow_graph.proofs.Keeping.{known-same, passed-push, among-push}
-use Rattle.location_collapse.specs.Limits.{ExceedsLimit, HasMorePoints, HasMoreLinks, HasCapacity, HasAllPoints}
+use Rattle.location_collapse.specs.Limits.{ExceedsLimit, HasMorePoints, HasMoreLinks, HasCapacity}
 use Rattle.location_collapse.specs.Limits.{HasAllLinks, LacksRoom, is_same_link, is_small}
 use Rattle.location_collapse.proofs.Same.{points_alike, links_alike, same_tests, any_flipped}
 use Rattle.location_collapse.proofs.Putting.{found_small}
@@ -57,18 +57,19 @@ links_within capacities links events keeps more differ occur =
     length-le_from_is_member links_alike more links differ
     (λ q member. any_flipped links q ∙ of_members is_same_link (is_among links)
     (λ x p e has. sym (among_same links x p e) ∙ has) more (all_kept more occur) q member)
-    where
-      among_same : (keys : List NamedLink) (x p : NamedLink) → is_same_link p x ≡ true → is_among keys x ≡ is_among keys p
-      among_same [] x p e = refl
-      among_same (k ∷ ks) x p e =
-          ap (λ b. b || is_among ks x) (links_alike.symm k x ∙ (sym (links_alike.congr p x k e) ∙ links_alike.symm p k))
-          ∙ ap (λ b. is_same_link k p || b) (among_same ks x p e)
-      all_kept : (js : List NamedLink) → list_all (is_among (named_links events)) js ≡ true → list_all (is_among links) js ≡
-          true
-      all_kept [] all = refl
-      all_kept (j ∷ js) all =
-          let parts = and_parts (is_among (named_links events) j) (list_all (is_among (named_links events)) js) all in
-          and_from (is_among links j) (list_all (is_among links) js) (keeps.linked j ∙ parts.0) (all_kept js parts.1)
+  where
+    among_same : (keys : List NamedLink) (x p : NamedLink) → is_same_link p x ≡ true → is_among keys x ≡ is_among keys p
+    among_same [] x p e = refl
+    among_same (k ∷ ks) x p e =
+        ap (λ b. b || is_among ks x) (links_alike.symm k x ∙ (sym (links_alike.congr p x k e) ∙ links_alike.symm p k))
+        ∙ ap (λ b. is_same_link k p || b) (among_same ks x p e)
+
+    all_kept : (js : List NamedLink) → list_all (is_among (named_links events)) js ≡ true → list_all (is_among links) js ≡
+        true
+    all_kept [] all = refl
+    all_kept (j ∷ js) all =
+        let parts = and_parts (is_among (named_links events) j) (list_all (is_among (named_links events)) js) all in
+        and_from (is_among links j) (list_all (is_among links) js) (keeps.linked j ∙ parts.0) (all_kept js parts.1)
 
 pub not_exceeding : (capacities : List (Point × ℕ)) (links : List NamedLink) (events : List Event) →
     Keeps capacities links events → list_all is_small capacities ≡ true → length capacities ≤ 65536 →

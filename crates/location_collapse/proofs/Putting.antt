@@ -1,6 +1,6 @@
 -- What is put into the map of capacities.
-use Rattle.std.proofs.Common.{◌≡◌, ℕ, zero, suc, ◌+◌, ◌≤◌, ◌<◌, ◌^◌, ◌&&◌, Bool, true, false, cond, List, [], ◌∷◌, Option, None, Some}
-use Rattle.std.proofs.Common.{unwrap_or, nat_lt, refl, sym, ap, ◌∙◌, ⊎_elim, arith, if◌then◌else◌}
+use Rattle.std.proofs.Common.{◌≡◌, ℕ, zero, suc, ◌+◌, ◌≤◌, ◌<◌, ◌^◌, Bool, true, false, cond, List, [], ◌∷◌, Option, Some}
+use Rattle.std.proofs.Common.{unwrap_or, nat_lt, refl, sym, ap, ◌∙◌, arith, if◌then◌else◌}
 use Rattle.std.proofs.lemmas.Bool.{and_parts, and_from, lt-ltb, ltb-true}
 use Rattle.std.specs.List.{list_all, IsDistinct}
 use Rattle.std.proofs.Common.{Result, Ok, Err}
@@ -8,10 +8,9 @@ use Rattle.std.specs.Result.{OnOk, OnErr}
 use Rattle.std.specs.Map.{lookup}
 use Rattle.std.specs.Option.{is_some}
 use Rattle.flow_base.specs.declared.points.Point.{Point}
-use Rattle.flow_base.specs.Words.{bit_count}
 use Rattle.flow_graph.specs.EventGraphs.{is_same}
 use Rattle.flow_graph.specs.Keeping.{capacity_in, count_in, is_known, is_positive}
-use Rattle.indexmap.specs.IndexMap.{IndexMap, keys, get, insert_entry, set_value_at}
+use Rattle.indexmap.specs.IndexMap.{IndexMap, keys, insert_entry, set_value_at}
 use Rattle.indexmap.proofs.CallerLemmas.{updates-with_value_at}
 use Rattle.location_collapse.specs.Limits.{HoldsAt, is_small}
 use Rattle.location_collapse.proofs.Same.{points_alike, same_tests}

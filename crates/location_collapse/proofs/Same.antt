@@ -1,16 +1,14 @@
 -- The equality of points and of links is that of their orders.
-use Rattle.std.proofs.Common.{◌≡◌, Bool, true, false, List, [], ◌∷◌, ◌||◌, refl, sym, ap, subst, ◌∙◌}
+use Rattle.std.proofs.Common.{◌≡◌, Bool, true, List, [], ◌∷◌, ◌||◌, refl, ap, ◌∙◌}
 use Rattle.std.specs.Cmp.{IsEquivalence, eq_by_cmp_equiv}
 use Rattle.std.specs.List.{list_any}
-use Rattle.std.specs.Ordering.{eq_by_cmp}
 use Rattle.flow_base.specs.declared.points.Point.{Point}
 use Rattle.flow_base.specs.contracts.points.PointPartialEq.TheImpl as point_eq_impl
 use Rattle.flow_base.specs.contracts.points.PointOrd.TheImpl.Laws as point_laws
 use Rattle.flow_graph.specs.declared.named_links.NamedLink.{NamedLink}
 use Rattle.flow_graph.specs.contracts.named_links.NamedLinkPartialEq.TheImpl as link_eq_impl
 use Rattle.flow_graph.specs.contracts.named_links.NamedLinkOrd.TheImpl.Laws as link_laws
-use Rattle.flow_graph.specs.Graphs.{point_cmp}
-use Rattle.flow_graph.specs.EventGraphs.{is_same, link_cmp, is_among}
+use Rattle.flow_graph.specs.EventGraphs.{is_same, is_among}
 use Rattle.location_collapse.specs.Limits.{is_same_link}
 
 abbrev pub point_eq : Point → Point → Bool

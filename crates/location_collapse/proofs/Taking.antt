@@ -1,7 +1,7 @@
 -- What a collapse stands for with one event more.
-use Rattle.std.proofs.Common.{◌≡◌, ◌≢◌, ◌⊎◌, ℕ, ◌==◌, ◌&&◌, ◌++◌, ◌∷◌, [], cond, not, Bool, true, false, List, refl, sym}
-use Rattle.std.proofs.Common.{ap, ◌∙◌, subst, ⊎_elim}
-use Rattle.std.proofs.lemmas.Bool.{cases_Bool, ne_eqb, eq-eqb}
+use Rattle.std.proofs.Common.{◌≡◌, ℕ, ◌==◌, ◌&&◌, ◌++◌, ◌∷◌, [], cond, not, Bool, true, false, List, refl, sym}
+use Rattle.std.proofs.Common.{ap, ◌∙◌, subst}
+use Rattle.std.proofs.lemmas.Bool.{eq-eqb}
 use Rattle.flow_base.specs.declared.points.Point.{Point}
 use Rattle.flow_graph.specs.declared.events.Event.{Event}
 use Rattle.flow_graph.specs.declared.events.Event.TheVariants.{Link, FromSecret, Implicit, Out}
@@ -49,28 +49,31 @@ no_output capacities links r p events zero keeps =
     (subst (TakesLinks links links)
     (sym (ap (λ b. one_if (is_known capacities p && not b) (Relay r) (At p)) (eq-eqb r 0 zero) ∙
     ap (λ b. one_if b (Relay r) (At p)) (and_false (is_known capacities p)))) (no_link links)) (λ q. refl)
-    where
-      and_false : (b : Bool) → (b && false) ≡ false
-      and_false true = refl
-      and_false false = refl
+  where
+    and_false : (b : Bool) → (b && false) ≡ false
+    and_false true = refl
+    and_false false = refl
 
 and_true : (b : Bool) → (b && true) ≡ b
 and_true true = refl
 and_true false = refl
 
 pub makes_link : (has : Point → Bool) (s t : Point) → Makes has (Link s t) (record { source = At s; target = At t })
-makes_link has s t = record { made = refl; no_bits = λ q. refl; }
+makes_link has s t = record { made = refl; no_bits = λ q. refl }
 
-pub makes_secret : (has : Point → Bool) (p : Point) → Makes has (FromSecret p) (record { source = Source; target =
-    At p })
-makes_secret has p = record { made = refl; no_bits = λ q. refl; }
+pub makes_secret : (has : Point → Bool) (p : Point) → Makes has (FromSecret p) (record {
+  source = Source;
+  target =
+      At p;
+})
+makes_secret has p = record { made = refl; no_bits = λ q. refl }
 
 outlet_there : (has : Point → Bool) (r : ℕ) → is_there has (outlet_of r) ≡ true
 outlet_there has r = by (r == 0)
-    where
-      by : (b : Bool) → is_there has (cond b Sink (Relay r)) ≡ true
-      by true = refl
-      by false = refl
+  where
+    by : (b : Bool) → is_there has (cond b Sink (Relay r)) ≡ true
+    by true = refl
+    by false = refl
 
 pub makes_implicit : (has : Point → Bool) (p : Point) (r : ℕ) (end : NamedEnd) → end ≡ outlet_of r →
     Makes has (Implicit p r) (record { source = At p; target = end })

@@ -1,5 +1,5 @@
 -- What a collapse of events as they come stands for.
-use Rattle.std.specs.Prelude.{◌≡◌, ℕ, ◌&&◌, cond, Bool, true, false, List, [], ◌∷◌, Result, Ok, Err}
+use Rattle.std.specs.Prelude.{◌≡◌, ◌&&◌, cond, Bool, true, false, List, [], ◌∷◌, Result, Ok, Err}
 use Rattle.flow_base.specs.declared.points.Point.{Point}
 use Rattle.flow_graph.specs.declared.events.Event.{Event}
 use Rattle.flow_graph.specs.declared.named_links.NamedLink.{NamedLink}

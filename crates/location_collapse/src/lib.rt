@@ -7,6 +7,7 @@ mod collapses;
 mod faults;
 mod kept_links;
 mod kept_points;
+mod sorting;
 
 pub use collapses::Collapse;
 pub use faults::CollapseFault;

@@ -1,7 +1,6 @@
-use Rattle.std.proofs.Common.{sym, ap, subst, ◌∙◌}
+use Rattle.std.proofs.Common.{sym, ap, ◌∙◌}
 use Rattle.std.specs.Map.{lookup}
 use Rattle.std.proofs.lemmas.Map.Made.{lookup_key_passes}
-use Rattle.flow_graph.specs.EventGraphs.{is_same}
 use Rattle.location_collapse.proofs.Same.{points_same, point_eq}
 use Rattle.location_collapse.proofs.kept_points.KeptPoints.find.Goals as goal
 

@@ -1,10 +1,8 @@
-use Rattle.std.proofs.Common.{◌≡◌, ◌≤◌, ◌+◌, length, ap, sym, subst, ◌∙◌, if◌then◌else◌, arith, cond, Some}
+use Rattle.std.proofs.Common.{ap, sym, subst, ◌∙◌, arith, cond, Some}
 use Rattle.std.specs.List.{IsDistinct}
 use Rattle.std.specs.Map.{keys_of, lookup}
 use Rattle.std.specs.Option.{is_some}
 use Rattle.std.proofs.lemmas.Result.{on_ok_weaker, on_err_weaker, IfOk-weaker}
-use Rattle.flow_graph.specs.EventGraphs.{is_same}
-use Rattle.location_collapse.specs.Limits.{is_small}
 use Rattle.location_collapse.proofs.Same.{points_same}
 use Rattle.location_collapse.proofs.Putting.{either, small_put, longer}
 use Rattle.location_collapse.proofs.kept_points.KeptPoints.start.Goals as goal
