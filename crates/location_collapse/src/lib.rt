@@ -8,6 +8,8 @@ mod faults;
 mod kept_links;
 mod kept_points;
 mod sorting;
+#[cfg(test)]
+mod tests;
 
 pub use collapses::Collapse;
 pub use faults::CollapseFault;
