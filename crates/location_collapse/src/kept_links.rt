@@ -8,6 +8,9 @@ use flow_graph::NamedLink;
 use indexmap::IndexSet;
 use std::alloc::Global;
 
+/// How many links a graph may have.
+const MAX_LINKS: usize = 1_048_576;
+
 /// The links by the names of their ends, in the order in which they first occurred. They are at most 1,048,576.
 #[derive(Drop)]
 pub struct KeptLinks {
@@ -39,7 +42,7 @@ impl KeptLinks {
         ensures err { OnErr result (self.new.named.keys ≡ self.old.named.keys) }
         ensures full { result ≡ Err CollapseFault.Limit → HasAllLinks self.old.named.keys }
     {
-        if self.named.len() >= 1_048_576 {
+        if self.named.len() >= MAX_LINKS {
             return Err(CollapseFault::Limit);
         }
         match self.named.insert(link) {

@@ -15,6 +15,12 @@ use flow_base::Point;
 use indexmap::IndexMap;
 use std::alloc::Global;
 
+/// How many points a graph may have.
+const MAX_POINTS: usize = 65_536;
+
+/// The capacities of a graph are below this, in bits.
+const CAPACITY_LIMIT: u64 = 1 << 48;
+
 /// The points that have passed a mask other than 0, in the order in which they were first seen, each with its capacity
 /// in bits. They are at most 65,536, and capacities are below 2^48.
 #[derive(Drop)]
@@ -69,7 +75,7 @@ impl KeptPoints {
         ensures err { OnErr result (self.new.capacities.entries ≡ self.old.capacities.entries) }
         ensures full { result ≡ Err CollapseFault.Limit → HasAllPoints self.old.capacities.entries }
     {
-        if self.capacities.len() >= 65_536 {
+        if self.capacities.len() >= MAX_POINTS {
             return Err(CollapseFault::Limit);
         }
         match self.capacities.insert(point, bits) {
@@ -87,7 +93,7 @@ impl KeptPoints {
         ensures err { OnErr result (self.new.capacities.entries ≡ self.old.capacities.entries) }
         ensures large { result ≡ Err CollapseFault.Limit → 2 ^ 48 ≤ capacity }
     {
-        if capacity >= 281_474_976_710_656 {
+        if capacity >= CAPACITY_LIMIT {
             return Err(CollapseFault::Limit);
         }
         self.capacities[index] = capacity;

@@ -4,10 +4,10 @@ use Rattle.location_collapse.proofs.Same.{links_same}
 use Rattle.location_collapse.proofs.Marking.{takes_put}
 use Rattle.location_collapse.proofs.kept_links.KeptLinks.put.Goals as goal
 
-pub returns-then-len-ge1048576-clause-full : goal.returns-then-len-ge1048576-clause-full
-returns-then-len-ge1048576-clause-full c = λ e. record {
+pub returns-then-len-ge-MAX_LINKS-clause-full : goal.returns-then-len-ge-MAX_LINKS-clause-full
+returns-then-len-ge-MAX_LINKS-clause-full c = λ e. record {
   differ = subst (λ e. IsDistinct e c.args.self.now.named.keys) links_same c.len.ensures.unique;
-  full = omega (arith, c.if-len-ge1048576.true, c.len.ensures.len);
+  full = omega (arith, c.if-len-ge-MAX_LINKS.true, c.len.ensures.len);
 }
 
 pub returns-in-Ok-clause-ok : goal.returns-in-Ok-clause-ok

@@ -6,7 +6,7 @@ use Rattle.location_collapse.proofs.kept_points.KeptPoints.raise.Goals as goal
 pub invariant_of-self : goal.invariant_of-self
 invariant_of-self c = record {
   small = small_raised c.args.self.now.capacities.entries c.args.index c.args.capacity c.requires.some
-      (omega (arith, c.if-capacity-ge281474976710656.false)) c.args.self.now.small;
+      (omega (arith, c.if-capacity-ge-CAPACITY_LIMIT.false)) c.args.self.now.small;
   few =
       let same = index_map_len-with_value_at c.args.self.now.capacities c.args.index c.args.capacity in
       omega (arith, same, c.args.self.now.few);

@@ -7,10 +7,10 @@ use Rattle.location_collapse.proofs.Same.{points_same}
 use Rattle.location_collapse.proofs.Putting.{either, small_put, longer}
 use Rattle.location_collapse.proofs.kept_points.KeptPoints.start.Goals as goal
 
-pub returns-then-len-ge65536-clause-full : goal.returns-then-len-ge65536-clause-full
-returns-then-len-ge65536-clause-full c = λ e. record {
+pub returns-then-len-ge-MAX_POINTS-clause-full : goal.returns-then-len-ge-MAX_POINTS-clause-full
+returns-then-len-ge-MAX_POINTS-clause-full c = λ e. record {
   differ = subst (λ e. IsDistinct e (keys_of c.args.self.now.capacities.entries)) points_same c.len.ensures.unique;
-  full = omega (arith, c.if-len-ge65536.true, c.len.ensures.len);
+  full = omega (arith, c.if-len-ge-MAX_POINTS.true, c.len.ensures.len);
 }
 
 pub invariant_of-self : goal.invariant_of-self
@@ -21,7 +21,7 @@ invariant_of-self c = record {
       (on_err_weaker c.insert.result (λ e. rw e c.args.self.now.small) c.insert.ensures.err);
   few = either c.insert.result
       (IfOk-weaker c.insert.result _ _ (λ old e. longer (is_some old) _ _
-      (omega (arith, c.if-len-ge65536.false, c.len.ensures.len)) e) c.insert.ensures.len)
+      (omega (arith, c.if-len-ge-MAX_POINTS.false, c.len.ensures.len)) e) c.insert.ensures.len)
       (on_err_weaker c.insert.result (λ e. rw e c.args.self.now.few) c.insert.ensures.err);
 }
 
