@@ -1,5 +1,5 @@
 -- The entries of a map of capacities as the points of a graph.
-use Rattle.std.proofs.Common.{◌≡◌, ◌⊎◌, ℕ, zero, suc, ◌+◌, ◌≤◌, ◌<◌, ◌^◌, ◌&&◌, ◌||◌, cond, nat_lt, Bool, true, false}
+use Rattle.std.proofs.Common.{◌≡◌, ℕ, suc, ◌<◌, ◌^◌, ◌||◌, cond, nat_lt, Bool, true, false}
 use Rattle.std.proofs.Common.{List, [], ◌∷◌, length, map, get_or, Option, Some, None, unwrap_or, refl, sym, ap, ◌∙◌}
 use Rattle.std.proofs.Common.{subst, arith}
 use Rattle.std.proofs.lemmas.List.{length-map}
@@ -7,7 +7,7 @@ use Rattle.std.specs.BTreeMap as tree
 use Rattle.std.specs.BTreeMap.{BTreeMap, is_at}
 use Rattle.std.specs.Map.{lookup}
 use Rattle.std.specs.Option.{is_some, IsSome}
-use Rattle.std.specs.List.{list_all, list_any}
+use Rattle.std.specs.List.{list_all}
 use Rattle.std.specs.List.Sorted.{IsStrictlySortedBy}
 use Rattle.std.specs.Ordering.{is_eq, is_lt, ordering_reverse}
 use Rattle.std.specs.declared.cmp.Ordering.{Ordering}
@@ -20,15 +20,13 @@ use Rattle.flow_base.specs.declared.points.Point.{Point}
 use Rattle.flow_graph.specs.declared.builders.Builder.{Builder}
 use Rattle.flow_graph.specs.declared.events.Event.{Event}
 use Rattle.flow_graph.specs.declared.nodes.Node.{Node}
-use Rattle.flow_graph.specs.declared.places.Join.{Join}
-use Rattle.flow_graph.specs.declared.places.Place.{Place}
-use Rattle.flow_graph.specs.declared.places.Place.TheVariants.{Source, At, Relay, Sink}
 use Rattle.flow_graph.specs.Graphs.{point_cmp, ascend, node_cmp, has_capacity, are_points}
 use Rattle.flow_graph.specs.EventGraphs.{is_same, capacity_at, has_passed, HasFewPoints}
-use Rattle.flow_graph.specs.Builders.{has_point, ArePositive, is_positive, is_sound, StandsFor}
+use Rattle.flow_graph.specs.Builders.{has_point, ArePositive, StandsFor}
+use Rattle.flow_graph.specs.Keeping.{is_positive, is_sound}
 use Rattle.flow_graph.proofs.Points.{point_total}
 use Rattle.flow_graph.proofs.Indices.{is_in}
-use Rattle.flow_graph.proofs.Adding.{all_more, has-same}
+use Rattle.flow_graph.proofs.Keeping.{all_more, known-same}
 
 abbrev pub pair_of : Node → Point × ℕ
 pair_of node = (node.point, node.capacity)
@@ -63,12 +61,12 @@ in-names (n ∷ ns) p =
 
 -- the builder's points are those of the graph, where the graph's points are its entries
 pub sound_names : (builder : Builder) (nodes : List Node) → map pair_of nodes ≡ builder.capacities.entries →
-    list_all (is_sound (has_point builder)) builder.joins.keys ≡ true →
-    list_all (is_sound (is_in (map (λ n. n.point) nodes))) builder.joins.keys ≡ true
+    list_all (is_sound (has_point builder)) builder.links.keys ≡ true →
+    list_all (is_sound (is_in (map (λ n. n.point) nodes))) builder.links.keys ≡ true
 sound_names builder nodes same sound =
     all_more (has_point builder) (is_in (map (λ n. n.point) nodes))
     (λ p has. sym (in-names nodes p) ∙ (ap (λ es. is_some (lookup (is_at (point_cmp p)) es)) same ∙ has))
-    builder.joins.keys sound
+    builder.links.keys sound
 
 names-keys : (nodes : List Node) → map (λ n. n.point) nodes ≡ map (λ e. e.0) (map pair_of nodes)
 names-keys [] = refl
@@ -119,7 +117,8 @@ few_kept builder events stands few ordered =
     let small : length (tree.keys builder.capacities) < 2 ^ 32 = few (tree.keys builder.capacities) ordered
     (all_by_index (has_passed events) (tree.keys builder.capacities)
     (λ k d below.
-    sym (has-same builder events stands (get_or (tree.keys builder.capacities) k d))
+    sym (known-same builder.capacities.entries builder.links.keys events stands
+    (get_or (tree.keys builder.capacities) k d))
     ∙ some_true (tree.get point_cmp builder.capacities (get_or (tree.keys builder.capacities) k d))
     (All-keys_found point_total builder.capacities ordered k d below))) in
     let count : length (tree.keys builder.capacities) ≡ length builder.capacities.entries =

@@ -1,5 +1,6 @@
 pub mod Bits
 pub mod Points
+pub mod Keeping
 pub mod Adding
 pub mod Indices
 pub mod Naming

@@ -1,10 +1,10 @@
 -- What a search in ascending relays finds.
-use Rattle.std.proofs.Common.{◌≡◌, ◌≢◌, ◌⊎◌, ℕ, zero, suc, ◌≤◌, ◌<◌, ◌||◌, eqb, ltb, nat_eq, Bool, true, false, List}
-use Rattle.std.proofs.Common.{[], ◌∷◌, length, get_or, Result, Ok, Err, refl, sym, ap, ◌∙◌, ⊎_elim, arith}
+use Rattle.std.proofs.Common.{◌≡◌, ◌≢◌, ◌⊎◌, ℕ, zero, suc, ◌≤◌, ◌<◌, eqb, ltb, nat_eq, true, false, List}
+use Rattle.std.proofs.Common.{[], ◌∷◌, length, get_or, Err, refl, sym, ◌∙◌, ⊎_elim, arith}
 use Rattle.std.specs.List.{list_any}
 use Rattle.std.specs.List.Sorted.{IsBinarySearchResult}
 use Rattle.std.specs.Ordering.{is_lt, nat_cmp}
-use Rattle.std.proofs.lemmas.Bool.{and_parts, and_right, cases_lt, cases_order, ltb-true, le-ltb, lt-ltb, ne_eqb}
+use Rattle.std.proofs.lemmas.Bool.{and_parts, and_right, cases_lt, cases_order, le-ltb, ne_eqb}
 use Rattle.std.proofs.lemmas.Bool.{eq-eqb, or_from}
 use Rattle.std.proofs.lemmas.List.Sorted.{searched}
 use Rattle.flow_graph.specs.Graphs.{are_relays, is_relay}

@@ -1,3 +1,4 @@
 pub mod Graphs
 pub mod EventGraphs
+pub mod Keeping
 pub mod Builders

@@ -6,7 +6,7 @@ ghost use Rattle.flow_graph.specs.EventGraphs.{is_same, one_if, outlet_of};
 ghost use Rattle.flow_graph.specs.Builders.{ArePositive, HasRoom, StandsFor, Takes, count_at, has_point};
 
 use crate::events::Event;
-use crate::places::{Join, Place};
+use crate::named_links::{NamedEnd, NamedLink};
 use flow_base::{NoMemory, Point};
 use std::alloc::Global;
 use std::collections::{BTreeMap, BTreeSet};
@@ -16,7 +16,7 @@ use std::collections::{BTreeMap, BTreeSet};
 #[derive(Drop)]
 pub struct Builder {
     pub capacities: BTreeMap<Point, u128>,
-    pub joins: BTreeSet<Join>,
+    pub links: BTreeSet<NamedLink>,
 }
 
 impl Builder {
@@ -26,7 +26,7 @@ impl Builder {
     {
         Builder {
             capacities: BTreeMap::new(alloc),
-            joins: BTreeSet::new(alloc),
+            links: BTreeSet::new(alloc),
         }
     }
 
@@ -59,7 +59,7 @@ impl Builder {
         ensures counted { OnOk result ((q : ThePoint) → count_at self.new q ≡ count_at self.old q + cond
             (is_same point q) (bit_count mask) 0) }
         ensures grows { OnOk result ((q : ThePoint) → has_point self.old q ≡ true → has_point self.new q ≡ true) }
-        ensures joins { self.new.joins ≡ self.old.joins }
+        ensures links { self.new.links ≡ self.old.links }
         ensures err { OnErr result (self.new.capacities.entries ≡ self.old.capacities.entries) }
     {
         if mask == 0 {
@@ -74,15 +74,15 @@ impl Builder {
     }
 
     /// Puts a link into the set, where it holds that there is one.
-    fn join_if(&mut self, holds: bool, source: Place, target: Place) -> Result<(), NoMemory>
+    fn link_if(&mut self, holds: bool, source: NamedEnd, target: NamedEnd) -> Result<(), NoMemory>
         ensures takes { OnOk result (Takes self.old self.new (one_if holds source target)) }
         ensures capacities { self.new.capacities ≡ self.old.capacities }
-        ensures err { OnErr result (self.new.joins.keys ≡ self.old.joins.keys) }
+        ensures err { OnErr result (self.new.links.keys ≡ self.old.links.keys) }
     {
         if !holds {
             return Ok(());
         }
-        match self.joins.insert(Join { source, target }) {
+        match self.links.insert(NamedLink { source, target }) {
             Ok(_) => Ok(()),
             Err(_) => Err(NoMemory),
         }
@@ -95,7 +95,7 @@ impl Builder {
         ensures ok { OnOk result ((events : Seq AnEvent) → StandsFor self.old events → StandsFor self.new
             (events ++ event ∷ [])) }
         ensures capacities { OnErr result (self.new.capacities.entries ≡ self.old.capacities.entries) }
-        ensures joins { OnErr result (self.new.joins.keys ≡ self.old.joins.keys) }
+        ensures links { OnErr result (self.new.links.keys ≡ self.old.links.keys) }
     {
         match event {
             Event::Pass { point, mask } => {
@@ -104,35 +104,36 @@ impl Builder {
             }
             Event::Link { source, target } => {
                 let holds = self.has_both(&source, &target);
-                self.join_if(holds, Place::At(source), Place::At(target))?;
+                self.link_if(holds, NamedEnd::At(source), NamedEnd::At(target))?;
                 Ok(())
             }
             Event::FromSecret { point } => {
                 let holds = self.has(&point);
-                self.join_if(holds, Place::Source, Place::At(point))?;
+                self.link_if(holds, NamedEnd::Source, NamedEnd::At(point))?;
                 Ok(())
             }
             Event::Implicit { point, region } => {
                 let holds = self.has(&point);
-                self.join_if(holds, Place::At(point), outlet(region))?;
+                self.link_if(holds, NamedEnd::At(point), outlet(region))?;
                 Ok(())
             }
             Event::Out { region, point } => {
                 let holds = self.has_output(region, &point);
-                self.join_if(holds, Place::Relay(region), Place::At(point))?;
+                self.link_if(holds, NamedEnd::Relay(region), NamedEnd::At(point))?;
                 Ok(())
             }
         }
     }
 }
 
-/// Where what decides a region's way flows on: its relay, and for region 0 the sink.
-fn outlet(region: u16) -> Place
+/// Where what decides the way that a run goes on in a region flows on: to the relay of the region, and for region 0 to the
+/// sink.
+pub fn outlet(region: u16) -> NamedEnd
     ensures { result ≡ outlet_of region }
 {
     if region == 0 {
-        Place::Sink
+        NamedEnd::Sink
     } else {
-        Place::Relay(region)
+        NamedEnd::Relay(region)
     }
 }

@@ -7,14 +7,15 @@ ghost use Rattle.std.specs.List.Sorted.{IsStrictlySortedBy};
 ghost use Rattle.std.specs.Ordering.{nat_cmp};
 ghost use Rattle.flow_graph.specs.declared.events.Event.{Event as AnEvent};
 ghost use Rattle.flow_graph.specs.Graphs.{are_relays, point_cmp};
-ghost use Rattle.flow_graph.specs.EventGraphs.{IsGraphOf, is_relay_of, join_cmp, names_relay};
-ghost use Rattle.flow_graph.specs.Builders.{ArePositive, StandsFor, arc_at, end_at, has_point, index_in, is_sound};
+ghost use Rattle.flow_graph.specs.EventGraphs.{IsGraphOf, is_relay_of, link_cmp, names_relay};
+ghost use Rattle.flow_graph.specs.Keeping.{is_sound};
+ghost use Rattle.flow_graph.specs.Builders.{ArePositive, StandsFor, arc_at, end_at, has_point, index_in};
 
 use crate::builders::Builder;
 use crate::ends::{Arc, End};
 use crate::graphs::Graph;
+use crate::named_links::{NamedEnd, NamedLink};
 use crate::nodes::Node;
-use crate::places::{Join, Place};
 use flow_base::{List, NoMemory, Point};
 use std::alloc::Global;
 use std::collections::{BTreeMap, BTreeSet};
@@ -58,42 +59,46 @@ fn index_of(names: &[Point], point: &Point) -> u32
 }
 
 /// An end by the index of its point.
-fn end_of(names: &[Point], place: &Place) -> End
+fn end_of(names: &[Point], end: &NamedEnd) -> End
     requires sorted { IsStrictlySortedBy point_cmp names.now }
     requires few { length names.now < 2 ^ 32 }
-    ensures { result ≡ end_at names.now place.now }
+    ensures { result ≡ end_at names.now end.now }
 {
-    match place {
-        Place::Source => End::Source,
-        Place::At(point) => End::Point(index_of(names, point)),
-        Place::Relay(region) => End::Relay(*region),
-        Place::Sink => End::Sink,
+    match end {
+        NamedEnd::Source => End::Source,
+        NamedEnd::At(point) => End::Point(index_of(names, point)),
+        NamedEnd::Relay(region) => End::Relay(*region),
+        NamedEnd::Sink => End::Sink,
     }
 }
 
 /// The links, by the indices of their points.
-fn links_of(alloc: Global, names: &[Point], joins: &BTreeSet<Join>) -> Result<List<Arc>, NoMemory>
+fn links_of(
+    alloc: Global,
+    names: &[Point],
+    named: &BTreeSet<NamedLink>,
+) -> Result<List<Arc>, NoMemory>
     requires sorted { IsStrictlySortedBy point_cmp names.now }
     requires few { length names.now < 2 ^ 32 }
-    ensures links { IfOk result (λ links. links ≡ map (arc_at names.now) joins.now.keys) }
-    ensures ordered { sorted.IsOrdered join_cmp joins.now }
+    ensures links { IfOk result (λ links. links ≡ map (arc_at names.now) named.now.keys) }
+    ensures ordered { sorted.IsOrdered link_cmp named.now }
 {
     let mut links = List::new(alloc);
-    for join in joins {
-        let source = end_of(names, &join.source);
-        let target = end_of(names, &join.target);
+    for link in named {
+        let source = end_of(names, &link.source);
+        let target = end_of(names, &link.target);
         links.push(Arc { source, target })?;
     }
     Ok(links)
 }
 
 /// Puts the region of a relay into the set.
-fn note(relays: &mut BTreeSet<u16>, place: &Place) -> Result<(), NoMemory>
+fn note(relays: &mut BTreeSet<u16>, end: &NamedEnd) -> Result<(), NoMemory>
     ensures { OnOk result ((region : ℕ) → sorted.contains nat_cmp relays.new region
-        ≡ (sorted.contains nat_cmp relays.old region || is_relay_of region place.now)) }
+        ≡ (sorted.contains nat_cmp relays.old region || is_relay_of region end.now)) }
 {
-    match place {
-        Place::Relay(region) => match relays.insert(*region) {
+    match end {
+        NamedEnd::Relay(region) => match relays.insert(*region) {
             Ok(_) => Ok(()),
             Err(_) => Err(NoMemory),
         },
@@ -102,14 +107,14 @@ fn note(relays: &mut BTreeSet<u16>, place: &Place) -> Result<(), NoMemory>
 }
 
 /// The regions of the relays that the links name.
-fn relay_set(alloc: Global, joins: &BTreeSet<Join>) -> Result<BTreeSet<u16>, NoMemory>
+fn relay_set(alloc: Global, named: &BTreeSet<NamedLink>) -> Result<BTreeSet<u16>, NoMemory>
     ensures { IfOk result (λ relays. (region : ℕ) → sorted.contains nat_cmp relays region ≡ list_any
-        (names_relay region) joins.now.keys) }
+        (names_relay region) named.now.keys) }
 {
     let mut relays = BTreeSet::new(alloc);
-    for join in joins {
-        note(&mut relays, &join.source)?;
-        note(&mut relays, &join.target)?;
+    for link in named {
+        note(&mut relays, &link.source)?;
+        note(&mut relays, &link.target)?;
     }
     Ok(relays)
 }
@@ -127,12 +132,12 @@ fn listed(alloc: Global, relays: &BTreeSet<u16>) -> Result<List<u16>, NoMemory>
 }
 
 /// The regions of the relays that the links name, ascending.
-fn relays_of(alloc: Global, joins: &BTreeSet<Join>) -> Result<List<u16>, NoMemory>
+fn relays_of(alloc: Global, named: &BTreeSet<NamedLink>) -> Result<List<u16>, NoMemory>
     ensures relays { IfOk result (λ relays. (region : ℕ) → list_any (nat_eq region) relays ≡ list_any
-        (names_relay region) joins.now.keys) }
+        (names_relay region) named.now.keys) }
     ensures ascend { IfOk result (λ relays. IsTrue (are_relays relays)) }
 {
-    let set = relay_set(alloc, joins)?;
+    let set = relay_set(alloc, named)?;
     let list = listed(alloc, &set)?;
     Ok(list)
 }
@@ -148,18 +153,18 @@ impl Builder {
     /// The graph of the events for which the builder stands.
     pub fn finish(&self, alloc: Global) -> Result<Graph, NoMemory>
         requires positive { ArePositive self.now }
-        requires sound { list_all (is_sound (has_point self.now)) self.now.joins.keys ≡ true }
+        requires sound { list_all (is_sound (has_point self.now)) self.now.links.keys ≡ true }
         requires few { tree.IsOrdered point_cmp self.now.capacities → length self.now.capacities.entries < 2 ^ 32 }
         ensures { IfOk result (λ graph. (events : Seq AnEvent) → StandsFor self.now events → IsGraphOf events graph) }
     {
         let points = nodes_of(alloc, &self.capacities)?;
         let nodes = points.as_slice();
         let names = names_of(alloc, nodes)?;
-        let relays = relays_of(alloc, &self.joins)?;
+        let relays = relays_of(alloc, &self.links)?;
         let regions = relays.as_slice();
         tell_range(regions);
         let ascending = names.as_slice();
-        let links = links_of(alloc, ascending, &self.joins)?;
+        let links = links_of(alloc, ascending, &self.links)?;
         Ok(Graph {
             points,
             relays,

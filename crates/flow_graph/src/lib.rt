@@ -10,16 +10,16 @@ mod event_lists;
 mod events;
 mod finishing;
 mod graphs;
+mod named_links;
 mod nodes;
-mod places;
 #[cfg(test)]
 mod tests;
 
-pub use builders::Builder;
+pub use builders::{Builder, outlet};
 pub use collapsing::{graph_of, has_few_events};
 pub use ends::{Arc, End};
 pub use event_lists::EventList;
 pub use events::{Event, Events};
 pub use graphs::Graph;
+pub use named_links::{NamedEnd, NamedLink};
 pub use nodes::Node;
-pub use places::{Join, Place};

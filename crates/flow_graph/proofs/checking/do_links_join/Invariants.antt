@@ -1,4 +1,4 @@
-use Rattle.std.proofs.Common.{◌≡◌, ◌∷◌, length}
+use Rattle.std.proofs.Common.{◌≡◌, length}
 use Rattle.flow_graph.specs.Graphs.{are_links}
 use Rattle.flow_graph.proofs.checking.do_links_join.Given as goal
 

@@ -1,4 +1,4 @@
-use Rattle.std.proofs.Common.{◌≡◌, ◌∷◌, length}
+use Rattle.std.proofs.Common.{◌≡◌, length}
 use Rattle.std.specs.List.{list_all}
 use Rattle.flow_graph.specs.Graphs.{has_capacity}
 use Rattle.flow_graph.proofs.checking.have_capacities.Given as goal

@@ -3,5 +3,5 @@ use Rattle.std.specs.Map.Iter.{deref}
 use Rattle.flow_graph.specs.Builders.{arc_at}
 use Rattle.flow_graph.proofs.finishing.links_of.Given as goal
 
-abbrev pub invariant-loop-join : goal.invariant-loop-join
-invariant-loop-join l = l.links ≡ map (arc_at l.names) (map deref l.yielded)
+abbrev pub invariant-loop-link : goal.invariant-loop-link
+invariant-loop-link l = l.links ≡ map (arc_at l.names) (map deref l.yielded)

@@ -1,11 +1,11 @@
-use Rattle.std.proofs.Common.{◌≡◌, ℕ, ◌+◌, ◌<◌, true, false, Some, unwrap_or, ap, ◌∙◌, ⊎_elim, arith}
+use Rattle.std.proofs.Common.{◌≡◌, ◌+◌, ◌<◌, true, false, unwrap_or, ap, ◌∙◌, ⊎_elim, arith}
 use Rattle.std.specs.BTreeMap as tree
 use Rattle.std.specs.Prelude.{count_ones}
 use Rattle.std.proofs.lemmas.Bool.{cases_Bool}
 use Rattle.flow_base.specs.Words.{bit_count}
 use Rattle.flow_graph.specs.Graphs.{point_cmp}
 use Rattle.flow_graph.specs.EventGraphs.{is_same}
-use Rattle.flow_graph.specs.Builders.{is_positive}
+use Rattle.flow_graph.specs.Keeping.{is_positive}
 use Rattle.flow_graph.proofs.Bits.{bit_count-zero, bit_count-ones, ones_some}
 use Rattle.flow_graph.proofs.Points.{get_alike}
 use Rattle.flow_graph.proofs.Adding.{positive_put, counted_put}

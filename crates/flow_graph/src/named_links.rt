@@ -1,8 +1,8 @@
 use flow_base::Point;
 
 /// An end of a link by its name, in the order of ends: the source, the points, the relays, the sink.
-#[derive(Clone, Copy, Debug, PartialEq, Eq, PartialOrd, Ord)]
-pub enum Place {
+#[derive(Clone, Copy, Debug, PartialEq, Eq, PartialOrd, Ord, Hash)]
+pub enum NamedEnd {
     /// The secret.
     Source,
     /// A point.
@@ -14,8 +14,8 @@ pub enum Place {
 }
 
 /// A link by the names of its ends. Links are ordered by source, then target.
-#[derive(Clone, Copy, Debug, PartialEq, Eq, PartialOrd, Ord)]
-pub struct Join {
-    pub source: Place,
-    pub target: Place,
+#[derive(Clone, Copy, Debug, PartialEq, Eq, PartialOrd, Ord, Hash)]
+pub struct NamedLink {
+    pub source: NamedEnd,
+    pub target: NamedEnd,
 }

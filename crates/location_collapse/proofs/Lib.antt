@@ -1,0 +1,6 @@
+pub mod Same
+pub mod Putting
+pub mod Marking
+pub mod Limiting
+pub mod Taking
+pub mod Sorted

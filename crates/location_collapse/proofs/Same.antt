@@ -1,0 +1,44 @@
+-- The equality of points and of links is that of their orders.
+use Rattle.std.proofs.Common.{◌≡◌, Bool, true, List, [], ◌∷◌, ◌||◌, refl, ap, ◌∙◌}
+use Rattle.std.specs.Cmp.{IsEquivalence, eq_by_cmp_equiv}
+use Rattle.std.specs.List.{list_any}
+use Rattle.flow_base.specs.declared.points.Point.{Point}
+use Rattle.flow_base.specs.contracts.points.PointPartialEq.TheImpl as point_eq_impl
+use Rattle.flow_base.specs.contracts.points.PointOrd.TheImpl.Laws as point_laws
+use Rattle.flow_graph.specs.declared.named_links.NamedLink.{NamedLink}
+use Rattle.flow_graph.specs.contracts.named_links.NamedLinkPartialEq.TheImpl as link_eq_impl
+use Rattle.flow_graph.specs.contracts.named_links.NamedLinkOrd.TheImpl.Laws as link_laws
+use Rattle.flow_graph.specs.EventGraphs.{is_same, is_among}
+use Rattle.location_collapse.specs.Limits.{is_same_link}
+
+abbrev pub point_eq : Point → Point → Bool
+point_eq = (point_eq_impl.ghosts).eq
+
+abbrev pub link_eq : NamedLink → NamedLink → Bool
+link_eq = (link_eq_impl.ghosts).eq
+
+pub points_same : point_eq ≡ is_same
+points_same = λ i p q. point_laws.matches_eq-law p q i
+
+pub links_same : link_eq ≡ is_same_link
+links_same = λ i p q. link_laws.matches_eq-law p q i
+
+pub points_alike : IsEquivalence is_same
+points_alike = eq_by_cmp_equiv point_laws.total-law
+
+pub links_alike : IsEquivalence is_same_link
+links_alike = eq_by_cmp_equiv link_laws.total-law
+
+pub any_flipped : (keys : List NamedLink) (j : NamedLink) → list_any (is_same_link j) keys ≡ is_among keys j
+any_flipped [] j = refl
+any_flipped (k ∷ ks) j =
+    ap (λ b. b || list_any (is_same_link j) ks) (links_alike.symm j k) ∙ ap (λ b. is_same_link k j || b)
+    (any_flipped ks j)
+
+-- what a set of links has is among its keys
+pub contains-among : (keys : List NamedLink) (j : NamedLink) → list_any (link_eq j) keys ≡ is_among keys j
+contains-among keys j = ap (λ e. list_any (e j) keys) links_same ∙ any_flipped keys j
+
+-- points that are the same are tested alike
+pub same_tests : (p q : Point) → is_same p q ≡ true → is_same p ≡ is_same q
+same_tests p q e = λ i x. points_alike.congr p q x e i

@@ -1,0 +1,37 @@
+use Rattle.std.proofs.lemmas.Result.{on_ok_weaker}
+use Rattle.std.proofs.lemmas.Bool.{ne_eqb}
+use Rattle.location_collapse.specs.Collapses.{knows}
+use Rattle.location_collapse.proofs.Taking.{makes_link, makes_secret, makes_implicit, makes_output, no_output}
+use Rattle.location_collapse.proofs.collapses.Collapse.take.Goals as goal
+
+pub returns-then-region-eq0-clause-ok : goal.returns-then-region-eq0-clause-ok
+returns-then-region-eq0-clause-ok c = λ events stands.
+    rw c.in-Out.is (no_output c.args.self.now.points.capacities.entries c.args.self.now.links.named.keys c.in-Out.region
+    c.in-Out.point events c.if-region-eq0.true stands)
+
+pub returns-in-Pass-clause-ok : goal.returns-in-Pass-clause-ok
+returns-in-Pass-clause-ok c = rw c.in-Pass.is c.pass.ensures.ok
+
+pub returns-in-Link-clause-ok : goal.returns-in-Link-clause-ok
+returns-in-Link-clause-ok c =
+    rw c.in-Link.is
+    (on_ok_weaker c.put.result (λ ok events. ok _ events (makes_link (knows c.args.self.now) c.in-Link.source
+    c.in-Link.target)) c.put.ensures.ok)
+
+pub returns-in-FromSecret-clause-ok : goal.returns-in-FromSecret-clause-ok
+returns-in-FromSecret-clause-ok c =
+    rw c.in-FromSecret.is
+    (on_ok_weaker c.put-in-FromSecret.result (λ ok events. ok _ events (makes_secret (knows c.args.self.now)
+    c.in-FromSecret.point)) c.put-in-FromSecret.ensures.ok)
+
+pub returns-in-Implicit-clause-ok : goal.returns-in-Implicit-clause-ok
+returns-in-Implicit-clause-ok c =
+    rw c.in-Implicit.is
+    (on_ok_weaker c.put-in-Implicit.result (λ ok events. ok _ events (makes_implicit (knows c.args.self.now)
+    c.in-Implicit.point c.in-Implicit.region c.outlet.result c.outlet.ensures)) c.put-in-Implicit.ensures.ok)
+
+pub returns-else-region-eq0-clause-ok : goal.returns-else-region-eq0-clause-ok
+returns-else-region-eq0-clause-ok c =
+    rw c.in-Out.is
+    (on_ok_weaker c.put-in-Out.result (λ ok events. ok _ events (makes_output (knows c.args.self.now) c.in-Out.region
+    c.in-Out.point (ne_eqb c.in-Out.region 0 c.if-region-eq0.false))) c.put-in-Out.ensures.ok)

@@ -1,0 +1,91 @@
+use Rattle.std.proofs.Common.{◌≡◌, ◌+◌, ◌≤◌, ◌<◌, ◌^◌, true, false, unwrap_or, sym, ap}
+use Rattle.std.proofs.Common.{◌∙◌, inl, inr, ⊎_elim, arith}
+use Rattle.std.specs.Option.{is_some}
+use Rattle.std.specs.Prelude.{count_ones}
+use Rattle.std.proofs.lemmas.Bool.{cases_Bool}
+use Rattle.std.proofs.lemmas.Option.{slice_get_within}
+use Rattle.std.proofs.lemmas.Result.{on_ok_weaker}
+use Rattle.flow_base.specs.Words.{bit_count}
+use Rattle.flow_graph.specs.EventGraphs.{is_same}
+use Rattle.flow_graph.specs.Keeping.{capacity_in, count_in}
+use Rattle.flow_graph.proofs.Bits.{bit_count-zero, bit_count-ones, bit_count_bound, ones_some}
+use Rattle.location_collapse.proofs.Putting.{found_small, raised, grows_put, counted_put}
+use Rattle.location_collapse.proofs.kept_points.KeptPoints.pass.Goals as goal
+
+pub returns-then-mask-eq0-clause-counted : goal.returns-then-mask-eq0-clause-counted
+returns-then-mask-eq0-clause-counted c = λ q.
+    let none : bit_count c.args.mask ≡ 0 = ap bit_count c.if-mask-eq0.true ∙ bit_count-zero in
+    rw none (⊎_elim (λ (t : is_same c.args.point q ≡ true). rw t (omega arith))
+    (λ (t : is_same c.args.point q ≡ false). rw t (omega arith)) (cases_Bool (is_same c.args.point q)))
+
+pub overflow_add-before : goal.overflow_add-before
+overflow_add-before c =
+    let small : unwrap_or (capacity_in c.args.self.now.capacities.entries c.args.point) 0 < 2 ^ 48 =
+    found_small (is_same c.args.point) c.args.self.now.capacities.entries c.args.self.now.small in
+    let before : c.in-Some.before ≡ unwrap_or (capacity_in c.args.self.now.capacities.entries c.args.point) 0 =
+    ap (λ o. unwrap_or o 0) c.in-Some.ensures.capacity in
+    let bits : bit_count c.args.mask ≡ count_ones c.args.mask = bit_count-ones c.args.mask (omega arith) in
+    let bound : bit_count c.args.mask ≤ 32 = bit_count_bound c.args.mask in
+    omega (arith, small, before, bits, bound, c.from-bits.ensures)
+
+pub raise-requires-clause-within : goal.raise-requires-clause-within
+raise-requires-clause-within c = slice_get_within c.args.self.now.capacities.entries c.in-Some.index _
+    c.in-Some.ensures.at.at
+
+pub raise-requires-clause-some : goal.raise-requires-clause-some
+raise-requires-clause-some c =
+    let some : 0 < count_ones c.args.mask = ones_some c.args.mask (omega arith) in
+    omega (arith, some, c.from-bits.ensures)
+
+pub start-requires-clause-some : goal.start-requires-clause-some
+start-requires-clause-some c =
+    let some : 0 < count_ones c.args.mask = ones_some c.args.mask (omega arith) in
+    omega (arith, some, c.from-bits.ensures)
+
+pub returns-in-Some-clause-counted : goal.returns-in-Some-clause-counted
+returns-in-Some-clause-counted c =
+    let bits : bit_count c.args.mask ≡ count_ones c.args.mask = bit_count-ones c.args.mask (omega arith) in
+    let before : c.in-Some.before ≡ count_in c.args.self.now.capacities.entries c.args.point =
+    ap (λ o. unwrap_or o 0) c.in-Some.ensures.capacity in
+    on_ok_weaker c.raise.result
+    (λ e. rw e (counted_put c.args.self.now.capacities.entries _ c.args.point (c.in-Some.before + c.from-bits.result)
+    (bit_count c.args.mask)
+    (raised c.args.self.now.capacities c.args.point c.in-Some.index c.in-Some.before _ c.tell_differ.ensures
+    c.in-Some.ensures.at) (omega (arith, bits, before, c.from-bits.ensures))))
+    c.raise.ensures.ok
+
+pub returns-in-Some-clause-grows : goal.returns-in-Some-clause-grows
+returns-in-Some-clause-grows c =
+    on_ok_weaker c.raise.result
+    (λ e. rw e (grows_put c.args.self.now.capacities.entries _ c.args.point (c.in-Some.before + c.from-bits.result)
+    (raised c.args.self.now.capacities c.args.point c.in-Some.index c.in-Some.before _ c.tell_differ.ensures
+    c.in-Some.ensures.at)))
+    c.raise.ensures.ok
+
+pub returns-in-Some-clause-limit : goal.returns-in-Some-clause-limit
+returns-in-Some-clause-limit c = λ e.
+    let bits : bit_count c.args.mask ≡ count_ones c.args.mask = bit_count-ones c.args.mask (omega arith) in
+    let before : c.in-Some.before ≡ count_in c.args.self.now.capacities.entries c.args.point =
+    ap (λ o. unwrap_or o 0) c.in-Some.ensures.capacity in
+    let large : 2 ^ 48 ≤ c.in-Some.before + c.from-bits.result = c.raise.ensures.large e in
+    inr (omega (arith, bits, before, large, c.from-bits.ensures))
+
+pub returns-in-None-clause-counted : goal.returns-in-None-clause-counted
+returns-in-None-clause-counted c =
+    let bits : bit_count c.args.mask ≡ count_ones c.args.mask = bit_count-ones c.args.mask (omega arith) in
+    let none : 0 ≡ count_in c.args.self.now.capacities.entries c.args.point =
+    ap (λ o. unwrap_or o 0) c.in-None.ensures.capacity in
+    on_ok_weaker c.start.result
+    (λ put. counted_put c.args.self.now.capacities.entries c.start.new.self.capacities.entries c.args.point
+    c.from-bits.result (bit_count c.args.mask) put (omega (arith, bits, none, c.from-bits.ensures)))
+    c.start.ensures.ok
+
+pub returns-in-None-clause-limit : goal.returns-in-None-clause-limit
+returns-in-None-clause-limit c = λ e.
+    let some : 0 < count_ones c.args.mask = ones_some c.args.mask (omega arith) in
+    let bits : bit_count c.args.mask ≡ count_ones c.args.mask = bit_count-ones c.args.mask (omega arith) in
+    inl (record {
+      some = omega (arith, some, bits);
+      unknown = sym (ap is_some c.in-None.ensures.capacity);
+      full = c.start.ensures.full e;
+    })

@@ -1,0 +1,37 @@
+-- What a collapse of events as they come stands for.
+use Rattle.std.specs.Prelude.{◌≡◌, ◌&&◌, cond, Bool, true, false, List, [], ◌∷◌, Result, Ok, Err}
+use Rattle.flow_base.specs.declared.points.Point.{Point}
+use Rattle.flow_graph.specs.declared.events.Event.{Event}
+use Rattle.flow_graph.specs.declared.named_links.NamedLink.{NamedLink}
+use Rattle.flow_graph.specs.EventGraphs.{bits_at, links_by}
+use Rattle.flow_graph.specs.Keeping.{Keeps, is_known, is_there}
+use Rattle.location_collapse.specs.declared.collapses.Collapse.{Collapse}
+use Rattle.location_collapse.specs.declared.faults.CollapseFault.{CollapseFault}
+use Rattle.location_collapse.specs.declared.faults.CollapseFault.TheVariants.{Limit, Memory}
+
+-- a collapse has exactly what a list of events makes: points with their capacities, and links
+abbrev pub StandsFor : Collapse → List Event → Type 0
+StandsFor collapse events = Keeps collapse.points.capacities.entries collapse.links.named.keys events
+
+-- the points, the capacities and the links stay
+pub record KeepsAll (old new : Collapse) : Type 0 where
+  pub points : new.points.capacities.entries ≡ old.points.capacities.entries
+  pub links : new.links.named.keys ≡ old.links.named.keys
+
+-- whether the point has passed a mask other than 0
+abbrev pub knows : Collapse → Point → Bool
+knows collapse point = is_known collapse.points.capacities.entries point
+
+abbrev pub has_ends : (Point → Bool) → NamedLink → Bool
+has_ends has link = is_there has link.source && is_there has link.target
+
+-- where these points have passed a mask, an event passes no bits and makes this link, if its ends are there
+pub record Makes (has : Point → Bool) (event : Event) (link : NamedLink) : Type 0 where
+  pub made : links_by has event ≡ cond (has_ends has link) (link ∷ []) []
+  pub no_bits : (q : Point) → bits_at q event ≡ 0
+
+-- whether the answer is that a limit is exceeded
+abbrev pub is_limit : Result (Unit {0}) CollapseFault → Bool
+is_limit (Ok done) = false
+is_limit (Err Limit) = true
+is_limit (Err Memory) = false

@@ -1,0 +1,139 @@
+ghost use Rattle.std.specs.Prelude.{◌≡◌, ◌⊎◌, ◌||◌, ◌++◌, ◌∷◌, [], cond, true, false, List as Seq, OnOk, OnErr, IfOk, Err};
+ghost use Rattle.flow_graph.specs.declared.events.Event.{Event as AnEvent};
+ghost use Rattle.flow_graph.specs.declared.events.Event.TheVariants.{Pass as PassEvent};
+ghost use Rattle.flow_graph.specs.Keeping.{is_there, may_lead};
+ghost use Rattle.location_collapse.specs.Limits.{ExceedsLimit};
+ghost use Rattle.location_collapse.specs.Collapses.{KeepsAll, Makes, StandsFor, has_ends, is_limit, knows};
+
+use crate::collapses::Collapse;
+use crate::faults::CollapseFault;
+use crate::kept_links::KeptLinks;
+use crate::kept_points::KeptPoints;
+use flow_base::{NoMemory, Point};
+use flow_graph::{Event, NamedEnd, NamedLink, outlet};
+use std::alloc::Global;
+
+impl Collapse {
+    /// Nothing. It stands for no events.
+    pub fn new(alloc: Global) -> Result<Collapse, NoMemory>
+        ensures stands { IfOk result (λ collapse. StandsFor collapse []) }
+        ensures full { IfOk result (λ collapse. collapse.is_full ≡ false) }
+    {
+        Ok(Collapse {
+            points: KeptPoints::new(alloc),
+            links: KeptLinks::new(alloc),
+            is_full: false,
+        })
+    }
+
+    /// Whether an end of a link is there: a point has to have passed a mask other than 0.
+    fn has_end(&self, end: &NamedEnd) -> bool
+        ensures { result ≡ is_there (knows self.now) end.now }
+    {
+        match end {
+            NamedEnd::At(point) => self.points.has(point),
+            _ => true,
+        }
+    }
+
+    /// Whether both ends of a link are there.
+    fn has_ends(&self, link: &NamedLink) -> bool
+        ensures { result ≡ has_ends (knows self.now) link.now }
+    {
+        self.has_end(&link.source) && self.has_end(&link.target)
+    }
+
+    /// Adds the bits of a mask to a point's capacity.
+    fn pass(&mut self, point: Point, mask: u32) -> Result<(), CollapseFault>
+        ensures ok { OnOk result ((events : Seq AnEvent) → StandsFor self.old events → StandsFor self.new
+            (events ++ PassEvent point mask ∷ [])) }
+        ensures err { OnErr result (KeepsAll self.old self.new) }
+        ensures limit { result ≡ Err CollapseFault.Limit → (events : Seq AnEvent) → StandsFor self.old events →
+            ExceedsLimit (events ++ PassEvent point mask ∷ []) }
+        ensures full { self.new.is_full ≡ self.old.is_full }
+    {
+        self.points.pass(point, mask)
+    }
+
+    /// Keeps a link, where its ends are there.
+    fn put(&mut self, link: NamedLink) -> Result<(), CollapseFault>
+        requires leads { may_lead link.source link.target ≡ true }
+        ensures ok { OnOk result ((event : AnEvent) (events : Seq AnEvent) → Makes (knows self.old) event link →
+            StandsFor self.old events → StandsFor self.new (events ++ event ∷ [])) }
+        ensures err { OnErr result (KeepsAll self.old self.new) }
+        ensures limit { result ≡ Err CollapseFault.Limit → (event : AnEvent) (events : Seq AnEvent) → Makes
+            (knows self.old) event link → StandsFor self.old events → ExceedsLimit (events ++ event ∷ []) }
+        ensures full { self.new.is_full ≡ self.old.is_full }
+    {
+        if self.links.has(&link) {
+            return Ok(());
+        }
+        if !self.has_ends(&link) {
+            return Ok(());
+        }
+        self.links.put(link)
+    }
+
+    /// Takes an event, unless a limit is exceeded then.
+    fn take(&mut self, event: Event) -> Result<(), CollapseFault>
+        ensures ok { OnOk result ((events : Seq AnEvent) → StandsFor self.old events → StandsFor self.new
+            (events ++ event ∷ [])) }
+        ensures err { OnErr result (KeepsAll self.old self.new) }
+        ensures limit { result ≡ Err CollapseFault.Limit → (events : Seq AnEvent) → StandsFor self.old events →
+            ExceedsLimit (events ++ event ∷ []) }
+        ensures full { self.new.is_full ≡ self.old.is_full }
+    {
+        match event {
+            Event::Pass { point, mask } => self.pass(point, mask),
+            Event::Link { source, target } => self.put(NamedLink {
+                source: NamedEnd::At(source),
+                target: NamedEnd::At(target),
+            }),
+            Event::FromSecret { point } => self.put(NamedLink {
+                source: NamedEnd::Source,
+                target: NamedEnd::At(point),
+            }),
+            Event::Implicit { point, region } => self.put(NamedLink {
+                source: NamedEnd::At(point),
+                target: outlet(region),
+            }),
+            Event::Out { region, point } => {
+                if region == 0 {
+                    return Ok(());
+                }
+                self.put(NamedLink {
+                    source: NamedEnd::Relay(region),
+                    target: NamedEnd::At(point),
+                })
+            }
+        }
+    }
+
+    /// Takes an event. `Limit` comes exactly where the graph of the events taken with this one exceeds a limit, or an
+    /// earlier `add` answered it. An event that is not taken leaves no trace but that.
+    pub fn add(&mut self, event: Event) -> Result<(), CollapseFault>
+        ensures ok { OnOk result ((events : Seq AnEvent) → StandsFor self.old events → StandsFor self.new
+            (events ++ event ∷ [])) }
+        ensures within { OnOk result ((events : Seq AnEvent) → StandsFor self.old events → ExceedsLimit
+            (events ++ event ∷ []) → ⊥) }
+        ensures err { OnErr result (KeepsAll self.old self.new) }
+        ensures limit { result ≡ Err CollapseFault.Limit → self.old.is_full ≡ true ⊎ ((events : Seq AnEvent) →
+            StandsFor self.old events → ExceedsLimit (events ++ event ∷ [])) }
+        ensures again { self.old.is_full ≡ true → result ≡ Err CollapseFault.Limit }
+        ensures full { self.new.is_full ≡ (self.old.is_full || is_limit result) }
+    {
+        if self.is_full {
+            return Err(CollapseFault::Limit);
+        }
+        let taken = self.take(event);
+        self.is_full = tells_limit(&taken);
+        taken
+    }
+}
+
+/// Whether an answer is that a limit is exceeded.
+fn tells_limit(taken: &Result<(), CollapseFault>) -> bool
+    ensures { result ≡ is_limit taken.now }
+{
+    matches!(taken, Err(CollapseFault::Limit))
+}

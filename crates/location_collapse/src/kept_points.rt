@@ -1,0 +1,123 @@
+ghost use Rattle.std.specs.Prelude.{◌≡◌, ◌⊎◌, ℕ, ◌+◌, ◌≤◌, ◌<◌, ◌^◌, ◌&&◌, cond, length, true, IsTrue, OnOk, OnErr, Err};
+ghost use Rattle.std.specs.Prelude.{[], false, Some, IfSome};
+ghost use Rattle.std.specs.List.{list_all, IsDistinct};
+ghost use Rattle.std.specs.Map.{keys_of};
+ghost use Rattle.std.specs.Option.{option_map};
+ghost use Rattle.indexmap.specs.IndexMap.{set_value_at};
+ghost use Rattle.flow_base.specs.declared.points.Point.{Point as ThePoint};
+ghost use Rattle.flow_base.specs.Words.{bit_count};
+ghost use Rattle.flow_graph.specs.EventGraphs.{is_same};
+ghost use Rattle.flow_graph.specs.Keeping.{capacity_in, count_in, is_known};
+ghost use Rattle.location_collapse.specs.Limits.{HoldsAt, HasAllPoints, LacksRoom, is_small};
+
+use crate::faults::CollapseFault;
+use flow_base::Point;
+use indexmap::IndexMap;
+use std::alloc::Global;
+
+/// How many points a graph may have.
+const MAX_POINTS: usize = 65_536;
+
+/// The capacities of a graph are below this, in bits.
+const CAPACITY_LIMIT: u64 = 1 << 48;
+
+/// The points that have passed a mask other than 0, in the order in which they were first seen, each with its capacity
+/// in bits. They are at most 65,536, and capacities are below 2^48.
+#[derive(Drop)]
+pub struct KeptPoints {
+    pub capacities: IndexMap<Point, u64>,
+    ghost small: { IsTrue (list_all is_small capacities.entries) },
+    ghost few: { length capacities.entries ≤ 65536 },
+}
+
+impl KeptPoints {
+    /// No points.
+    pub fn new(alloc: Global) -> KeptPoints
+        ensures { result.capacities.entries ≡ [] }
+    {
+        KeptPoints {
+            capacities: IndexMap::new(alloc),
+        }
+    }
+
+    /// Whether the point has passed a mask other than 0.
+    pub fn has(&self, point: &Point) -> bool
+        ensures { result ≡ is_known self.now.capacities.entries point.now }
+    {
+        self.capacities.contains_key(point)
+    }
+
+    /// Tells that points differ. It does nothing when it is called.
+    fn tell_differ(&self)
+        ensures { IsDistinct is_same (keys_of self.now.capacities.entries) }
+    {
+        let _count = self.capacities.len();
+    }
+
+    /// The index and the capacity of a point; None exactly where it has passed no mask other than 0.
+    fn find(&self, point: &Point) -> Option<(usize, u64)>
+        ensures capacity { option_map (λ found. found.1) result ≡ capacity_in self.now.capacities.entries point.now }
+        ensures at { IfSome result (λ found. HoldsAt self.now.capacities.entries point.now found.0 found.1) }
+    {
+        match self.capacities.get_full(point) {
+            Some((index, _, capacity)) => Some((index, *capacity)),
+            None => None,
+        }
+    }
+
+    /// Keeps a point that was not seen before, unless there are 65,536 points already.
+    fn start(&mut self, point: Point, bits: u64) -> Result<(), CollapseFault>
+        requires unknown { is_known self.old.capacities.entries point ≡ false }
+        requires some { 0 < bits }
+        requires small { bits < 2 ^ 48 }
+        ensures ok { OnOk result ((q : ThePoint) → capacity_in self.new.capacities.entries q ≡ cond (is_same point q)
+            (Some bits) (capacity_in self.old.capacities.entries q)) }
+        ensures err { OnErr result (self.new.capacities.entries ≡ self.old.capacities.entries) }
+        ensures full { result ≡ Err CollapseFault.Limit → HasAllPoints self.old.capacities.entries }
+    {
+        if self.capacities.len() >= MAX_POINTS {
+            return Err(CollapseFault::Limit);
+        }
+        match self.capacities.insert(point, bits) {
+            Ok(_) => Ok(()),
+            Err(_) => Err(CollapseFault::Memory),
+        }
+    }
+
+    /// Writes the capacity of the point at an index, unless it is 2^48 or more.
+    fn raise(&mut self, index: usize, capacity: u64) -> Result<(), CollapseFault>
+        requires within { index < length self.old.capacities.entries }
+        requires some { 0 < capacity }
+        ensures ok { OnOk result (self.new.capacities.entries ≡ set_value_at self.old.capacities.entries index
+            capacity) }
+        ensures err { OnErr result (self.new.capacities.entries ≡ self.old.capacities.entries) }
+        ensures large { result ≡ Err CollapseFault.Limit → 2 ^ 48 ≤ capacity }
+    {
+        if capacity >= CAPACITY_LIMIT {
+            return Err(CollapseFault::Limit);
+        }
+        self.capacities[index] = capacity;
+        Ok(())
+    }
+
+    /// Adds the bits of a mask to a point's capacity.
+    pub fn pass(&mut self, point: Point, mask: u32) -> Result<(), CollapseFault>
+        ensures counted { OnOk result ((q : ThePoint) → count_in self.new.capacities.entries q ≡ count_in
+            self.old.capacities.entries q + cond (is_same point q) (bit_count mask) 0) }
+        ensures grows { OnOk result ((q : ThePoint) → is_known self.old.capacities.entries q ≡ true → is_known
+            self.new.capacities.entries q ≡ true) }
+        ensures err { OnErr result (self.new.capacities.entries ≡ self.old.capacities.entries) }
+        ensures limit { result ≡ Err CollapseFault.Limit → LacksRoom self.old.capacities.entries point mask ⊎
+            (2 ^ 48 ≤ count_in self.old.capacities.entries point + bit_count mask) }
+    {
+        if mask == 0 {
+            return Ok(());
+        }
+        let bits = u64::from(mask.count_ones());
+        self.tell_differ();
+        match self.find(&point) {
+            Some((index, before)) => self.raise(index, before + bits),
+            None => self.start(point, bits),
+        }
+    }
+}

@@ -1,0 +1,19 @@
+//! The graph of events, as they come: points with their capacities in the order in which they are first seen, and the
+//! links by the names of their ends. No event is kept.
+#![tactic(auto)]
+
+mod adding;
+mod collapses;
+mod faults;
+mod kept_links;
+mod kept_points;
+mod sorting;
+#[cfg(test)]
+mod tests;
+
+pub use collapses::Collapse;
+pub use faults::CollapseFault;
+#[doc(hidden)]
+pub use kept_links::KeptLinks;
+#[doc(hidden)]
+pub use kept_points::KeptPoints;
