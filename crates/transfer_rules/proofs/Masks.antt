@@ -8,17 +8,14 @@ use Rattle.transfer_rules.specs.declared.classes.Class.{Class}
 use Rattle.transfer_rules.specs.declared.classes.Class.TheVariants.{Add, Sub, And, Or, Xor, Sll, Srl, Sra, Slt, Sltu}
 use Rattle.transfer_rules.specs.declared.classes.Class.TheVariants.{Equal, Mul, High, Div}
 use Rattle.transfer_rules.specs.declared.operands.Operands.{Operands}
-use Rattle.transfer_rules.specs.Soundness.{IsSound, KeepsMask}
-use Rattle.transfer_rules.specs.Table1.{all_mask, either, mask_by_table, one_mask, sum_mask}
+use Rattle.transfer_rules.specs.Soundness.{AreWords, IsSound, KeepsMask}
+use Rattle.transfer_rules.specs.Table1.{all_mask, either, mask_by_table_1, one_mask, sum_mask}
 use Rattle.transfer_rules.proofs.Agreement.{by_all, by_one}
+use Rattle.transfer_rules.proofs.Operations.{Each, operations, by_each}
 use Rattle.transfer_rules.proofs.BitRules.{agree_and, agree_or, agree_xor}
 use Rattle.transfer_rules.proofs.Results.{div_fits, divu_fits, mulh_fits, mulhsu_fits, mulhu_fits, rem_fits, remu_fits, truth_fits}
 use Rattle.transfer_rules.proofs.Shifts.{agree_left, agree_right, agree_sign, by_places, left_fits, right_fits, signed_fits}
 use Rattle.transfer_rules.proofs.Sums.{by_low_parts, same_difference, same_product, same_sum}
-
--- the operands and their masks are words
-abbrev pub AreWords : Operands → Type 0
-AreWords o = (o.v1 < 2 ^ 32) × (o.m1 < 2 ^ 32) × (o.v2 < 2 ^ 32) × (o.m2 < 2 ^ 32)
 
 sum_keeps : (o : Operands) → AreWords o → KeepsMask o (sum_mask (either o)) (op_result op.Add)
 sum_keeps o words a b p q h k =
@@ -48,7 +45,8 @@ word_keeps :
 word_keeps o words f fits a b p q h k =
     by_all f o.m1 o.m2 o.v1 o.v2 a b h k (fits o.v1 o.v2 words.0 words.2) (fits a b p q)
 
-sound : (class : Class) (o : Operands) → AreWords o → IsSound class o (mask_by_table class o)
+sound :
+    (class : Class) (o : Operands) → AreWords o → Each (operations class) (KeepsMask o (mask_by_table_1 class o))
 sound Add o words = (sum_keeps o words, (sum_keeps o words, tt))
 sound Sub o words = (difference_keeps o words, tt)
 sound And o words = ((λ a b p q h k. agree_and o.m1 o.m2 o.v1 o.v2 a b h k), tt)
@@ -98,6 +96,6 @@ sound Div o words = (
 )
 
 -- an answer of the table is sound
-pub sound_by_table :
-    (class : Class) (o : Operands) (mask : ℕ) → AreWords o → mask ≡ mask_by_table class o → IsSound class o mask
-sound_by_table class o mask words e = subst (IsSound class o) (sym e) (sound class o words)
+pub sound_by_table_1 :
+    (class : Class) (o : Operands) (mask : ℕ) → AreWords o → mask ≡ mask_by_table_1 class o → IsSound class o mask
+sound_by_table_1 class o mask words e = subst (IsSound class o) (sym e) (by_each class o _ (sound class o words))
