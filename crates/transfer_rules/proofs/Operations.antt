@@ -1,13 +1,11 @@
 -- From lists of the operations of a class to every operation of the class, and to instructions.
-use Rattle.std.proofs.Common.{◌≡◌, ℕ, List, [], ◌∷◌, refl, sym, subst}
+use Rattle.std.proofs.Common.{ℕ, List, [], ◌∷◌, sym, subst}
 use Rattle.std.specs.Prelude.{⊤}
 use Rattle.rv32im_decode.specs.declared.instructions.BranchKind.{BranchKind}
 use Rattle.rv32im_decode.specs.declared.instructions.BranchKind.TheVariants as branch
-use Rattle.rv32im_decode.specs.declared.instructions.Instr.{Instr}
-use Rattle.rv32im_decode.specs.declared.instructions.Instr.TheVariants.{Branch, OpImm, Op}
 use Rattle.rv32im_decode.specs.declared.instructions.OpKind.{OpKind}
 use Rattle.rv32im_decode.specs.declared.instructions.OpKind.TheVariants as op
-use Rattle.rv32im_decode.specs.Operations.{address_of, decision, op_result, operation_of}
+use Rattle.rv32im_decode.specs.Operations.{address_of, decision, op_result}
 use Rattle.transfer_rules.specs.declared.classes.Class.{Class}
 use Rattle.transfer_rules.specs.declared.classes.Class.TheVariants.{Add, Sub, And, Or, Xor, Sll, Srl, Sra, Slt, Sltu}
 use Rattle.transfer_rules.specs.declared.classes.Class.TheVariants.{Equal, Mul, High, Div}

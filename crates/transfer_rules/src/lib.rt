@@ -8,6 +8,7 @@ mod operands;
 mod rule;
 mod rules;
 mod table_1;
+mod table_2;
 #[cfg(test)]
 mod tests;
 
@@ -16,4 +17,8 @@ pub use classes::{Class, class_of, class_of_branch, class_of_operation};
 pub use operands::Operands;
 pub use rule::Rule;
 pub use rules::{address_mask, mask_of, target_mask};
-pub use table_1::{add_1, and_1, div_1, equal_1, high_1, mul_1, or_1, sll_1, slt_1, sltu_1, sra_1, srl_1, sub_1, xor_1};
+pub use table_1::{
+    add_1, and_1, div_1, equal_1, high_1, mul_1, or_1, sll_1, slt_1, sltu_1, sra_1, srl_1, sub_1,
+    xor_1,
+};
+pub use table_2::{add_2, equal_2, mul_2, slt_2, sltu_2, sub_2};

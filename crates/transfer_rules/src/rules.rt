@@ -18,10 +18,8 @@ use rv32im_decode::Instr;
 pub fn mask_of(book: &RuleBook, instr: &Instr, operands: Operands) -> u32
     requires { instruction_class instr.now ≢ None }
     ensures sound { KeepsMask operands result (computed instr.now) }
-    ensures table {
-        IfSome (instruction_class instr.now) (λ class.
-            IsByTable book.now.table (λ masks. masks class operands) result)
-    }
+    ensures table { IfSome (instruction_class instr.now) (λ class.
+        IsByTable book.now.table (λ masks. masks class operands) result) }
 {
     match class_of(instr) {
         Some(class) => book.mask(class, operands),

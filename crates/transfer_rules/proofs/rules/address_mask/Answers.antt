@@ -1,7 +1,6 @@
 use Rattle.std.proofs.Common.{◌≡◌, rules, ap, subst, sym, ◌∙◌, SFits, to_z-of_z, w32}
 use Rattle.rv32im_decode.specs.Operations.{target_of}
 use Rattle.transfer_rules.specs.declared.classes.Class.TheVariants.{Add}
-use Rattle.transfer_rules.specs.declared.operands.Operands.{Operands}
 use Rattle.transfer_rules.specs.Soundness.{IsSound, IsSoundAddress, KeepsMask}
 use Rattle.transfer_rules.specs.Tables.{sum_operands}
 use Rattle.transfer_rules.proofs.Instructions.{sum_of_immediate, target_of_immediate}
