@@ -1,10 +1,11 @@
 -- A shadow reads as a map: call by call, and over all calls.
 use Rattle.std.proofs.Common.{◌≡◌, ℕ, ◌-◌, ◌==◌, ◌&&◌, nat_lt, List, [], ◌∷◌, if◌then◌else◌, slice_index_or}
-use Rattle.std.proofs.Common.{Option, refl, ap, ap₂, ◌∙◌, subst, sym}
+use Rattle.std.proofs.Common.{Option, ap, ap₂, ◌∙◌, subst, sym}
 use Rattle.shadow_masks.specs.declared.labels.Label.{Label}
 use Rattle.shadow_masks.specs.Labels.{clean}
 use Rattle.shadow_masks.specs.Pages.{PageShades}
-use Rattle.shadow_masks.specs.Shades.{Shades, register_label, label_at, is_listed, is_in_range, IsNew}
+use Rattle.shadow_masks.specs.Shades.{Shades, register_label, label_at, is_listed, IsNew}
+use Rattle.shadow_masks.specs.Pages.{is_in_range}
 use Rattle.shadow_masks.specs.Writes.{Write, ToRegister, ToByte, ToBytes, Save, Restore, Follows, Leads}
 use Rattle.shadow_masks.specs.Writes.{LabelMap, after, after_all, default_map, ReadsAs}
 

@@ -1,12 +1,14 @@
 -- What the loops over ranges of bytes and over listed registers keep.
-use Rattle.std.proofs.Common.{◌≡◌, ℕ, zero, suc, replicate, slice_index_or, slice_set, length, ◌+◌, ◌-◌, ◌/◌, ◌%◌, ◌<◌, ◌≤◌, ◌==◌, nat_le, List, [], ◌∷◌, Option, None, Bool, true, false}
+use Rattle.std.proofs.Common.{◌≡◌, ℕ, zero, suc, replicate, slice_index_or, slice_set, length, ◌≢◌, ◌+◌, ◌-◌, ◌*◌, ◌/◌, ◌%◌, ◌<◌, ◌≤◌, ◌==◌, nat_le, List, [], ◌∷◌, Option, None, Bool, true, false, Result, Ok, Err, OnErr}
 use Rattle.std.proofs.Common.{if◌then◌else◌, sym, refl, ap, ◌∙◌, ⊎_elim, subst, arith}
 use Rattle.shadow_masks.specs.declared.labels.Label.{Label}
 use Rattle.shadow_masks.specs.Labels.{clean, AreRegisterLabels}
 use Rattle.std.proofs.lemmas.Bool.{cases_lt}
-use Rattle.shadow_masks.specs.Pages.{PageShades, label_in, label_from, labels_from}
+use Rattle.std.proofs.lemmas.Grind.{get_or-set_at}
+use Rattle.std.proofs.lemmas.List.{get_or-set_other}
+use Rattle.shadow_masks.specs.Pages.{PageShades, label_in, label_from, labels_from, is_in_range, AreClean, SetsFewer, SetsLabel, SetsPlaces}
 use Rattle.shadow_masks.specs.Shades.{Shades, register_label, kept_label, byte_label, label_at, page_at, IsNew}
-use Rattle.shadow_masks.specs.Shades.{is_listed, is_in_range, SetsByte, SetsBytes, Restores}
+use Rattle.shadow_masks.specs.Shades.{is_listed, SetsByte, SetsBytes, SetsFirstPart, Restores}
 
 -- no byte of a range of no bytes is set
 pub sets_bytes_start : (first : ℕ) (label : ℕ → Label) (shades : Shades) → SetsBytes first 0 label shades shades
@@ -153,3 +155,181 @@ bytes_of_page shades page base address count begins from inside is =
     ap (λ p. labels_from (label_in p) ((address - base) % 4096) count) is
     ∙ bytes_in_page base address count shades.pages from inside
     ∙ ap (λ b. labels_from (label_at b shades.pages) address count) (sym begins)
+
+-- each of the bytes of one page is clean where each of its places is, and the other way round
+pub clean_of_page :
+    (shades : Shades) (page : Option PageShades) (base address count : ℕ) → shades.base ≡ base → base ≤ address →
+    (address - base) % 4096 + count ≤ 4096 → page ≡ page_at shades.pages ((address - base) / 4096) →
+    AreClean (label_in page) ((address - base) % 4096) count → AreClean (byte_label shades) address count
+clean_of_page shades page base address count begins from inside is clean_each offset below =
+    ap (λ b. label_at b shades.pages (address + offset)) begins
+    ∙ sym (label_in_page base address offset shades.pages from (omega arith))
+    ∙ ap (λ p. label_in p ((address - base) % 4096 + offset)) (sym is)
+    ∙ clean_each offset below
+
+pub clean_to_page :
+    (shades : Shades) (page : Option PageShades) (base address count : ℕ) → shades.base ≡ base → base ≤ address →
+    (address - base) % 4096 + count ≤ 4096 → page ≡ page_at shades.pages ((address - base) / 4096) →
+    AreClean (byte_label shades) address count → AreClean (label_in page) ((address - base) % 4096) count
+clean_to_page shades page base address count begins from inside is clean_each offset below =
+    ap (λ p. label_in p ((address - base) % 4096 + offset)) is
+    ∙ label_in_page base address offset shades.pages from (omega arith)
+    ∙ ap (λ b. label_at b shades.pages (address + offset)) (sym begins)
+    ∙ clean_each offset below
+
+-- ---- a page that is put in place of another
+
+-- one place more at the end of those that are set
+pub sets_places_next :
+    (first count : ℕ) (label old mid new : ℕ → Label) (value : Label) → value ≡ label count →
+    SetsPlaces first count label old mid → SetsLabel (first + count) value mid new →
+    SetsPlaces first (count + 1) label old new
+sets_places_next first count label old mid new value is before sets other inside =
+    longer_range first count other label (old other) (mid other) (new other) (before other inside)
+    (sets other inside ∙ ap (λ v. if other == first + count then v else mid other) is)
+
+-- and one byte more at the end of a range, whose label is given
+pub sets_bytes_after :
+    {first length : ℕ} {label : ℕ → Label} {old mid new : Shades} (value : Label) → value ≡ label length →
+    SetsBytes first length label old mid → SetsByte (first + length) value mid new →
+    SetsBytes first (length + 1) label old new
+sets_bytes_after {first} {length} {label} {old} {mid} {new} value is before sets =
+    sets_bytes_next before (subst (λ v. SetsByte (first + length) v mid new) is sets)
+
+inside_page :
+    (base first count a : ℕ) → base ≤ first → (first - base) % 4096 + count ≤ 4096 → first ≤ a → a < first + count →
+    (a - base) / 4096 ≡ (first - base) / 4096
+inside_page base first count a from inside after below = omega arith
+
+other_page :
+    (base first count a : ℕ) → base ≤ first → (first - base) % 4096 + count ≤ 4096 →
+    (a - base) / 4096 ≢ (first - base) / 4096 → is_in_range first count a ≡ false
+other_page base first count a from inside other = ⊎_elim
+    (λ before. grind (arith, before))
+    (λ after. ⊎_elim
+    (λ below. absurd (other (inside_page base first count a from inside after below)))
+    (λ past. grind (arith, past))
+    (cases_lt a (first + count)))
+    (cases_lt a first)
+
+shifted_range :
+    (first a place o k count : ℕ) → first ≡ place + k → a ≡ o + k → is_in_range place count o ≡ is_in_range first count a
+shifted_range first a place o k count e e' = grind (arith, e, e')
+
+same_range :
+    (base first count a : ℕ) → base ≤ first → base ≤ a → (a - base) / 4096 ≡ (first - base) / 4096 →
+    is_in_range ((first - base) % 4096) count ((a - base) % 4096) ≡ is_in_range first count a
+same_range base first count a from from' same =
+    shifted_range first a ((first - base) % 4096) ((a - base) % 4096) (base + (first - base) / 4096 * 4096) count
+    (omega arith) (omega arith)
+
+same_offset :
+    (base first a : ℕ) → base ≤ first → base ≤ a → (a - base) / 4096 ≡ (first - base) / 4096 →
+    (a - base) % 4096 - (first - base) % 4096 ≡ a - first
+same_offset base first a from from' same = omega arith
+
+if_other : {X : Type 0} (test : Bool) (x y : X) → test ≡ false → y ≡ (if test then x else y)
+if_other test x y e = ap (λ t. if t then x else y) (sym e)
+
+-- the labels of a page that is put in place of another, address by address
+page_put :
+    (base first count a : ℕ) (label : ℕ → Label) (pages : List (Option PageShades)) (page : Option PageShades) →
+    base ≤ first → (first - base) % 4096 + count ≤ 4096 → (first - base) / 4096 < length pages →
+    SetsPlaces ((first - base) % 4096) count label (label_in (page_at pages ((first - base) / 4096))) (label_in page) →
+    base ≤ a →
+    label_in (page_at (slice_set pages ((first - base) / 4096) page) ((a - base) / 4096)) ((a - base) % 4096)
+    ≡ (if is_in_range first count a then label (a - first)
+    else label_in (page_at pages ((a - base) / 4096)) ((a - base) % 4096))
+page_put base first count a label pages page from inside within sets from' =
+    let n = (first - base) / 4096 in
+    let m = (a - base) / 4096 in
+    let o = (a - base) % 4096 in
+    let place = (first - base) % 4096 in
+    let elsewhere : m ≢ n → label_in (page_at (slice_set pages n page) m) o
+    ≡ (if is_in_range first count a then label (a - first) else label_in (page_at pages m) o) =
+    λ other.
+    ap (λ p. label_in p o) (get_or-set_other pages n m page None other)
+    ∙ if_other (is_in_range first count a) (label (a - first)) (label_in (page_at pages m) o)
+    (other_page base first count a from inside other) in
+    ⊎_elim
+    (λ less. elsewhere (λ e. omega (arith, e, less)))
+    (λ least. ⊎_elim
+    (λ more. elsewhere (λ e. omega (arith, e, more)))
+    (λ most.
+    let same : m ≡ n = omega (arith, least, most) in
+    ap (λ p. label_in p o) (get_or-set_at pages n m page None same within)
+    ∙ sets o (omega arith)
+    ∙ ap (λ t. if t then label (o - place) else label_in (page_at pages n) o) (same_range base first count a from from' same)
+    ∙ ap (λ d. if is_in_range first count a then label d else label_in (page_at pages n) o)
+    (same_offset base first a from from' same)
+    ∙ ap (λ k. if is_in_range first count a then label (a - first) else label_in (page_at pages k) o) (sym same))
+    (cases_lt n m))
+    (cases_lt m n)
+
+before_memory :
+    (base first count a : ℕ) (old new value : Label) → base ≤ first → a < base →
+    (if nat_le base a then new else clean)
+    ≡ (if is_in_range first count a then value else (if nat_le base a then old else clean))
+before_memory base first count a old new value from before = grind (arith, from, before)
+
+in_memory :
+    (base first count a : ℕ) (old new value : Label) → base ≤ a → new ≡ (if is_in_range first count a then value else old) →
+    (if nat_le base a then new else clean)
+    ≡ (if is_in_range first count a then value else (if nat_le base a then old else clean))
+in_memory base first count a old new value from e = grind (arith, from, e)
+
+-- what is read at an index that is inside does not depend on what stands for the rest
+pub any_default : {X : Type 0} (items : List X) (n : ℕ) (x y : X) → n < length items → slice_index_or items n x ≡ slice_index_or items n y
+any_default [] n x y inside = absurd (omega (arith, inside))
+any_default (item ∷ items) zero x y inside = refl
+any_default (item ∷ items) (suc n) x y inside = any_default items n x y (omega (arith, inside))
+
+-- a page that is put in place of another sets the labels of the bytes in it
+pub sets_in_page :
+    (registers kept : List Label) (base first count : ℕ) (label : ℕ → Label) (pages : List (Option PageShades))
+    (page : Option PageShades) → base ≤ first → (first - base) % 4096 + count ≤ 4096 →
+    (first - base) / 4096 < length pages →
+    SetsPlaces ((first - base) % 4096) count label (label_in (page_at pages ((first - base) / 4096))) (label_in page) →
+    SetsBytes first count label (record { registers = registers; kept = kept; base = base; pages = pages })
+    (record {
+      registers = registers;
+      kept = kept;
+      base = base;
+      pages = slice_set pages ((first - base) / 4096) page;
+    })
+sets_in_page registers kept base first count label pages page from inside within sets = record {
+  bytes = λ a. ⊎_elim
+      (λ before. before_memory base first count a _ _ (label (a - first)) from before)
+      (λ after.
+      in_memory base first count a _ _ (label (a - first)) after
+      (page_put base first count a label pages page from inside within sets after))
+      (cases_lt a base);
+  base = refl;
+  registers = refl;
+  kept = refl;
+}
+
+-- and where only some of its places are set, a first part of the bytes is
+pub sets_part_in_page :
+    (registers kept : List Label) (base first count : ℕ) (label : ℕ → Label) (pages : List (Option PageShades))
+    (page : Option PageShades) → base ≤ first → (first - base) % 4096 + count ≤ 4096 →
+    (first - base) / 4096 < length pages →
+    SetsFewer ((first - base) % 4096) count label (label_in (page_at pages ((first - base) / 4096))) (label_in page) →
+    SetsFirstPart first count label (record { registers = registers; kept = kept; base = base; pages = pages })
+    (record {
+      registers = registers;
+      kept = kept;
+      base = base;
+      pages = slice_set pages ((first - base) / 4096) page;
+    })
+sets_part_in_page registers kept base first count label pages page from inside within sets = record {
+  part = sets.part;
+  shorter = sets.shorter;
+  sets =
+      sets_in_page registers kept base first sets.part label pages page from (omega (arith, inside, sets.shorter)) within
+      sets.sets;
+}
+
+pub on_err : {A E : Type 0} {Fact : Type 0} (result : Result A E) → Fact → OnErr result Fact
+on_err (Ok done) fact = tt
+on_err (Err error) fact = fact

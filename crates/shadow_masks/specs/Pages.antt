@@ -1,5 +1,5 @@
 -- The labels of a page of addresses.
-use Rattle.std.specs.Prelude.{◌≡◌, ℕ, ◌+◌, ◌<◌, ◌==◌, nat_lt, List, [], ◌∷◌, Option, Some, None, if◌then◌else◌, slice_index}
+use Rattle.std.specs.Prelude.{◌≡◌, ℕ, ◌+◌, ◌-◌, ◌<◌, ◌==◌, ◌&&◌, nat_lt, nat_le, Bool, List, [], ◌∷◌, Option, Some, None, if◌then◌else◌, slice_index, slice_index_or}
 use Rattle.flow_base.specs.declared.points.Point.{Point}
 use Rattle.shadow_masks.specs.declared.labels.Label.{Label}
 use Rattle.shadow_masks.specs.declared.page_points.PagePoints.{PagePoints}
@@ -44,6 +44,30 @@ labels_from label first count =
 abbrev pub SetsLabel : ℕ → Label → (ℕ → Label) → (ℕ → Label) → Type 0
 SetsLabel place label old new =
     (other : ℕ) → other < page_size → new other ≡ (if other == place then label else old other)
+
+-- whether a place, or an address, is one of so many from the first on
+abbrev pub is_in_range : ℕ → ℕ → ℕ → Bool
+is_in_range first count place = nat_le first place && nat_lt place (first + count)
+
+-- the bytes of so many places have labels by their distance from the first, and each other byte of the page the label
+-- that it had
+abbrev pub SetsPlaces : ℕ → ℕ → (ℕ → Label) → (ℕ → Label) → (ℕ → Label) → Type 0
+SetsPlaces first count label old new =
+    (other : ℕ) → other < page_size → new other ≡ (if is_in_range first count other then label (other - first) else old other)
+
+-- some of the places have labels, but not all of them
+pub record SetsFewer (first count : ℕ) (label old new : ℕ → Label) : Type 0 where
+  pub part : ℕ
+  pub shorter : part < count
+  pub sets : SetsPlaces first part label old new
+
+-- each of so many bytes from the first on is clean
+abbrev pub AreClean : (ℕ → Label) → ℕ → ℕ → Type 0
+AreClean label first count = (offset : ℕ) → offset < count → label (first + offset) ≡ clean
+
+-- the labels of a list, by their distance from the first
+abbrev pub listed_label : List Label → ℕ → Label
+listed_label labels offset = slice_index_or labels offset clean
 
 -- one byte of a page has the label, and each other is clean
 abbrev pub IsOneLabel : ℕ → Label → (ℕ → Label) → Type 0

@@ -1,11 +1,11 @@
 -- What a shadow holds, and what the calls that change it do.
 use Rattle.std.specs.Prelude.{◌≡◌, ℕ, ◌+◌, ◌-◌, ◌/◌, ◌%◌, ◌^◌, ◌<◌, ◌==◌, ◌&&◌, ◌||◌, nat_lt, nat_le, Bool, List, Option, None}
-use Rattle.std.specs.Prelude.{if◌then◌else◌, slice_index_or, replicate, length}
+use Rattle.std.specs.Prelude.{if◌then◌else◌, slice_index_or, length}
 use Rattle.std.specs.List.{list_any}
 use Rattle.shadow_masks.specs.declared.labels.Label.{Label}
 use Rattle.shadow_masks.specs.Labels.{clean}
 use Rattle.shadow_masks.specs.Points.{page_size}
-use Rattle.shadow_masks.specs.Pages.{PageShades, label_in}
+use Rattle.shadow_masks.specs.Pages.{PageShades, label_in, is_in_range, listed_label}
 
 -- guest memory has 16 MiB
 abbrev pub memory_size : ℕ
@@ -47,17 +47,9 @@ label_at base pages address =
 abbrev pub byte_label : Shades → ℕ → Label
 byte_label shades address = label_at shades.base shades.pages address
 
--- each byte of a range is clean
-abbrev pub AreClean : Shades → ℕ → ℕ → Type 0
-AreClean shades first length = (offset : ℕ) → offset < length → byte_label shades (first + offset) ≡ clean
-
 -- whether a register is listed
 abbrev pub is_listed : List ℕ → ℕ → Bool
 is_listed registers register = list_any (λ listed. listed == register) registers
-
--- whether an address is one of so many from the first on
-abbrev pub is_in_range : ℕ → ℕ → ℕ → Bool
-is_in_range first length address = nat_le first address && nat_lt address (first + length)
 
 -- all labels are clean
 pub record IsNew (base : ℕ) (shades : Shades) : Type 0 where
@@ -94,7 +86,7 @@ SetsRange first length label old new = SetsBytes first length (λ offset. label)
 
 -- new has the listed labels from an address on; all else is as in old
 abbrev pub SetsLabels : ℕ → List Label → Shades → Shades → Type 0
-SetsLabels first labels old new = SetsBytes first (length labels) (λ offset. slice_index_or labels offset clean) old new
+SetsLabels first labels old new = SetsBytes first (length labels) (listed_label labels) old new
 
 -- new has labels at some of the addresses from the first on, but not at all of them; all else is as in old
 pub record SetsFirstPart (first length : ℕ) (label : ℕ → Label) (old new : Shades) : Type 0 where

@@ -2,7 +2,8 @@
 use Rattle.std.specs.Prelude.{◌≡◌, ℕ, ◌-◌, ◌==◌, ◌&&◌, nat_lt, List, [], ◌∷◌, if◌then◌else◌}
 use Rattle.shadow_masks.specs.declared.labels.Label.{Label}
 use Rattle.shadow_masks.specs.Labels.{clean}
-use Rattle.shadow_masks.specs.Shades.{Shades, register_label, kept_label, byte_label, is_listed, is_in_range, IsNew}
+use Rattle.shadow_masks.specs.Shades.{Shades, register_label, kept_label, byte_label, is_listed, IsNew}
+use Rattle.shadow_masks.specs.Pages.{is_in_range}
 use Rattle.shadow_masks.specs.Shades.{SetsRegister, SetsByte, SetsBytes, Saves, Restores}
 
 -- a call that changes labels; one on bytes or a range sets labels by their distance from the first address. Where such a

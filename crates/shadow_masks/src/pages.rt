@@ -1,9 +1,9 @@
 //! The labels of a page of addresses.
 
-ghost use Rattle.std.specs.Prelude.{◌≡◌, ◌+◌, ◌<◌, ◌≤◌, ℕ, IfOk, OnOk, OnErr};
-ghost use Rattle.shadow_masks.specs.Labels.{IsByteLabel};
+ghost use Rattle.std.specs.Prelude.{◌≡◌, ◌+◌, ◌<◌, ◌≤◌, ℕ, IfOk, OnOk, OnErr, true};
+ghost use Rattle.shadow_masks.specs.Labels.{clean, IsByteLabel};
 ghost use Rattle.shadow_masks.specs.Points.{page_size};
-ghost use Rattle.shadow_masks.specs.Pages.{page_label, label_from, labels_from, IsOneLabel, SetsLabel};
+ghost use Rattle.shadow_masks.specs.Pages.{page_label, label_from, labels_from, AreClean, IsOneLabel, SetsLabel};
 
 use crate::few_points::zeros;
 use crate::labels::Label;
@@ -82,6 +82,28 @@ impl Page {
         } else {
             Label::clean()
         }
+    }
+
+    /// Whether each of `count` bytes from a place on is clean.
+    pub fn is_clean(&self, place: usize, count: usize) -> bool
+        requires { place + count ≤ page_size }
+        ensures yes { result ≡ true → AreClean (page_label self.now) place count }
+        ensures no { AreClean (page_label self.now) place count → result ≡ true }
+    {
+        for offset in 0..count {
+            if !self.is_clean_at(place + offset) {
+                return false;
+            }
+        }
+        true
+    }
+
+    fn is_clean_at(&self, place: usize) -> bool
+        requires { place < page_size }
+        ensures yes { result ≡ true → page_label self.now place ≡ clean }
+        ensures no { page_label self.now place ≡ clean → result ≡ true }
+    {
+        self.masks[place] == 0
     }
 
     /// Sets the label of a byte; where memory is short all stays as it was.

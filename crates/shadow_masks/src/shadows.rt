@@ -1,10 +1,10 @@
 ghost use Rattle.std.specs.Prelude.{◌≡◌, ◌+◌, ◌^◌, ◌<◌, ◌≤◌, All, IfOk, OnOk, OnErr, IsTrue, List as Seq, [], ◌∷◌, length};
-ghost use Rattle.std.specs.Prelude.{replicate, ℕ, None};
+ghost use Rattle.std.specs.Prelude.{replicate, ℕ, None, true};
 ghost use Rattle.shadow_masks.specs.Labels.{clean, IsLabel, IsByteLabel};
-ghost use Rattle.shadow_masks.specs.Pages.{label_in, label_from, labels_from, SetsLabel};
+ghost use Rattle.shadow_masks.specs.Pages.{label_in, label_from, labels_from, listed_label, AreClean, SetsFewer, SetsLabel, SetsPlaces};
 ghost use Rattle.shadow_masks.specs.Points.{page_size};
 ghost use Rattle.shadow_masks.specs.Shades.{memory_size, is_inside, register_label, byte_label, page_at, IsNew};
-ghost use Rattle.shadow_masks.specs.Shades.{SetsRegister, SetsByte, SetsRange, SetsFirstPart, Saves, Restores};
+ghost use Rattle.shadow_masks.specs.Shades.{SetsRegister, SetsByte, SetsLabels, SetsRange, SetsFirstPart, Saves, Restores};
 
 use crate::labels::Label;
 use crate::pages::Page;
@@ -68,6 +68,47 @@ fn labels_in(page: &Option<Page>, place: usize, count: usize) -> [Label; 4]
         Some(made) => made.labels(place, count),
         None => [Label::clean(); 4],
     }
+}
+
+/// Whether each of `count` bytes of a page from a place on is clean.
+fn is_clean_in(page: &Option<Page>, place: usize, count: usize) -> bool
+    requires { place + count ≤ page_size }
+    ensures yes { result ≡ true → AreClean (label_in page.now) place count }
+    ensures no { AreClean (label_in page.now) place count → result ≡ true }
+{
+    match page {
+        Some(made) => made.is_clean(place, count),
+        None => true,
+    }
+}
+
+fn listed(labels: &[Label], offset: usize) -> Label
+    requires offset { offset < length labels.now }
+    requires labels { All IsByteLabel labels.now }
+    ensures label { result ≡ listed_label labels.now offset }
+    ensures is_of_byte { IsByteLabel result }
+{
+    labels[offset]
+}
+
+/// Sets the labels of bytes of a page from a place on; where memory is short only a first part of them is set.
+fn set_all_in(
+    page: &mut Option<Page>,
+    alloc: Global,
+    place: usize,
+    labels: &[Label],
+) -> Result<(), NoMemory>
+    requires place { place + length labels.now ≤ page_size }
+    requires labels { All IsByteLabel labels.now }
+    ensures ok { OnOk result (
+        SetsPlaces place (length labels.now) (listed_label labels.now) (label_in page.old) (label_in page.new)) }
+    ensures err { OnErr result (
+        SetsFewer place (length labels.now) (listed_label labels.now) (label_in page.old) (label_in page.new)) }
+{
+    for offset in 0..labels.len() {
+        set_in(page, alloc, place + offset, listed(labels, offset))?;
+    }
+    Ok(())
 }
 
 /// Sets the label of a byte of a page, which is made where need be; where memory is short all stays as it was.
@@ -211,6 +252,68 @@ impl Shadow {
             self.set_byte(address + offset, label)?;
         }
         Ok(())
+    }
+
+    /// Sets the labels of bytes of memory from an address on, as those of a store, each to the next of the list; where
+    /// memory of the host is short only a first part of them is set.
+    pub fn set_bytes(&mut self, address: u32, labels: &[Label]) -> Result<(), NoMemory>
+        requires inside { IsTrue (is_inside self.old.base address (length labels.now)) }
+        requires some { 0 < length labels.now }
+        requires labels { All IsByteLabel labels.now }
+        ensures ok { OnOk result (SetsLabels address labels.now self.old self.new) }
+        ensures err { OnErr result (SetsFirstPart address (length labels.now) (listed_label labels.now) self.old self.new) }
+    {
+        let first = (address - self.base) as usize;
+        if first % 4096 + labels.len() > 4096 {
+            return self.set_bytes_apart(address, labels);
+        }
+        let alloc = self.alloc;
+        set_all_in(&mut self.pages[first / 4096], alloc, first % 4096, labels)?;
+        Ok(())
+    }
+
+    /// The same, byte by byte.
+    fn set_bytes_apart(&mut self, address: u32, labels: &[Label]) -> Result<(), NoMemory>
+        requires inside { IsTrue (is_inside self.old.base address (length labels.now)) }
+        requires labels { All IsByteLabel labels.now }
+        ensures ok { OnOk result (SetsLabels address labels.now self.old self.new) }
+        ensures err { OnErr result (SetsFirstPart address (length labels.now) (listed_label labels.now) self.old self.new) }
+    {
+        for offset in 0..labels.len() {
+            self.set_byte(address + offset as u32, listed(labels, offset))?;
+        }
+        Ok(())
+    }
+
+    /// Whether each of `length` bytes of memory from an address on is clean. It looks once at a page that holds them all,
+    /// and at nothing but its place in the table where the page was never made.
+    pub fn is_clean(&self, address: u32, length: u32) -> bool
+        requires { IsTrue (is_inside self.now.base address length) }
+        ensures yes { result ≡ true → AreClean (byte_label self.now) address length }
+        ensures no { AreClean (byte_label self.now) address length → result ≡ true }
+    {
+        if length == 0 {
+            return true;
+        }
+        let first = (address - self.base) as usize;
+        if first % 4096 + length as usize > 4096 {
+            return self.is_clean_apart(address, length);
+        }
+        is_clean_in(self.page(first / 4096), first % 4096, length as usize)
+    }
+
+    /// The same, byte by byte.
+    fn is_clean_apart(&self, address: u32, length: u32) -> bool
+        requires { IsTrue (is_inside self.now.base address length) }
+        ensures yes { result ≡ true → AreClean (byte_label self.now) address length }
+        ensures no { AreClean (byte_label self.now) address length → result ≡ true }
+    {
+        for offset in 0..length {
+            if self.byte(address + offset).mask != 0 {
+                return false;
+            }
+        }
+        true
     }
 
     /// Keeps the labels of all registers.
