@@ -9,6 +9,8 @@ mod laws;
 mod page_points;
 mod pages;
 mod shadows;
+#[cfg(test)]
+mod tests;
 
 pub use labels::Label;
 pub use laws::shadow_reads_as_a_map;
