@@ -3,16 +3,25 @@
 
 It prints a line for each case on standard output:
 
-    WORD V1 M1 V2 M2 -> CHANGED MASK
+    TABLE WORD V1 M1 V2 M2 -> CHANGED MASK
 
 All are hexadecimal. WORD is an instruction of RV32IM, V1 and V2 its operands (an immediate is the second, sign-extended,
 with mask 0), and M1 and M2 their secret bits. CHANGED has each bit of the result that differs between any two pairs of
 operands that agree with V1 and V2 outside M1 and M2: every value of the secret bits of both operands is tried, so there
 are at most 8 secret bits in a case, and every operation of the instruction's class is computed. (For a load, a store or
-JALR the result is the address.) MASK is what table 1 of the mask rules says, written here from its words. The script
-stops where MASK does not have each bit of CHANGED.
+JALR the result is the address.) MASK is what table TABLE of the mask rules says, written here from its words; table 0 is
+that of a book all of whose rules answer all bits where any bit is secret. The script stops where MASK does not have each
+bit of CHANGED.
 
-The operations are computed from the RISC-V Unprivileged ISA; nothing here is taken from the crates."""
+First come worked masks that were computed by hand; they have the bits of the mask that the script saw change. Then 12
+cases for each instruction by table 1, and so many cases for each of the six classes of table 2 that are narrower that
+600 are by it. Then one instruction of each class by table 0, and last five rows that must not agree.
+
+The operations are computed from the RISC-V Unprivileged ISA; nothing here is taken from the crates.
+
+With the word `compare` the script prints instead, for random operands with any secret bits, in how many cases of each
+class table 2 is narrower than table 1; it stops where table 2 has a bit that table 1 does not have."""
+import sys
 import random
 
 ALL = 0xFFFFFFFF
@@ -97,6 +106,43 @@ def by_table(kind, v1, m1, v2, m2):
     return ALL if t else 0
 
 
+def lowest(word):
+    return word & -word & ALL
+
+
+def ordered(v1, m1, v2, m2):
+    """0 where every word that the first operand may be is below every one that the second may be, or none is."""
+    return 0 if v1 | m1 < v2 & ~m2 & ALL or v1 & ~m1 & ALL >= v2 | m2 else 1
+
+
+def by_narrow_table(kind, v1, m1, v2, m2):
+    t = m1 | m2
+    least1, least2, most1, most2 = v1 & ~m1 & ALL, v2 & ~m2 & ALL, v1 | m1, v2 | m2
+    if kind == "Add":
+        return (t | (most1 + most2 ^ least1 + least2)) & ALL
+    if kind == "Sub":
+        return (t | (most1 - least2 ^ least1 - most2)) & ALL
+    if kind == "Target":
+        return by_narrow_table("Add", v1, m1, v2, m2) & ~1
+    if kind == "Sltu":
+        return ordered(v1, m1, v2, m2)
+    if kind == "Slt":
+        return ordered(v1 ^ 0x80000000, m1, v2 ^ 0x80000000, m2)
+    if kind == "Equal":
+        return 0 if t == 0 or (v1 ^ v2) & ~t & ALL else 1
+    if kind == "Mul":
+        return total((lowest(m1) * lowest(most2) | lowest(m2) * lowest(most1)) & ALL)
+    return by_table(kind, v1, m1, v2, m2)
+
+
+def by_widest_table(kind, v1, m1, v2, m2):
+    return (ALL if m1 | m2 else 0) & (~1 if kind == "Target" else ALL)
+
+
+TABLES = (by_widest_table, by_table, by_narrow_table)
+NARROW = ("Add", "Sub", "Slt", "Sltu", "Equal", "Mul")
+
+
 def values(value, mask):
     """Every value that agrees with one outside a mask."""
     part = mask
@@ -170,21 +216,108 @@ def second_operand(choose, place):
     return 0, choose.choice(EDGES), choose.choice(MASKS)
 
 
+# masks that were computed by hand: the table, the instruction's number in INSTRUCTIONS, the operands and the mask
+ADD, SUB, SLL, SLT, SLTU, XOR, SRL, SRA, OR, AND, MUL, MULH, DIV = 0, 1, 2, 3, 4, 5, 6, 7, 8, 9, 10, 11, 14
+BEQ = 27
+WORKED = (
+    (1, ADD, 0, 0x10, 0, 0, 0xFFFFFFF0),
+    (1, SUB, 0, 0, 0, 0x10, 0xFFFFFFF0),
+    (1, AND, 0x0F, 0xF0, 0x3C, 0, 0x30),
+    (1, OR, 0x0F, 0xF0, 0x3C, 0, 0xC0),
+    (1, XOR, 0, 0x0F, 0, 0x30, 0x3F),
+    (1, SRA, 0, 0x80000000, 4, 0, 0xF8000000),
+    (1, SRL, 0, 0x80000000, 4, 0, 0x08000000),
+    (1, SLL, 0, 3, 0, 1, 0xFFFFFFFF),
+    (1, SLL, 0, 3, 4, 0x20, 0x30),
+    (1, MUL, 0, 4, 0, 0, 0xFFFFFFFC),
+    (1, SLT, 0, 1, 0, 0, 1),
+    (1, SLTU, 0, 1, 0, 0, 1),
+    (1, BEQ, 0, 1, 0, 0, 1),
+    (1, DIV, 0, 0, 0, 1, 0xFFFFFFFF),
+    (1, MULH, 0, 0, 0, 1, 0xFFFFFFFF),
+    (2, ADD, 0, 1, 2, 0, 1),
+    (2, SUB, 8, 1, 2, 0, 1),
+    (2, MUL, 0, 2, 4, 0, 0xFFFFFFF8),
+    (2, MUL, 0, 0xFF, 0, 0, 0),
+    (2, SLTU, 0, 7, 7, 0, 1),
+)
+
+
+def row(table, kind, case):
+    _, v1, m1, v2, m2 = case
+    bits = changed(kind, v1, m1, v2, m2)
+    mask = TABLES[table](kind, v1, m1, v2, m2)
+    assert bits & ~mask == 0, (kind, case, hex(bits), hex(mask))
+    print(table, " ".join(f"{number:08x}" for number in case), "->", f"{bits:08x} {mask:08x}")
+
+
+def worked_rows():
+    for table, number, v1, m1, v2, m2, wanted in WORKED:
+        kind, word, _ = INSTRUCTIONS[number]
+        assert TABLES[table](kind, v1, m1, v2, m2) == wanted, (table, kind, v1, m1, v2, m2, wanted)
+        row(table, kind, (word(0), v1, m1, v2, m2))
+
+
+def random_rows(choose, table, instruction, count):
+    kind, word, place = instruction
+    seen = set()
+    while len(seen) < count:
+        imm, v2, m2 = second_operand(choose, place)
+        v1, m1 = choose.choice(EDGES), choose.choice(MASKS)
+        case = (word(imm), v1, m1, v2, m2)
+        if bin(m1).count("1") + bin(m2).count("1") > 8 or case in seen:
+            continue
+        seen.add(case)
+        row(table, kind, case)
+
+
+def widest_rows():
+    """One instruction of each class, and a load; the top bit of the first operand is secret, all else is 0."""
+    seen = set()
+    for number, (kind, word, place) in enumerate(INSTRUCTIONS):
+        if kind not in seen and place is None or number == len(INSTRUCTIONS) - 3:
+            seen.add(kind)
+            row(0, kind, (word(0), 0, 0x80000000, 0, 0))
+
+
+def wrong_rows():
+    """Rows that must not agree: another mask, a changed bit outside it, and three that are no rows."""
+    operands = "00000000 00000010 00000000 00000000"
+    print(f"1 007302b3 {operands} -> 00000010 00000010")
+    print(f"1 007302b3 {operands} -> 00000001 fffffff0")
+    print(f"1 00000073 {operands} -> 00000010 fffffff0")
+    print(f"1 007302b3 {operands} 00000000 -> 00000010 fffffff0")
+    print(f"3 007302b3 {operands} -> 00000010 fffffff0")
+
+
+def compare(choose):
+    """Counts in how many random cases table 2 is narrower than table 1."""
+    for kind in NARROW:
+        narrower, count = 0, 100000
+        for _ in range(count):
+            v1, v2 = choose.getrandbits(32), choose.getrandbits(32)
+            shape = choose.randrange(3)
+            m1, m2 = (choose.getrandbits(32) >> choose.randrange(33) << choose.randrange(32) & ALL for _ in range(2))
+            m1, m2 = (m1, m2) if shape == 0 else (m1, 0) if shape == 1 else (0, m2)
+            wide, narrow = by_table(kind, v1, m1, v2, m2), by_narrow_table(kind, v1, m1, v2, m2)
+            assert narrow & ~wide == 0, (kind, v1, m1, v2, m2)
+            narrower += narrow != wide
+        print(f"{kind} {count} cases, table 2 narrower in {narrower}, wider in 0")
+
+
 def main():
     choose = random.Random(20)
-    for kind, word, place in INSTRUCTIONS:
-        seen = set()
-        while len(seen) < 12:
-            imm, v2, m2 = second_operand(choose, place)
-            v1, m1 = choose.choice(EDGES), choose.choice(MASKS)
-            case = (word(imm), v1, m1, v2, m2)
-            if bin(m1).count("1") + bin(m2).count("1") > 8 or case in seen:
-                continue
-            seen.add(case)
-            bits = changed(kind, v1, m1, v2, m2)
-            mask = by_table(kind, v1, m1, v2, m2)
-            assert bits & ~mask == 0, (kind, case, hex(bits), hex(mask))
-            print(" ".join(f"{number:08x}" for number in case), "->", f"{bits:08x} {mask:08x}")
+    if sys.argv[1:] == ["compare"]:
+        return compare(choose)
+    worked_rows()
+    for instruction in INSTRUCTIONS:
+        random_rows(choose, 1, instruction, 12)
+    for kind in NARROW:
+        instructions = [instruction for instruction in INSTRUCTIONS if instruction[0] == kind]
+        for instruction in instructions:
+            random_rows(choose, 2, instruction, -(-600 // len(instructions)))
+    widest_rows()
+    wrong_rows()
 
 
 main()

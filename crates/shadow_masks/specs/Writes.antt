@@ -1,15 +1,17 @@
 -- A shadow after any list of writes, saves and restores, beside a map with a default.
-use Rattle.std.specs.Prelude.{◌≡◌, ℕ, ◌==◌, ◌&&◌, nat_lt, List, [], ◌∷◌, if◌then◌else◌, replicate}
+use Rattle.std.specs.Prelude.{◌≡◌, ℕ, ◌-◌, ◌==◌, ◌&&◌, nat_lt, List, [], ◌∷◌, if◌then◌else◌}
 use Rattle.shadow_masks.specs.declared.labels.Label.{Label}
-use Rattle.shadow_masks.specs.Labels.{clean, Shades, register_label, kept_label, byte_label, is_listed}
-use Rattle.shadow_masks.specs.Labels.{is_in_range, SetsRegister, SetsByte, SetsRange, Saves, Restores}
+use Rattle.shadow_masks.specs.Labels.{clean}
+use Rattle.shadow_masks.specs.Shades.{Shades, register_label, kept_label, byte_label, is_listed, IsNew}
+use Rattle.shadow_masks.specs.Pages.{is_in_range}
+use Rattle.shadow_masks.specs.Shades.{SetsRegister, SetsByte, SetsBytes, Saves, Restores}
 
--- a call that changes labels; a refused call on a range is a write to the first part that was set, and a refused call
--- on a byte is none
+-- a call that changes labels; one on bytes or a range sets labels by their distance from the first address. Where such a
+-- call is refused it is a write to the first part that was set, and a refused call on one byte is none
 pub data Write : Type 0 where
   ToRegister : ℕ → Label → Write
   ToByte : ℕ → Label → Write
-  ToRange : ℕ → ℕ → Label → Write
+  ToBytes : ℕ → ℕ → (ℕ → Label) → Write
   Save : Write
   Restore : List ℕ → Write
 
@@ -17,7 +19,7 @@ pub data Write : Type 0 where
 abbrev pub Follows : Write → Shades → Shades → Type 0
 Follows (ToRegister register label) old new = SetsRegister register label old new
 Follows (ToByte address label) old new = SetsByte address label old new
-Follows (ToRange first length label) old new = SetsRange first length label old new
+Follows (ToBytes first length label) old new = SetsBytes first length label old new
 Follows Save old new = Saves old new
 Follows (Restore listed) old new = Restores listed old new
 
@@ -25,10 +27,6 @@ Follows (Restore listed) old new = Restores listed old new
 abbrev pub Leads : List Write → Shades → Shades → Type 0
 Leads [] old new = new ≡ old
 Leads (write ∷ writes) old new = (mid : Shades) × Follows write old mid × Leads writes mid new
-
--- a new shadow
-abbrev pub new_shades : Shades
-new_shades = record { registers = replicate 32 clean; kept = replicate 32 clean; bytes = [] }
 
 -- a map from registers and addresses to labels, with the kept labels of registers
 pub record LabelMap : Type 0 where
@@ -52,10 +50,10 @@ after (ToByte address label) map = record {
   kept = map.kept;
   bytes = λ a. if a == address then label else map.bytes a;
 }
-after (ToRange first length label) map = record {
+after (ToBytes first length label) map = record {
   registers = map.registers;
   kept = map.kept;
-  bytes = λ a. if is_in_range first length a then label else map.bytes a;
+  bytes = λ a. if is_in_range first length a then label (a - first) else map.bytes a;
 }
 after Save map = record { registers = map.registers; kept = map.registers; bytes = map.bytes }
 after (Restore listed) map = record {
@@ -78,5 +76,5 @@ pub record ReadsAs (map : LabelMap) (shades : Shades) : Type 0 where
 -- after any list of calls, a shadow that was new reads as the map that had the default everywhere
 abbrev pub MapLaw : Type 0
 MapLaw =
-    (writes : List Write) (shades : Shades) → Leads writes new_shades shades →
+    (writes : List Write) (base : ℕ) (start shades : Shades) → IsNew base start → Leads writes start shades →
     ReadsAs (after_all writes default_map) shades

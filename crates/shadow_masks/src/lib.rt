@@ -2,8 +2,12 @@
 //! passed. A shadow is a map from registers and addresses to labels, whose default is the clean label.
 #![tactic(auto)]
 
+mod each_point;
+mod few_points;
 mod labels;
 mod laws;
+mod page_points;
+mod pages;
 mod shadows;
 #[cfg(test)]
 mod tests;

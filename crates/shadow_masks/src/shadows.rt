@@ -1,34 +1,40 @@
-ghost use Rattle.std.specs.Prelude.{◌≡◌, ◌+◌, ◌^◌, ◌<◌, ◌≤◌, All, OnOk, OnErr, [], ◌∷◌, replicate};
-ghost use Rattle.shadow_masks.specs.Labels.{clean, IsLabel, IsByteLabel, register_label, byte_label};
-ghost use Rattle.shadow_masks.specs.Labels.{SetsRegister, SetsByte, SetsRange, SetsFirstPart, Saves, Restores};
-ghost use Rattle.shadow_masks.specs.Writes.{new_shades};
+ghost use Rattle.std.specs.Prelude.{◌≡◌, ◌+◌, ◌^◌, ◌<◌, ◌≤◌, All, IfOk, OnOk, OnErr, IsTrue, List as Seq, [], ◌∷◌, length};
+ghost use Rattle.std.specs.Prelude.{replicate, ℕ, None, true};
+ghost use Rattle.shadow_masks.specs.Labels.{clean, IsLabel, IsByteLabel};
+ghost use Rattle.shadow_masks.specs.Pages.{label_in, label_from, labels_from, listed_label, AreClean, SetsFewer, SetsLabel, SetsPlaces};
+ghost use Rattle.shadow_masks.specs.Points.{page_size};
+ghost use Rattle.shadow_masks.specs.Shades.{memory_size, is_inside, register_label, byte_label, page_at, IsNew};
+ghost use Rattle.shadow_masks.specs.Shades.{SetsRegister, SetsByte, SetsLabels, SetsRange, SetsFirstPart, Saves, Restores};
 
 use crate::labels::Label;
+use crate::pages::Page;
 use flow_base::{List, NoMemory};
 use std::alloc::Global;
-use std::collections::BTreeMap;
 use std::marker::Model;
 
-/// The labels of the 32 registers and of all bytes of memory, and a kept copy of the register labels. Where nothing was
-/// set a label is clean, and the label of x0 is always clean.
+/// The labels of the 32 registers and of all bytes of guest memory, and a kept copy of the register labels. Where
+/// nothing was set a label is clean, and the label of x0 is always clean. The bytes stand in 4,096 pages; one is made at
+/// the first label in it whose mask is not 0.
 #[derive(Drop)]
 pub struct Shadow {
     registers: [Label; 32],
     kept: [Label; 32],
-    /// The labels of the bytes whose mask is not 0, by address.
-    bytes: BTreeMap<u32, Label>,
+    base: u32,
+    pages: Vec<Option<Page>>,
+    alloc: Global,
 }
 
 impl Model for Shadow {
-    ghost use Rattle.std.specs.Prelude.{◌≡◌, ℕ, true};
-    ghost use Rattle.shadow_masks.specs.Labels.{Shades, AreRegisterLabels, held_label, is_worth_holding};
+    ghost use Rattle.std.specs.Prelude.{◌≡◌, ◌+◌, ◌^◌, ◌≤◌, length};
+    ghost use Rattle.shadow_masks.specs.Labels.{AreRegisterLabels};
+    ghost use Rattle.shadow_masks.specs.Shades.{Shades, memory_size};
 
     ghost Value = { Shades };
 
-    ghost view = { λ s. record { registers = s.registers; kept = s.kept; bytes = s.bytes.entries } };
+    ghost view = { λ s. record { registers = s.registers; kept = s.kept; base = s.base; pages = s.pages.items } };
 
     ghost invariant = { λ s. AreRegisterLabels s.registers × AreRegisterLabels s.kept
-        × ((address : ℕ) → is_worth_holding (held_label s.bytes.entries address) ≡ true) };
+        × (length s.pages.items ≡ 4096) × (s.base + memory_size ≤ 2 ^ 32) };
 }
 
 /// The clean label for each register.
@@ -38,16 +44,108 @@ fn clean_labels() -> [Label; 32]
     [Label::clean(); 32]
 }
 
+/// So many pages that were not made.
+fn no_pages(alloc: Global, count: usize) -> Result<Vec<Option<Page>>, NoMemory>
+    ensures length { IfOk result (λ pages. length pages.items ≡ count) }
+    ensures none { IfOk result (λ pages. (number : ℕ) → page_at pages.items number ≡ None) }
+{
+    let mut pages = Vec::new(alloc);
+    for _ in 0..count {
+        match pages.push(None) {
+            Ok(()) => {}
+            Err(_) => return Err(NoMemory),
+        }
+    }
+    Ok(pages)
+}
+
+/// The labels of `count` bytes of a page from a place on, at most 4; past them the clean label.
+fn labels_in(page: &Option<Page>, place: usize, count: usize) -> [Label; 4]
+    requires { place + count ≤ page_size }
+    ensures { result ≡ labels_from (label_in page.now) place count }
+{
+    match page {
+        Some(made) => made.labels(place, count),
+        None => [Label::clean(); 4],
+    }
+}
+
+/// Whether each of `count` bytes of a page from a place on is clean.
+fn is_clean_in(page: &Option<Page>, place: usize, count: usize) -> bool
+    requires { place + count ≤ page_size }
+    ensures yes { result ≡ true → AreClean (label_in page.now) place count }
+    ensures no { AreClean (label_in page.now) place count → result ≡ true }
+{
+    match page {
+        Some(made) => made.is_clean(place, count),
+        None => true,
+    }
+}
+
+fn listed(labels: &[Label], offset: usize) -> Label
+    requires offset { offset < length labels.now }
+    requires labels { All IsByteLabel labels.now }
+    ensures label { result ≡ listed_label labels.now offset }
+    ensures is_of_byte { IsByteLabel result }
+{
+    labels[offset]
+}
+
+/// Sets the labels of bytes of a page from a place on; where memory is short only a first part of them is set.
+fn set_all_in(
+    page: &mut Option<Page>,
+    alloc: Global,
+    place: usize,
+    labels: &[Label],
+) -> Result<(), NoMemory>
+    requires place { place + length labels.now ≤ page_size }
+    requires labels { All IsByteLabel labels.now }
+    ensures ok { OnOk result (
+        SetsPlaces place (length labels.now) (listed_label labels.now) (label_in page.old) (label_in page.new)) }
+    ensures err { OnErr result (
+        SetsFewer place (length labels.now) (listed_label labels.now) (label_in page.old) (label_in page.new)) }
+{
+    for offset in 0..labels.len() {
+        set_in(page, alloc, place + offset, listed(labels, offset))?;
+    }
+    Ok(())
+}
+
+/// Sets the label of a byte of a page, which is made where need be; where memory is short all stays as it was.
+fn set_in(
+    page: &mut Option<Page>,
+    alloc: Global,
+    place: usize,
+    label: Label,
+) -> Result<(), NoMemory>
+    requires place { place < page_size }
+    requires label { IsByteLabel label }
+    ensures ok { OnOk result (SetsLabel place label (label_in page.old) (label_in page.new)) }
+    ensures err { OnErr result (page.new ≡ page.old) }
+{
+    match page {
+        Some(made) => made.set(alloc, place, label),
+        None if label.mask == 0 => Ok(()),
+        None => {
+            *page = Some(Page::new(alloc, place, label)?);
+            Ok(())
+        }
+    }
+}
+
 impl Shadow {
-    /// All labels clean, those that are kept too. It takes no memory.
-    pub fn new(alloc: Global) -> Shadow
-        ensures { result ≡ new_shades }
+    /// All labels clean, those that are kept too, of a guest whose memory begins at an address.
+    pub fn new(alloc: Global, base: u32) -> Result<Shadow, NoMemory>
+        requires { base + memory_size ≤ 2 ^ 32 }
+        ensures { IfOk result (λ shadow. IsNew base shadow) }
     {
-        Shadow {
+        Ok(Shadow {
             registers: clean_labels(),
             kept: clean_labels(),
-            bytes: BTreeMap::new(alloc),
-        }
+            base,
+            pages: no_pages(alloc, 4096)?,
+            alloc,
+        })
     }
 
     /// The label of a register, 0 to 31.
@@ -60,12 +158,63 @@ impl Shadow {
         self.registers[register as usize]
     }
 
-    /// The label of the byte at an address.
+    /// The label of the byte at an address of memory.
     pub fn byte(&self, address: u32) -> Label
+        requires { IsTrue (is_inside self.now.base address 1) }
         ensures label { result ≡ byte_label self.now address }
         ensures is_of_byte { IsByteLabel result }
     {
-        self.bytes.get(&address).copied().unwrap_or(Label::clean())
+        let place = (address - self.base) as usize;
+        match &self.pages[place / 4096] {
+            Some(page) => page.label(place % 4096),
+            None => Label::clean(),
+        }
+    }
+
+    /// The labels of `count` bytes of memory from an address on, 1 to 4, as those of a load; past them the clean label.
+    pub fn bytes(&self, address: u32, count: u32) -> [Label; 4]
+        requires inside { IsTrue (is_inside self.now.base address count) }
+        requires some { 0 < count }
+        requires few { count ≤ 4 }
+        ensures { result ≡ labels_from (byte_label self.now) address count }
+    {
+        let first = (address - self.base) as usize;
+        let place = first % 4096;
+        if place + count as usize > 4096 {
+            return self.bytes_apart(address, count);
+        }
+        labels_in(self.page(first / 4096), place, count as usize)
+    }
+
+    fn page(&self, number: usize) -> &Option<Page>
+        requires { number < 4096 }
+        ensures { result.now ≡ page_at self.now.pages number }
+    {
+        &self.pages[number]
+    }
+
+    /// The same, byte by byte.
+    fn bytes_apart(&self, address: u32, count: u32) -> [Label; 4]
+        requires inside { IsTrue (is_inside self.now.base address count) }
+        ensures { result ≡ labels_from (byte_label self.now) address count }
+    {
+        [
+            self.byte_of(address, 0, count),
+            self.byte_of(address, 1, count),
+            self.byte_of(address, 2, count),
+            self.byte_of(address, 3, count),
+        ]
+    }
+
+    fn byte_of(&self, address: u32, offset: u32, count: u32) -> Label
+        requires inside { IsTrue (is_inside self.now.base address count) }
+        ensures { result ≡ label_from (byte_label self.now) address count offset }
+    {
+        if offset < count {
+            self.byte(address + offset)
+        } else {
+            Label::clean()
+        }
     }
 
     /// Sets the label of a register, 0 to 31; that of register 0 stays clean.
@@ -79,33 +228,92 @@ impl Shadow {
         }
     }
 
-    /// Sets the label of the byte at an address; where memory is short all stays as it was.
+    /// Sets the label of the byte at an address of memory; where memory of the host is short all stays as it was.
     pub fn set_byte(&mut self, address: u32, label: Label) -> Result<(), NoMemory>
-        requires { IsByteLabel label }
+        requires inside { IsTrue (is_inside self.old.base address 1) }
+        requires label { IsByteLabel label }
         ensures ok { OnOk result (SetsByte address label self.old self.new) }
         ensures err { OnErr result (self.new ≡ self.old) }
     {
-        if label.mask == 0 {
-            self.bytes.remove(&address);
-            return Ok(());
-        }
-        match self.bytes.insert(address, label) {
-            Ok(_) => Ok(()),
-            Err(_) => Err(NoMemory),
-        }
+        let place = (address - self.base) as usize;
+        let alloc = self.alloc;
+        set_in(&mut self.pages[place / 4096], alloc, place % 4096, label)
     }
 
-    /// Sets the labels of `length` bytes from an address on; where memory is short only a first part of them is set.
+    /// Sets the labels of `length` bytes from an address on; where memory of the host is short only a first part of them
+    /// is set.
     pub fn set_range(&mut self, address: u32, length: u32, label: Label) -> Result<(), NoMemory>
-        requires range { address + length ≤ 2 ^ 32 }
+        requires range { IsTrue (is_inside self.old.base address length) }
         requires label { IsByteLabel label }
         ensures ok { OnOk result (SetsRange address length label self.old self.new) }
-        ensures err { OnErr result (SetsFirstPart address length label self.old self.new) }
+        ensures err { OnErr result (SetsFirstPart address length (λ offset. label) self.old self.new) }
     {
         for offset in 0..length {
             self.set_byte(address + offset, label)?;
         }
         Ok(())
+    }
+
+    /// Sets the labels of bytes of memory from an address on, as those of a store, each to the next of the list; where
+    /// memory of the host is short only a first part of them is set.
+    pub fn set_bytes(&mut self, address: u32, labels: &[Label]) -> Result<(), NoMemory>
+        requires inside { IsTrue (is_inside self.old.base address (length labels.now)) }
+        requires some { 0 < length labels.now }
+        requires labels { All IsByteLabel labels.now }
+        ensures ok { OnOk result (SetsLabels address labels.now self.old self.new) }
+        ensures err { OnErr result (SetsFirstPart address (length labels.now) (listed_label labels.now) self.old self.new) }
+    {
+        let first = (address - self.base) as usize;
+        if first % 4096 + labels.len() > 4096 {
+            return self.set_bytes_apart(address, labels);
+        }
+        let alloc = self.alloc;
+        set_all_in(&mut self.pages[first / 4096], alloc, first % 4096, labels)?;
+        Ok(())
+    }
+
+    /// The same, byte by byte.
+    fn set_bytes_apart(&mut self, address: u32, labels: &[Label]) -> Result<(), NoMemory>
+        requires inside { IsTrue (is_inside self.old.base address (length labels.now)) }
+        requires labels { All IsByteLabel labels.now }
+        ensures ok { OnOk result (SetsLabels address labels.now self.old self.new) }
+        ensures err { OnErr result (SetsFirstPart address (length labels.now) (listed_label labels.now) self.old self.new) }
+    {
+        for offset in 0..labels.len() {
+            self.set_byte(address + offset as u32, listed(labels, offset))?;
+        }
+        Ok(())
+    }
+
+    /// Whether each of `length` bytes of memory from an address on is clean. It looks once at a page that holds them all,
+    /// and at nothing but its place in the table where the page was never made.
+    pub fn is_clean(&self, address: u32, length: u32) -> bool
+        requires { IsTrue (is_inside self.now.base address length) }
+        ensures yes { result ≡ true → AreClean (byte_label self.now) address length }
+        ensures no { AreClean (byte_label self.now) address length → result ≡ true }
+    {
+        if length == 0 {
+            return true;
+        }
+        let first = (address - self.base) as usize;
+        if first % 4096 + length as usize > 4096 {
+            return self.is_clean_apart(address, length);
+        }
+        is_clean_in(self.page(first / 4096), first % 4096, length as usize)
+    }
+
+    /// The same, byte by byte.
+    fn is_clean_apart(&self, address: u32, length: u32) -> bool
+        requires { IsTrue (is_inside self.now.base address length) }
+        ensures yes { result ≡ true → AreClean (byte_label self.now) address length }
+        ensures no { AreClean (byte_label self.now) address length → result ≡ true }
+    {
+        for offset in 0..length {
+            if self.byte(address + offset).mask != 0 {
+                return false;
+            }
+        }
+        true
     }
 
     /// Keeps the labels of all registers.

@@ -20,7 +20,7 @@ agree_all a b p q i none = ⊎_elim
     (λ above. bit_at_above a 32 i p above ∙ sym (bit_at_above b 32 i q above))
     (cases_lt i 32)
 
-agree_one : (a b : ℕ) → a < 2 → b < 2 → Agree 1 a b
+pub agree_one : (a b : ℕ) → a < 2 → b < 2 → Agree 1 a b
 agree_one a b p q zero none = absurd (omega (arith, none))
 agree_one a b p q (suc i) none = bit_at_above a 1 (suc i) p (omega arith) ∙ sym (bit_at_above b 1 (suc i) q (omega arith))
 

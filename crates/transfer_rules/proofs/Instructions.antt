@@ -1,67 +1,34 @@
--- From the classes to the instructions, and from sums to the targets of JALR.
-use Rattle.std.proofs.Common.{◌≡◌, ℕ, zero, suc, ◌-◌, ◌/◌, ◌%◌, refl, sym, ap, subst, ◌∙◌, arith, IfSome, Some}
+-- From the classes to the instructions, and from sums to addresses and the targets of JALR.
+use Rattle.std.proofs.Common.{◌≡◌, ℕ, ℤ, zero, suc, ◌-◌, ◌/◌, ◌%◌, ◌^◌, ◌<◌, refl, sym, ap, ◌∙◌, arith, unwrap_or, Some, SFits, w32}
 use Rattle.std.specs.Int.{bit_at}
+use Rattle.std.proofs.Math.Facts.{Fits-lt-pow, Fits-of_z}
 use Rattle.std.proofs.lemmas.Nat.Bits.{bit_at_lowest, bit_at-suc}
 use Rattle.flow_base.specs.Words.{Agree}
-use Rattle.rv32im_decode.specs.declared.instructions.BranchKind.{BranchKind}
-use Rattle.rv32im_decode.specs.declared.instructions.BranchKind.TheVariants.{Beq, Bne, Blt, Bge, Bltu, Bgeu}
 use Rattle.rv32im_decode.specs.declared.instructions.Instr.{Instr}
-use Rattle.rv32im_decode.specs.declared.instructions.Instr.TheVariants.{Branch}
-use Rattle.rv32im_decode.specs.declared.instructions.Instr.TheVariants.{OpImm, Op}
-use Rattle.rv32im_decode.specs.declared.instructions.OpKind.{OpKind}
-use Rattle.rv32im_decode.specs.declared.instructions.OpKind.TheVariants.{Add, Sub, Sll, Slt, Sltu, Xor, Srl, Sra, Or}
-use Rattle.rv32im_decode.specs.declared.instructions.OpKind.TheVariants.{And, Mul, Mulh, Mulhsu, Mulhu, Div, Divu}
-use Rattle.rv32im_decode.specs.declared.instructions.OpKind.TheVariants.{Rem, Remu}
-use Rattle.rv32im_decode.specs.Operations.{address_of, decision, op_result, operation_of}
+use Rattle.rv32im_decode.specs.declared.instructions.Instr.TheVariants.{Branch, OpImm, Op}
+use Rattle.rv32im_decode.specs.Operations.{address_of, operation_of, target_of, word_of}
 use Rattle.transfer_rules.specs.declared.classes.Class.{Class}
+use Rattle.transfer_rules.specs.declared.classes.Class.TheVariants.{Add}
 use Rattle.transfer_rules.specs.declared.operands.Operands.{Operands}
-use Rattle.transfer_rules.specs.Classes.{branch_class, instruction_class, operation_class}
-use Rattle.transfer_rules.specs.Soundness.{IsSound, IsSoundSum, IsSoundTarget, KeepsMask, computed}
+use Rattle.transfer_rules.specs.Classes.{instruction_class}
+use Rattle.transfer_rules.specs.Operations.{OfWords, OfBranch, OfAddress, computed}
+use Rattle.transfer_rules.specs.Soundness.{IsSound, IsSoundSum, IsSoundTarget, KeepsMask}
+use Rattle.transfer_rules.specs.Tables.{sum_operands}
 
-operation_keeps :
-    (kind : OpKind) (o : Operands) (mask : ℕ) → IsSound (operation_class kind) o mask → KeepsMask o mask (op_result kind)
-operation_keeps Add o mask sound = sound.0
-operation_keeps Sub o mask sound = sound.0
-operation_keeps And o mask sound = sound.0
-operation_keeps Or o mask sound = sound.0
-operation_keeps Xor o mask sound = sound.0
-operation_keeps Sll o mask sound = sound.0
-operation_keeps Srl o mask sound = sound.0
-operation_keeps Sra o mask sound = sound.0
-operation_keeps Slt o mask sound = sound.0
-operation_keeps Sltu o mask sound = sound.0
-operation_keeps Mul o mask sound = sound.0
-operation_keeps Mulh o mask sound = sound.0
-operation_keeps Mulhsu o mask sound = sound.1.0
-operation_keeps Mulhu o mask sound = sound.1.1.0
-operation_keeps Div o mask sound = sound.0
-operation_keeps Divu o mask sound = sound.1.0
-operation_keeps Rem o mask sound = sound.1.1.0
-operation_keeps Remu o mask sound = sound.1.1.1.0
-
-branch_keeps :
-    (kind : BranchKind) (o : Operands) (mask : ℕ) → IsSound (branch_class kind) o mask → KeepsMask o mask (decision kind)
-branch_keeps Blt o mask sound = sound.1.0
-branch_keeps Bge o mask sound = sound.1.1.0
-branch_keeps Bltu o mask sound = sound.1.0
-branch_keeps Bgeu o mask sound = sound.1.1.0
-branch_keeps Beq o mask sound = sound.0
-branch_keeps Bne o mask sound = sound.1.0
-
-computed_keeps :
-    (instr : Instr) (o : Operands) (mask : ℕ) → IfSome (instruction_class instr) (λ class. IsSound class o mask) →
-    KeepsMask o mask (computed instr)
-computed_keeps (Op kind rd rs1 rs2) o mask sound = operation_keeps kind o mask sound
-computed_keeps (OpImm kind rd rs1 imm) o mask sound = operation_keeps (operation_of kind) o mask sound
-computed_keeps (Branch kind rs1 rs2 offset) o mask sound = branch_keeps kind o mask sound
-computed_keeps other o mask sound = λ a b p q h k i none. refl
+inside : {first second : Class} → Some first ≡ Some second → first ≡ second
+inside {first} e = ap (λ found. unwrap_or found first) e
 
 -- a mask that is sound for the class of an instruction is sound for the instruction
 pub keeps_by_class :
     (instr : Instr) (class : Class) (o : Operands) (mask : ℕ) → instruction_class instr ≡ Some class →
     IsSound class o mask → KeepsMask o mask (computed instr)
-keeps_by_class instr class o mask e sound =
-    computed_keeps instr o mask (subst (λ found. IfSome found (λ class. IsSound class o mask)) (sym e) sound)
+keeps_by_class (Op kind rd rs1 rs2) class o mask e sound = sound (OfWords kind) (inside e)
+keeps_by_class (OpImm kind rd rs1 imm) class o mask e sound = sound (OfWords (operation_of kind)) (inside e)
+keeps_by_class (Branch kind rs1 rs2 offset) class o mask e sound = sound (OfBranch kind) (inside e)
+keeps_by_class other class o mask e sound = λ a b p q h k i none. refl
+
+word_fits : (number : ℤ) → SFits w32 number → word_of number < 2 ^ 32
+word_fits number fits = Fits-lt-pow (Fits-of_z fits)
 
 -- a number without its lowest bit
 lowest_cleared : (n : ℕ) → bit_at (n - n % 2) 0 ≡ 0
@@ -79,7 +46,21 @@ agree_cleared m x y h (suc i) none =
 
 -- without its lowest bit, the mask of a sum is sound for a target
 pub target_by_sum :
-    (immediate first mask answer : ℕ) → IsSoundSum immediate first mask answer →
-    IsSoundTarget immediate first mask (answer - answer % 2)
-target_by_sum immediate first mask answer sound other fits h =
-    agree_cleared answer (address_of first immediate) (address_of other immediate) (sound other fits h)
+    (o : Operands) (answer : ℕ) → IsSound Add o answer → KeepsMask o (answer - answer % 2) target_of
+target_by_sum o answer sound first second p q h k =
+    agree_cleared answer (address_of o.v1 o.v2) (address_of first second) (sound OfAddress refl first second p q h k)
+
+-- the immediate of an address is known
+pub sum_of_immediate :
+    (first mask answer : ℕ) (immediate : ℤ) → SFits w32 immediate →
+    IsSound Add (sum_operands first mask immediate) answer →
+    IsSoundSum (word_of immediate) first mask answer
+sum_of_immediate first mask answer immediate small sound other fits h =
+    sound OfAddress refl other (word_of immediate) fits (word_fits immediate small) h (λ i none. refl)
+
+pub target_of_immediate :
+    (first mask answer : ℕ) (immediate : ℤ) → SFits w32 immediate →
+    KeepsMask (sum_operands first mask immediate) answer target_of →
+    IsSoundTarget (word_of immediate) first mask answer
+target_of_immediate first mask answer immediate small keeps other fits h =
+    keeps other (word_of immediate) fits (word_fits immediate small) h (λ i none. refl)

@@ -1,7 +1,13 @@
 pub mod Agreement
 pub mod BitRules
+pub mod Bounds
+pub mod Carries
 pub mod Instructions
 pub mod Masks
+pub mod NarrowMasks
+pub mod Operations
+pub mod Orders
+pub mod Products
 pub mod Results
 pub mod Shifts
 pub mod Sums

@@ -13,7 +13,7 @@ use Rattle.transfer_rules.proofs.Agreement.{bit_low, same_low}
 
 -- ---- sums under a modulus
 
-sum_mod : (x y k : ℕ) → (x % k + y % k) % k ≡ (x + y) % k
+pub sum_mod : (x y k : ℕ) → (x % k + y % k) % k ≡ (x + y) % k
 sum_mod x y k = add-mod-mod (x % k) y k ∙ mod-add-mod x k y
 
 once : (s k : ℕ) → k ≤ s → s < k + k → s % k ≡ s - k
@@ -59,7 +59,7 @@ clear_both t n i both inside clear clear' =
     sym (mod-eq_of_lt small) ∙ sum_mod t n k ∙ ap (λ x. x % k) both ∙ whole_words i inside in
     omega (arith, none)
 
-secret_low : (t i : ℕ) → t < 2 ^ 32 → i < 32 → bit_at (sum_mask t) i ≡ 0 → t % 2 ^ (1 + i) ≡ 0
+pub secret_low : (t i : ℕ) → t < 2 ^ 32 → i < 32 → bit_at (sum_mask t) i ≡ 0 → t % 2 ^ (1 + i) ≡ 0
 secret_low t i fits inside none =
     let both : max (bit_at t i) (bit_at ((2 ^ 32 - t) % 2 ^ 32) i) ≡ 0 = sym (bit_at_or t ((2 ^ 32 - t) % 2 ^ 32) i) ∙ none in
     let first : bit_at t i ≡ 0 = none_left (bit_at t i) (bit_at ((2 ^ 32 - t) % 2 ^ 32) i) both in
@@ -90,7 +90,7 @@ by_low_parts f m n v w a b fm fn fits fits' same h k i none = ⊎_elim
     (λ above. bit_at_above (f v w) 32 i fits above ∙ sym (bit_at_above (f a b) 32 i fits' above))
     (cases_lt i 32)
 
-word_part : (n k : ℕ) → k ≤ 32 → n % 2 ^ 32 % 2 ^ k ≡ n % 2 ^ k
+pub word_part : (n k : ℕ) → k ≤ 32 → n % 2 ^ 32 % 2 ^ k ≡ n % 2 ^ k
 word_part n k within =
     let parts : 32 ≡ (32 - k) + k = omega arith in ap (λ j. n % 2 ^ j % 2 ^ k) parts ∙ mod-mod-pow n (32 - k) k
 

@@ -1,3 +1,6 @@
 pub mod Classes
+pub mod Operations
 pub mod Soundness
 pub mod Table1
+pub mod Table2
+pub mod Tables

@@ -52,7 +52,8 @@ pub fn class_of(instr: &Instr) -> Option<Class>
     }
 }
 
-fn class_of_operation(kind: OpKind) -> Class
+/// The class of an operation on registers; one with an immediate has the same.
+pub fn class_of_operation(kind: OpKind) -> Class
     ensures { result ≡ operation_class kind }
 {
     match kind {
@@ -72,7 +73,8 @@ fn class_of_operation(kind: OpKind) -> Class
     }
 }
 
-fn class_of_branch(kind: BranchKind) -> Class
+/// The class of a branch.
+pub fn class_of_branch(kind: BranchKind) -> Class
     ensures { result ≡ branch_class kind }
 {
     match kind {

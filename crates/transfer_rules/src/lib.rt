@@ -1,13 +1,24 @@
-//! Which bits of a result are secret: the mask rules of table 1, one for each class of operations of RV32IM.
+//! Which bits of a result are secret: the mask rules of two tables, one for each class of operations of RV32IM, and books
+//! of rules that are stored as functions beside the fact of what they answer.
 #![tactic(auto)]
 
+mod book;
 mod classes;
 mod operands;
+mod rule;
 mod rules;
-pub mod table_1;
+mod table_1;
+mod table_2;
 #[cfg(test)]
 mod tests;
 
-pub use classes::{Class, class_of};
+pub use book::RuleBook;
+pub use classes::{Class, class_of, class_of_branch, class_of_operation};
 pub use operands::Operands;
-pub use rules::{address_mask, mask_of};
+pub use rule::Rule;
+pub use rules::{address_mask, mask_of, target_mask};
+pub use table_1::{
+    add_1, and_1, div_1, equal_1, high_1, mul_1, or_1, sll_1, slt_1, sltu_1, sra_1, srl_1, sub_1,
+    xor_1,
+};
+pub use table_2::{add_2, equal_2, mul_2, slt_2, sltu_2, sub_2};

@@ -4,7 +4,7 @@
 
 ghost use Rattle.std.specs.Prelude.{◌≡◌};
 ghost use Rattle.transfer_rules.specs.Soundness.{IsSound};
-ghost use Rattle.transfer_rules.specs.Table1.{mask_by_table, either, sum_mask, all_mask, one_mask, shift_mask};
+ghost use Rattle.transfer_rules.specs.Table1.{mask_by_table_1, either, sum_mask, all_mask, one_mask, shift_mask};
 ghost use Rattle.transfer_rules.specs.declared.classes.Class.TheVariants.{Add, Sub, And, Or, Xor, Sll, Srl, Sra, Slt};
 ghost use Rattle.transfer_rules.specs.declared.classes.Class.TheVariants.{Sltu, Equal, Mul, High, Div};
 
@@ -12,56 +12,56 @@ use crate::operands::Operands;
 use rv32im_decode::OpKind;
 
 /// The mask of a sum: every bit from the lowest secret bit of the operands upwards.
-pub fn add(operands: Operands) -> u32
-    ensures table { result ≡ mask_by_table Add operands }
+pub fn add_1(operands: Operands) -> u32
+    ensures table { result ≡ mask_by_table_1 Add operands }
     ensures sound { IsSound Add operands result }
 {
     from_lowest(secret(operands))
 }
 
 /// The mask of a difference: every bit from the lowest secret bit of the operands upwards.
-pub fn sub(operands: Operands) -> u32
-    ensures table { result ≡ mask_by_table Sub operands }
+pub fn sub_1(operands: Operands) -> u32
+    ensures table { result ≡ mask_by_table_1 Sub operands }
     ensures sound { IsSound Sub operands result }
 {
     from_lowest(secret(operands))
 }
 
 /// The mask of AND: the bits secret in one operand, but for those that are a known zero in the other.
-pub fn and(operands: Operands) -> u32
-    ensures table { result ≡ mask_by_table And operands }
+pub fn and_1(operands: Operands) -> u32
+    ensures table { result ≡ mask_by_table_1 And operands }
     ensures sound { IsSound And operands result }
 {
     secret(operands) & (operands.m1 | operands.v1) & (operands.m2 | operands.v2)
 }
 
 /// The mask of OR: the bits secret in one operand, but for those that are a known one in the other.
-pub fn or(operands: Operands) -> u32
-    ensures table { result ≡ mask_by_table Or operands }
+pub fn or_1(operands: Operands) -> u32
+    ensures table { result ≡ mask_by_table_1 Or operands }
     ensures sound { IsSound Or operands result }
 {
     secret(operands) & (operands.m1 | !operands.v1) & (operands.m2 | !operands.v2)
 }
 
 /// The mask of XOR: the bits secret in one operand.
-pub fn xor(operands: Operands) -> u32
-    ensures table { result ≡ mask_by_table Xor operands }
+pub fn xor_1(operands: Operands) -> u32
+    ensures table { result ≡ mask_by_table_1 Xor operands }
     ensures sound { IsSound Xor operands result }
 {
     secret(operands)
 }
 
 /// The mask of a shift to the left: the first mask shifted likewise; all bits where the number of places is secret.
-pub fn sll(operands: Operands) -> u32
-    ensures table { result ≡ mask_by_table Sll operands }
+pub fn sll_1(operands: Operands) -> u32
+    ensures table { result ≡ mask_by_table_1 Sll operands }
     ensures sound { IsSound Sll operands result }
 {
     shifted(operands, OpKind::Sll)
 }
 
 /// The mask of a shift to the right: the first mask shifted likewise; all bits where the number of places is secret.
-pub fn srl(operands: Operands) -> u32
-    ensures table { result ≡ mask_by_table Srl operands }
+pub fn srl_1(operands: Operands) -> u32
+    ensures table { result ≡ mask_by_table_1 Srl operands }
     ensures sound { IsSound Srl operands result }
 {
     shifted(operands, OpKind::Srl)
@@ -69,68 +69,68 @@ pub fn srl(operands: Operands) -> u32
 
 /// The mask of a shift to the right with the sign: the first mask shifted likewise, its top bit repeated; all bits
 /// where the number of places is secret.
-pub fn sra(operands: Operands) -> u32
-    ensures table { result ≡ mask_by_table Sra operands }
+pub fn sra_1(operands: Operands) -> u32
+    ensures table { result ≡ mask_by_table_1 Sra operands }
     ensures sound { IsSound Sra operands result }
 {
     shifted(operands, OpKind::Sra)
 }
 
 /// The mask of a signed comparison: its one bit, where any bit of the operands is secret.
-pub fn slt(operands: Operands) -> u32
-    ensures table { result ≡ mask_by_table Slt operands }
+pub fn slt_1(operands: Operands) -> u32
+    ensures table { result ≡ mask_by_table_1 Slt operands }
     ensures sound { IsSound Slt operands result }
 {
     one_bit(secret(operands))
 }
 
 /// The mask of an unsigned comparison: its one bit, where any bit of the operands is secret.
-pub fn sltu(operands: Operands) -> u32
-    ensures table { result ≡ mask_by_table Sltu operands }
+pub fn sltu_1(operands: Operands) -> u32
+    ensures table { result ≡ mask_by_table_1 Sltu operands }
     ensures sound { IsSound Sltu operands result }
 {
     one_bit(secret(operands))
 }
 
 /// The mask of a test for equality: its one bit, where any bit of the operands is secret.
-pub fn equal(operands: Operands) -> u32
-    ensures table { result ≡ mask_by_table Equal operands }
+pub fn equal_1(operands: Operands) -> u32
+    ensures table { result ≡ mask_by_table_1 Equal operands }
     ensures sound { IsSound Equal operands result }
 {
     one_bit(secret(operands))
 }
 
 /// The mask of the lower word of a product: every bit from the lowest secret bit of the operands upwards.
-pub fn mul(operands: Operands) -> u32
-    ensures table { result ≡ mask_by_table Mul operands }
+pub fn mul_1(operands: Operands) -> u32
+    ensures table { result ≡ mask_by_table_1 Mul operands }
     ensures sound { IsSound Mul operands result }
 {
     from_lowest(secret(operands))
 }
 
 /// The mask of the upper word of a product: all bits, where any bit of the operands is secret.
-pub fn high(operands: Operands) -> u32
-    ensures table { result ≡ mask_by_table High operands }
+pub fn high_1(operands: Operands) -> u32
+    ensures table { result ≡ mask_by_table_1 High operands }
     ensures sound { IsSound High operands result }
 {
     all_bits(secret(operands))
 }
 
 /// The mask of a quotient or remainder: all bits, where any bit of the operands is secret.
-pub fn div(operands: Operands) -> u32
-    ensures table { result ≡ mask_by_table Div operands }
+pub fn div_1(operands: Operands) -> u32
+    ensures table { result ≡ mask_by_table_1 Div operands }
     ensures sound { IsSound Div operands result }
 {
     all_bits(secret(operands))
 }
 
-fn secret(operands: Operands) -> u32
+pub(crate) fn secret(operands: Operands) -> u32
     ensures { result ≡ either operands }
 {
     operands.m1 | operands.m2
 }
 
-fn from_lowest(secret: u32) -> u32
+pub(crate) fn from_lowest(secret: u32) -> u32
     ensures { result ≡ sum_mask secret }
 {
     secret | 0_u32.wrapping_sub(secret)

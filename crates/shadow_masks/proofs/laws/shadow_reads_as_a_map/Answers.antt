@@ -2,4 +2,4 @@ use Rattle.shadow_masks.proofs.Reading.{reads_as_map}
 use Rattle.shadow_masks.proofs.laws.shadow_reads_as_a_map.Goals as goal
 
 pub returns : goal.returns
-returns c writes shades leads = reads_as_map writes shades leads
+returns c writes base start shades new leads = reads_as_map writes base start shades new leads

@@ -1,4 +1,4 @@
-use Rattle.shadow_masks.specs.Labels.{SetsRange}
+use Rattle.shadow_masks.specs.Shades.{SetsRange}
 use Rattle.shadow_masks.proofs.shadows.Shadow.set_range.Given as goal
 
 abbrev pub invariant-loop-offset : goal.invariant-loop-offset

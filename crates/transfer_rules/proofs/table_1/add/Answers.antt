@@ -1,7 +1,0 @@
-use Rattle.std.proofs.Common.{rules}
-use Rattle.transfer_rules.specs.declared.classes.Class.TheVariants.{Add}
-use Rattle.transfer_rules.proofs.Masks.{sound_by_table}
-use Rattle.transfer_rules.proofs.table_1.add.Goals as goal
-
-pub returns-clause-sound : goal.returns-clause-sound
-returns-clause-sound c = sound_by_table Add c.args.operands _ (search rules) (search rules)

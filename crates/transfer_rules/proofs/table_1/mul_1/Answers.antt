@@ -1,0 +1,7 @@
+use Rattle.std.proofs.Common.{rules}
+use Rattle.transfer_rules.specs.declared.classes.Class.TheVariants.{Mul}
+use Rattle.transfer_rules.proofs.Masks.{sound_by_table_1}
+use Rattle.transfer_rules.proofs.table_1.mul_1.Goals as goal
+
+pub returns-clause-sound : goal.returns-clause-sound
+returns-clause-sound c = sound_by_table_1 Mul c.args.operands _ (search rules) (search rules)
