@@ -1,7 +1,6 @@
 pub mod Answered
 pub mod OneSegment
-pub mod Two
-pub mod Five
+pub mod MappedWords
 pub mod Plain
 pub mod Equals
 pub mod OptionSteps

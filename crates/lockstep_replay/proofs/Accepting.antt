@@ -17,7 +17,7 @@ use Rattle.lockstep_replay.specs.VerdictLaws.{AcceptedLaw}
 use Rattle.region_machine.proofs.Stillness.{IsOver}
 use Rattle.lockstep_replay.proofs.Stillness.{cross_later}
 use Rattle.lockstep_replay.proofs.Bounds.{over_exited, same_follows, greater_limits_law}
-use Rattle.lockstep_replay.proofs.Fine.{Alike, Fine, fine_of, alike_same, same_status}
+use Rattle.lockstep_replay.proofs.Conditions.{Alike, Fine, fine_of, alike_same, same_status}
 
 -- the output of these bytes and this exit status
 abbrev pub exit_output : List ℕ → ℕ → Output

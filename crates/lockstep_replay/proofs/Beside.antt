@@ -23,8 +23,8 @@ use Rattle.lockstep_replay.specs.declared.verdicts.Why.TheVariants.{ReplayFault}
 use Rattle.lockstep_replay.specs.Differences.{byte_difference, status_difference, first_of, difference_of}
 use Rattle.lockstep_replay.specs.Turning.{why_compared, Joins, InStep}
 use Rattle.lockstep_replay.specs.Verdicts.{why_output, why_marks, why_stopped, why_copy, why_replay}
-use Rattle.lockstep_replay.proofs.Fine.{NotStopped, SameMarks, marks_same, first_none, none_output, none_marks}
-use Rattle.lockstep_replay.proofs.Fine.{none_copy, no_byte, feed_rest}
+use Rattle.lockstep_replay.proofs.Conditions.{NotStopped, SameMarks, marks_same, first_none, none_output, none_marks}
+use Rattle.lockstep_replay.proofs.Conditions.{none_copy, no_byte, feed_rest}
 use Rattle.replay_machine.proofs.Tables.{ahead-self}
 
 one_turn : (first second : Stepped) → mode_answer first ≡ mode_answer second → first ≡ second

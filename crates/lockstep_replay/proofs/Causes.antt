@@ -17,7 +17,7 @@ use Rattle.lockstep_replay.specs.Verdicts.{Judgement, Rejects, why_after, judged
 use Rattle.lockstep_replay.specs.Verdicts.{judged_from}
 use Rattle.lockstep_replay.specs.VerdictLaws.{Agrees, Arises, Cause, CausesLaw}
 use Rattle.lockstep_replay.proofs.Exits.{ran_enclosed}
-use Rattle.lockstep_replay.proofs.Fine.{holds_of}
+use Rattle.lockstep_replay.proofs.Conditions.{holds_of}
 use Rattle.lockstep_replay.proofs.Accepting.{FineAt, fine_at, follows_fine, place_fine}
 
 -- ---- no condition fails

@@ -24,7 +24,7 @@ use Rattle.lockstep_replay.proofs.Runs.{cross_begins, cross_grows, common_most, 
 use Rattle.lockstep_replay.proofs.Runs.{replay_more_grows, same_beginning}
 use Rattle.lockstep_replay.proofs.Exits.{ran_enclosed}
 use Rattle.lockstep_replay.proofs.Bounds.{over_exited, follows_later, later_follows, done_law}
-use Rattle.lockstep_replay.proofs.Fine.{NotStopped, Alike, none_of, same_alike}
+use Rattle.lockstep_replay.proofs.Conditions.{NotStopped, Alike, none_of, same_alike}
 use Rattle.lockstep_replay.proofs.Accepting.{FineAt, exit_output}
 use Rattle.lockstep_replay.proofs.Causes.{start_runs}
 

@@ -15,7 +15,7 @@ use Rattle.lockstep_replay.specs.declared.verdicts.Why.{Why}
 use Rattle.lockstep_replay.specs.declared.verdicts.Why.TheVariants.{BudgetOverrun}
 use Rattle.lockstep_replay.specs.Tapes.{Tally, Tallies, Crosses}
 use Rattle.lockstep_replay.specs.Verdicts.{counted_bits, why_mode}
-use Rattle.lockstep_replay.proofs.Fine.{NotStopped}
+use Rattle.lockstep_replay.proofs.Conditions.{NotStopped}
 
 -- the real side always comes to its end
 pub crosses-outcome : {Stop : Type 0} (before : Tally) (masks : Masks) (past : List Point) (bits : List Bool)

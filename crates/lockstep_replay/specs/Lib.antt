@@ -10,4 +10,5 @@ pub mod Tapes
 pub mod Sides
 pub mod Ends
 pub mod Turning
+pub mod Beginnings
 pub mod Checks

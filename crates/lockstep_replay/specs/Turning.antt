@@ -1,12 +1,13 @@
 -- One turn of the real run, and where it makes a common turn one of the replay beside it, on the bits that crossed in
 -- it.
-use Rattle.std.specs.Prelude.{◌≡◌, ℕ, ◌+◌, ◌≤◌, List, [], ◌++◌, length, Bool, true, false, Option, None, IsTrue}
+use Rattle.std.specs.Prelude.{◌≡◌, ℕ, ◌+◌, ◌≤◌, List, [], ◌++◌, length, Bool, true, false, Option, Some, None, IsTrue}
 use Rattle.flow_base.specs.declared.points.Point.{Point}
 use Rattle.crossing_bits.specs.Askers.{Fed, Fed', feed}
 use Rattle.crossing_bits.specs.Streams.{Stream}
 use Rattle.rv32im_machine.specs.State.{State}
 use Rattle.rv32im_machine.specs.Folds.{real_end}
 use Rattle.rv32im_machine.specs.declared.stepping.Stepped.{Stepped}
+use Rattle.rv32im_machine.specs.declared.stepping.Stepped.TheVariants.{Exited}
 use Rattle.enclosure_regions.specs.declared.break_kinds.Break.{Break}
 use Rattle.region_machine.specs.Enclosures.{Enclosures, Kind, is_enclosed, is_enclosed_kind}
 use Rattle.region_machine.specs.Guests.{guest_walk, kind_walk}
@@ -51,6 +52,11 @@ crossed enclosures masks past real =
 
 abbrev pub fed_turn : Enclosures → Masks → ReplayPlace → List Bool → Fed ReplayPlace
 fed_turn enclosures masks place bits = feed (replay_turn enclosures masks place) bits
+
+-- this is the status with which a run in this mode has exited in its turn, if it has, and the turn is not enclosed
+abbrev pub Ends : Option ℕ → Bool → Stepped → Type 0
+Ends (Some status) enclosed mode = (enclosed ≡ false) × (mode ≡ Exited status)
+Ends None enclosed mode = enclosed ≡ false → (status : ℕ) → mode ≡ Exited status → ⊥
 
 -- ---- the replay beside it
 

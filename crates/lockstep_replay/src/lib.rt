@@ -2,27 +2,25 @@
 //! may skip some, and the verdict on the secret.
 #![tactic(auto)]
 
-mod comparing;
 mod differences;
 mod guarding;
 mod guards;
 mod laws;
 mod lockstep;
+mod marks;
 mod real_turns;
 #[cfg(test)]
 mod region_tests;
+mod replay_turns;
 mod rounds;
 mod tallies;
-mod tallying;
-mod tasks;
 #[cfg(test)]
 mod tests;
 mod turned;
-mod turning;
 mod two_runs;
 mod verdicts;
 mod watching;
 
 pub use laws::{accepted_runs_are_bounded, verdicts_are_acceptance};
-pub use tasks::Lockstep;
+pub use lockstep::Lockstep;
 pub use verdicts::{ReplayStop, Verdict, Why};

@@ -1,16 +1,16 @@
-ghost use Rattle.std.specs.Prelude.{◌≡◌, ℕ, ◌<◌, ◌^◌, List, [], length, false, IfOk};
+ghost use Rattle.std.specs.Prelude.{◌≡◌, ℕ, ◌<◌, ◌^◌, List, [], length, false, IfOk, IsTrue};
 ghost use Rattle.elf32_loader.specs.Images.{picture_of};
 ghost use Rattle.cut_file.specs.Pictures.{picture_of as cut_picture};
 ghost use Rattle.rv32im_machine.specs.declared.stepping.Stepped.TheVariants.{Exited};
 ghost use Rattle.lockstep_replay.specs.Judgements.{judgement_of};
-ghost use Rattle.lockstep_replay.specs.Checks.{Begins, Ends, IsCheck};
+ghost use Rattle.lockstep_replay.specs.Beginnings.{Begins};
 ghost use Rattle.lockstep_replay.specs.Tasks.{Task, Limits, task_of};
-ghost use Rattle.lockstep_replay.specs.Turning.{Keeps};
+ghost use Rattle.lockstep_replay.specs.Turning.{Ends, Keeps};
 ghost use Rattle.lockstep_replay.specs.Verdicts.{Accepts, First, judged_from};
+ghost use Rattle.region_machine.specs.Within.{may_leave};
 
 use crate::rounds::round;
 use crate::tallies::Tallying;
-use crate::tasks::Lockstep;
 use crate::two_runs::TwoRuns;
 use crate::verdicts::{Verdict, Why};
 use crossing_bits::Bits;
@@ -25,7 +25,29 @@ use std::alloc::Global;
 /// The output of a run has at most 1 MiB.
 const OUTPUT_LIMIT: u32 = 1_048_576;
 
+/// A check of one secret before its first turn: the real run on the secret beside the replay, with all the memory that
+/// the check takes.
+#[derive(Drop)]
+pub struct Lockstep {
+    pub(crate) runs: TwoRuns,
+    /// The length of the secrets that the cut is for, in bytes.
+    pub(crate) wanted: u32,
+    /// The length of the secret, in bytes.
+    pub(crate) got: u32,
+    pub(crate) turns: u32,
+    ghost got_is: { got ≡ runs.real.setting.secret_length },
+    ghost empty: { runs.tally.bits.bits ≡ [] },
+    ghost untaken: { runs.tally.bits.taken ≡ 0 },
+    ghost uncounted: { runs.tally.needed ≡ 0 },
+    ghost lacks_none: { runs.replay.missing ≡ 0 },
+    ghost unused: { runs.replay.taken ≡ 0 },
+    ghost leaves: { IsTrue (may_leave runs.replay.enclosures.regions runs.real) },
+    ghost alike: { runs.real.control.output ≡ runs.replay.state.control.output },
+}
+
 impl Lockstep {
+    ghost use Rattle.lockstep_replay.specs.Checks.{IsCheck};
+
     /// A check of one secret against a cut, for one program with its regions and one public input, within a budget of
     /// bits and a limit of turns.
     /// `NoMemory` where there is not enough; [`Lockstep::run`] takes none.

@@ -3,9 +3,9 @@ ghost use Rattle.lockstep_replay.specs.Turning.{Keeps, Rounds};
 ghost use Rattle.lockstep_replay.specs.Verdicts.{why_broken, why_budget, why_mode};
 
 use crate::real_turns::real_turn;
+use crate::replay_turns::replay_beside;
 use crate::tallies::Tallying;
 use crate::turned::{RealTurn, Round};
-use crate::turning::replay_beside;
 use crate::verdicts::Why;
 use enclosure_regions::Break;
 use replay_machine::Replay;

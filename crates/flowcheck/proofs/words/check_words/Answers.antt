@@ -3,7 +3,7 @@ use Rattle.std.proofs.lemmas.Grind.{common_steps}
 use Rattle.flowcheck.specs.CommandLines.{HaveSecrets, IsTurnLimit}
 use Rattle.flowcheck.specs.Options.{OptionValues}
 use Rattle.flowcheck.specs.Words.{values_of}
-use Rattle.flowcheck.proofs.Five.{five-mapped}
+use Rattle.flowcheck.proofs.MappedWords.{five_mapped}
 use Rattle.flowcheck.proofs.Plain.{same_values}
 use Rattle.flowcheck.proofs.words.check_words.Goals as goal
 
@@ -12,7 +12,7 @@ returns-in_default-secret_words-clause-none c = λ is. λ check. λ have.
     let shape : map string_bytes c.args.words.now ≡ string_bytes c.command-item.result ∷ string_bytes c.program-item.result
     ∷ string_bytes c.public_input-item.result ∷ string_bytes c.cut-item.result ∷ string_bytes c.budget-item.result
     ∷ map string_bytes (take (length c.args.words.now - 5) (drop 5 c.args.words.now)) =
-    five-mapped string_bytes c.args.words.now c.command-item.result c.program-item.result c.public_input-item.result
+    five_mapped string_bytes c.args.words.now c.command-item.result c.program-item.result c.public_input-item.result
     c.cut-item.result c.budget-item.result _ _ _ _ _ (omega (arith, c.in-len5-up.len_at_least)) c.command-item.is
     c.program-item.is c.public_input-item.is c.cut-item.is c.budget-item.is refl refl refl refl refl in
     let same : have.others ≡ map string_bytes (take (length c.args.words.now - 5) (drop 5 c.args.words.now)) =
@@ -26,7 +26,7 @@ returns-in_default-3-clause-none c = λ is. λ check. λ have.
     let shape : map string_bytes c.args.words.now ≡ string_bytes c.command-item.result ∷ string_bytes c.program-item.result
     ∷ string_bytes c.public_input-item.result ∷ string_bytes c.cut-item.result ∷ string_bytes c.budget-item.result
     ∷ map string_bytes (take (length c.args.words.now - 5) (drop 5 c.args.words.now)) =
-    five-mapped string_bytes c.args.words.now c.command-item.result c.program-item.result c.public_input-item.result
+    five_mapped string_bytes c.args.words.now c.command-item.result c.program-item.result c.public_input-item.result
     c.cut-item.result c.budget-item.result _ _ _ _ _ (omega (arith, c.in-len5-up.len_at_least)) c.command-item.is
     c.program-item.is c.public_input-item.is c.cut-item.is c.budget-item.is refl refl refl refl refl in
     let same : have.others ≡ map string_bytes (take (length c.args.words.now - 5) (drop 5 c.args.words.now)) =
@@ -41,7 +41,7 @@ pub returns-clause-is : goal.returns-clause-is
 returns-clause-is c = record {
   others = map string_bytes (take (length c.args.words.now - 5) (drop 5 c.args.words.now));
   line =
-      five-mapped string_bytes c.args.words.now c.command-item.result c.program-item.result c.public_input-item.result
+      five_mapped string_bytes c.args.words.now c.command-item.result c.program-item.result c.public_input-item.result
       c.cut-item.result c.budget-item.result _ _ _ _ _ (omega (arith, c.in-len5-up.len_at_least)) c.command-item.is
       c.program-item.is c.public_input-item.is c.cut-item.is c.budget-item.is (search rules) (search rules) (search rules)
       (search rules) (search rules);

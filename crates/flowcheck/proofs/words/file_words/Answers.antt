@@ -1,5 +1,5 @@
 use Rattle.std.proofs.Common.{rules, ◌≡◌, ◌∷◌, [], ◌∙◌, arith, map, refl, string_bytes, sym}
-use Rattle.flowcheck.proofs.Two.{two_mapped, firsts, seconds}
+use Rattle.flowcheck.proofs.MappedWords.{two_mapped, firsts, seconds}
 use Rattle.flowcheck.proofs.words.file_words.Goals as goal
 use Rattle.flowcheck.proofs.words.file_words.Goals.{then-ne-via-then-ne, then-ne-via-else-ne+then-not-is_name}
 

@@ -1,8 +1,8 @@
 use Rattle.std.proofs.Common.{◌∙◌, suc, ◌-◌, sym, ap, subst, arith, add-one}
 use Rattle.lockstep_replay.specs.declared.verdicts.Why.TheVariants.{TurnLimit}
 use Rattle.lockstep_replay.specs.Verdicts.{Rejects, judged_from}
-use Rattle.lockstep_replay.proofs.Standings.{StandsAt, stands-start, step-stands, step-rejects, step-accepts, step-goes}
-use Rattle.lockstep_replay.proofs.Standings.{judged-limit, none-of}
+use Rattle.lockstep_replay.proofs.RoundVerdicts.{StandsAt, stands-start, step-stands, step-rejects, step-accepts, step-goes}
+use Rattle.lockstep_replay.proofs.RoundVerdicts.{judged-limit, none-of}
 use Rattle.lockstep_replay.proofs.lockstep.run_turns.Goals as goal
 
 pub loop-init : goal.loop-init

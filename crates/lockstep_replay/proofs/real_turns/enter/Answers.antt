@@ -1,6 +1,6 @@
 use Rattle.rv32im_machine.specs.Language.{turn_walk}
 use Rattle.region_machine.specs.Guests.{entry}
-use Rattle.lockstep_replay.proofs.Making.{walked-tallied, makes-entry}
+use Rattle.lockstep_replay.proofs.RealTurns.{walked-tallied, makes-entry}
 use Rattle.lockstep_replay.proofs.real_turns.enter.Goals as goal
 
 pub returns : goal.returns

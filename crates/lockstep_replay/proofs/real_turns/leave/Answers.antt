@@ -1,6 +1,6 @@
 use Rattle.rv32im_machine.specs.Language.{turn_walk}
 use Rattle.region_machine.specs.Guests.{leave}
-use Rattle.lockstep_replay.proofs.Making.{walked-tallied, makes-leave}
+use Rattle.lockstep_replay.proofs.RealTurns.{walked-tallied, makes-leave}
 use Rattle.lockstep_replay.proofs.real_turns.leave.Goals as goal
 
 pub returns : goal.returns

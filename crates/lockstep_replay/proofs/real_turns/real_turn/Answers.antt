@@ -1,6 +1,6 @@
 use Rattle.region_machine.specs.Enclosures.{Enclosures, Enters, Leaves, Steps, kind_of}
 use Rattle.std.specs.Prelude.{Some, None}
-use Rattle.lockstep_replay.proofs.Making.{makes-kind}
+use Rattle.lockstep_replay.proofs.RealTurns.{makes-kind}
 use Rattle.lockstep_replay.proofs.real_turns.real_turn.Goals as goal
 
 pub returns-in-Enters : goal.returns-in-Enters

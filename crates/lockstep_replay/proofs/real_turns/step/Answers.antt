@@ -1,5 +1,5 @@
 use Rattle.rv32im_machine.specs.Rows.{walk_of}
-use Rattle.lockstep_replay.proofs.Making.{walked-tallied, makes-step}
+use Rattle.lockstep_replay.proofs.RealTurns.{walked-tallied, makes-step}
 use Rattle.lockstep_replay.proofs.real_turns.step.Goals as goal
 
 pub returns : goal.returns

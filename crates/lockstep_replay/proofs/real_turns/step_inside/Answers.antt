@@ -3,7 +3,7 @@ use Rattle.region_machine.specs.Enclosures.{Steps}
 use Rattle.rv32im_machine.specs.Rows.{walk_of}
 use Rattle.lockstep_replay.specs.Turning.{Makes}
 use Rattle.lockstep_replay.specs.declared.tallies.Tallying.{Tallying}
-use Rattle.lockstep_replay.proofs.Making.{makes-inside, lent-guarded, turn_of}
+use Rattle.lockstep_replay.proofs.RealTurns.{makes-inside, lent-guarded, turn_of}
 use Rattle.lockstep_replay.proofs.real_turns.step_inside.Goals as goal
 
 pub returns : goal.returns

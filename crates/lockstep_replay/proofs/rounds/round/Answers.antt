@@ -1,6 +1,6 @@
 use Rattle.std.proofs.Common.{sym, refl, ◌∙◌}
-use Rattle.lockstep_replay.proofs.Rounding.{Played, round-fails, round-enclosed, round-beside, output-begins}
-use Rattle.lockstep_replay.proofs.Rounding.{used-played}
+use Rattle.lockstep_replay.proofs.RoundResults.{Played, round-fails, round-enclosed, round-beside, output-begins}
+use Rattle.lockstep_replay.proofs.RoundResults.{used-played}
 use Rattle.lockstep_replay.proofs.rounds.round.Goals as goal
 
 pub returns-in-Some : goal.returns-in-Some

@@ -1,0 +1,330 @@
+-- One turn of the real run with the replay's turn beside it, if it makes one.
+use Rattle.std.proofs.Common.{◌≡◌, ℕ, ◌+◌, ◌≤◌, ◌<◌, List, [], ◌++◌, length, length-append, append_assoc, append-nil}
+use Rattle.std.proofs.Common.{refl, ap, sym, subst, ◌∙◌, Bool, true, false, Option, Some, None, arith}
+use Rattle.std.proofs.lemmas.Bool.{lt-ltb, ltb-true, ltb-false}
+use Rattle.std.specs.Prelude.{nat_lt}
+use Rattle.flow_base.specs.declared.points.Point.{Point}
+use Rattle.cut_file.specs.Masks.{MaskAt}
+use Rattle.crossing_bits.specs.Streams.{left_of}
+use Rattle.rv32im_machine.specs.declared.stepping.Stepped.{Stepped}
+use Rattle.rv32im_machine.specs.declared.stepping.Stepped.TheVariants.{Ran, Exited, Stopped}
+use Rattle.rv32im_machine.specs.State.{State}
+use Rattle.enclosure_regions.specs.declared.break_kinds.Break.{Break}
+use Rattle.enclosure_regions.specs.Regions.{are_regions}
+use Rattle.region_machine.specs.Enclosures.{Enclosures, kind_of, is_enclosed}
+use Rattle.region_machine.specs.Guests.{guest_walk}
+use Rattle.region_machine.specs.Breaking.{Breaks}
+use Rattle.region_machine.specs.Runs.{visited}
+use Rattle.replay_machine.specs.Runs.{ReplayPlace, Masks}
+use Rattle.replay_machine.specs.Standing.{Standing, Stands}
+use Rattle.replay_machine.specs.Visits.{IsAhead}
+use Rattle.region_machine.specs.Within.{may_leave}
+use Rattle.region_machine.proofs.Growth.{real_grows}
+use Rattle.region_machine.proofs.Keeping.{guest_keeps}
+use Rattle.replay_machine.proofs.Tables.{ahead-self}
+use Rattle.lockstep_replay.specs.declared.tallies.Tallying.{Tallying}
+use Rattle.lockstep_replay.specs.declared.turned.RealTurn.{RealTurn}
+use Rattle.lockstep_replay.specs.declared.verdicts.Why.{Why}
+use Rattle.lockstep_replay.specs.Crossing.{crossing_unless}
+use Rattle.lockstep_replay.specs.Sides.{tally_of}
+use Rattle.lockstep_replay.specs.Turning.{Makes, Keeps, Rounds, InStep, Joins, Joined, crossed, fed_turn}
+use Rattle.lockstep_replay.specs.Verdicts.{counted_bits, why_budget, why_mode, why_broken, why_common, why_replay}
+use Rattle.lockstep_replay.proofs.Turns.{Within, within-of, why-within}
+use Rattle.lockstep_replay.proofs.Conditions.{NotStopped, none_broken, none_mode}
+
+-- ---- what fails of the real run alone
+
+budget-fails : (test : Bool) (budget total count : ℕ) (later : Option Why) (why : Why) → count ≡ counted_bits total →
+    nat_lt budget count ≡ test → why_budget test budget count None ≡ Some why →
+    why_budget (nat_lt budget total) budget total later ≡ Some why
+budget-fails true budget total count later why c t e =
+    let over : budget < count = ltb-true budget count t in
+    let more : budget < total = omega (arith, over, c) in
+    let same : counted_bits total ≡ counted_bits count = omega (arith, c) in
+    rw (lt-ltb budget total more, same) e
+budget-fails false budget total count later why c t e = absurd (cc)
+
+mode-fails : (mode : Stepped) (budget total count : ℕ) (later : Option Why) (why : Why) → count ≡ counted_bits total →
+    why_mode mode budget count None ≡ Some why → why_mode mode budget total later ≡ Some why
+mode-fails Ran budget total count later why c e = budget-fails (nat_lt budget count) budget total count later why c
+    refl e
+mode-fails (Exited status) budget total count later why c e =
+    budget-fails (nat_lt budget count) budget total count later why c refl e
+mode-fails (Stopped fault) budget total count later why c e = e
+
+real-fails : (broken : Option Break) (mode : Stepped) (budget total count : ℕ) (later : Option Why) (why : Why) →
+    count ≡ counted_bits total → why_broken broken (why_mode mode budget count None) ≡ Some why →
+    why_broken broken (why_mode mode budget total later) ≡ Some why
+real-fails None mode budget total count later why c e = mode-fails mode budget total count later why c e
+real-fails (Some broken) mode budget total count later why c e = e
+
+-- nothing fails of it
+record Passes (broken : Option Break) (mode : Stepped) (budget total count : ℕ) : Type 0 where
+  pub unbroken : broken ≡ None
+  pub running : NotStopped mode
+  pub within : total ≤ budget
+  pub small : count ≤ budget
+
+real-passes : (broken : Option Break) (mode : Stepped) (budget total count : ℕ) → budget < 4294967295 →
+    count ≡ counted_bits total → why_broken broken (why_mode mode budget count None) ≡ None →
+    Passes broken mode budget total count
+real-passes broken mode budget total count small c e =
+    let whole : (broken ≡ None) × (why_mode mode budget count None ≡ None) = none_broken broken _ e in
+    let parts = none_mode mode budget count None whole.1 in
+    let few : count ≤ budget = ltb-false budget count parts.1.0 in record {
+      unbroken = whole.0;
+      running = parts.0;
+      within = omega (arith, few, c, small);
+      small = few;
+    }
+
+later-passes : (broken : Option Break) (mode : Stepped) (budget total count : ℕ) (later : Option Why) →
+    Passes broken mode budget total count → why_broken broken (why_mode mode budget total later) ≡ later
+later-passes broken mode budget total count later p =
+    ap (λ b. why_broken b (why_mode mode budget total later)) p.unbroken
+    ∙ why-within mode budget total later p.running p.within
+
+-- ---- a turn of the real run, before which the two runs kept step
+
+pub record Played (before : State) (tally : Tallying) (standing : Standing) (reached : State) (after : Tallying)
+    (turn : RealTurn) : Type 0 where
+  pub makes :
+      Makes standing.enclosures (kind_of standing.enclosures.regions before.control) before tally reached after turn
+  pub keeps : Keeps before standing tally.bits tally.needed tally.budget
+  pub small : tally.budget < 4294967295
+  pub rules : are_regions standing.enclosures.regions ≡ true
+
+-- what the code finds of the real run alone
+abbrev pub real_why : State → Tallying → RealTurn → Option Why
+real_why reached after turn = why_broken turn.broken (why_mode reached.control.mode after.budget after.needed None)
+
+own-why : (before : State) (tally : Tallying) (standing : Standing) (reached : State) (after : Tallying)
+    (turn : RealTurn) → (p : Played before tally standing reached after turn) →
+    real_why reached after turn ≡ why_broken (Breaks standing.enclosures.regions before)
+    (why_mode reached.control.mode tally.budget after.needed None)
+own-why before tally standing reached after turn p =
+    ap (λ b. why_broken b (why_mode reached.control.mode after.budget after.needed None)) p.makes.broken
+    ∙ ap (λ b. why_broken (Breaks standing.enclosures.regions before)
+    (why_mode reached.control.mode b after.needed None)) p.makes.budget
+
+pub round-fails : (before : State) (tally : Tallying) (standing : Standing) (reached : State) (after : Tallying)
+    (turn : RealTurn) (why : Why) → Played before tally standing reached after turn →
+    real_why reached after turn ≡ Some why →
+    Rounds standing.enclosures before tally standing reached after standing
+    (record { enclosed = turn.enclosed; why = Some why })
+round-fails before tally standing reached after turn why p e = record {
+  state = p.makes.state;
+  enclosed = p.makes.enclosed;
+  budget = p.makes.budget;
+  regions_stay = refl;
+  ahead = p.makes.ahead;
+  why = λ masks past place ahead stands.
+      sym (real-fails (Breaks standing.enclosures.regions before) reached.control.mode tally.budget
+      (tally.needed + length (crossed standing.enclosures masks past before)) after.needed _ why
+      (p.makes.tallies masks past ahead).needed (sym (own-why before tally standing reached after turn p) ∙ e));
+  joins = λ masks past place ahead stands none. absurd (cc);
+  bits = λ masks past ahead none. absurd (cc);
+  keeps = λ none. absurd (cc);
+}
+
+passes-of : (before : State) (tally : Tallying) (standing : Standing) (reached : State) (after : Tallying)
+    (turn : RealTurn) (masks : Masks) (past : List Point) → Played before tally standing reached after turn →
+    real_why reached after turn ≡ None →
+    IsAhead tally.masks masks past →
+    Passes (Breaks standing.enclosures.regions before) reached.control.mode tally.budget
+    (tally.needed + length (crossed standing.enclosures masks past before)) after.needed
+passes-of before tally standing reached after turn masks past p e ahead =
+    real-passes (Breaks standing.enclosures.regions before) reached.control.mode tally.budget
+    (tally.needed + length (crossed standing.enclosures masks past before)) after.needed p.small
+    (p.makes.tallies masks past ahead).needed (sym (own-why before tally standing reached after turn p) ∙ e)
+
+pub within-played : (before : State) (tally : Tallying) (standing : Standing) (reached : State) (after : Tallying)
+    (turn : RealTurn) (masks : Masks) (past : List Point) → Played before tally standing reached after turn →
+    real_why reached after turn ≡ None →
+    IsAhead tally.masks masks past →
+    Within (tally_of tally) (crossed standing.enclosures masks past before) (tally_of after)
+within-played before tally standing reached after turn masks past p e ahead =
+    within-of (tally_of tally) (tally_of after) (crossed standing.enclosures masks past before)
+    (p.makes.tallies masks past ahead) p.small
+    (passes-of before tally standing reached after turn masks past p e ahead).small p.keeps.taken
+
+-- the real run's output still begins with the replay's
+pub output-begins : (before : State) (tally : Tallying) (standing : Standing) (reached : State) (after : Tallying)
+    (turn : RealTurn) → Played before tally standing reached after turn →
+    (more : List ℕ) × (reached.control.output ≡ standing.state.control.output ++ more)
+output-begins before tally standing reached after turn p =
+    let grown = real_grows standing.enclosures.regions before in
+    let old = p.keeps.output in (
+      old.0 ++ grown.0,
+      ap (λ (s : State). s.control.output) p.makes.state ∙ (grown.1 ∙ (ap (λ o. o ++ grown.0) old.1
+          ∙ append_assoc standing.state.control.output old.0 grown.0)),
+    )
+
+leaves-played : (before : State) (tally : Tallying) (standing : Standing) (reached : State) (after : Tallying)
+    (turn : RealTurn) → Played before tally standing reached after turn → real_why reached after turn ≡ None →
+    may_leave standing.enclosures.regions reached ≡ true
+leaves-played before tally standing reached after turn p e =
+    let masks : Masks = MaskAt tally.masks in
+    subst (λ (s : State). may_leave standing.enclosures.regions s ≡ true) (sym p.makes.state)
+    (guest_keeps standing.enclosures.regions before p.rules p.keeps.leaves
+    (passes-of before tally standing reached after turn masks [] p e (ahead-self tally.masks)).unbroken)
+
+quiet-length : (enclosures : Enclosures) (masks : Masks) (past : List Point) (before : State) →
+    is_enclosed enclosures before.control ≡ true → length (crossed enclosures masks past before) ≡ 0
+quiet-length enclosures masks past before e =
+    ap (λ b. length (crossing_unless b masks past (guest_walk enclosures.regions before))) e
+
+joined-stays : (enclosed : Bool) (standing : Standing) (masks : Masks) (place : ReplayPlace) (bits : List Bool) →
+    enclosed ≡ true → Stands standing masks place →
+    Joined enclosed standing masks place (fed_turn standing.enclosures masks place bits)
+joined-stays true standing masks place bits e stands = stands
+joined-stays false standing masks place bits e stands = absurd (cc)
+
+-- the turn is enclosed, and nothing fails of the real run: the replay stays where it is
+pub round-enclosed : (before : State) (tally : Tallying) (standing : Standing) (reached : State) (after : Tallying)
+    (turn : RealTurn) →
+    Played before tally standing reached after turn → real_why reached after turn ≡ None → turn.enclosed ≡ true →
+    Rounds standing.enclosures before tally standing reached after standing
+    (record { enclosed = turn.enclosed; why = None })
+round-enclosed before tally standing reached after turn p e is =
+    let inside : is_enclosed standing.enclosures before.control ≡ true = sym p.makes.enclosed ∙ is in
+    let first : Masks = MaskAt tally.masks in
+    let w : Within (tally_of tally) (crossed standing.enclosures first [] before) (tally_of after) =
+    within-played before tally standing reached after turn first [] p e (ahead-self tally.masks) in
+    let none : length (crossed standing.enclosures first [] before) ≡ 0 =
+    quiet-length standing.enclosures first [] before inside in record {
+      state = p.makes.state;
+      enclosed = p.makes.enclosed;
+      budget = p.makes.budget;
+      regions_stay = refl;
+      ahead = p.makes.ahead;
+      why = λ masks past place ahead stands.
+          sym (later-passes (Breaks standing.enclosures.regions before) reached.control.mode tally.budget
+          (tally.needed + length (crossed standing.enclosures masks past before)) after.needed _
+          (passes-of before tally standing reached after turn masks past p e ahead)
+          ∙ ap (λ b. why_common b (why_replay reached
+          (tally.needed + length (crossed standing.enclosures masks past before))
+          (fed_turn standing.enclosures masks place (crossed standing.enclosures masks past before)))) inside);
+      joins = λ masks past place ahead stands nothing.
+          joined-stays (is_enclosed standing.enclosures before.control) standing masks place
+          (crossed standing.enclosures masks past before) inside stands;
+      bits = λ masks past ahead nothing.
+          (within-played before tally standing reached after turn masks past p e ahead).bits;
+      keeps = λ nothing. record {
+        wanted = p.keeps.wanted;
+        used = omega (arith, p.keeps.used, w.needed, none);
+        taken = omega (
+          arith,
+          (p.makes.tallies first [] (ahead-self tally.masks)).taken,
+          p.keeps.taken,
+          ap length w.bits,
+          length-append tally.bits.bits (crossed standing.enclosures first [] before),
+          none,
+        );
+        kept = omega (
+          arith,
+          p.keeps.kept,
+          ap length w.bits,
+          length-append tally.bits.bits (crossed standing.enclosures first [] before),
+          w.needed,
+        );
+        within = omega (arith, w.fits, w.needed, p.makes.budget);
+        output = output-begins before tally standing reached after turn p;
+        leaves = leaves-played before tally standing reached after turn p e;
+      };
+    }
+
+joined-joins : (enclosed : Bool) (standing : Standing) (masks : Masks) (place : ReplayPlace) (enclosures : Enclosures)
+    (bits : List Bool) → enclosed ≡ false → Joins standing masks (fed_turn enclosures masks place bits) →
+    Joined enclosed standing masks place (fed_turn enclosures masks place bits)
+joined-joins true standing masks place enclosures bits e joins = absurd (cc)
+joined-joins false standing masks place enclosures bits e joins = joins
+
+-- what the replay beside says
+pub record IsBeside (before : State) (tally : Tallying) (standing : Standing) (reached : State) (after : Tallying)
+    (turn : RealTurn) (next : Standing) (last : Tallying) (why : Option Why) : Type 0 where
+  pub says :
+      (masks : Masks) (place : ReplayPlace) → Stands standing masks place →
+      why ≡ why_replay reached after.needed (fed_turn standing.enclosures masks place (left_of after.bits))
+  pub joins :
+      (masks : Masks) (place : ReplayPlace) → Stands standing masks place → why ≡ None →
+      Joins next masks (fed_turn standing.enclosures masks place (left_of after.bits))
+  pub enclosures : next.enclosures ≡ standing.enclosures
+  pub bits : last.bits.bits ≡ after.bits.bits
+  pub masks : last.masks ≡ after.masks
+  pub needed : last.needed ≡ after.needed
+  pub budget : last.budget ≡ after.budget
+  pub agrees : why ≡ None → InStep reached next last.bits after.needed
+
+-- the turn is not enclosed, and nothing fails of the real run: the replay has made its turn
+pub round-beside : (before : State) (tally : Tallying) (standing : Standing) (reached : State) (after : Tallying)
+    (turn : RealTurn) (next : Standing) (last : Tallying) (why : Option Why) →
+    Played before tally standing reached after turn → real_why reached after turn ≡ None → turn.enclosed ≡ false →
+    IsBeside before tally standing reached after turn next last why →
+    Rounds standing.enclosures before tally standing reached last next
+    (record { enclosed = turn.enclosed; why = why })
+round-beside before tally standing reached after turn next last why p e is b =
+    let outside : is_enclosed standing.enclosures before.control ≡ false = sym p.makes.enclosed ∙ is in
+    let first : Masks = MaskAt tally.masks in
+    let w : Within (tally_of tally) (crossed standing.enclosures first [] before) (tally_of after) =
+    within-played before tally standing reached after turn first [] p e (ahead-self tally.masks) in record {
+      state = p.makes.state;
+      enclosed = p.makes.enclosed;
+      budget = b.budget ∙ p.makes.budget;
+      regions_stay = b.enclosures;
+      ahead = λ masks past ahead.
+          subst (λ a. IsAhead a masks (visited (is_enclosed standing.enclosures before.control) past
+          (guest_walk standing.enclosures.regions before))) (sym b.masks) (p.makes.ahead masks past ahead);
+      why = λ masks past place ahead stands.
+          let v : Within (tally_of tally) (crossed standing.enclosures masks past before) (tally_of after) =
+          within-played before tally standing reached after turn masks past p e ahead in
+          b.says masks place stands
+          ∙ (ap (λ n. why_replay reached n (fed_turn standing.enclosures masks place (left_of after.bits)))
+          v.needed
+          ∙ (ap (λ s. why_replay reached (tally.needed + length (crossed standing.enclosures masks past before))
+          (fed_turn standing.enclosures masks place s)) v.left
+          ∙ sym (later-passes (Breaks standing.enclosures.regions before) reached.control.mode tally.budget
+          (tally.needed + length (crossed standing.enclosures masks past before)) after.needed _
+          (passes-of before tally standing reached after turn masks past p e ahead)
+          ∙ ap (λ t. why_common t (why_replay reached
+          (tally.needed + length (crossed standing.enclosures masks past before))
+          (fed_turn standing.enclosures masks place (crossed standing.enclosures masks past before)))) outside)));
+      joins = λ masks past place ahead stands nothing.
+          let v : Within (tally_of tally) (crossed standing.enclosures masks past before) (tally_of after) =
+          within-played before tally standing reached after turn masks past p e ahead in
+          joined-joins (is_enclosed standing.enclosures before.control) next masks place standing.enclosures
+          (crossed standing.enclosures masks past before) outside
+          (subst (λ s. Joins next masks (fed_turn standing.enclosures masks place s)) v.left
+          (b.joins masks place stands nothing));
+      bits = λ masks past ahead nothing.
+          b.bits ∙ (within-played before tally standing reached after turn masks past p e ahead).bits;
+      keeps = λ nothing.
+          let agrees : InStep reached next last.bits after.needed = b.agrees nothing in record {
+            wanted = agrees.wanted;
+            used = agrees.used ∙ sym b.needed;
+            taken = agrees.taken;
+            kept = omega (
+              arith,
+              p.keeps.kept,
+              ap length b.bits,
+              ap length w.bits,
+              length-append tally.bits.bits (crossed standing.enclosures first [] before),
+              w.needed,
+              b.needed,
+            );
+            within = omega (arith, w.fits, w.needed, p.makes.budget, b.needed, b.budget);
+            output = ([], agrees.output ∙ sym (append-nil next.state.control.output));
+            leaves =
+                subst (λ (x : Enclosures). may_leave x.regions reached ≡ true) (sym b.enclosures)
+                (leaves-played before tally standing reached after turn p e);
+          };
+    }
+
+-- the bits that the replay has used and those that are left are those that have crossed
+pub used-played : (before : State) (tally : Tallying) (standing : Standing) (reached : State) (after : Tallying)
+    (turn : RealTurn) → Played before tally standing reached after turn → real_why reached after turn ≡ None →
+    standing.taken + length (left_of after.bits) ≡ after.needed
+used-played before tally standing reached after turn p e =
+    let w : Within (tally_of tally) (crossed standing.enclosures (MaskAt tally.masks) [] before) (tally_of after) =
+    within-played before tally standing reached after turn (MaskAt tally.masks) [] p e (ahead-self tally.masks) in
+    omega (arith, p.keeps.used, ap length w.left, w.needed)

@@ -1,9 +1,0 @@
-use Rattle.std.proofs.Common.{refl}
-use Rattle.rv32im_machine.specs.Folds.{real_end}
-use Rattle.region_machine.specs.Runs.{passed}
-use Rattle.lockstep_replay.specs.Crossing.{crossing}
-use Rattle.lockstep_replay.proofs.tallying.TallyingPasser.look.Goals as goal
-
-pub returns : goal.returns
-unfolding crossing real_end passed
-returns c = record { memory = refl; goes = λ walk out after masks past ahead. after masks past ahead }
