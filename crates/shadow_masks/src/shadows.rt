@@ -148,6 +148,14 @@ impl Shadow {
         })
     }
 
+    /// Whether each of `count` bytes from an address on is one of guest memory; no bytes are inside anywhere.
+    pub fn is_inside(&self, address: u32, count: u32) -> bool
+        ensures { result ≡ is_inside self.now.base address count }
+    {
+        let end = u64::from(address) + u64::from(count);
+        count == 0 || address >= self.base && end <= u64::from(self.base) + 16_777_216
+    }
+
     /// The label of a register, 0 to 31.
     pub fn reg(&self, register: u8) -> Label
         requires { register < 32 }
