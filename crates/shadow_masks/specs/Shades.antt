@@ -2,14 +2,11 @@
 use Rattle.std.specs.Prelude.{◌≡◌, ℕ, ◌+◌, ◌-◌, ◌/◌, ◌%◌, ◌^◌, ◌<◌, ◌==◌, ◌&&◌, ◌||◌, nat_lt, nat_le, Bool, List, Option, None}
 use Rattle.std.specs.Prelude.{if◌then◌else◌, slice_index_or, length}
 use Rattle.std.specs.List.{list_any}
+use Rattle.flow_base.specs.Guests.{memory_size}
 use Rattle.shadow_masks.specs.declared.labels.Label.{Label}
 use Rattle.shadow_masks.specs.Labels.{clean}
 use Rattle.shadow_masks.specs.Points.{page_size}
 use Rattle.shadow_masks.specs.Pages.{PageShades, label_in, is_in_range, listed_label}
-
--- guest memory has 16 MiB
-abbrev pub memory_size : ℕ
-memory_size = 16777216
 
 -- each of so many bytes from the address on is one of guest memory; no bytes are inside anywhere
 abbrev pub is_inside : ℕ → ℕ → ℕ → Bool

@@ -7,6 +7,7 @@ mod few_points;
 mod labels;
 mod laws;
 mod page_points;
+mod page_slots;
 mod pages;
 mod shadows;
 #[cfg(test)]

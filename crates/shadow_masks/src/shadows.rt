@@ -1,14 +1,15 @@
 ghost use Rattle.std.specs.Prelude.{◌≡◌, ◌+◌, ◌^◌, ◌<◌, ◌≤◌, All, IfOk, OnOk, OnErr, IsTrue, List as Seq, [], ◌∷◌, length};
 ghost use Rattle.std.specs.Prelude.{replicate, ℕ, None, true};
 ghost use Rattle.shadow_masks.specs.Labels.{clean, IsLabel, IsByteLabel};
-ghost use Rattle.shadow_masks.specs.Pages.{label_in, label_from, labels_from, listed_label, AreClean, SetsFewer, SetsLabel, SetsPlaces};
-ghost use Rattle.shadow_masks.specs.Points.{page_size};
-ghost use Rattle.shadow_masks.specs.Shades.{memory_size, is_inside, register_label, byte_label, page_at, IsNew};
+ghost use Rattle.shadow_masks.specs.Pages.{label_from, labels_from, listed_label, AreClean};
+ghost use Rattle.flow_base.specs.Guests.{memory_size};
+ghost use Rattle.shadow_masks.specs.Shades.{is_inside, register_label, byte_label, page_at, IsNew};
 ghost use Rattle.shadow_masks.specs.Shades.{SetsRegister, SetsByte, SetsLabels, SetsRange, SetsFirstPart, Saves, Restores};
 
 use crate::labels::Label;
+use crate::page_slots::{is_clean_in, labels_in, listed, set_all_in, set_in};
 use crate::pages::Page;
-use flow_base::{List, NoMemory};
+use flow_base::{List, MEMORY_SIZE, NoMemory};
 use std::alloc::Global;
 use std::marker::Model;
 
@@ -27,7 +28,8 @@ pub struct Shadow {
 impl Model for Shadow {
     ghost use Rattle.std.specs.Prelude.{◌≡◌, ◌+◌, ◌^◌, ◌≤◌, length};
     ghost use Rattle.shadow_masks.specs.Labels.{AreRegisterLabels};
-    ghost use Rattle.shadow_masks.specs.Shades.{Shades, memory_size};
+    ghost use Rattle.flow_base.specs.Guests.{memory_size};
+    ghost use Rattle.shadow_masks.specs.Shades.{Shades};
 
     ghost Value = { Shades };
 
@@ -59,80 +61,6 @@ fn no_pages(alloc: Global, count: usize) -> Result<Vec<Option<Page>>, NoMemory>
     Ok(pages)
 }
 
-/// The labels of `count` bytes of a page from a place on, at most 4; past them the clean label.
-fn labels_in(page: &Option<Page>, place: usize, count: usize) -> [Label; 4]
-    requires { place + count ≤ page_size }
-    ensures { result ≡ labels_from (label_in page.now) place count }
-{
-    match page {
-        Some(made) => made.labels(place, count),
-        None => [Label::clean(); 4],
-    }
-}
-
-/// Whether each of `count` bytes of a page from a place on is clean.
-fn is_clean_in(page: &Option<Page>, place: usize, count: usize) -> bool
-    requires { place + count ≤ page_size }
-    ensures yes { result ≡ true → AreClean (label_in page.now) place count }
-    ensures no { AreClean (label_in page.now) place count → result ≡ true }
-{
-    match page {
-        Some(made) => made.is_clean(place, count),
-        None => true,
-    }
-}
-
-fn listed(labels: &[Label], offset: usize) -> Label
-    requires offset { offset < length labels.now }
-    requires labels { All IsByteLabel labels.now }
-    ensures label { result ≡ listed_label labels.now offset }
-    ensures is_of_byte { IsByteLabel result }
-{
-    labels[offset]
-}
-
-/// Sets the labels of bytes of a page from a place on; where memory is short only a first part of them is set.
-fn set_all_in(
-    page: &mut Option<Page>,
-    alloc: Global,
-    place: usize,
-    labels: &[Label],
-) -> Result<(), NoMemory>
-    requires place { place + length labels.now ≤ page_size }
-    requires labels { All IsByteLabel labels.now }
-    ensures ok { OnOk result (
-        SetsPlaces place (length labels.now) (listed_label labels.now) (label_in page.old) (label_in page.new)) }
-    ensures err { OnErr result (
-        SetsFewer place (length labels.now) (listed_label labels.now) (label_in page.old) (label_in page.new)) }
-{
-    for offset in 0..labels.len() {
-        set_in(page, alloc, place + offset, listed(labels, offset))?;
-    }
-    Ok(())
-}
-
-/// Sets the label of a byte of a page, which is made where need be; where memory is short all stays as it was.
-fn set_in(
-    page: &mut Option<Page>,
-    alloc: Global,
-    place: usize,
-    label: Label,
-) -> Result<(), NoMemory>
-    requires place { place < page_size }
-    requires label { IsByteLabel label }
-    ensures ok { OnOk result (SetsLabel place label (label_in page.old) (label_in page.new)) }
-    ensures err { OnErr result (page.new ≡ page.old) }
-{
-    match page {
-        Some(made) => made.set(alloc, place, label),
-        None if label.mask == 0 => Ok(()),
-        None => {
-            *page = Some(Page::new(alloc, place, label)?);
-            Ok(())
-        }
-    }
-}
-
 impl Shadow {
     /// All labels clean, those that are kept too, of a guest whose memory begins at an address.
     pub fn new(alloc: Global, base: u32) -> Result<Shadow, NoMemory>
@@ -146,6 +74,14 @@ impl Shadow {
             pages: no_pages(alloc, 4096)?,
             alloc,
         })
+    }
+
+    /// Whether each of `count` bytes from an address on is one of guest memory; no bytes are inside anywhere.
+    pub fn is_inside(&self, address: u32, count: u32) -> bool
+        ensures { result ≡ is_inside self.now.base address count }
+    {
+        let end = u64::from(address) + u64::from(count);
+        count == 0 || address >= self.base && end <= u64::from(self.base) + u64::from(MEMORY_SIZE)
     }
 
     /// The label of a register, 0 to 31.

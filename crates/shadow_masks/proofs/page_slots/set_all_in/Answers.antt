@@ -1,6 +1,6 @@
 use Rattle.shadow_masks.specs.Pages.{label_in, listed_label}
 use Rattle.shadow_masks.proofs.Steps.{sets_places_next}
-use Rattle.shadow_masks.proofs.shadows.set_all_in.Goals as goal
+use Rattle.shadow_masks.proofs.page_slots.set_all_in.Goals as goal
 
 pub loop-offset-preserved : goal.loop-offset-preserved
 loop-offset-preserved c =

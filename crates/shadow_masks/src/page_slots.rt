@@ -1,0 +1,85 @@
+//! The labels of a page that may not have been made.
+
+ghost use Rattle.std.specs.Prelude.{◌≡◌, ◌+◌, ◌<◌, ◌≤◌, All, OnOk, OnErr, length, true};
+ghost use Rattle.shadow_masks.specs.Labels.{IsByteLabel};
+ghost use Rattle.shadow_masks.specs.Pages.{label_in, labels_from, listed_label, AreClean, SetsFewer, SetsLabel, SetsPlaces};
+ghost use Rattle.shadow_masks.specs.Points.{page_size};
+
+use crate::labels::Label;
+use crate::pages::Page;
+use flow_base::NoMemory;
+use std::alloc::Global;
+
+/// The labels of `count` bytes of a page from a place on, at most 4; past them the clean label.
+pub fn labels_in(page: &Option<Page>, place: usize, count: usize) -> [Label; 4]
+    requires { place + count ≤ page_size }
+    ensures { result ≡ labels_from (label_in page.now) place count }
+{
+    match page {
+        Some(made) => made.labels(place, count),
+        None => [Label::clean(); 4],
+    }
+}
+
+/// Whether each of `count` bytes of a page from a place on is clean.
+pub fn is_clean_in(page: &Option<Page>, place: usize, count: usize) -> bool
+    requires { place + count ≤ page_size }
+    ensures yes { result ≡ true → AreClean (label_in page.now) place count }
+    ensures no { AreClean (label_in page.now) place count → result ≡ true }
+{
+    match page {
+        Some(made) => made.is_clean(place, count),
+        None => true,
+    }
+}
+
+pub fn listed(labels: &[Label], offset: usize) -> Label
+    requires offset { offset < length labels.now }
+    requires labels { All IsByteLabel labels.now }
+    ensures label { result ≡ listed_label labels.now offset }
+    ensures is_of_byte { IsByteLabel result }
+{
+    labels[offset]
+}
+
+/// Sets the labels of bytes of a page from a place on; where memory is short only a first part of them is set.
+pub fn set_all_in(
+    page: &mut Option<Page>,
+    alloc: Global,
+    place: usize,
+    labels: &[Label],
+) -> Result<(), NoMemory>
+    requires place { place + length labels.now ≤ page_size }
+    requires labels { All IsByteLabel labels.now }
+    ensures ok { OnOk result (
+        SetsPlaces place (length labels.now) (listed_label labels.now) (label_in page.old) (label_in page.new)) }
+    ensures err { OnErr result (
+        SetsFewer place (length labels.now) (listed_label labels.now) (label_in page.old) (label_in page.new)) }
+{
+    for offset in 0..labels.len() {
+        set_in(page, alloc, place + offset, listed(labels, offset))?;
+    }
+    Ok(())
+}
+
+/// Sets the label of a byte of a page, which is made where need be; where memory is short all stays as it was.
+pub fn set_in(
+    page: &mut Option<Page>,
+    alloc: Global,
+    place: usize,
+    label: Label,
+) -> Result<(), NoMemory>
+    requires place { place < page_size }
+    requires label { IsByteLabel label }
+    ensures ok { OnOk result (SetsLabel place label (label_in page.old) (label_in page.new)) }
+    ensures err { OnErr result (page.new ≡ page.old) }
+{
+    match page {
+        Some(made) => made.set(alloc, place, label),
+        None if label.mask == 0 => Ok(()),
+        None => {
+            *page = Some(Page::new(alloc, place, label)?);
+            Ok(())
+        }
+    }
+}
