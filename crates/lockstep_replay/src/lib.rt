@@ -4,11 +4,8 @@
 
 mod comparing;
 mod differences;
-mod guarding;
-mod guards;
 mod laws;
 mod lockstep;
-mod real_turns;
 #[cfg(test)]
 mod region_tests;
 mod rounds;
@@ -17,11 +14,9 @@ mod tallying;
 mod tasks;
 #[cfg(test)]
 mod tests;
-mod turned;
 mod turning;
 mod two_runs;
 mod verdicts;
-mod watching;
 
 pub use laws::{accepted_runs_are_bounded, verdicts_are_acceptance};
 pub use tasks::Lockstep;

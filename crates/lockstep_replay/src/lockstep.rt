@@ -8,7 +8,7 @@ ghost use Rattle.lockstep_replay.specs.Tasks.{Task, Limits, task_of};
 ghost use Rattle.lockstep_replay.specs.Turning.{Keeps};
 ghost use Rattle.lockstep_replay.specs.Verdicts.{Accepts, First, judged_from};
 
-use crate::rounds::round;
+use crate::rounds::make_round;
 use crate::tallies::Tallying;
 use crate::tasks::Lockstep;
 use crate::two_runs::TwoRuns;
@@ -130,7 +130,7 @@ fn run_turns(runs: TwoRuns, turns: u32) -> Verdict
     let mut tally = tally;
     let mut replay = replay;
     for _ in 0..turns {
-        let made = round(&mut real, &mut tally, &mut replay);
+        let made = make_round(&mut real, &mut tally, &mut replay);
         if let Some(why) = made.why {
             return Verdict::Rejected(why);
         }
