@@ -1,7 +1,6 @@
 pub mod Tapes
 pub mod Turns
-pub mod Guarded
-pub mod RealTurns
+pub mod TalliedTurns
 pub mod Stillness
 pub mod Runs
 pub mod Exits

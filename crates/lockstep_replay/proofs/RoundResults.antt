@@ -23,7 +23,7 @@ use Rattle.region_machine.proofs.Growth.{real_grows}
 use Rattle.region_machine.proofs.Keeping.{guest_keeps}
 use Rattle.replay_machine.proofs.Tables.{ahead-self}
 use Rattle.lockstep_replay.specs.declared.tallies.Tallying.{Tallying}
-use Rattle.lockstep_replay.specs.declared.turned.RealTurn.{RealTurn}
+use Rattle.region_machine.specs.declared.real_turns.RealTurn.{RealTurn}
 use Rattle.lockstep_replay.specs.declared.verdicts.Why.{Why}
 use Rattle.lockstep_replay.specs.Crossing.{crossing_unless}
 use Rattle.lockstep_replay.specs.Sides.{tally_of}

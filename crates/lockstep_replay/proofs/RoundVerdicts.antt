@@ -18,7 +18,7 @@ use Rattle.replay_machine.specs.Runs.{Replay}
 use Rattle.replay_machine.specs.Standing.{Standing, Stands}
 use Rattle.replay_machine.specs.Visits.{IsAhead}
 use Rattle.lockstep_replay.specs.declared.tallies.Tallying.{Tallying}
-use Rattle.lockstep_replay.specs.declared.turned.Round.{Round}
+use Rattle.lockstep_replay.specs.declared.rounds.Round.{Round}
 use Rattle.lockstep_replay.specs.declared.two_runs.TwoRuns.{TwoRuns}
 use Rattle.lockstep_replay.specs.declared.verdicts.Why.{Why}
 use Rattle.lockstep_replay.specs.declared.verdicts.Why.TheVariants.{TurnLimit}

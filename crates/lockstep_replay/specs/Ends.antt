@@ -1,19 +1,16 @@
 -- At the end of a turn nothing more crosses.
-use Rattle.std.specs.Prelude.{◌≡◌, ℕ, ◌<◌, List, [], Bool, true, false, Option, Some, None, refl}
+use Rattle.std.specs.Prelude.{◌≡◌, ◌<◌, List, [], Bool, refl}
 use Rattle.std.proofs.Common.{arith, sym, append-nil}
 use Rattle.flow_base.specs.declared.points.Point.{Point}
 use Rattle.rv32im_machine.specs.State.{State}
 use Rattle.rv32im_machine.specs.Language.{Ended}
 use Rattle.rv32im_machine.specs.Folds.{real_end}
 use Rattle.rv32im_machine.specs.Playing.{Finished}
-use Rattle.enclosure_regions.specs.declared.break_kinds.Break.{Break}
-use Rattle.enclosure_regions.specs.declared.region_parts.Region.{Region}
-use Rattle.region_machine.specs.Breaking.{first_break, walk_break}
-use Rattle.region_machine.specs.Runs.{passed, visited}
+use Rattle.region_machine.specs.Runs.{passed}
 use Rattle.replay_machine.specs.Runs.{Masks}
 use Rattle.replay_machine.specs.Visits.{IsAhead}
-use Rattle.lockstep_replay.specs.Crossing.{crossing, crossing_unless}
-use Rattle.lockstep_replay.specs.Tapes.{Tally, Tallies, Crosses, Guard, Guards}
+use Rattle.lockstep_replay.specs.Crossing.{crossing}
+use Rattle.lockstep_replay.specs.Tapes.{Tally, Tallies, Crosses}
 
 pub tallies-none : (tally : Tally) → tally.needed < 4294967296 → Tallies tally [] tally
 tallies-none tally small = record {
@@ -30,18 +27,8 @@ pub crosses-Ended : (Stop : Type 0) (tally : Tally) (masks : Masks) (past : List
 unfolding crossing real_end passed
 crosses-Ended Stop tally masks past state small ahead = (refl, (ahead, tallies-none tally small))
 
-first-none : (broken : Option Break) → broken ≡ first_break broken None
-first-none None = refl
-first-none (Some broken) = refl
-
-pub guards-Ended : (Stop : Type 0) (guard : Guard) (enclosed : Bool) (region : Region) (kept : List ℕ) (pc : ℕ)
-    (masks : Masks) (past : List Point) (state : State) → guard.tally.needed < 4294967296 →
-    IsAhead guard.tally.ahead masks past →
-    Guards {Stop = Stop} guard masks (visited enclosed past (Ended state))
-    (crossing_unless enclosed masks past (Ended state))
-    (first_break guard.broken (walk_break region kept pc (Ended state))) (real_end (Ended state)) (Finished state guard)
-unfolding crossing real_end passed walk_break
-guards-Ended Stop guard true region kept pc masks past state small ahead =
-    (refl, (ahead, (tallies-none guard.tally small, (first-none guard.broken, refl))))
-guards-Ended Stop guard false region kept pc masks past state small ahead =
-    (refl, (ahead, (tallies-none guard.tally small, (first-none guard.broken, refl))))
+-- a turn whose values are tallied ends as the real one
+pub crosses-real : (Stop : Type 0) (tally : Tally) (masks : Masks) (past : List Point) (bits : List Bool)
+    (end state : State) (after : Tally) →
+    Crosses {Stop = Stop} tally masks past bits end (Finished state after) → state ≡ end
+crosses-real Stop tally masks past bits end state after h = sym h.0

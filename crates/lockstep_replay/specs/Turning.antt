@@ -19,8 +19,8 @@ use Rattle.replay_machine.specs.Visits.{IsAhead}
 use Rattle.region_machine.specs.Within.{may_leave}
 use Rattle.lockstep_replay.specs.Marks.{mark_of}
 use Rattle.lockstep_replay.specs.declared.tallies.Tallying.{Tallying}
-use Rattle.lockstep_replay.specs.declared.turned.RealTurn.{RealTurn}
-use Rattle.lockstep_replay.specs.declared.turned.Round.{Round}
+use Rattle.region_machine.specs.declared.real_turns.RealTurn.{RealTurn}
+use Rattle.lockstep_replay.specs.declared.rounds.Round.{Round}
 use Rattle.lockstep_replay.specs.declared.verdicts.Why.{Why}
 use Rattle.lockstep_replay.specs.Crossing.{crossing_unless}
 use Rattle.lockstep_replay.specs.Differences.{byte_difference, status_difference, first_of}

@@ -3,12 +3,9 @@
 #![tactic(auto)]
 
 mod differences;
-mod guarding;
-mod guards;
 mod laws;
 mod lockstep;
 mod marks;
-mod real_turns;
 #[cfg(test)]
 mod region_tests;
 mod replay_turns;
@@ -16,10 +13,8 @@ mod rounds;
 mod tallies;
 #[cfg(test)]
 mod tests;
-mod turned;
 mod two_runs;
 mod verdicts;
-mod watching;
 
 pub use laws::{accepted_runs_are_bounded, verdicts_are_acceptance};
 pub use lockstep::Lockstep;

@@ -9,7 +9,7 @@ ghost use Rattle.lockstep_replay.specs.Turning.{Ends, Keeps};
 ghost use Rattle.lockstep_replay.specs.Verdicts.{Accepts, First, judged_from};
 ghost use Rattle.region_machine.specs.Within.{may_leave};
 
-use crate::rounds::round;
+use crate::rounds::make_round;
 use crate::tallies::Tallying;
 use crate::two_runs::TwoRuns;
 use crate::verdicts::{Verdict, Why};
@@ -152,7 +152,7 @@ fn run_turns(runs: TwoRuns, turns: u32) -> Verdict
     let mut tally = tally;
     let mut replay = replay;
     for _ in 0..turns {
-        let made = round(&mut real, &mut tally, &mut replay);
+        let made = make_round(&mut real, &mut tally, &mut replay);
         if let Some(why) = made.why {
             return Verdict::Rejected(why);
         }

@@ -1,15 +1,25 @@
-ghost use Rattle.std.specs.Prelude.{◌≡◌, None, nat_lt};
-ghost use Rattle.lockstep_replay.specs.Turning.{Keeps, Rounds};
+ghost use Rattle.std.specs.Prelude.{◌≡◌, None, IsTrue, nat_lt};
+ghost use Rattle.region_machine.specs.Enclosures.{kind_of};
+ghost use Rattle.region_machine.specs.Within.{may_leave};
+ghost use Rattle.lockstep_replay.specs.Turning.{Keeps, Makes, Rounds};
 ghost use Rattle.lockstep_replay.specs.Verdicts.{why_broken, why_budget, why_mode};
 
-use crate::real_turns::real_turn;
 use crate::replay_turns::replay_beside;
 use crate::tallies::Tallying;
-use crate::turned::{RealTurn, Round};
 use crate::verdicts::Why;
-use enclosure_regions::Break;
+use enclosure_regions::{Break, Regions};
+use region_machine::{RealTurn, real_turn_by};
 use replay_machine::Replay;
 use rv32im_machine::{Machine, Stepped};
+
+/// What a turn of the real run leaves beside its tally, with the replay's turn beside it.
+#[derive(Clone, Copy, Debug)]
+pub(crate) struct Round {
+    /// The turn is the entry of a skipped region or inside it: the replay makes none.
+    pub enclosed: bool,
+    /// What fails, if something does.
+    pub why: Option<Why>,
+}
 
 /// Whether so many bits exceed the budget.
 fn budget_reason(budget: u32, needed: u32) -> Option<Why>
@@ -43,9 +53,21 @@ fn real_reason(broken: Option<Break>, mode: Stepped, budget: u32, needed: u32) -
     }
 }
 
+/// One turn of the real run with these regions, of which those with these numbers are skipped; its bits are tallied.
+fn real_turn(real: &mut Machine, tally: &mut Tallying, regions: &Regions, skip: &[u16]) -> RealTurn
+    requires { IsTrue (may_leave regions.now.items real.old) }
+    ensures { Makes (record { regions = regions.now.items; skip = skip.now })
+        (kind_of regions.now.items real.old.control) real.old tally.old real.new tally.new result }
+{
+    match real_turn_by(real, tally, regions, skip) {
+        Ok(turn) => turn,
+        Err(never) => match never {},
+    }
+}
+
 /// One turn of the real run, and unless it is the entry of a skipped region or inside it one turn of the replay, which
 /// is lent the bits that crossed since its last turn.
-pub(crate) fn round(real: &mut Machine, tally: &mut Tallying, replay: &mut Replay) -> Round
+pub(crate) fn make_round(real: &mut Machine, tally: &mut Tallying, replay: &mut Replay) -> Round
     requires { Keeps real.old replay.old tally.old.bits tally.old.needed tally.old.budget }
     ensures { Rounds replay.old.enclosures real.old tally.old replay.old real.new tally.new replay.new result }
 {

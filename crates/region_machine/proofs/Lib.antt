@@ -4,3 +4,4 @@ pub mod Growth
 pub mod Keeping
 pub mod Enclosed
 pub mod Stillness
+pub mod Guarded

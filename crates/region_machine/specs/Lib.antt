@@ -4,3 +4,4 @@ pub mod Breaking
 pub mod Within
 pub mod Runs
 pub mod Starts
+pub mod Guards

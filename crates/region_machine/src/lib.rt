@@ -2,16 +2,22 @@
 //! the real run.
 #![tactic(auto)]
 
+mod breaks;
 mod clearing;
 mod entering;
 mod giving;
+mod guards;
 mod guests;
 mod kinds;
 mod leaving;
+mod observers;
+mod real_turns;
 mod skipping;
 
 pub use entering::enter_by;
 pub use guests::{guest_turn_by, kind_turn_by};
 pub use kinds::{GuestTurn, guest_turn};
 pub use leaving::leave_by;
+pub use observers::Observer;
+pub use real_turns::{RealTurn, real_turn_by};
 pub use skipping::skip_by;

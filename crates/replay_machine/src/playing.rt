@@ -12,12 +12,12 @@ ghost use Rattle.replay_machine.specs.ReplayTurns.{kind_outside_range, outside_o
 ghost use Rattle.enclosure_regions.specs.Breaks.{outside_range};
 ghost use Rattle.region_machine.specs.Within.{are_inside, can_leave, can_skip, has_rules, may_leave, seen};
 
-use crate::replay_turns::replay_turn_by;
-use region_machine::{GuestTurn, guest_turn};
 use crate::outsides::Outside;
+use crate::replay_turns::replay_turn_by;
 use crate::replays::Replaying;
 use crossing_bits::Bits;
 use enclosure_regions::{Region, Regions, first_outside};
+use region_machine::{GuestTurn, guest_turn};
 use rv32im_machine::Machine;
 use std::mem;
 

@@ -23,6 +23,7 @@ pub use language::{Aim, Operation, Part, Passing, Place, Seen, Shape, Source, So
 pub use laws::{ended_machines_stand_still, next_follows_the_step, parts_compose};
 pub use machines::Machine;
 pub use passing::Passer;
+pub use plain::Plain;
 pub use stepping::{Arguments, CallPlan, Fault, Stepped};
 pub use walker::turn_by;
 

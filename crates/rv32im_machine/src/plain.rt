@@ -8,9 +8,9 @@ use crate::stepping::Stepped;
 use crate::walker::turn_by;
 use std::convert::Infallible;
 
-/// Every value goes on as it is.
+/// Whoever is told everything and keeps nothing: every value goes on as it is.
 #[derive(Clone, Copy)]
-struct Plain;
+pub struct Plain;
 
 #[tactic(auto, unfolding(crate::specs::Folds::real_end))]
 impl Passer for Plain {

@@ -1,0 +1,157 @@
+-- One call of a guard: what the passer that it wraps may play, and what breaks the region.
+use Rattle.std.proofs.Common.{◌≡◌, ℕ, List, [], Bool, true, false, Option, Some, None, Result, Ok, Err, refl, ap, ◌∙◌, subst, arith}
+use Rattle.std.specs.Borrow.{GName}
+use Rattle.rv32im_machine.specs.declared.language.Passing.{Passing}
+use Rattle.rv32im_machine.specs.declared.language.Place.{Place}
+use Rattle.rv32im_machine.specs.declared.language.Seen.{Seen}
+use Rattle.rv32im_machine.specs.declared.language.Shape.{Shape}
+use Rattle.rv32im_machine.specs.declared.language.Source.{Source}
+use Rattle.rv32im_machine.specs.declared.stepping.Stepped.TheVariants.{Ran}
+use Rattle.rv32im_machine.specs.State.{State}
+use Rattle.rv32im_machine.specs.Language.{Walk, Looked, Passed, Moved, Saved, Restored, Ended}
+use Rattle.rv32im_machine.specs.Folds.{real_end}
+use Rattle.rv32im_machine.specs.Playing.{Played, Finished, Halted, Goes, restored_or}
+use Rattle.enclosure_regions.specs.declared.region_parts.Region.{Region}
+use Rattle.enclosure_regions.specs.declared.break_kinds.Break.{Break}
+use Rattle.region_machine.specs.Breaking.{place_break, passing_break, first_break, walk_break}
+use Rattle.region_machine.specs.Guards.{Guard, Guards}
+
+first-assoc : (first second third : Option Break) →
+    first_break (first_break first second) third ≡ first_break first (first_break second third)
+first-assoc None second third = refl
+first-assoc (Some broken) second third = refl
+
+-- ---- an observer answers the value that it was handed, and puts nothing back
+
+abbrev at_pc : ℕ → State
+at_pc pc = record {
+  setting = record { base = 0; start_break = 0; public_input = []; secret_length = 0; output_limit = 0 };
+  secret = [];
+  control = record {
+    pc = pc;
+    public_at = 0;
+    secret_at = 0;
+    current_break = 0;
+    output = [];
+    mode = Ran;
+    region = 0;
+  };
+  store = record { registers = []; memory = []; kept = [] };
+}
+
+same-value : {Stop Tape : Type 0} (before after : Walk → Played Stop Tape → Type 0) (tape : Tape) (passing : Passing)
+    (other : ℕ) →
+    ((go : ℕ → Walk) (out : Played Stop Tape) → after (go other) out → before (Passed passing go) out) →
+    ((state : State) → after (Ended state) (Finished state tape)) →
+    ((walk : Walk) (state : State) (tape : Tape) → before walk (Finished state tape) → state ≡ real_end walk) →
+    other ≡ passing.value
+unfolding real_end
+same-value before after tape passing other goes ends real =
+    ap (λ (s : State). s.control.pc) (real (Passed passing (λ v. Ended (at_pc v))) (at_pc other) tape
+    (goes (λ v. Ended (at_pc v)) (Finished (at_pc other) tape) (ends (at_pc other))))
+
+one-none : ◌≡◌ {A = ℕ} 1 0 → ⊥
+one-none e = omega (arith, e)
+
+nothing-back : {Stop Tape : Type 0} (before after : Walk → Played Stop Tape → Type 0) (tape : Tape) (registers : List ℕ)
+    (back : Bool) →
+    ((walk replayed : Walk) (out : Played Stop Tape) → after (restored_or back walk replayed) out →
+    before (Restored registers walk replayed) out) →
+    ((state : State) → after (Ended state) (Finished state tape)) →
+    ((walk : Walk) (state : State) (tape : Tape) → before walk (Finished state tape) → state ≡ real_end walk) →
+    back ≡ false
+unfolding real_end
+nothing-back before after tape registers false goes ends real = refl
+nothing-back before after tape registers true goes ends real =
+    absurd (one-none (ap (λ (s : State). s.control.pc)
+    (real (Restored registers (Ended (at_pc 0)) (Ended (at_pc 1))) (at_pc 1) tape
+    (goes (Ended (at_pc 0)) (Ended (at_pc 1)) (Finished (at_pc 1) tape) (ends (at_pc 1))))))
+
+-- ---- the calls
+
+-- what breaks here, and then what breaks later
+guards-more : {Stop Tape : Type 0} (before after : Played Stop Tape → Type 0) (a b here later : Option Break)
+    (lent : GName) (out : Played Stop (Guard Tape)) → ((end : Played Stop Tape) → after end → before end) →
+    b ≡ first_break a here → Guards after (first_break b later) lent out →
+    Guards before (first_break a (first_break here later)) lent out
+guards-more before after a b here later lent (Finished reached c) goes e h = (
+  goes (Finished reached c.tape) h.0,
+  (h.1.0 ∙ (ap (λ x. first_break x later) e ∙ first-assoc a here later), h.1.1),
+)
+guards-more before after a b here later lent (Halted stop) goes e h = goes (Halted stop) h
+
+-- nothing breaks here
+guards-on : {Stop Tape : Type 0} (before after : Played Stop Tape → Type 0) (broken : Option Break)
+    (lent : GName) (out : Played Stop (Guard Tape)) → ((end : Played Stop Tape) → after end → before end) →
+    Guards after broken lent out → Guards before broken lent out
+guards-on before after broken lent (Finished reached c) goes h = (goes (Finished reached c.tape) h.0, h.1)
+guards-on before after broken lent (Halted stop) goes h = goes (Halted stop) h
+
+pub guards-looked : {Stop Tape : Type 0} (before after : Walk → Played Stop Tape → Type 0) (region : Region)
+    (kept : List ℕ) (pc : ℕ) (a : Option Break) (lent : GName) (seen : Seen) (value : ℕ) (r : Result (Unit {0}) Stop)
+    (walk : Walk) → Goes r (λ done. after walk) (before (Looked seen value walk)) →
+    Goes r (λ done. Guards (after walk) (first_break a (walk_break region kept pc walk)) lent)
+    (Guards (before (Looked seen value walk)) (first_break a (walk_break region kept pc (Looked seen value walk))) lent)
+unfolding walk_break
+guards-looked before after region kept pc a lent seen value (Ok done) walk goes = λ out h.
+    guards-on (before (Looked seen value walk)) (after walk) (first_break a (walk_break region kept pc walk)) lent out
+    goes h
+guards-looked before after region kept pc a lent seen value (Err stop) walk goes = goes
+
+pub guards-saved : {Stop Tape : Type 0} (before after : Walk → Played Stop Tape → Type 0) (region : Region)
+    (kept : List ℕ) (pc : ℕ) (a : Option Break) (lent : GName) (r : Result (Unit {0}) Stop)
+    (walk : Walk) → Goes r (λ done. after walk) (before (Saved walk)) →
+    Goes r (λ done. Guards (after walk) (first_break a (walk_break region kept pc walk)) lent)
+    (Guards (before (Saved walk)) (first_break a (walk_break region kept pc (Saved walk))) lent)
+unfolding walk_break
+guards-saved before after region kept pc a lent (Ok done) walk goes = λ out h.
+    guards-on (before (Saved walk)) (after walk) (first_break a (walk_break region kept pc walk)) lent out goes h
+guards-saved before after region kept pc a lent (Err stop) walk goes = goes
+
+pub guards-moved : {Stop Tape : Type 0} (before after : Walk → Played Stop Tape → Type 0) (region : Region)
+    (kept : List ℕ) (pc : ℕ) (a b : Option Break) (lent : GName) (place : Place) (shape : Shape) (source : Source)
+    (value : ℕ) (r : Result (Unit {0}) Stop) (walk : Walk) → b ≡ first_break a (place_break region kept pc place) →
+    Goes r (λ done. after walk) (before (Moved place shape source value walk)) →
+    Goes r (λ done. Guards (after walk) (first_break b (walk_break region kept pc walk)) lent)
+    (Guards (before (Moved place shape source value walk))
+    (first_break a (walk_break region kept pc (Moved place shape source value walk))) lent)
+unfolding walk_break
+guards-moved before after region kept pc a b lent place shape source value (Ok done) walk e goes = λ out h.
+    guards-more (before (Moved place shape source value walk)) (after walk) a b (place_break region kept pc place)
+    (walk_break region kept pc walk) lent out goes e h
+guards-moved before after region kept pc a b lent place shape source value (Err stop) walk e goes = goes
+
+pub guards-passed : {Stop Tape : Type 0} (before after : Walk → Played Stop Tape → Type 0) (tape : Tape)
+    (region : Region) (kept : List ℕ) (pc : ℕ) (a b : Option Break) (lent : GName) (passing : Passing)
+    (r : Result ℕ Stop) (go : ℕ → Walk) → b ≡ first_break a (passing_break region kept pc passing) →
+    ((go : ℕ → Walk) → Goes r (λ other. after (go other)) (before (Passed passing go))) →
+    ((state : State) → after (Ended state) (Finished state tape)) →
+    ((walk : Walk) (state : State) (tape : Tape) → before walk (Finished state tape) → state ≡ real_end walk) →
+    Goes r (λ other. Guards (after (go other)) (first_break b (walk_break region kept pc (go other))) lent)
+    (Guards (before (Passed passing go)) (first_break a (walk_break region kept pc (Passed passing go))) lent)
+unfolding walk_break
+guards-passed before after tape region kept pc a b lent passing (Ok other) go e goes ends real = λ out h.
+    guards-more (before (Passed passing go)) (after (go other)) a b (passing_break region kept pc passing)
+    (walk_break region kept pc (go passing.value)) lent out (goes go) e
+    (subst (λ v. Guards (after (go other)) (first_break b (walk_break region kept pc (go v))) lent out)
+    (same-value before after tape passing other goes ends real) h)
+guards-passed before after tape region kept pc a b lent passing (Err stop) go e goes ends real = goes go
+
+pub guards-restored : {Stop Tape : Type 0} (before after : Walk → Played Stop Tape → Type 0) (tape : Tape)
+    (region : Region) (kept : List ℕ) (pc : ℕ) (a : Option Break) (lent : GName) (registers : List ℕ)
+    (r : Result Bool Stop) (walk back : Walk) →
+    ((walk back : Walk) → Goes r (λ other. after (restored_or other walk back)) (before (Restored registers walk back))) →
+    ((state : State) → after (Ended state) (Finished state tape)) →
+    ((walk : Walk) (state : State) (tape : Tape) → before walk (Finished state tape) → state ≡ real_end walk) →
+    Goes r (λ other. Guards (after (restored_or other walk back))
+    (first_break a (walk_break region kept pc (restored_or other walk back))) lent)
+    (Guards (before (Restored registers walk back))
+    (first_break a (walk_break region kept pc (Restored registers walk back))) lent)
+unfolding walk_break
+guards-restored before after tape region kept pc a lent registers (Ok other) walk back goes ends real = λ out h.
+    guards-on (before (Restored registers walk back)) (after (restored_or other walk back))
+    (first_break a (walk_break region kept pc walk)) lent out (goes walk back)
+    (subst (λ v. Guards (after (restored_or other walk back))
+    (first_break a (walk_break region kept pc (restored_or v walk back))) lent out)
+    (nothing-back before after tape registers other goes ends real) h)
+guards-restored before after tape region kept pc a lent registers (Err stop) walk back goes ends real = goes walk back
