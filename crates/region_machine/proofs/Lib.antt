@@ -5,3 +5,4 @@ pub mod Keeping
 pub mod Enclosed
 pub mod Stillness
 pub mod Guarded
+pub mod NextTurns

@@ -5,3 +5,4 @@ pub mod Within
 pub mod Runs
 pub mod Starts
 pub mod Guards
+pub mod NextTurns
