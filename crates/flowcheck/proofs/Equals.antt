@@ -3,7 +3,7 @@ use Rattle.std.proofs.Common.{◌≡◌, ℕ, Bor, List, true, false, Option, So
 use Rattle.std.specs.List.{position_or_len, before_first, after_first}
 use Rattle.std.proofs.lemmas.Bool.{lt-ltb, le-ltb}
 use Rattle.std.proofs.lemmas.Str.Pattern.{IsSplitOnceResult, split_once_first}
-use Rattle.flowcheck.specs.Options.{is_equals, has_equals}
+use Rattle.flowcheck.specs.Parts.{is_equals, has_equals}
 
 pub record Parted (word : List ℕ) (found : Option (Bor (List ℕ) × Bor (List ℕ))) : Type 0 where
   pub has : IfSome found (λ parts. has_equals word ≡ true)

@@ -2,7 +2,7 @@
 use Rattle.std.proofs.Common.{◌≡◌, ℕ, List, [], ◌∷◌, length, arith}
 use Rattle.std.proofs.lemmas.Grind.{common_steps}
 use Rattle.lockstep_replay.specs.Tasks.{Task, Limits}
-use Rattle.flowcheck.specs.Replies.{judgements_of}
+use Rattle.flowcheck.specs.Checks.{judgements_of}
 
 pub length_judgements :
     (task : Task) (limits : Limits) (secrets : List (List ℕ)) →

@@ -1,10 +1,9 @@
--- The command lines that are understood: check PROG PUBLIC CUT BUDGET SECRET.., with 1 to 64 secrets and options behind
--- them, asm SOURCE, and list PROG.
-use Rattle.std.specs.Prelude.{◌≡◌, ℕ, ◌≤◌, List, [], ◌∷◌, ◌++◌, length, codes, Bool, true, Option, None, Some}
-use Rattle.std.specs.List.{list_all}
+-- The command lines that are understood: a row for each command. The words behind the command are parted into options and
+-- other words (see Parts).
+use Rattle.std.specs.Prelude.{◌≡◌, ℕ, ◌≤◌, List, [], ◌∷◌, length, codes, Option, None, Some}
 use Rattle.std.specs.Fmt.{decimal}
 use Rattle.flowcheck.specs.declared.limits.Limits.{Limits}
-use Rattle.flowcheck.specs.Options.{OptionValues, is_name, options_of}
+use Rattle.flowcheck.specs.Parts.{Parts, no_options, parts_of}
 
 -- a check of secrets: the names of its files, of which the region file may be none, and its limits of bits and of turns
 pub record Check : Type 0 where
@@ -14,6 +13,12 @@ pub record Check : Type 0 where
   pub region_file : Option (List ℕ)
   pub secrets : List (List ℕ)
   pub limits : Limits
+
+-- a command: a check of secrets, the program file of a source, or the listing of a program
+pub data Command : Type 0 where
+  Checks : Check → Command
+  Assembles : List ℕ → Command
+  Lists : List ℕ → Command
 
 abbrev pub highest_budget : ℕ
 highest_budget = 1048576
@@ -25,46 +30,40 @@ default_turns = 1000000
 abbrev pub highest_turns : ℕ
 highest_turns = 20000000
 
-abbrev pub are_names : List (List ℕ) → Bool
-are_names words = list_all is_name words
-
 -- the value of `--turns`, where it is named, is this limit in decimal without leading zeros
 abbrev pub IsTurnLimit : Option (List ℕ) → ℕ → Type 0
 IsTurnLimit None turns = turns ≡ default_turns
 IsTurnLimit (Some value) turns = (value ≡ decimal turns) × (1 ≤ turns) × (turns ≤ highest_turns)
 
--- these words name secrets, 1 to 64 of them, and behind them stand options with these values
-pub record HaveSecrets (words secrets : List (List ℕ)) (values : OptionValues) : Type 0 where
-  pub options : List (List ℕ)
-  pub line : words ≡ secrets ++ options
-  pub names : are_names secrets ≡ true
-  pub some : 1 ≤ length secrets
-  pub few : length secrets ≤ 64
-  pub are : options_of options ≡ Some values
-
--- the words are this command line; the budget stands in decimal without leading zeros
-pub record IsCheck (words : List (List ℕ)) (check : Check) : Type 0 where
-  pub others : List (List ℕ)
-  pub line :
-      words ≡ codes "check" ∷ check.program ∷ check.public_input ∷ check.cut ∷ decimal check.limits.budget ∷ others
-  pub names : are_names (check.program ∷ check.public_input ∷ check.cut ∷ []) ≡ true
+-- PROG PUBLIC CUT BUDGET SECRET.., with 1 to 64 secrets and the budget in decimal without leading zeros
+pub record IsCheck (parts : Parts) (check : Check) : Type 0 where
+  pub plain :
+      parts.plain ≡ check.program ∷ check.public_input ∷ check.cut ∷ decimal check.limits.budget ∷ check.secrets
+  pub some : 1 ≤ length check.secrets
+  pub few : length check.secrets ≤ 64
   pub budget : check.limits.budget ≤ highest_budget
-  pub options : OptionValues
-  pub secrets : HaveSecrets others check.secrets options
-  pub turns : IsTurnLimit options.turns check.limits.turns
-  pub regions : options.regions ≡ check.region_file
+  pub turns : IsTurnLimit parts.options.turns check.limits.turns
+  pub regions : parts.options.regions ≡ check.region_file
 
--- the words are a command of one file
-abbrev pub IsOfOneFile : List ℕ → List (List ℕ) → List ℕ → Type 0
-IsOfOneFile name words file = (words ≡ name ∷ file ∷ []) × (is_name file ≡ true)
+-- one file and no option
+abbrev pub IsOneFile : Parts → List ℕ → Type 0
+IsOneFile parts file = (parts.plain ≡ file ∷ []) × (parts.options ≡ no_options)
 
--- a command: a check of secrets, the program file of a source, or the listing of a program
-pub data Command : Type 0 where
-  Checks : Check → Command
-  Assembles : List ℕ → Command
-  Lists : List ℕ → Command
+-- the row of each command: its name, and what stands behind it
+abbrev pub IsRow : List ℕ → Parts → Command → Type 0
+IsRow name parts (Checks check) = (name ≡ codes "check") × IsCheck parts check
+IsRow name parts (Assembles source) = (name ≡ codes "asm") × IsOneFile parts source
+IsRow name parts (Lists program) = (name ≡ codes "list") × IsOneFile parts program
 
-abbrev pub IsCommand : List (List ℕ) → Command → Type 0
-IsCommand words (Checks check) = IsCheck words check
-IsCommand words (Assembles source) = IsOfOneFile (codes "asm") words source
-IsCommand words (Lists program) = IsOfOneFile (codes "list") words program
+-- the words are this command line
+pub record IsCommand (words : List (List ℕ)) (command : Command) : Type 0 where
+  pub name : List ℕ
+  pub others : List (List ℕ)
+  pub line : words ≡ name ∷ others
+  pub parts : Parts
+  pub parted : parts_of others ≡ Some parts
+  pub row : IsRow name parts command
+
+-- the words are no command line
+abbrev pub IsNoCommand : List (List ℕ) → Type 0
+IsNoCommand words = (command : Command) → ¬ IsCommand words command

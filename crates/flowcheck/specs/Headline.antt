@@ -14,24 +14,26 @@ use Rattle.lockstep_replay.specs.Tasks.{Task, Limits, task_of, real_of}
 use Rattle.lockstep_replay.specs.Acceptance.{Accept, Done, HasExited, IsOutput}
 use Rattle.lockstep_replay.specs.Verdicts.{Judgement, Accepts, Rejects}
 use Rattle.lockstep_replay.specs.VerdictLaws.{Cause}
-use Rattle.flowcheck.specs.CommandLines.{Check, IsCheck}
+use Rattle.flowcheck.specs.CommandLines.{Check, Checks, IsCommand}
 use Rattle.flowcheck.specs.Texts.{check_text, accepted_count}
-use Rattle.flowcheck.specs.Replies.{AreRegions, limits_of}
+use Rattle.flowcheck.specs.Checks.{AreRegions, limits_of}
 use Rattle.enclosure_regions.specs.declared.region_parts.Region.{Region}
 
--- the source holds these files under these names
-abbrev pub AreHeld : Told → List (List ℕ) → List (List ℕ) → Type 0
-AreHeld told [] [] = Unit {0}
-AreHeld told [] (file ∷ files) = ⊥
-AreHeld told (name ∷ names) [] = ⊥
-AreHeld told (name ∷ names) (file ∷ files) = (told.held name ≡ Some file) × AreHeld told names files
+-- the source holds these files under these names; where it tells nothing, they are as many
+abbrev pub AreHeld : Option Told → List (List ℕ) → List (List ℕ) → Type 0
+AreHeld source [] [] = Unit {0}
+AreHeld source [] (file ∷ files) = ⊥
+AreHeld source (name ∷ names) [] = ⊥
+AreHeld None (name ∷ names) (file ∷ files) = AreHeld None names files
+AreHeld (Some told) (name ∷ names) (file ∷ files) = (told.held name ≡ Some file) × AreHeld (Some told) names files
 
 -- and the region file under its name, where one is named
-abbrev pub IsHeld : Told → Option (List ℕ) → Option (List ℕ) → Type 0
-IsHeld told None None = Unit {0}
-IsHeld told None (Some file) = ⊥
-IsHeld told (Some name) None = ⊥
-IsHeld told (Some name) (Some file) = told.held name ≡ Some file
+abbrev pub IsHeld : Option Told → Option (List ℕ) → Option (List ℕ) → Type 0
+IsHeld source None None = Unit {0}
+IsHeld source None (Some file) = ⊥
+IsHeld source (Some name) None = ⊥
+IsHeld None (Some name) (Some file) = Unit {0}
+IsHeld (Some told) (Some name) (Some file) = told.held name ≡ Some file
 
 -- An accepted secret: it is accepted within the limits; there are at most so many bits; the replay of these bits, on
 -- the task alone, is done with the output of the secret's real run.
@@ -80,18 +82,18 @@ AreFew judgements budget =
     → length outputs ≤ 2 ^ budget
 
 -- The headline of a check, by what the file source tells, the words, the status and the text that is printed.
-pub record Headline (told : Told) (words : List (List ℕ)) (status : ℕ) (text : List ℕ) : Type 0 where
+pub record Headline (source : Option Told) (words : List (List ℕ)) (status : ℕ) (text : List ℕ) : Type 0 where
   pub check : Check
-  pub is_check : IsCheck words check
+  pub is_check : IsCommand words (Checks check)
   pub program_file : List ℕ
   pub public_input : List ℕ
   pub cut_file : List ℕ
   pub secrets : List (List ℕ)
   pub held :
-      AreHeld told (check.program ∷ check.public_input ∷ check.cut ∷ check.secrets)
+      AreHeld source (check.program ∷ check.public_input ∷ check.cut ∷ check.secrets)
       (program_file ∷ public_input ∷ cut_file ∷ secrets)
   pub region_file : Option (List ℕ)
-  pub regions_held : IsHeld told check.region_file region_file
+  pub regions_held : IsHeld source check.region_file region_file
   pub picture : Picture
   pub is_image : IsImage program_file picture
   pub regions : List Region
@@ -104,8 +106,3 @@ pub record Headline (told : Told) (words : List (List ℕ)) (status : ℕ) (text
   pub bound : AreFewOfAll (task_of picture public_input regions cut) (limits_of check.limits)
   pub lines_bound : AreFew judgements check.limits.budget
   pub status_is : status ≡ (if accepted_count judgements == length judgements then 0 else 1)
-
--- where the source tells nothing, nothing is said
-abbrev pub HeadlineByTold : Option Told → List (List ℕ) → ℕ → List ℕ → Type 0
-HeadlineByTold None words status text = Unit {0}
-HeadlineByTold (Some told) words status text = Headline told words status text

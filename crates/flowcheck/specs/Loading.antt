@@ -1,78 +1,44 @@
 -- The loads of a command, in order, and what comes of them.
-use Rattle.std.specs.Prelude.{ℕ, List, [], ◌∷◌, Option, None, Some, Result, Ok, Err}
+use Rattle.std.specs.Prelude.{◌≡◌, ℕ, ◌+◌, ◌≤◌, ◌⊎◌, List, [], ◌∷◌, take, length, Option, None, Some, Result, Ok, Err}
 use Rattle.flow_base.specs.declared.loading.LoadFault.{LoadFault}
-use Rattle.flow_base.specs.declared.loading.LoadFault.TheVariants.{Failed, TooLarge, Memory}
+use Rattle.flow_base.specs.declared.loading.LoadFault.TheVariants as faults
 use Rattle.flow_base.specs.Loads.{Told, after_load, next_answer}
-use Rattle.flowcheck.specs.CommandLines.{Check, Command, Checks, Assembles, Lists}
+use Rattle.flowcheck.specs.declared.kinds.FileKind.{FileKind}
+use Rattle.flowcheck.specs.declared.kinds.FileKind.TheVariants.{Program, PublicInput, Cut, Regions, Secret, Source}
+use Rattle.flowcheck.specs.declared.refusals.Refusal.{Refusal}
+use Rattle.flowcheck.specs.declared.refusals.Refusal.TheVariants.{Load, TooLarge, Memory}
+use Rattle.flowcheck.specs.FileLimits.{limit_of}
+use Rattle.flowcheck.specs.Names.{shown}
 
--- a file by its name, with the number of bytes that it may have
+-- a file by its name, and what it is for
 pub record Want : Type 0 where
   pub name : List ℕ
-  pub limit : ℕ
+  pub kind : FileKind
 
-abbrev pub program_limit : ℕ
-program_limit = 16777216
+abbrev pub want : List ℕ → FileKind → Want
+want name kind = record { name = name; kind = kind }
 
-abbrev pub public_limit : ℕ
-public_limit = 1048576
-
-abbrev pub cut_limit : ℕ
-cut_limit = 67108864
-
-abbrev pub region_limit : ℕ
-region_limit = 65536
-
-abbrev pub secret_limit : ℕ
-secret_limit = 65536
-
-abbrev pub source_limit : ℕ
-source_limit = 1048576
-
-abbrev pub want : List ℕ → ℕ → Want
-want name limit = record { name = name; limit = limit }
-
-abbrev pub secret_wants : List (List ℕ) → List Want
-secret_wants [] = []
-secret_wants (name ∷ names) = want name secret_limit ∷ secret_wants names
-
--- the region file where one is named, and each secret
-abbrev pub other_wants : Option (List ℕ) → List (List ℕ) → List Want
-other_wants None names = secret_wants names
-other_wants (Some region_file) names = want region_file region_limit ∷ secret_wants names
-
--- the program, the public input, the cut, and the others
-abbrev pub wants_of : Check → List Want
-wants_of check =
-    want check.program program_limit ∷ want check.public_input public_limit ∷ want check.cut cut_limit
-    ∷ other_wants check.region_file check.secrets
-
--- the files of a command
-abbrev pub command_wants : Command → List Want
-command_wants (Checks check) = wants_of check
-command_wants (Assembles source) = want source source_limit ∷ []
-command_wants (Lists program) = want program program_limit ∷ []
-
--- the load of a file fails, or the file has more bytes than it may have
-pub data LoadRefusal : Type 0 where
-  CannotLoad : List ℕ → LoadRefusal
-  IsTooLarge : List ℕ → ℕ → LoadRefusal
+-- the refusal of a name whose load was answered by a fault
+abbrev pub load_refusal : List ℕ → LoadFault → Refusal
+load_refusal name faults.Failed = Load (shown name)
+load_refusal name (faults.TooLarge number) = TooLarge (shown name) number
+load_refusal name faults.Memory = Memory
 
 -- a file before the others
-abbrev pub and_file : List ℕ → Result (List (List ℕ)) LoadRefusal → Result (List (List ℕ)) LoadRefusal
+abbrev pub and_file : List ℕ → Result (List (List ℕ)) Refusal → Result (List (List ℕ)) Refusal
 and_file file (Ok files) = Ok (file ∷ files)
 and_file file (Err refusal) = Err refusal
 
 abbrev pub and_load :
-    Want → Result (List ℕ) LoadFault → Result (List (List ℕ)) LoadRefusal → Result (List (List ℕ)) LoadRefusal
+    Want → Result (List ℕ) LoadFault → Result (List (List ℕ)) Refusal → Result (List (List ℕ)) Refusal
 and_load w (Ok file) later = and_file file later
-and_load w (Err Failed) later = Err (CannotLoad w.name)
-and_load w (Err (TooLarge number)) later = Err (IsTooLarge w.name number)
-and_load w (Err Memory) later = later
+and_load w (Err fault) later = Err (load_refusal w.name fault)
 
 -- all files that are wanted, or the first refusal
-abbrev pub loaded_from : Told → List Want → Result (List (List ℕ)) LoadRefusal
+abbrev pub loaded_from : Told → List Want → Result (List (List ℕ)) Refusal
 loaded_from told [] = Ok []
-loaded_from told (w ∷ wants) = and_load w (next_answer told w.name w.limit) (loaded_from (after_load told) wants)
+loaded_from told (w ∷ wants) =
+    and_load w (next_answer told w.name (limit_of w.kind)) (loaded_from (after_load told) wants)
 
 -- the source after these loads: no load is made behind the first that is refused
 abbrev pub after_answer : Result (List ℕ) LoadFault → Told → Told → Told
@@ -82,4 +48,40 @@ after_answer (Err fault) told later = told
 abbrev pub after_loads : Told → List Want → Told
 after_loads told [] = told
 after_loads told (w ∷ wants) =
-    after_answer (next_answer told w.name w.limit) (after_load told) (after_loads (after_load told) wants)
+    after_answer (next_answer told w.name (limit_of w.kind)) (after_load told) (after_loads (after_load told) wants)
+
+-- a file for each that is wanted, each with at most as many bytes as it may have
+abbrev pub AreWithin : List Want → List (List ℕ) → Type 0
+AreWithin [] [] = Unit {0}
+AreWithin [] (file ∷ files) = ⊥
+AreWithin (w ∷ wants) [] = ⊥
+AreWithin (w ∷ wants) (file ∷ files) = (length file ≤ limit_of w.kind) × AreWithin wants files
+
+-- the refusal of a load of one of these
+abbrev pub IsLoadRefusal : List Want → Refusal → Type 0
+IsLoadRefusal [] refusal = ⊥
+IsLoadRefusal (w ∷ wants) refusal =
+    (refusal ≡ Load (shown w.name)) ⊎ ((refusal ≡ TooLarge (shown w.name) (limit_of w.kind + 1))
+    ⊎ IsLoadRefusal wants refusal)
+
+-- what may come of loads, whatever the source holds
+abbrev pub MayLoad : List Want → Result (List (List ℕ)) Refusal → Type 0
+MayLoad wants (Ok files) = AreWithin wants files
+MayLoad wants (Err refusal) = IsLoadRefusal wants refusal
+
+-- and what comes of them where the source tells its meanings
+abbrev pub LoadsAs : Option Told → List Want → Result (List (List ℕ)) Refusal → Type 0
+LoadsAs None wants loaded = Unit {0}
+LoadsAs (Some told) wants loaded = loaded ≡ loaded_from told wants
+
+abbrev pub Loads : Option Told → List Want → Result (List (List ℕ)) Refusal → Type 0
+Loads told wants loaded = MayLoad wants loaded × LoadsAs told wants loaded
+
+-- what a source has after its loads
+abbrev pub Leaves : Option Told → List Want → Option Told → Type 0
+Leaves None wants later = later ≡ None
+Leaves (Some told) wants later = later ≡ Some (after_loads told wants)
+
+-- what a source has after a first part of its loads
+abbrev pub LeavesPart : Option Told → List Want → Option Told → Type 0
+LeavesPart told wants later = (count : ℕ) × Leaves told (take count wants) later

@@ -1,17 +1,26 @@
--- The command that words name.
-use Rattle.std.specs.Prelude.{ℕ, suc, ◌==◌, ◌≤◌, List, [], ◌∷◌, Bool, false, map, string_bytes, option_map}
-use Rattle.std.specs.Prelude.{if◌then◌else◌}
-use Rattle.flowcheck.specs.declared.words.CheckWords.{CheckWords}
-use Rattle.flowcheck.specs.declared.words.CommandWords.{CommandWords}
-use Rattle.flowcheck.specs.declared.words.CommandWords.TheVariants as words
-use Rattle.flowcheck.specs.declared.options.OptionWords.{OptionWords}
-use Rattle.flowcheck.specs.Options.{OptionValues}
+-- What the words of a command line name.
+use Rattle.std.specs.Prelude.{ℕ, ◌≤◌, List, map, option_map}
+use Rattle.flowcheck.specs.declared.check.CheckWords.{CheckWords}
+use Rattle.flowcheck.specs.declared.commands.CommandWords.{CommandWords}
+use Rattle.flowcheck.specs.declared.commands.CommandWords.TheVariants as words
+use Rattle.flowcheck.specs.declared.parts.OptionWords.{OptionWords}
+use Rattle.flowcheck.specs.declared.parts.Parts.{Parts as PartedWords}
+use Rattle.flowcheck.specs.declared.loads.Want.{Want as WantedFile}
+use Rattle.flowcheck.specs.Parts.{OptionValues, Parts}
 use Rattle.flowcheck.specs.CommandLines.{Check, Command, Checks, Assembles, Lists, highest_budget}
+use Rattle.flowcheck.specs.Loading.{Want}
 
 abbrev pub values_of : OptionWords → OptionValues
 values_of words = record {
   turns = option_map (λ word. word.now) words.turns;
   regions = option_map (λ word. word.now) words.regions;
+}
+
+abbrev pub parts_in : PartedWords → Parts
+parts_in parts = record {
+  plain = map (λ word. word.now) parts.plain;
+  options = values_of parts.options;
+  waiting = option_map (λ word. word.now) parts.waiting;
 }
 
 abbrev pub check_of : CheckWords → Check
@@ -20,7 +29,7 @@ check_of words = record {
   public_input = words.public_input.now;
   cut = words.cut.now;
   region_file = option_map (λ word. word.now) words.regions;
-  secrets = map string_bytes words.secrets.now;
+  secrets = map (λ word. word.now) words.secrets;
   limits = words.limits;
 }
 
@@ -29,18 +38,11 @@ command_of (words.Check check) = Checks (check_of check)
 command_of (words.Assemble source) = Assembles source.now
 command_of (words.List program) = Lists program.now
 
--- a word that begins with a dash
-abbrev pub has_dash : List ℕ → Bool
-has_dash [] = false
-has_dash (byte ∷ bytes) = byte == 45
-
--- how many words stand before the first that begins with a dash
-abbrev pub plain_count : List (List ℕ) → ℕ
-plain_count [] = 0
-plain_count (word ∷ words) = if has_dash word then 0 else suc (plain_count words)
-
 -- the budget of a check is within its limit
 abbrev pub HasBudget : CommandWords → Type 0
 HasBudget (words.Check check) = check.limits.budget ≤ highest_budget
 HasBudget (words.Assemble source) = Unit {0}
 HasBudget (words.List program) = Unit {0}
+
+abbrev pub want_of : WantedFile → Want
+want_of want = record { name = want.name.now; kind = want.kind }

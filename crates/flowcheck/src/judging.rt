@@ -4,15 +4,15 @@ ghost use Rattle.cut_file.specs.Pictures.{picture_of as cut_of};
 ghost use Rattle.lockstep_replay.specs.Judgements.{judgement_of};
 ghost use Rattle.lockstep_replay.specs.Tasks.{task_of};
 ghost use Rattle.lockstep_replay.specs.Verdicts.{First};
-ghost use Rattle.flowcheck.specs.Answering.{reply_of};
+ghost use Rattle.flowcheck.specs.CheckFiles.{AreShort};
+ghost use Rattle.flowcheck.specs.Checks.{check_reply, judgements_of, limits_of};
 ghost use Rattle.flowcheck.specs.CommandLines.{highest_budget};
-ghost use Rattle.flowcheck.specs.Replies.{check_reply, judgements_of, limits_of};
-ghost use Rattle.flowcheck.specs.Stops.{AreShort};
-ghost use Rattle.flowcheck.specs.Loading.{secret_limit};
+ghost use Rattle.flowcheck.specs.declared.statuses.Status.TheVariants.{Done, Rejected};
 ghost use Rattle.flowcheck.specs.Texts.{accepted_count, verdict_lines};
 
 use crate::limits::Limits;
 use crate::replies::Reply;
+use crate::statuses::Status;
 use crate::texts::{counts_line, verdict_line};
 use cut_file::Cut;
 use elf32_loader::Image;
@@ -31,7 +31,7 @@ fn judge(
     cut: &Cut,
     limits: Limits,
 ) -> Result<Verdict, NoMemory>
-    requires short { length secret.now ≤ secret_limit }
+    requires short { length secret.now ≤ 65536 }
     requires within { limits.budget ≤ highest_budget }
     ensures { IfOk result (λ verdict. judgement_of verdict ≡ First
         (task_of (picture_of image.now) public_input.now regions.now.items (cut_of cut.now)) (limits_of limits)
@@ -61,12 +61,15 @@ fn accepted_by(verdict: &Verdict) -> usize
     }
 }
 
-/// 0 where all secrets are accepted, else 1.
-fn status_of(accepted: usize, checked: usize) -> u8
-    ensures status { result ≡ (if accepted == checked then 0 else 1) }
-    ensures one { result ≤ 1 }
+/// Done where all secrets are accepted.
+fn status_of(accepted: usize, checked: usize) -> Status
+    ensures { result ≡ (if accepted == checked then Done else Rejected) }
 {
-    if accepted == checked { 0 } else { 1 }
+    if accepted == checked {
+        Status::Done
+    } else {
+        Status::Rejected
+    }
 }
 
 /// The lines of secrets, and how many of them are accepted.
@@ -121,10 +124,9 @@ pub fn check_all(
 ) -> Result<Reply, NoMemory>
     requires short { AreShort secrets.now }
     requires within { limits.budget ≤ highest_budget }
-    ensures reply { IfOk result (λ reply. reply_of reply ≡ check_reply (judgements_of
+    ensures { IfOk result (λ reply. reply ≡ check_reply (judgements_of
         (task_of (picture_of image.now) public_input.now regions.now.items (cut_of cut.now)) (limits_of limits)
         secrets.now) limits.budget) }
-    ensures status { IfOk result (λ reply. reply.status ≤ 1) }
 {
     let lines = lines_of(alloc, image, public_input, regions, cut, limits, secrets)?;
     let counts = counts_line(alloc, secrets.len(), lines.accepted, limits.budget)?;

@@ -1,25 +1,29 @@
 //! How many bits of its secret can a program's output have given away?
 #![tactic(auto)]
 
-mod answering;
+mod asm;
 #[cfg(test)]
 mod break_tests;
+mod check;
+mod commands;
 mod fault_texts;
 mod judging;
+mod kinds;
 mod limits;
+mod list;
 mod loads;
+mod names;
 mod numbers;
-mod one_file;
-mod options;
+mod parts;
 mod refusals;
 #[cfg(test)]
 mod region_tests;
 mod replies;
+mod statuses;
 #[cfg(test)]
 mod tests;
 mod texts;
 mod top;
-mod words;
 
 use flow_base::{DiskFiles, Sink, StandardOut};
 use std::alloc::Global;

@@ -1,169 +1,153 @@
-ghost use Rattle.std.specs.Prelude.{◌≡◌, ◌≢◌, ℕ, IfOk, OnErr};
-ghost use Rattle.elf32_loader.specs.declared.fault.ElfFault.TheVariants.{Memory as NoRoomForProgram};
-ghost use Rattle.cut_file.specs.declared.faults.CutFault.TheVariants.{Memory as NoRoomForCut};
-ghost use Rattle.enclosure_regions.specs.declared.region_faults.RegionFault.TheVariants.{Memory as NoRoomForRegions};
-ghost use Rattle.rv32im_asm.specs.declared.fault.AsmFault.TheVariants.{Memory as NoRoomForSource};
-ghost use Rattle.flowcheck.specs.Answering.{reply_of};
-ghost use Rattle.flowcheck.specs.Loading.{CannotLoad, IsTooLarge};
-ghost use Rattle.flowcheck.specs.Replies.{usage_reply as usage_reply_of, program_reply as program_reply_of};
-ghost use Rattle.flowcheck.specs.Replies.{source_reply as source_reply_of, cut_reply as cut_reply_of};
-ghost use Rattle.flowcheck.specs.Replies.{regions_reply as regions_reply_of, load_reply};
-ghost use Rattle.flowcheck.specs.Stops.{RepliesToStop};
+ghost use Rattle.std.specs.Prelude.{◌≡◌};
+ghost use Rattle.flowcheck.specs.Refusals.{refusal_status};
 
-use crate::fault_texts::{
-    cut_fault_text, program_fault_text, region_fault_text, source_fault_text,
-};
-use crate::loads::LoadStop;
-use crate::replies::Reply;
+use crate::fault_texts::{CutText, ProgramText, SourceText};
+use crate::names::Name;
+use crate::statuses::Status;
 use cut_file::CutFault;
 use elf32_loader::ElfFault;
 use enclosure_regions::RegionFault;
-use flow_base::{Bytes, NoMemory};
+use flow_base::NoMemory;
 use rv32im_asm::AsmFault;
-use std::alloc::Global;
+use std::fmt;
 
-/// The reply to words that are no command line.
-pub fn usage_reply(alloc: Global) -> Result<Reply, NoMemory>
-    ensures { IfOk result (λ reply. reply_of reply ≡ usage_reply_of) }
-{
-    let text = Bytes::from_slice(alloc, b"refused 2 usage\n")?;
-    Ok(Reply { status: 2, text })
+/// Why a command line is refused.
+#[derive(Drop)]
+pub enum Refusal {
+    /// The words are no command line.
+    Usage,
+    /// The program file gives no image.
+    Program(ElfFault),
+    /// The region file gives no regions.
+    Regions(RegionFault),
+    /// The cut file gives no cut.
+    Cut(CutFault),
+    /// The source gives no program.
+    Source(AsmFault),
+    /// The load of this name failed.
+    Load {
+        /// The name.
+        name: Name,
+    },
+    /// This name has more bytes than its file may have.
+    TooLarge {
+        /// The name.
+        name: Name,
+        /// The number of bytes that the file may have, plus 1.
+        number: u32,
+    },
+    /// There was not enough memory; then nothing is told.
+    Memory,
 }
 
-/// A fault of a program file; want of memory is none.
-pub fn program_fault(fault: ElfFault) -> Result<ElfFault, NoMemory>
-    ensures told { IfOk result (λ told. (told ≡ fault) × (fault ≢ NoRoomForProgram)) }
-    ensures none { OnErr result (fault ≡ NoRoomForProgram) }
-{
-    match fault {
-        ElfFault::Memory => Err(NoMemory),
-        fault => Ok(fault),
+impl Refusal {
+    /// The status of the refusal.
+    pub fn status(&self) -> Status
+        ensures { result ≡ refusal_status self.now }
+    {
+        match self {
+            Refusal::Usage => Status::Usage,
+            Refusal::Program(_) | Refusal::Regions(_) | Refusal::Cut(_) | Refusal::Source(_) => {
+                Status::Malformed
+            }
+            Refusal::Load { .. } => Status::LoadFailed,
+            Refusal::TooLarge { .. } => Status::TooLarge,
+            Refusal::Memory => Status::NoMemory,
+        }
     }
 }
 
-/// A fault of a cut file; want of memory is none.
-pub fn cut_fault(fault: CutFault) -> Result<CutFault, NoMemory>
-    ensures told { IfOk result (λ told. (told ≡ fault) × (fault ≢ NoRoomForCut)) }
-    ensures none { OnErr result (fault ≡ NoRoomForCut) }
-{
-    match fault {
-        CutFault::Memory => Err(NoMemory),
-        fault => Ok(fault),
+impl fmt::Display for Refusal {
+    ghost use Rattle.std.specs.Prelude.{Some};
+    ghost use Rattle.flowcheck.specs.Refusals.{refusal_text};
+
+    ghost output = { λ refusal. Some (refusal_text refusal) };
+
+    fn fmt<W: fmt::Write>(&self, f: &mut fmt::Formatter<W>) -> fmt::Result {
+        match self {
+            Refusal::Usage => write!(f, "refused 2 usage"),
+            Refusal::Program(fault) => {
+                let fault = ProgramText(fault);
+                write!(f, "refused 3 program {fault}")
+            }
+            Refusal::Regions(fault) => write!(f, "refused 3 regions {fault}"),
+            Refusal::Cut(fault) => {
+                let fault = CutText(fault);
+                write!(f, "refused 3 cut {fault}")
+            }
+            Refusal::Source(fault) => {
+                let fault = SourceText(fault);
+                write!(f, "refused 3 source {fault}")
+            }
+            Refusal::Load { name } => write!(f, "refused 5 load {name}"),
+            Refusal::TooLarge { name, number } => {
+                write!(f, "refused 6 too-large {name} {number}")
+            }
+            Refusal::Memory => write!(f, "memory"),
+        }
     }
 }
 
-/// A fault of a region file; want of memory is none.
-pub fn region_fault(fault: RegionFault) -> Result<RegionFault, NoMemory>
-    ensures told { IfOk result (λ told. (told ≡ fault) × (fault ≢ NoRoomForRegions)) }
-    ensures none { OnErr result (fault ≡ NoRoomForRegions) }
-{
-    match fault {
-        RegionFault::Memory => Err(NoMemory),
-        fault => Ok(fault),
+impl From<NoMemory> for Refusal {
+    ghost use Rattle.std.specs.Prelude.{◌≡◌};
+    ghost use Rattle.flowcheck.specs.declared.refusals.Refusal.TheVariants.{Memory};
+    ghost use Rattle.flow_base.specs.declared.lists.NoMemory.{NoMemory as TheNoMemory};
+
+    ghost from_gives = { λ _ refusal. refusal ≡ Memory };
+
+    fn from(_: NoMemory) -> Refusal {
+        Refusal::Memory
     }
 }
 
-/// A fault of a source; want of memory is none.
-pub fn source_fault(fault: AsmFault) -> Result<AsmFault, NoMemory>
-    ensures told { IfOk result (λ told. (told ≡ fault) × (fault ≢ NoRoomForSource)) }
-    ensures none { OnErr result (fault ≡ NoRoomForSource) }
-{
-    match fault {
-        AsmFault::Memory => Err(NoMemory),
-        fault => Ok(fault),
+impl From<ElfFault> for Refusal {
+    ghost use Rattle.flowcheck.specs.Refusals.{RefusesProgram};
+
+    ghost from_gives = { RefusesProgram };
+
+    fn from(fault: ElfFault) -> Refusal {
+        match fault {
+            ElfFault::Memory => Refusal::Memory,
+            fault => Refusal::Program(fault),
+        }
     }
 }
 
-/// The reply to a program file that gives no image.
-pub fn program_reply(alloc: Global, fault: &ElfFault) -> Result<Reply, NoMemory>
-    ensures { IfOk result (λ reply. reply_of reply ≡ program_reply_of fault.now) }
-{
-    let fault = program_fault_text(alloc, fault)?;
-    let mut text = b"refused 3 program ".to_vec(alloc)?;
-    text.extend_from_slice(fault.as_slice())?;
-    text.extend_from_slice(b"\n")?;
-    Ok(Reply {
-        status: 3,
-        text: Bytes::from_vec(text),
-    })
+impl From<RegionFault> for Refusal {
+    ghost use Rattle.flowcheck.specs.Refusals.{RefusesRegions};
+
+    ghost from_gives = { RefusesRegions };
+
+    fn from(fault: RegionFault) -> Refusal {
+        match fault {
+            RegionFault::Memory => Refusal::Memory,
+            fault => Refusal::Regions(fault),
+        }
+    }
 }
 
-/// The reply to a source that gives no image.
-pub fn source_reply(alloc: Global, fault: &AsmFault) -> Result<Reply, NoMemory>
-    ensures { IfOk result (λ reply. reply_of reply ≡ source_reply_of fault.now) }
-{
-    let fault = source_fault_text(alloc, fault)?;
-    let mut text = b"refused 3 source ".to_vec(alloc)?;
-    text.extend_from_slice(fault.as_slice())?;
-    text.extend_from_slice(b"\n")?;
-    Ok(Reply {
-        status: 3,
-        text: Bytes::from_vec(text),
-    })
+impl From<CutFault> for Refusal {
+    ghost use Rattle.flowcheck.specs.Refusals.{RefusesCut};
+
+    ghost from_gives = { RefusesCut };
+
+    fn from(fault: CutFault) -> Refusal {
+        match fault {
+            CutFault::Memory => Refusal::Memory,
+            fault => Refusal::Cut(fault),
+        }
+    }
 }
 
-/// The reply to a region file that gives no regions.
-pub fn regions_reply(alloc: Global, fault: &RegionFault) -> Result<Reply, NoMemory>
-    ensures { IfOk result (λ reply. reply_of reply ≡ regions_reply_of fault.now) }
-{
-    let fault = region_fault_text(alloc, fault)?;
-    let mut text = b"refused 3 regions ".to_vec(alloc)?;
-    text.extend_from_slice(fault.as_slice())?;
-    text.extend_from_slice(b"\n")?;
-    Ok(Reply {
-        status: 3,
-        text: Bytes::from_vec(text),
-    })
-}
+impl From<AsmFault> for Refusal {
+    ghost use Rattle.flowcheck.specs.Refusals.{RefusesSource};
 
-/// The reply to a cut file that gives no cut.
-pub fn cut_reply(alloc: Global, fault: &CutFault) -> Result<Reply, NoMemory>
-    ensures { IfOk result (λ reply. reply_of reply ≡ cut_reply_of fault.now) }
-{
-    let fault = cut_fault_text(alloc, fault)?;
-    let mut text = b"refused 3 cut ".to_vec(alloc)?;
-    text.extend_from_slice(fault.as_slice())?;
-    text.extend_from_slice(b"\n")?;
-    Ok(Reply {
-        status: 3,
-        text: Bytes::from_vec(text),
-    })
-}
+    ghost from_gives = { RefusesSource };
 
-/// The reply to a load that fails.
-fn failed_reply(alloc: Global, name: &Bytes) -> Result<Reply, NoMemory>
-    ensures { IfOk result (λ reply. reply_of reply ≡ load_reply (CannotLoad name.now)) }
-{
-    let mut text = b"refused 5 load ".to_vec(alloc)?;
-    text.extend_from_slice(name.as_slice())?;
-    text.extend_from_slice(b"\n")?;
-    Ok(Reply {
-        status: 5,
-        text: Bytes::from_vec(text),
-    })
-}
-
-/// The reply to a file that has more bytes than it may have.
-fn too_large_reply(alloc: Global, name: &Bytes, number: u32) -> Result<Reply, NoMemory>
-    ensures { IfOk result (λ reply. reply_of reply ≡ load_reply (IsTooLarge name.now number)) }
-{
-    let tail = format!(in alloc; " {number}\n")?;
-    let mut text = b"refused 6 too-large ".to_vec(alloc)?;
-    text.extend_from_slice(name.as_slice())?;
-    text.extend_from_slice(tail.as_bytes())?;
-    Ok(Reply {
-        status: 6,
-        text: Bytes::from_vec(text),
-    })
-}
-
-/// The reply to the load that stops a check.
-pub fn stop_reply(alloc: Global, stop: &LoadStop) -> Result<Reply, NoMemory>
-    ensures { IfOk result (λ reply. RepliesToStop stop.now (reply_of reply)) }
-{
-    match stop {
-        LoadStop::Failed { name } => failed_reply(alloc, name),
-        LoadStop::TooLarge { name, number } => too_large_reply(alloc, name, *number),
-        LoadStop::Memory => Err(NoMemory),
+    fn from(fault: AsmFault) -> Refusal {
+        match fault {
+            AsmFault::Memory => Refusal::Memory,
+            fault => Refusal::Source(fault),
+        }
     }
 }

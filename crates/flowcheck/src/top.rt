@@ -1,15 +1,36 @@
-ghost use Rattle.std.specs.Prelude.{◌≡◌, ◌≢◌, ◌≤◌, ℕ, List as Seq, length, take, map, string_bytes, option_map, IsTrue};
+ghost use Rattle.std.specs.Prelude.{◌≡◌, ◌≢◌, ◌≤◌, ℕ, List as Seq, length, take, map, string_bytes, option_map, IfOk, IsTrue};
 ghost use Rattle.std.specs.Prelude.{◌∷◌, []};
 ghost use Rattle.flow_base.specs.Counts.{Rose};
 ghost use Rattle.flow_base.specs.Puts.{after_put};
-ghost use Rattle.flowcheck.specs.Answering.{is_one_of, IsNoCommand, LoadsByTold};
-ghost use Rattle.flowcheck.specs.CommandLines.{Check, IsCheck};
-ghost use Rattle.flowcheck.specs.Headline.{HeadlineByTold};
-ghost use Rattle.flowcheck.specs.Replies.{Reply, RepliesByTold};
+ghost use Rattle.flowcheck.specs.CommandLines.{Check, Checks, IsCommand, IsNoCommand};
+ghost use Rattle.flowcheck.specs.Headline.{Headline};
+ghost use Rattle.flowcheck.specs.Replies.{LeavesWords, LeavesWordsPart, Replies, Reply as WholeReply};
+ghost use Rattle.flowcheck.specs.Statuses.{is_one_of, number_of};
 
-use crate::answering::reply_to;
-use flow_base::{Files, Sink};
+use crate::commands::answer_words;
+use crate::replies::{Reply, reply_of};
+use crate::statuses::Status;
+use flow_base::{Files, NoMemory, Sink};
 use std::alloc::Global;
+
+/// The reply to the words of a command line.
+fn reply_to<F: Files>(alloc: Global, files: &mut F, words: &[String]) -> Result<Reply, NoMemory>
+    ensures reply { IfOk result (λ reply. Replies (F.told files.old) (map string_bytes words.now) (record {
+      status = number_of reply.status;
+      text = reply.text;
+    })) }
+    ensures loads { IfOk result (λ reply. LeavesWords (F.told files.old) (map string_bytes words.now) (F.told
+        files.new)) }
+    ensures first_loads { LeavesWordsPart (F.told files.old) (map string_bytes words.now) (F.told files.new) }
+    ensures cause { IfOk result (λ reply. number_of reply.status ≡ 5 → Rose (F.faults files.old) (F.faults
+        files.new)) }
+    ensures usage { IfOk result (λ reply. number_of reply.status ≡ 2 → IsNoCommand (map string_bytes words.now)) }
+    ensures told { IfOk result (λ reply. number_of reply.status ≤ 6) }
+    ensures refused { IfOk result (λ reply. IsNoCommand (map string_bytes words.now) → number_of reply.status ≡ 2) }
+{
+    let answer = answer_words(alloc, files, words);
+    reply_of(alloc, answer)
+}
 
 /// Answers the words of a command line, which are those after the program's name: files are loaded from `files`, the
 /// whole text is made first, and it is put to `out` by one put.
@@ -18,7 +39,6 @@ use std::alloc::Global;
 /// secret is rejected, 2 where the words are no command line, 3 where a program, a region file, a cut or a source is
 /// malformed, 5 where a load failed, 6 where a file has more bytes than its limit, 7 where the put failed, and 8 for
 /// want of memory; then nothing is put.
-#[tactic(auto, using(crate::proofs::Headlines::headline_by_told))]
 pub fn flowcheck<F: Files, K: Sink>(
     alloc: Global,
     words: Vec<String>,
@@ -30,25 +50,26 @@ pub fn flowcheck<F: Files, K: Sink>(
     ensures refused { IsNoCommand (map string_bytes words.items) → result ≢ 7 → result ≢ 8 → result ≡ 2 }
     ensures load_cause { result ≡ 5 → Rose (F.faults files.old) (F.faults files.new) }
     ensures write_cause { result ≡ 7 → Rose (K.faults out.old) (K.faults out.new) }
-    ensures memory { result ≡ 8 → K.told out.new ≡ K.told out.old }
-    ensures loads { result ≢ 8 → LoadsByTold (F.told files.old) (map string_bytes words.items) (F.told files.new) }
+    ensures memory { result ≡ 8 → (K.told out.new ≡ K.told out.old) × (K.faults out.new ≡ K.faults out.old) }
+    ensures loads { result ≢ 8 → LeavesWords (F.told files.old) (map string_bytes words.items) (F.told files.new) }
+    ensures first_loads { LeavesWordsPart (F.told files.old) (map string_bytes words.items) (F.told files.new) }
     ensures reply { result ≢ 7 → result ≢ 8 →
         (text : Seq ℕ)
-        × RepliesByTold (F.told files.old) (map string_bytes words.items) (record { status = result; text = text })
+        × Replies (F.told files.old) (map string_bytes words.items) (record { status = result; text = text })
         × (K.told out.new ≡ option_map (after_put text) (K.told out.old)) }
-    ensures headline { (check : Check) → IsCheck (map string_bytes words.items) check → result ≤ 1 →
-        (text : Seq ℕ) × HeadlineByTold (F.told files.old) (map string_bytes words.items) result text
+    ensures headline { (check : Check) → IsCommand (map string_bytes words.items) (Checks check) → result ≤ 1 →
+        (text : Seq ℕ) × Headline (F.told files.old) (map string_bytes words.items) result text
         × (K.told out.new ≡ option_map (after_put text) (K.told out.old)) }
     ensures failed_put { result ≡ 7 →
-        (reply : Reply) × (count : ℕ) × RepliesByTold (F.told files.old) (map string_bytes words.items) reply
+        (reply : WholeReply) × (count : ℕ) × Replies (F.told files.old) (map string_bytes words.items) reply
         × (count ≤ length reply.text)
         × (K.told out.new ≡ option_map (after_put (take count reply.text)) (K.told out.old)) }
 {
     let Ok(reply) = reply_to(alloc, files, words.as_slice()) else {
-        return 8;
+        return Status::NoMemory.number();
     };
     match out.put(reply.text.as_slice()) {
-        Ok(()) => reply.status,
-        Err(_) => 7,
+        Ok(()) => reply.status.number(),
+        Err(_) => Status::PutFailed.number(),
     }
 }

@@ -1,7 +1,7 @@
 use Rattle.elf32_loader.specs.Images.{picture_of}
 use Rattle.cut_file.specs.Pictures.{picture_of as cut_of}
 use Rattle.lockstep_replay.specs.Tasks.{task_of}
-use Rattle.flowcheck.specs.Replies.{limits_of}
+use Rattle.flowcheck.specs.Checks.{limits_of}
 use Rattle.flowcheck.proofs.judging.judge.Goals as goal
 
 pub returns : goal.returns

@@ -2,7 +2,7 @@ use Rattle.std.proofs.Common.{◌≡◌, ◌≤◌, ◌+◌, ◌++◌, drop}
 use Rattle.elf32_loader.specs.Images.{picture_of}
 use Rattle.cut_file.specs.Pictures.{picture_of as cut_of}
 use Rattle.lockstep_replay.specs.Tasks.{task_of}
-use Rattle.flowcheck.specs.Replies.{limits_of, judgements_of}
+use Rattle.flowcheck.specs.Checks.{limits_of, judgements_of}
 use Rattle.flowcheck.specs.Texts.{accepted_count, verdict_lines}
 use Rattle.flowcheck.proofs.judging.lines_of.Given as goal
 

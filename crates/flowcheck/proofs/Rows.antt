@@ -1,0 +1,50 @@
+-- The row of a command.
+use Rattle.std.proofs.Common.{◌≡◌, ℕ, List, [], ◌∷◌, codes, Bool, true, false, Option, Some, None, IfSome, ap, sym, ◌∙◌}
+use Rattle.flowcheck.specs.Parts.{Parts, parts_of}
+use Rattle.flowcheck.specs.CommandLines.{Check, Command, Checks, Assembles, Lists, IsCheck, IsOneFile, IsRow, IsCommand}
+
+-- no row of this name and these parts
+pub no_row : (name : List ℕ) (parts : Parts) → (name ≡ codes "check" → (check : Check) → ¬ IsCheck parts check) →
+    (name ≡ codes "asm" → (file : List ℕ) → ¬ IsOneFile parts file) →
+    (name ≡ codes "list" → (file : List ℕ) → ¬ IsOneFile parts file) →
+    (command : Command) → ¬ IsRow name parts command
+no_row name parts checks assembles lists (Checks check) = λ row. checks row.0 check row.1
+no_row name parts checks assembles lists (Assembles source) = λ row. assembles row.0 source row.1
+no_row name parts checks assembles lists (Lists program) = λ row. lists row.0 program row.1
+
+tails : (a c : List ℕ) (b d : List (List ℕ)) → a ∷ b ≡ c ∷ d → b ≡ d
+tails a c b d e = cc
+
+heads : (a c : List ℕ) (b d : List (List ℕ)) → a ∷ b ≡ c ∷ d → a ≡ c
+heads a c b d e = cc
+
+none-some : {A : Type 0} (x : Option A) (a : A) → x ≡ None → x ≡ Some a → ⊥
+none-some x a e h = cc
+
+some-some : {A : Type 0} (x : Option A) (a b : A) → x ≡ Some a → x ≡ Some b → a ≡ b
+some-some x a b e h = cc
+
+-- no command, where the words behind the first have no parts
+pub no_parts_no_command : (words others : List (List ℕ)) (name : List ℕ) → words ≡ name ∷ others → parts_of others ≡ None →
+    (command : Command) → ¬ IsCommand words command
+no_parts_no_command words others name shape none command = λ is.
+    none-some (parts_of others) is.parts none (ap parts_of (tails name is.name others is.others (sym shape ∙ is.line)) ∙ is.parted)
+
+-- or where no row has these parts
+pub no_row_no_command : (words others : List (List ℕ)) (name : List ℕ) (parts : Parts) → words ≡ name ∷ others →
+    parts_of others ≡ Some parts → ((command : Command) → ¬ IsRow name parts command) →
+    (command : Command) → ¬ IsCommand words command
+no_row_no_command words others name parts shape are none command = λ is.
+    let same : parts ≡ is.parts =
+    some-some (parts_of others) parts is.parts are (ap parts_of (tails name is.name others is.others (sym shape ∙ is.line)) ∙ is.parted) in
+    none command (rw (heads name is.name others is.others (sym shape ∙ is.line), same) is.row)
+
+-- a row and the words that have it are a command line
+pub row_command : (words others : List (List ℕ)) (name : List ℕ) (parts : Parts) (command : Command) → words ≡ name ∷ others →
+    parts_of others ≡ Some parts → IsRow name parts command → IsCommand words command
+row_command words others name parts command shape are row =
+    record { name = name; others = others; line = shape; parts = parts; parted = are; row = row }
+
+pub if_some : {A : Type 0} {P Q : A → Type 0} (found : Option A) → ((a : A) → P a → Q a) → IfSome found P → IfSome found Q
+if_some None f h = h
+if_some (Some a) f h = f a h

@@ -1,0 +1,157 @@
+-- The statuses of answers.
+use Rattle.std.proofs.Common.{◌≡◌, ◌≢◌, ◌≤◌, ◌==◌, ◌∙◌, inl, inr, ℕ, List, [], ◌∷◌, length, Bool, true, false, Option, Some, None, Result, Ok, Err, IsTrue, refl, sym, ap, subst, arith, if◌then◌else◌}
+use Rattle.flow_base.specs.Loads.{Told}
+use Rattle.flow_base.specs.Counts.{Rose}
+use Rattle.elf32_loader.specs.Pictures.{Picture}
+use Rattle.enclosure_regions.specs.declared.region_parts.Region.{Region}
+use Rattle.rv32im_asm.specs.declared.fault.AsmFault.{AsmFault}
+use Rattle.rv32im_asm.specs.Assembling.{assembled}
+use Rattle.flowcheck.specs.declared.limits.Limits.{Limits}
+use Rattle.flowcheck.specs.declared.refusals.Refusal.{Refusal}
+use Rattle.flowcheck.specs.declared.refusals.Refusal.TheVariants.{Usage, Program, Regions, Cut, Source, Load, TooLarge, Memory}
+use Rattle.flowcheck.specs.declared.replies.Reply.{Reply}
+use Rattle.flowcheck.specs.declared.statuses.Status.{Status}
+use Rattle.flowcheck.specs.declared.statuses.Status.TheVariants.{Done, Rejected, Usage as Usage', Malformed, LoadFailed, TooLarge as TooLarge', PutFailed, NoMemory}
+use Rattle.flowcheck.specs.Answers.{Answer, told}
+use Rattle.flowcheck.specs.Assemblies.{AnswersSource, program_answer}
+use Rattle.flowcheck.specs.Checks.{AnswersCheck, AnswersCut, AnswersOthers, AnswersProgram, AnswersRegions}
+use Rattle.flowcheck.specs.CommandLines.{Check, Command, Checks, Assembles, Lists, IsCommand, IsNoCommand}
+use Rattle.flowcheck.specs.Listings.{AnswersListed, AnswersListing}
+use Rattle.flowcheck.specs.Loading.{Want, IsLoadRefusal, Loads}
+use Rattle.flowcheck.specs.Refusals.{refusal_status}
+use Rattle.flowcheck.specs.Replies.{AnswersFiles, AnswersLoads, AnswersWords, Replies, reply_of, wants_of}
+use Rattle.flowcheck.specs.SingleLoads.{HasCause}
+use Rattle.flowcheck.specs.Statuses.{is_one_of, number_of}
+use Rattle.flowcheck.specs.Names.{shown}
+
+-- an answer other than usage
+abbrev NoUsage : Answer → Type 0
+NoUsage answer =
+    (number_of (told answer).status ≢ 2)
+    × (number_of (told answer).status ≡ 5 → (name : List ℕ) × (answer ≡ Err (Load name)))
+    × (number_of (told answer).status ≤ 6)
+
+other : (answer : Answer) → number_of (told answer).status ≢ 2 → number_of (told answer).status ≢ 5 →
+    number_of (told answer).status ≤ 6 → NoUsage answer
+other answer two five low = (two, (λ e. absurd (five e)), low)
+
+done-status : (b : Bool) (text : List ℕ) → NoUsage (Ok (record { status = if b then Done else Rejected; text = text }))
+done-status true text = other _ (λ e. omega (arith, e)) (λ e. omega (arith, e)) (omega arith)
+done-status false text = other _ (λ e. omega (arith, e)) (λ e. omega (arith, e)) (omega arith)
+
+by : (answer same : Answer) → answer ≡ same → NoUsage same → NoUsage answer
+by answer same e known = subst (λ a. NoUsage a) (sym e) known
+
+cut-status : (picture : Picture) (public_input : List ℕ) (regions : List Region) (cut_file : List ℕ) (limits : Limits) (secrets : List (List ℕ)) (answer : Answer) →
+    AnswersCut picture public_input regions cut_file limits secrets answer → NoUsage answer
+cut-status picture public_input regions cut_file limits secrets answer (inl (fault, first, room, e)) = by answer _ e (other _ (λ n. omega (arith, n)) (λ n. omega (arith, n)) (omega arith))
+cut-status picture public_input regions cut_file limits secrets answer (inr (cut, text, e)) = by answer _ e (done-status _ _)
+
+regions-status : (picture : Picture) (public_input : List ℕ) (region_file : Option (List ℕ)) (cut_file : List ℕ) (limits : Limits) (secrets : List (List ℕ)) (answer : Answer) →
+    AnswersRegions picture public_input region_file cut_file limits secrets answer → NoUsage answer
+regions-status picture public_input region_file cut_file limits secrets answer (inl (fault, first, e)) = by answer _ e (other _ (λ n. omega (arith, n)) (λ n. omega (arith, n)) (omega arith))
+regions-status picture public_input region_file cut_file limits secrets answer (inr (regions, are, rest)) =
+    cut-status picture public_input regions cut_file limits secrets answer rest
+
+program-status : (limits : Limits) (program_file public_input cut_file : List ℕ) (region_file : Option (List ℕ)) (secrets : List (List ℕ)) (answer : Answer) →
+    AnswersProgram limits program_file public_input cut_file region_file secrets answer → NoUsage answer
+program-status limits program_file public_input cut_file region_file secrets answer (inl (fault, first, e)) = by answer _ e (other _ (λ n. omega (arith, n)) (λ n. omega (arith, n)) (omega arith))
+program-status limits program_file public_input cut_file region_file secrets answer (inr (picture, image, rest)) =
+    regions-status picture public_input region_file cut_file limits secrets answer rest
+
+others-status : (limits : Limits) (program_file public_input cut_file : List ℕ) (name : Option (List ℕ)) (others : List (List ℕ)) (answer : Answer) →
+    AnswersOthers limits program_file public_input cut_file name others answer → NoUsage answer
+others-status limits program_file public_input cut_file None others answer h =
+    program-status limits program_file public_input cut_file None others answer h
+others-status limits program_file public_input cut_file (Some name) [] answer h = absurd h
+others-status limits program_file public_input cut_file (Some name) (region_file ∷ secrets) answer h =
+    program-status limits program_file public_input cut_file (Some region_file) secrets answer h
+
+check-status : (check : Check) (files : List (List ℕ)) (answer : Answer) → AnswersCheck check files answer → NoUsage answer
+check-status check [] answer h = absurd h
+check-status check (program_file ∷ []) answer h = absurd h
+check-status check (program_file ∷ (public_input ∷ [])) answer h = absurd h
+check-status check (program_file ∷ (public_input ∷ (cut_file ∷ others))) answer h =
+    others-status check.limits program_file public_input cut_file check.region_file others answer h
+
+assembled-status : (result : Result Picture AsmFault) → NoUsage (program_answer result)
+assembled-status (Ok picture) = other _ (λ n. omega (arith, n)) (λ n. omega (arith, n)) (omega arith)
+assembled-status (Err fault) = other _ (λ n. omega (arith, n)) (λ n. omega (arith, n)) (omega arith)
+
+source-status : (files : List (List ℕ)) (answer : Answer) → AnswersSource files answer → NoUsage answer
+source-status [] answer h = absurd h
+source-status (source ∷ []) answer h = by answer _ h (assembled-status (assembled source))
+source-status (source ∷ (other ∷ files)) answer h = absurd h
+
+listed-status : (program_file : List ℕ) (answer : Answer) → AnswersListed program_file answer → NoUsage answer
+listed-status program_file answer (inl (fault, first, e)) = by answer _ e (other _ (λ n. omega (arith, n)) (λ n. omega (arith, n)) (omega arith))
+listed-status program_file answer (inr (picture, image, e)) = by answer _ e (other _ (λ n. omega (arith, n)) (λ n. omega (arith, n)) (omega arith))
+
+listing-status : (files : List (List ℕ)) (answer : Answer) → AnswersListing files answer → NoUsage answer
+listing-status [] answer h = absurd h
+listing-status (program_file ∷ []) answer h = listed-status program_file answer h
+listing-status (program_file ∷ (other ∷ files)) answer h = absurd h
+
+files-status : (command : Command) (files : List (List ℕ)) (answer : Answer) → AnswersFiles command files answer → NoUsage answer
+files-status (Checks check) files answer h = check-status check files answer h
+files-status (Assembles source) files answer h = source-status files answer h
+files-status (Lists program) files answer h = listing-status files answer h
+
+refusal-status : (wants : List Want) (refusal : Refusal) → IsLoadRefusal wants refusal → NoUsage (Err refusal)
+refusal-status [] refusal is = absurd is
+refusal-status (w ∷ wants) refusal (inl is) =
+    subst (λ r. NoUsage (Err r)) (sym is) (λ n. omega (arith, n), (λ n. (shown w.name, refl)), omega arith)
+refusal-status (w ∷ wants) refusal (inr (inl is)) =
+    subst (λ r. NoUsage (Err r)) (sym is) (other _ (λ n. omega (arith, n)) (λ n. omega (arith, n)) (omega arith))
+refusal-status (w ∷ wants) refusal (inr (inr is)) = refusal-status wants refusal is
+
+loads-status : (source : Option Told) (command : Command) (loaded : Result (List (List ℕ)) Refusal) (answer : Answer) →
+    Loads source (wants_of command) loaded → AnswersLoads command loaded answer → NoUsage answer
+loads-status source command (Ok files) answer loads h = files-status command files answer h
+loads-status source command (Err refusal) answer loads h = by answer _ h (refusal-status (wants_of command) refusal loads.0)
+
+-- status 2 comes for other words
+pub usage_words : (source : Option Told) (words : List (List ℕ)) (answer : Answer) (reply : Reply) → AnswersWords source words answer →
+    reply ≡ told answer → number_of reply.status ≡ 2 → IsNoCommand words
+usage_words source words answer reply (inl (none, e)) is two = none
+usage_words source words answer reply (inr (command, named, (loaded, loads, h))) is two =
+    absurd ((loads-status source command loaded answer loads h).0 (sym (ap (λ r. number_of r.status) is) ∙ two))
+
+-- and exactly for them
+pub words_usage : (source : Option Told) (words : List (List ℕ)) (answer : Answer) (reply : Reply) → AnswersWords source words answer →
+    reply ≡ told answer → IsNoCommand words → number_of reply.status ≡ 2
+words_usage source words answer reply (inl (none, e)) is other = ap (λ r. number_of r.status) is ∙ ap (λ a. number_of (told a).status) e
+words_usage source words answer reply (inr (command, named, h)) is other = absurd (other command named)
+
+two-five : (n : ℕ) → n ≡ 2 → n ≡ 5 → ⊥
+two-five n e h = omega arith
+
+-- status 5 comes of a load that failed
+pub load_cause : (source : Option Told) (words : List (List ℕ)) (answer : Answer) (reply : Reply) (before now : ℕ) →
+    AnswersWords source words answer → HasCause answer before now → reply ≡ told answer → number_of reply.status ≡ 5 → Rose before now
+load_cause source words answer reply before now (inl (none, e)) cause is five =
+    absurd (two-five (number_of reply.status) (ap (λ r. number_of r.status) is ∙ ap (λ a. number_of (told a).status) e) five)
+load_cause source words answer reply before now (inr (command, named, (loaded, loads, h))) cause is five =
+    let load = (loads-status source command loaded answer loads h).1 (sym (ap (λ r. number_of r.status) is) ∙ five) in
+    cause load.0 load.1
+
+low-number : (n m : ℕ) → n ≡ m → m ≤ 6 → n ≤ 6
+low-number n m e h = omega arith
+
+two-low : (n : ℕ) → n ≡ 2 → n ≤ 6
+two-low n e = omega arith
+
+-- what is told has a status of the command
+pub low_status : (source : Option Told) (words : List (List ℕ)) (answer : Answer) (reply : Reply) → AnswersWords source words answer →
+    reply ≡ told answer → number_of reply.status ≤ 6
+low_status source words answer reply (inl (none, e)) is =
+    two-low (number_of reply.status) (ap (λ r. number_of r.status) is ∙ ap (λ a. number_of (told a).status) e)
+low_status source words answer reply (inr (command, named, (loaded, loads, h))) is =
+    low-number (number_of reply.status) (number_of (told answer).status) (ap (λ r. number_of r.status) is)
+    (loads-status source command loaded answer loads h).2
+
+-- a reply by its number
+pub reply_shown : (answer : Answer) (reply : Reply) → reply ≡ told answer →
+    record { status = number_of reply.status; text = reply.text } ≡ reply_of answer
+reply_shown answer reply is =
+    ap (λ (r : Reply). record { status = number_of r.status; text = r.text }) is

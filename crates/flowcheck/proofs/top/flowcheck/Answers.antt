@@ -1,0 +1,54 @@
+use Rattle.std.proofs.Common.{◌≡◌, ◌∙◌, ◌≤◌, ℕ, sym, subst, map, string_bytes, arith}
+use Rattle.flowcheck.specs.Replies.{Replies}
+use Rattle.flowcheck.specs.Statuses.{number_of}
+use Rattle.flowcheck.proofs.Headlines.{headline_of}
+use Rattle.flowcheck.proofs.top.flowcheck.Goals as goal
+
+not-eight : (n m : ℕ) → n ≡ m → m ≤ 6 → n ≡ 8 → ⊥
+not-eight n m e low eight = omega arith
+
+pub returns-in-Ok-put-clause-usage : goal.returns-in-Ok-put-clause-usage
+returns-in-Ok-put-clause-usage g c = λ two.
+    rw c.as_slice.ensures.value at c.in-Ok.ensures.usage (sym c.number-in-Ok-put.ensures ∙ two)
+
+pub returns-in-Ok-put-clause-refused : goal.returns-in-Ok-put-clause-refused
+returns-in-Ok-put-clause-refused g c = λ none. λ seven. λ eight.
+    c.number-in-Ok-put.ensures ∙ (rw c.as_slice.ensures.value at c.in-Ok.ensures.refused) none
+
+pub returns-in-Ok-put-clause-memory : goal.returns-in-Ok-put-clause-memory
+returns-in-Ok-put-clause-memory g c = λ eight.
+    absurd (not-eight c.number-in-Ok-put.result (number_of c.in-Ok.reply.status) c.number-in-Ok-put.ensures c.in-Ok.ensures.told eight)
+
+pub returns-in-Ok-put-clause-loads : goal.returns-in-Ok-put-clause-loads
+returns-in-Ok-put-clause-loads g c = λ eight. rw c.as_slice.ensures.value at c.in-Ok.ensures.loads
+
+pub returns-in-Ok-put-clause-reply : goal.returns-in-Ok-put-clause-reply
+returns-in-Ok-put-clause-reply g c = λ seven. λ eight.
+    let replies = rw c.as_slice.ensures.value at c.in-Ok.ensures.reply in
+    let text = c.in-Ok.reply.text in (
+      text,
+      subst (λ n. Replies (g.F.Files.told c.args.files.now) (map string_bytes c.args.words.items) (record { status = n; text = text }))
+          (sym c.number-in-Ok-put.ensures) replies,
+      rw c.as_slice-2.ensures at c.in-Ok-put.ensures.puts,
+    )
+
+pub returns-in-Ok-put-clause-headline : goal.returns-in-Ok-put-clause-headline
+returns-in-Ok-put-clause-headline g c = λ check. λ is. λ low.
+    let replies = rw c.as_slice.ensures.value at c.in-Ok.ensures.reply in
+    let text = c.in-Ok.reply.text in (
+      text,
+      headline_of (g.F.Files.told c.args.files.now) (map string_bytes c.args.words.items) c.number-in-Ok-put.result text check is
+          (subst (λ n. Replies (g.F.Files.told c.args.files.now) (map string_bytes c.args.words.items) (record { status = n; text = text }))
+          (sym c.number-in-Ok-put.ensures) replies) low,
+      rw c.as_slice-2.ensures at c.in-Ok-put.ensures.puts,
+    )
+
+pub returns-clause-loads : goal.returns-clause-loads
+returns-clause-loads g c = λ eight. rw c.as_slice.ensures.value at c.in-Ok.ensures.loads
+
+pub returns-clause-failed_put : goal.returns-clause-failed_put
+returns-clause-failed_put g c = λ seven.
+    let replies = rw c.as_slice.ensures.value at c.in-Ok.ensures.reply in
+    let text = c.in-Ok.reply.text in
+    let (count, few, put) = rw c.as_slice-2.ensures at c.in-Err.ensures.puts in
+    (record { status = number_of c.in-Ok.reply.status; text = text }, count, replies, few, put)

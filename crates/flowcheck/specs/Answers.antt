@@ -1,0 +1,13 @@
+-- What a command is answered by: a reply, or a refusal, which is told by one line.
+use Rattle.std.specs.Prelude.{ℕ, List, ◌++◌, codes, Result, Ok, Err}
+use Rattle.flowcheck.specs.declared.refusals.Refusal.{Refusal}
+use Rattle.flowcheck.specs.declared.replies.Reply.{Reply}
+use Rattle.flowcheck.specs.Refusals.{refusal_status, refusal_text}
+
+abbrev pub Answer : Type 0
+Answer = Result Reply Refusal
+
+-- the reply that an answer is told by
+abbrev pub told : Answer → Reply
+told (Ok reply) = reply
+told (Err refusal) = record { status = refusal_status refusal; text = refusal_text refusal ++ codes "\n" }

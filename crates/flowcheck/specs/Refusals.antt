@@ -1,0 +1,54 @@
+-- The statuses and the texts of refusals. Want of memory is never told.
+use Rattle.std.specs.Prelude.{◌≡◌, ◌≢◌, ℕ, List, ◌++◌, codes}
+use Rattle.std.specs.Fmt.{decimal}
+use Rattle.elf32_loader.specs.declared.fault.ElfFault.{ElfFault}
+use Rattle.elf32_loader.specs.declared.fault.ElfFault.TheVariants.{Memory as NoRoomForProgram}
+use Rattle.cut_file.specs.declared.faults.CutFault.{CutFault}
+use Rattle.cut_file.specs.declared.faults.CutFault.TheVariants.{Memory as NoRoomForCut}
+use Rattle.enclosure_regions.specs.declared.region_faults.RegionFault.{RegionFault}
+use Rattle.enclosure_regions.specs.declared.region_faults.RegionFault.TheVariants.{Memory as NoRoomForRegions}
+use Rattle.enclosure_regions.specs.Texts.{fault_text as region_fault_text}
+use Rattle.rv32im_asm.specs.declared.fault.AsmFault.{AsmFault}
+use Rattle.rv32im_asm.specs.declared.fault.AsmFault.TheVariants.{Memory as NoRoomForSource}
+use Rattle.flowcheck.specs.declared.refusals.Refusal.{Refusal}
+use Rattle.flowcheck.specs.declared.refusals.Refusal.TheVariants.{Usage, Program, Regions, Cut, Source, Load, TooLarge}
+use Rattle.flowcheck.specs.declared.refusals.Refusal.TheVariants.{Memory}
+use Rattle.flowcheck.specs.declared.statuses.Status.{Status}
+use Rattle.flowcheck.specs.declared.statuses.Status.TheVariants as statuses
+use Rattle.flowcheck.specs.FaultTexts.{cut_fault_text, program_fault_text, source_fault_text}
+
+abbrev pub refusal_status : Refusal → Status
+refusal_status Usage = statuses.Usage
+refusal_status (Program fault) = statuses.Malformed
+refusal_status (Regions fault) = statuses.Malformed
+refusal_status (Cut fault) = statuses.Malformed
+refusal_status (Source fault) = statuses.Malformed
+refusal_status (Load name) = statuses.LoadFailed
+refusal_status (TooLarge name number) = statuses.TooLarge
+refusal_status Memory = statuses.NoMemory
+
+abbrev pub refusal_text : Refusal → List ℕ
+refusal_text Usage = codes "refused 2 usage"
+refusal_text (Program fault) = codes "refused 3 program " ++ program_fault_text fault
+refusal_text (Regions fault) = codes "refused 3 regions " ++ region_fault_text fault
+refusal_text (Cut fault) = codes "refused 3 cut " ++ cut_fault_text fault
+refusal_text (Source fault) = codes "refused 3 source " ++ source_fault_text fault
+refusal_text (Load name) = codes "refused 5 load " ++ name
+refusal_text (TooLarge name number) = codes "refused 6 too-large " ++ (name ++ (codes " " ++ decimal number))
+refusal_text Memory = codes "memory"
+
+-- the refusal by a fault of a file; want of memory stays what it is
+abbrev pub RefusesProgram : ElfFault → Refusal → Type 0
+RefusesProgram fault refusal =
+    (fault ≡ NoRoomForProgram → refusal ≡ Memory) × (fault ≢ NoRoomForProgram → refusal ≡ Program fault)
+
+abbrev pub RefusesRegions : RegionFault → Refusal → Type 0
+RefusesRegions fault refusal =
+    (fault ≡ NoRoomForRegions → refusal ≡ Memory) × (fault ≢ NoRoomForRegions → refusal ≡ Regions fault)
+
+abbrev pub RefusesCut : CutFault → Refusal → Type 0
+RefusesCut fault refusal = (fault ≡ NoRoomForCut → refusal ≡ Memory) × (fault ≢ NoRoomForCut → refusal ≡ Cut fault)
+
+abbrev pub RefusesSource : AsmFault → Refusal → Type 0
+RefusesSource fault refusal =
+    (fault ≡ NoRoomForSource → refusal ≡ Memory) × (fault ≢ NoRoomForSource → refusal ≡ Source fault)

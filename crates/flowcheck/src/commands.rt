@@ -1,0 +1,168 @@
+ghost use Rattle.std.specs.Prelude.{◌≡◌, ◌≢◌, ◌≤◌, ◌∷◌, [], ℕ, List as Seq, Err, None, Ok, map, string_bytes};
+ghost use Rattle.std.specs.Prelude.{IfNone, IfOk, IfSome};
+ghost use Rattle.flow_base.specs.Counts.{Rose};
+ghost use Rattle.flowcheck.specs.CommandLines.{Command, IsCommand, IsNoCommand, IsOneFile, IsRow};
+ghost use Rattle.flowcheck.specs.Loading.{AreWithin, Leaves, LeavesPart, want};
+ghost use Rattle.flowcheck.specs.Replies.{AnswersCommand, AnswersFiles, AnswersWords, LeavesWords, LeavesWordsPart};
+ghost use Rattle.flowcheck.specs.Replies.{wants_of as wants_of_of};
+ghost use Rattle.flowcheck.specs.SingleLoads.{HasCause};
+ghost use Rattle.flowcheck.specs.Words.{HasBudget, command_of, parts_in, want_of};
+ghost use Rattle.flowcheck.specs.declared.refusals.Refusal.TheVariants.{Load, Memory};
+
+use crate::check::{self, CheckWords};
+use crate::kinds::FileKind;
+use crate::loads::{Want, load_all};
+use crate::parts::{Parts, parts_of};
+use crate::refusals::Refusal;
+use crate::replies::Reply;
+use crate::{asm, list};
+use flow_base::{Bytes, Files, List, NoMemory};
+use std::alloc::Global;
+
+/// The words of a command.
+#[derive(Drop)]
+pub enum CommandWords<'a> {
+    /// `check PROG PUBLIC CUT BUDGET SECRET.. [--turns N] [--regions FILE]`
+    Check(CheckWords<'a>),
+    /// `asm SOURCE`
+    Assemble { source: &'a str },
+    /// `list PROG`
+    List { program: &'a str },
+}
+
+/// The file that the words behind a command of one file name; None exactly where they name none.
+fn file_word<'a>(parts: &Parts<'a>) -> Option<&'a str>
+    ensures is { IfSome result (λ file. IsOneFile (parts_in parts.now) file.now) }
+    ensures none { IfNone result ((file : Seq ℕ) → ¬ IsOneFile (parts_in parts.now) file) }
+{
+    if parts.options.turns.is_some() || parts.options.regions.is_some() {
+        return None;
+    }
+    match parts.plain.as_slice() {
+        [file] => Some(*file),
+        _ => None,
+    }
+}
+
+/// The command of a name and the words behind it; None exactly where there is none.
+fn row_of<'a>(
+    alloc: Global,
+    name: &str,
+    parts: &Parts<'a>,
+) -> Result<Option<CommandWords<'a>>, NoMemory>
+    ensures is { IfOk result (λ found. IfSome found (λ command. IsRow name.now (parts_in parts.now) (command_of
+        command))) }
+    ensures budget { IfOk result (λ found. IfSome found (λ command. HasBudget command)) }
+    ensures none { result ≡ Ok None → (command : Command) → ¬ IsRow name.now (parts_in parts.now) command }
+{
+    if name == "check" {
+        let Some(check) = check::check_words(alloc, parts)? else {
+            return Ok(None);
+        };
+        return Ok(Some(CommandWords::Check(check)));
+    }
+    if name == "asm" {
+        let Some(source) = file_word(parts) else {
+            return Ok(None);
+        };
+        return Ok(Some(CommandWords::Assemble { source }));
+    }
+    if name == "list" {
+        let Some(program) = file_word(parts) else {
+            return Ok(None);
+        };
+        return Ok(Some(CommandWords::List { program }));
+    }
+    Ok(None)
+}
+
+/// The command that words name; None exactly where they are no command line that is understood.
+pub fn command_words<'a>(
+    alloc: Global,
+    words: &'a [String],
+) -> Result<Option<CommandWords<'a>>, NoMemory>
+    ensures is { IfOk result (λ found. IfSome found (λ command. IsCommand (map string_bytes words.entry.now)
+        (command_of command))) }
+    ensures budget { IfOk result (λ found. IfSome found (λ command. HasBudget command)) }
+    ensures none { result ≡ Ok None → IsNoCommand (map string_bytes words.entry.now) }
+{
+    let [name, others @ ..] = words else {
+        return Ok(None);
+    };
+    let Some(parts) = parts_of(alloc, others)? else {
+        return Ok(None);
+    };
+    row_of(alloc, name.as_str(), &parts)
+}
+
+/// The one file of a command.
+fn one_want<'a>(alloc: Global, name: &'a str, kind: FileKind) -> Result<List<Want<'a>>, NoMemory>
+    ensures { IfOk result (λ wants. map want_of wants ≡ want name.entry.now kind ∷ []) }
+{
+    let mut wants = List::new(alloc);
+    wants.push(Want { name, kind })?;
+    Ok(wants)
+}
+
+/// The files that a command wants, in the order of their loads.
+fn wants_of<'a>(alloc: Global, command: &CommandWords<'a>) -> Result<List<Want<'a>>, NoMemory>
+    ensures { IfOk result (λ wants. map want_of wants ≡ wants_of_of (command_of command.now)) }
+{
+    match command {
+        CommandWords::Check(check) => check::wants(alloc, check),
+        CommandWords::Assemble { source } => one_want(alloc, *source, FileKind::Source),
+        CommandWords::List { program } => one_want(alloc, *program, FileKind::Program),
+    }
+}
+
+/// The answer of a command to its files.
+fn answer_files(alloc: Global, command: &CommandWords, files: &[Bytes]) -> Result<Reply, Refusal>
+    requires budget { HasBudget command.now }
+    requires within { AreWithin (wants_of_of (command_of command.now)) files.now }
+    ensures answers { result ≢ Err Memory → AnswersFiles (command_of command.now) files.now result }
+    ensures cause { (name : Seq ℕ) → result ≢ Err (Load name) }
+{
+    match command {
+        CommandWords::Check(check) => check::answer(alloc, check, files),
+        CommandWords::Assemble { .. } => asm::answer(alloc, files),
+        CommandWords::List { .. } => list::answer(alloc, files),
+    }
+}
+
+/// The answer of a command: to its files, once they are loaded.
+fn answer_command<F: Files>(
+    alloc: Global,
+    files: &mut F,
+    command: &CommandWords,
+) -> Result<Reply, Refusal>
+    requires budget { HasBudget command.now }
+    ensures answers { result ≢ Err Memory → AnswersCommand (F.told files.old) (command_of command.now) result }
+    ensures leaves { result ≢ Err Memory → Leaves (F.told files.old) (wants_of_of (command_of command.now))
+        (F.told files.new) }
+    ensures part { LeavesPart (F.told files.old) (wants_of_of (command_of command.now)) (F.told files.new) }
+    ensures cause { HasCause result (F.faults files.old) (F.faults files.new) }
+    ensures faults { F.faults files.old ≤ F.faults files.new }
+{
+    let wants = wants_of(alloc, command)?;
+    let loaded = load_all(alloc, files, wants.as_slice())?;
+    answer_files(alloc, command, loaded.as_slice())
+}
+
+/// The answer to the words of a command line.
+pub fn answer_words<F: Files>(
+    alloc: Global,
+    files: &mut F,
+    words: &[String],
+) -> Result<Reply, Refusal>
+    ensures answers { result ≢ Err Memory → AnswersWords (F.told files.old) (map string_bytes words.now) result }
+    ensures leaves { result ≢ Err Memory → LeavesWords (F.told files.old) (map string_bytes words.now) (F.told
+        files.new) }
+    ensures part { LeavesWordsPart (F.told files.old) (map string_bytes words.now) (F.told files.new) }
+    ensures cause { HasCause result (F.faults files.old) (F.faults files.new) }
+    ensures faults { F.faults files.old ≤ F.faults files.new }
+{
+    match command_words(alloc, words)? {
+        Some(command) => answer_command(alloc, files, &command),
+        None => Err(Refusal::Usage),
+    }
+}

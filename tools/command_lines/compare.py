@@ -1,0 +1,120 @@
+#!/usr/bin/env python3
+"""compare.py [--trials N] [--seed N] COMMAND [WORD...]
+
+Runs random lists of words through an executable in an empty folder, and judges each as the definition of command lines
+does: its reading is written here once more, apart from the program. Words that are no command line must be answered by
+status 2 and `refused 2 usage`; a command line by status 5 and the name of its first file, since the folder holds none.
+COMMAND may be several words; they stand before a trial's words. Prints each list that differs, and last `N passed, M
+failed`; the status is 1 where one failed."""
+import argparse
+import random
+import subprocess
+import sys
+import tempfile
+from concurrent.futures import ThreadPoolExecutor
+
+OPTIONS = {"check": ("--turns", "--regions"), "asm": (), "list": ()}
+
+
+def number(word, lowest, highest):
+    """Whether a word is a decimal without leading zeros within the range."""
+    return word.isascii() and word.isdigit() and str(int(word)) == word and lowest <= int(word) <= highest
+
+
+def first_file(words):
+    """The name of the first file of a command line, or None where the words are none."""
+    if not words or words[0] not in OPTIONS:
+        return None
+    taken, plain, rest = {}, [], list(words[1:])
+    while rest:
+        word = rest.pop(0)
+        if not word:
+            return None
+        if not word.startswith("-"):
+            plain.append(word)
+            continue
+        name, equals, value = word.partition("=")
+        if not equals:
+            if not rest or rest[0].startswith("-"):
+                return None
+            value = rest.pop(0)
+        if not value or name not in OPTIONS[words[0]] or name in taken:
+            return None
+        taken[name] = value
+    if words[0] != "check":
+        return plain[0] if len(plain) == 1 else None
+    if not 5 <= len(plain) <= 68 or not number(plain[3], 0, 1_048_576):
+        return None
+    if not number(taken.get("--turns", "1"), 1, 20_000_000):
+        return None
+    return plain[0]
+
+
+ODD = ["", "-", "--", "-x", "--help", "--version", "--json", "--turns", "--turns=", "--turns=5", "--regions", "--regions=",
+       "--regions=r", "--regions=-r", "--regions=a=b", "--turns=05", "--turns=0", "--turns=20000001", "--turn=5", "a=b", "=",
+       "=5", "-t=5", "05", "1048577", "+5", " 5", "check", "measure"]
+
+
+def option(rng):
+    kind = rng.randrange(8)
+    turns = rng.choice(["1", "5", "20000000", "0", "05", "-5", "20000001", "x"]) if rng.random() < 0.3 else "7"
+    return [["--turns", turns], ["--turns=" + turns], ["--regions", "r"], ["--regions=r"], ["--regions=-r"],
+            ["--turns"], ["--regions", ""], ["--regions=a=b"]][kind if rng.random() < 0.3 else kind % 4]
+
+
+def trial(rng):
+    """Words that are nearly a command line."""
+    command = rng.choice(["check"] * 6 + ["asm", "list", "help", "measure"])
+    if command == "check":
+        budget = rng.choice(["0", "8", "1048576"] * 4 + ["1048577", "08", "-8", "", "x", "4294967296"])
+        count = rng.choice([1, 1, 2, 3, 64] * 3 + [0, 65])
+        parts = [["prog"], ["public"], ["cut"], [budget]] + [["s%d" % i] for i in range(count)]
+    else:
+        parts = [["file"]] * rng.choice([1, 1, 1, 0, 2])
+    for _ in range(rng.choice([0, 0, 1, 1, 2, 2, 3])):
+        parts.insert(rng.randrange(len(parts) + 1), option(rng))
+    words = [command] + [word for part in parts for word in part]
+    for _ in range(rng.choice([0, 0, 0, 0, 1, 2])):
+        change = rng.randrange(4)
+        at = rng.randrange(len(words) + 1)
+        if change == 0:
+            words.insert(at, rng.choice(ODD))
+        elif change == 1 and at < len(words):
+            words[at] = rng.choice(ODD)
+        elif change == 2 and at < len(words):
+            del words[at]
+        elif at + 1 < len(words):
+            words[at], words[at + 1] = words[at + 1], words[at]
+    return words
+
+
+def judge(command, folder, words):
+    if words in (["--help"], ["--version"]):
+        return None
+    run = subprocess.run(command + words, cwd=folder, stdout=subprocess.PIPE, stderr=subprocess.DEVNULL, timeout=60)
+    name = first_file(words)
+    wanted = (2, "refused 2 usage\n") if name is None else (5, "refused 5 load %s\n" % name)
+    seen = (run.returncode, run.stdout.decode(errors="replace"))
+    return None if seen == wanted else "%r: %r, wanted %r" % (words, seen, wanted)
+
+
+def main():
+    parser = argparse.ArgumentParser()
+    parser.add_argument("--trials", type=int, default=10_000)
+    parser.add_argument("--seed", type=int, default=1)
+    parser.add_argument("command", nargs=argparse.REMAINDER)
+    args = parser.parse_args()
+    rng = random.Random(args.seed)
+    lists = [trial(rng) for _ in range(args.trials)]
+    with tempfile.TemporaryDirectory() as folder, ThreadPoolExecutor(2) as pool:
+        failed = [line for line in pool.map(lambda words: judge(args.command, folder, words), lists) if line]
+    for line in failed:
+        print(line)
+    usage = sum(first_file(words) is None for words in lists)
+    print("%d of %d are usage" % (usage, len(lists)), file=sys.stderr)
+    print("%d passed, %d failed" % (len(lists) - len(failed), len(failed)))
+    return 1 if failed else 0
+
+
+if __name__ == "__main__":
+    sys.exit(main())
