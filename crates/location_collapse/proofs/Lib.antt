@@ -4,3 +4,4 @@ pub mod Marking
 pub mod Limiting
 pub mod Taking
 pub mod Sorted
+pub mod Exceeding

@@ -27,7 +27,7 @@ use Rattle.location_collapse.proofs.Putting.{found_small}
 -- ---- no limit is exceeded
 
 -- what holds of each item of a list holds of what is the same as one of them
-of_members : {K : Type 0} (eq : K → K → Bool) (test : K → Bool) → ((x q : K) → eq q x ≡ true → test x ≡ true → test q ≡
+pub of_members : {K : Type 0} (eq : K → K → Bool) (test : K → Bool) → ((x q : K) → eq q x ≡ true → test x ≡ true → test q ≡
     true) → (xs : List K) → list_all test xs ≡ true → (q : K) → list_any (eq q) xs ≡ true → test q ≡ true
 of_members eq test alike [] all q any = absurd (cc)
 of_members eq test alike (x ∷ xs) all q any =
@@ -89,7 +89,7 @@ not_exceeding capacities links events keeps small few few_links (inr (inr large)
 
 -- ---- a limit is exceeded
 
-all_more : {K : Type 0} (test other : K → Bool) → ((x : K) → test x ≡ true → other x ≡ true) → (xs : List K) →
+pub all_more : {K : Type 0} (test other : K → Bool) → ((x : K) → test x ≡ true → other x ≡ true) → (xs : List K) →
     list_all test xs ≡ true → list_all other xs ≡ true
 all_more test other grows [] all = refl
 all_more test other grows (x ∷ xs) all =
@@ -113,7 +113,7 @@ still n m has =
     (λ (e : (n == 0) ≡ false). ap not (ne_eqb (n + m) 0 (λ z. eqb-false n 0 e (omega (arith, z)))))
     (cases_Bool (n == 0))
 
-still_passed : (events : List Event) (e : Event) (q : Point) → has_passed events q ≡ true → has_passed
+pub still_passed : (events : List Event) (e : Event) (q : Point) → has_passed events q ≡ true → has_passed
     (events ++ e ∷ []) q ≡ true
 still_passed events e q has = ap (λ n. not (n == 0)) (passed-push events e q) ∙ still (passed events q) (bits_at q e) has
 

@@ -1,3 +1,4 @@
 pub mod Limits
 pub mod Collapses
 pub mod Sorting
+pub mod LimitLaws

@@ -7,6 +7,7 @@ mod collapses;
 mod faults;
 mod kept_links;
 mod kept_points;
+mod laws;
 mod sorting;
 #[cfg(test)]
 mod tests;
@@ -17,3 +18,4 @@ pub use faults::CollapseFault;
 pub use kept_links::KeptLinks;
 #[doc(hidden)]
 pub use kept_points::KeptPoints;
+pub use laws::{graphs_exceed, more_events_exceed};

@@ -1,0 +1,5 @@
+use Rattle.location_collapse.proofs.Exceeding.{graph_exceeds}
+use Rattle.location_collapse.proofs.laws.graphs_exceed.Goals as goal
+
+pub returns : goal.returns
+returns c = graph_exceeds

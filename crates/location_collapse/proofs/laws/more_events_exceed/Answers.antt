@@ -1,0 +1,5 @@
+use Rattle.location_collapse.proofs.Exceeding.{more_exceed}
+use Rattle.location_collapse.proofs.laws.more_events_exceed.Goals as goal
+
+pub returns : goal.returns
+returns c = more_exceed
