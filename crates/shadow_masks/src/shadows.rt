@@ -5,7 +5,8 @@ ghost use Rattle.shadow_masks.specs.Labels.{clean, IsLabel, IsByteLabel};
 ghost use Rattle.shadow_masks.specs.Pages.{label_from, labels_from, AreClean};
 ghost use Rattle.flow_base.specs.Guests.{memory_size};
 ghost use Rattle.shadow_masks.specs.Shades.{is_inside, register_label, byte_label, page_at, IsNew};
-ghost use Rattle.shadow_masks.specs.Shades.{SetsRegister, SetsByte, SetsLabels, SetsRange, SetsFirstPart, SetsFirstLabels, Saves};
+ghost use Rattle.shadow_masks.specs.Shades.{SetsRegister, SetsByte, SetsLabels, SetsRange, SetsFirstPart};
+ghost use Rattle.shadow_masks.specs.Shades.{SetsFirstLabels, Saves};
 ghost use Rattle.shadow_masks.specs.Shades.{Restores};
 
 use crate::labels::Label;
