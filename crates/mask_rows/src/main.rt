@@ -1,5 +1,5 @@
-//! Compares the mask rules of books of three tables with a table that was made by brute force: prints each row that does
-//! not agree, and how many do. All rules of the book of table 0 answer all bits where any bit is secret.
+//! Compares the mask rules of books of three tables with a table that was made by brute force: prints each row that
+//! does not agree, and how many do. All rules of the book of table 0 answer all bits where any bit is secret.
 #![tactic(auto)]
 
 mod agreeing;

@@ -1,12 +1,15 @@
 -- What the loops over ranges of bytes and over listed registers keep.
-use Rattle.std.proofs.Common.{◌≡◌, ℕ, zero, suc, replicate, slice_index_or, slice_set, length, ◌≢◌, ◌+◌, ◌-◌, ◌*◌, ◌/◌, ◌%◌, ◌<◌, ◌≤◌, ◌==◌, nat_le, List, [], ◌∷◌, Option, None, Bool, true, false, Result, Ok, Err, OnErr}
+use Rattle.std.proofs.Common.{◌≡◌, ℕ, zero, suc, replicate, slice_index_or, slice_set, length, ◌≢◌, ◌+◌, ◌-◌, ◌*◌, ◌/◌}
+use Rattle.std.proofs.Common.{◌%◌, ◌<◌, ◌≤◌, ◌==◌, nat_le, List, [], ◌∷◌, Option, None, Bool, true, false, Result, Ok}
+use Rattle.std.proofs.Common.{Err, OnErr}
 use Rattle.std.proofs.Common.{if◌then◌else◌, sym, refl, ap, ◌∙◌, ⊎_elim, subst, arith}
 use Rattle.shadow_masks.specs.declared.labels.Label.{Label}
 use Rattle.shadow_masks.specs.Labels.{clean, AreRegisterLabels}
 use Rattle.std.proofs.lemmas.Bool.{cases_lt}
 use Rattle.std.proofs.lemmas.Grind.{get_or-set_at}
 use Rattle.std.proofs.lemmas.List.{get_or-set_other}
-use Rattle.shadow_masks.specs.Pages.{PageShades, label_in, label_from, labels_from, is_in_range, AreClean, SetsFewer, SetsLabel, SetsPlaces}
+use Rattle.shadow_masks.specs.Pages.{PageShades, label_in, label_from, labels_from, is_in_range, AreClean, SetsFewer}
+use Rattle.shadow_masks.specs.Pages.{SetsLabel, SetsPlaces}
 use Rattle.shadow_masks.specs.Shades.{Shades, register_label, kept_label, byte_label, label_at, page_at, IsNew}
 use Rattle.shadow_masks.specs.Shades.{is_listed, SetsByte, SetsBytes, SetsFirstPart, Restores}
 

@@ -1,5 +1,6 @@
 -- The labels of a page of addresses.
-use Rattle.std.specs.Prelude.{◌≡◌, ℕ, ◌+◌, ◌-◌, ◌<◌, ◌==◌, ◌&&◌, nat_lt, nat_le, Bool, List, [], ◌∷◌, Option, Some, None, if◌then◌else◌, slice_index, slice_index_or}
+use Rattle.std.specs.Prelude.{◌≡◌, ℕ, ◌+◌, ◌-◌, ◌<◌, ◌==◌, ◌&&◌, nat_lt, nat_le, Bool, List, [], ◌∷◌, Option, Some}
+use Rattle.std.specs.Prelude.{None, if◌then◌else◌, slice_index, slice_index_or}
 use Rattle.flow_base.specs.declared.points.Point.{Point}
 use Rattle.shadow_masks.specs.declared.labels.Label.{Label}
 use Rattle.shadow_masks.specs.declared.page_points.PagePoints.{PagePoints}
@@ -53,7 +54,8 @@ is_in_range first count place = nat_le first place && nat_lt place (first + coun
 -- that it had
 abbrev pub SetsPlaces : ℕ → ℕ → (ℕ → Label) → (ℕ → Label) → (ℕ → Label) → Type 0
 SetsPlaces first count label old new =
-    (other : ℕ) → other < page_size → new other ≡ (if is_in_range first count other then label (other - first) else old other)
+    (other : ℕ) → other < page_size →
+    new other ≡ (if is_in_range first count other then label (other - first) else old other)
 
 -- some of the places have labels, but not all of them
 pub record SetsFewer (first count : ℕ) (label old new : ℕ → Label) : Type 0 where

@@ -16,9 +16,13 @@ pub record Numbered : Type 0 where
   pub numbers : List ℕ
   pub table : List Point
 
+-- the point of a number
+abbrev pub table_point : Numbered → ℕ → Point
+table_point points number = slice_index_or points.table number nowhere
+
 -- the point of a byte
 abbrev pub numbered_point : Numbered → ℕ → Point
-numbered_point points place = slice_index_or points.table (slice_index points.numbers place) nowhere
+numbered_point points place = table_point points (slice_index points.numbers place)
 
 -- the point of a byte, where each byte has its own
 abbrev pub listed_point : List Point → ℕ → Point

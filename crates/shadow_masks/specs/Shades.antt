@@ -1,5 +1,6 @@
 -- What a shadow holds, and what the calls that change it do.
-use Rattle.std.specs.Prelude.{◌≡◌, ℕ, ◌+◌, ◌-◌, ◌/◌, ◌%◌, ◌^◌, ◌<◌, ◌==◌, ◌&&◌, ◌||◌, nat_lt, nat_le, Bool, List, Option, None}
+use Rattle.std.specs.Prelude.{◌≡◌, ℕ, ◌+◌, ◌-◌, ◌/◌, ◌%◌, ◌^◌, ◌<◌, ◌==◌, ◌&&◌, ◌||◌, nat_lt, nat_le, Bool, List}
+use Rattle.std.specs.Prelude.{Option, None}
 use Rattle.std.specs.Prelude.{if◌then◌else◌, slice_index_or, length}
 use Rattle.std.specs.List.{list_any}
 use Rattle.flow_base.specs.Guests.{memory_size}
@@ -90,6 +91,10 @@ pub record SetsFirstPart (first length : ℕ) (label : ℕ → Label) (old new :
   pub part : ℕ
   pub shorter : part < length
   pub sets : SetsBytes first part label old new
+
+-- new has only a first part of the listed labels from an address on; all else is as in old
+abbrev pub SetsFirstLabels : ℕ → List Label → Shades → Shades → Type 0
+SetsFirstLabels first labels old new = SetsFirstPart first (length labels) (listed_label labels) old new
 
 -- new keeps the register labels of old; all else is as in old
 pub record Saves (old new : Shades) : Type 0 where

@@ -6,8 +6,8 @@ use Rattle.shadow_masks.specs.Shades.{Shades, register_label, kept_label, byte_l
 use Rattle.shadow_masks.specs.Pages.{is_in_range}
 use Rattle.shadow_masks.specs.Shades.{SetsRegister, SetsByte, SetsBytes, Saves, Restores}
 
--- a call that changes labels; one on bytes or a range sets labels by their distance from the first address. Where such a
--- call is refused it is a write to the first part that was set, and a refused call on one byte is none
+-- a call that changes labels; one on bytes or a range sets labels by their distance from the first address. Where such
+-- a call is refused it is a write to the first part that was set, and a refused call on one byte is none
 pub data Write : Type 0 where
   ToRegister : ℕ → Label → Write
   ToByte : ℕ → Label → Write

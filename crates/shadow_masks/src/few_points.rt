@@ -1,8 +1,8 @@
 //! The points of the bytes of a page where they are few.
 
 ghost use Rattle.std.specs.Prelude.{◌≡◌, ◌+◌, ◌<◌, ◌≤◌, ℕ, IfOk, IfSome, OnOk, OnErr, Some, None, length};
-ghost use Rattle.std.specs.Prelude.{slice_index, slice_index_or};
-ghost use Rattle.shadow_masks.specs.Points.{page_size, nowhere, numbered_point, SamePoints, SetsPoint};
+ghost use Rattle.std.specs.Prelude.{slice_index};
+ghost use Rattle.shadow_masks.specs.Points.{page_size, numbered_point, table_point, SamePoints, SetsPoint};
 
 use flow_base::{NoMemory, Point};
 use std::alloc::Global;
@@ -60,7 +60,7 @@ impl FewPoints {
     /// The number of a point in the table; where the table has room the point is put into it. None where it has not.
     pub fn number_of(&mut self, point: Point) -> Result<Option<u8>, NoMemory>
         ensures inside { IfOk result (λ found. IfSome found (λ number. number < length self.new.table)) }
-        ensures point { IfOk result (λ found. IfSome found (λ number. slice_index_or self.new.table number nowhere ≡ point)) }
+        ensures point { IfOk result (λ found. IfSome found (λ number. table_point self.new number ≡ point)) }
         ensures full { IfOk result (λ found. found ≡ None → length self.old.table ≡ 256) }
         ensures none { IfOk result (λ found. found ≡ None → self.new ≡ self.old) }
         ensures kept { SamePoints (numbered_point self.old) (numbered_point self.new) }
@@ -83,7 +83,7 @@ impl FewPoints {
     pub fn give(&mut self, place: usize, number: u8)
         requires place { place < page_size }
         requires number { number < length self.old.table }
-        ensures { SetsPoint place (slice_index_or self.old.table number nowhere) (numbered_point self.old) (numbered_point self.new) }
+        ensures { SetsPoint place (table_point self.old number) (numbered_point self.old) (numbered_point self.new) }
     {
         self.numbers[place] = number;
     }

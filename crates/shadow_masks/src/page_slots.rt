@@ -2,7 +2,8 @@
 
 ghost use Rattle.std.specs.Prelude.{◌≡◌, ◌+◌, ◌<◌, ◌≤◌, All, OnOk, OnErr, length, true};
 ghost use Rattle.shadow_masks.specs.Labels.{IsByteLabel};
-ghost use Rattle.shadow_masks.specs.Pages.{label_in, labels_from, listed_label, AreClean, SetsFewer, SetsLabel, SetsPlaces};
+ghost use Rattle.shadow_masks.specs.Pages.{label_in, labels_from, listed_label, AreClean, SetsFewer, SetsLabel};
+ghost use Rattle.shadow_masks.specs.Pages.{SetsPlaces};
 ghost use Rattle.shadow_masks.specs.Points.{page_size};
 
 use crate::labels::Label;

@@ -1,10 +1,13 @@
-ghost use Rattle.std.specs.Prelude.{◌≡◌, ◌+◌, ◌^◌, ◌<◌, ◌≤◌, All, IfOk, OnOk, OnErr, IsTrue, List as Seq, [], ◌∷◌, length};
+ghost use Rattle.std.specs.Prelude.{◌≡◌, ◌+◌, ◌^◌, ◌<◌, ◌≤◌, All, IfOk, OnOk, OnErr, IsTrue, List as Seq, [], ◌∷◌};
+ghost use Rattle.std.specs.Prelude.{length};
 ghost use Rattle.std.specs.Prelude.{replicate, ℕ, None, true};
 ghost use Rattle.shadow_masks.specs.Labels.{clean, IsLabel, IsByteLabel};
-ghost use Rattle.shadow_masks.specs.Pages.{label_from, labels_from, listed_label, AreClean};
+ghost use Rattle.shadow_masks.specs.Pages.{label_from, labels_from, AreClean};
 ghost use Rattle.flow_base.specs.Guests.{memory_size};
 ghost use Rattle.shadow_masks.specs.Shades.{is_inside, register_label, byte_label, page_at, IsNew};
-ghost use Rattle.shadow_masks.specs.Shades.{SetsRegister, SetsByte, SetsLabels, SetsRange, SetsFirstPart, Saves, Restores};
+ghost use Rattle.shadow_masks.specs.Shades.{SetsRegister, SetsByte, SetsLabels, SetsRange, SetsFirstPart};
+ghost use Rattle.shadow_masks.specs.Shades.{SetsFirstLabels, Saves};
+ghost use Rattle.shadow_masks.specs.Shades.{Restores};
 
 use crate::labels::Label;
 use crate::page_slots::{is_clean_in, labels_in, listed, set_all_in, set_in};
@@ -14,8 +17,8 @@ use std::alloc::Global;
 use std::marker::Model;
 
 /// The labels of the 32 registers and of all bytes of guest memory, and a kept copy of the register labels. Where
-/// nothing was set a label is clean, and the label of x0 is always clean. The bytes stand in 4,096 pages; one is made at
-/// the first label in it whose mask is not 0.
+/// nothing was set a label is clean, and the label of x0 is always clean. The bytes stand in 4,096 pages; one is made
+/// at the first label in it whose mask is not 0.
 #[derive(Drop)]
 pub struct Shadow {
     registers: [Label; 32],
@@ -107,7 +110,8 @@ impl Shadow {
         }
     }
 
-    /// The labels of `count` bytes of memory from an address on, 1 to 4, as those of a load; past them the clean label.
+    /// The labels of `count` bytes of memory from an address on, 1 to 4, as those of a load; past them the clean
+    /// label.
     pub fn bytes(&self, address: u32, count: u32) -> [Label; 4]
         requires inside { IsTrue (is_inside self.now.base address count) }
         requires some { 0 < count }
@@ -176,8 +180,8 @@ impl Shadow {
         set_in(&mut self.pages[place / 4096], alloc, place % 4096, label)
     }
 
-    /// Sets the labels of `length` bytes from an address on; where memory of the host is short only a first part of them
-    /// is set.
+    /// Sets the labels of `length` bytes from an address on; where memory of the host is short only a first part of
+    /// them is set.
     pub fn set_range(&mut self, address: u32, length: u32, label: Label) -> Result<(), NoMemory>
         requires range { IsTrue (is_inside self.old.base address length) }
         requires label { IsByteLabel label }
@@ -197,7 +201,7 @@ impl Shadow {
         requires some { 0 < length labels.now }
         requires labels { All IsByteLabel labels.now }
         ensures ok { OnOk result (SetsLabels address labels.now self.old self.new) }
-        ensures err { OnErr result (SetsFirstPart address (length labels.now) (listed_label labels.now) self.old self.new) }
+        ensures err { OnErr result (SetsFirstLabels address labels.now self.old self.new) }
     {
         let first = (address - self.base) as usize;
         if first % 4096 + labels.len() > 4096 {
@@ -213,7 +217,7 @@ impl Shadow {
         requires inside { IsTrue (is_inside self.old.base address (length labels.now)) }
         requires labels { All IsByteLabel labels.now }
         ensures ok { OnOk result (SetsLabels address labels.now self.old self.new) }
-        ensures err { OnErr result (SetsFirstPart address (length labels.now) (listed_label labels.now) self.old self.new) }
+        ensures err { OnErr result (SetsFirstLabels address labels.now self.old self.new) }
     {
         for offset in 0..labels.len() {
             self.set_byte(address + offset as u32, listed(labels, offset))?;
@@ -221,8 +225,8 @@ impl Shadow {
         Ok(())
     }
 
-    /// Whether each of `length` bytes of memory from an address on is clean. It looks once at a page that holds them all,
-    /// and at nothing but its place in the table where the page was never made.
+    /// Whether each of `length` bytes of memory from an address on is clean. It looks once at a page that holds them
+    /// all, and at nothing but its place in the table where the page was never made.
     pub fn is_clean(&self, address: u32, length: u32) -> bool
         requires { IsTrue (is_inside self.now.base address length) }
         ensures yes { result ≡ true → AreClean (byte_label self.now) address length }

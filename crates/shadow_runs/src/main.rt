@@ -1,5 +1,5 @@
-//! Makes a shadow whose memory begins at 0x10000, sets and reads its labels as the lines of the input say, and prints what
-//! it reads.
+//! Makes a shadow whose memory begins at 0x10000, sets and reads its labels as the lines of the input say, and prints
+//! what it reads.
 #![tactic(auto)]
 
 mod commands;

@@ -1,10 +1,12 @@
 -- Agreement outside a mask: where no bit is secret, where all are, and bits of the low part of a number.
-use Rattle.std.proofs.Common.{◌≡◌, ℕ, zero, suc, ◌/◌, ◌%◌, ◌^◌, ◌<◌, refl, sym, ap, ap₂, subst, ◌∙◌, ⊎_elim, arith, pow_pos, div-add-mod'}
+use Rattle.std.proofs.Common.{◌≡◌, ℕ, zero, suc, ◌/◌, ◌%◌, ◌^◌, ◌<◌, refl, sym, ap, ap₂, subst, ◌∙◌, ⊎_elim, arith}
+use Rattle.std.proofs.Common.{pow_pos, div-add-mod'}
 use Rattle.std.specs.Prelude.{bit_or}
 use Rattle.std.specs.Int.{bit_at}
 use Rattle.std.proofs.lemmas.Bool.{cases_lt}
 use Rattle.std.proofs.lemmas.Nat.{le_or_l, le_or_r, mod_below}
-use Rattle.std.proofs.lemmas.Nat.Bits.{bit_at-zero, bit_at_ones, bit_at_above, bit_at_cat_low, same_from_bits, same_from_bits_below}
+use Rattle.std.proofs.lemmas.Nat.Bits.{bit_at-zero, bit_at_ones, bit_at_above, bit_at_cat_low, same_from_bits}
+use Rattle.std.proofs.lemmas.Nat.Bits.{same_from_bits_below}
 use Rattle.flow_base.specs.Words.{Agree}
 use Rattle.transfer_rules.specs.Table1.{all_mask, one_mask}
 

@@ -1,5 +1,6 @@
 -- From the classes to the instructions, and from sums to addresses and the targets of JALR.
-use Rattle.std.proofs.Common.{◌≡◌, ℕ, ℤ, zero, suc, ◌-◌, ◌/◌, ◌%◌, ◌^◌, ◌<◌, refl, sym, ap, ◌∙◌, arith, unwrap_or, Some, SFits, w32}
+use Rattle.std.proofs.Common.{◌≡◌, ℕ, ℤ, zero, suc, ◌-◌, ◌/◌, ◌%◌, ◌^◌, ◌<◌, refl, sym, ap, ◌∙◌, arith, unwrap_or, Some}
+use Rattle.std.proofs.Common.{SFits, w32}
 use Rattle.std.specs.Int.{bit_at}
 use Rattle.std.proofs.Math.Facts.{Fits-lt-pow, Fits-of_z}
 use Rattle.std.proofs.lemmas.Nat.Bits.{bit_at_lowest, bit_at-suc}

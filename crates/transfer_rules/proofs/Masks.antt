@@ -14,8 +14,10 @@ use Rattle.transfer_rules.specs.Table1.{all_mask, either, mask_by_table_1, one_m
 use Rattle.transfer_rules.proofs.Agreement.{by_all, by_one}
 use Rattle.transfer_rules.proofs.Operations.{Each, operations, by_each}
 use Rattle.transfer_rules.proofs.BitRules.{agree_and, agree_or, agree_xor}
-use Rattle.transfer_rules.proofs.Results.{div_fits, divu_fits, mulh_fits, mulhsu_fits, mulhu_fits, rem_fits, remu_fits, truth_fits}
-use Rattle.transfer_rules.proofs.Shifts.{agree_left, agree_right, agree_sign, by_places, left_fits, right_fits, signed_fits}
+use Rattle.transfer_rules.proofs.Results.{div_fits, divu_fits, mulh_fits, mulhsu_fits, mulhu_fits, rem_fits, remu_fits}
+use Rattle.transfer_rules.proofs.Results.{truth_fits}
+use Rattle.transfer_rules.proofs.Shifts.{agree_left, agree_right, agree_sign, by_places, left_fits, right_fits}
+use Rattle.transfer_rules.proofs.Shifts.{signed_fits}
 use Rattle.transfer_rules.proofs.Sums.{by_low_parts, same_difference, same_product, same_sum}
 
 sum_keeps : (o : Operands) → AreWords o → KeepsMask o (sum_mask (either o)) (op_result op.Add)

@@ -1,5 +1,6 @@
 -- Each mask of table 2 is sound for its class.
-use Rattle.std.proofs.Common.{◌≡◌, ℕ, ◌+◌, ◌-◌, ◌*◌, ◌%◌, ◌^◌, ◌<◌, ◌≤◌, Bool, not, ◌==◌, max, refl, sym, mul_comm, add-zero, ap, subst, ◌∙◌, ⊎_elim, arith}
+use Rattle.std.proofs.Common.{◌≡◌, ℕ, ◌+◌, ◌-◌, ◌*◌, ◌%◌, ◌^◌, ◌<◌, ◌≤◌, Bool, not, ◌==◌, max, refl, sym, mul_comm}
+use Rattle.std.proofs.Common.{add-zero, ap, subst, ◌∙◌, ⊎_elim, arith}
 use Rattle.std.specs.Prelude.{bit_or, bit_xor, int_lt, nat_lt}
 use Rattle.std.specs.Int.{bit_at}
 use Rattle.std.proofs.lemmas.Bool.{cases_lt}
@@ -9,11 +10,13 @@ use Rattle.flow_base.specs.Words.{Agree}
 use Rattle.rv32im_decode.specs.declared.instructions.OpKind.TheVariants as op
 use Rattle.rv32im_decode.specs.Operations.{op_result, signed, word_of_truth}
 use Rattle.transfer_rules.specs.declared.classes.Class.{Class}
-use Rattle.transfer_rules.specs.declared.classes.Class.TheVariants.{Add, Sub, And, Or, Xor, Sll, Srl, Sra, Slt, Sltu, Equal, Mul, High, Div}
+use Rattle.transfer_rules.specs.declared.classes.Class.TheVariants.{Add, Sub, And, Or, Xor, Sll, Srl, Sra, Slt, Sltu}
+use Rattle.transfer_rules.specs.declared.classes.Class.TheVariants.{Equal, Mul, High, Div}
 use Rattle.transfer_rules.specs.declared.operands.Operands.{Operands}
 use Rattle.transfer_rules.specs.Soundness.{AreWords, IsSound, KeepsMask}
 use Rattle.transfer_rules.specs.Table1.{either, flipped}
-use Rattle.transfer_rules.specs.Table2.{least, greatest, lowest, carry_mask, borrow_mask, order_mask, with_signs_turned, equality_mask, product_mask, mask_by_table_2}
+use Rattle.transfer_rules.specs.Table2.{least, greatest, lowest, carry_mask, borrow_mask, order_mask, with_signs_turned}
+use Rattle.transfer_rules.specs.Table2.{equality_mask, product_mask, mask_by_table_2}
 use Rattle.transfer_rules.proofs.Agreement.{bit_low}
 use Rattle.transfer_rules.proofs.BitRules.{bit_flipped}
 use Rattle.transfer_rules.proofs.Bounds.{between, between_turned, known_bit, least_fits}

@@ -1,12 +1,15 @@
 -- Products agree below the lowest bit of a secret bit of one operand times a bit of the other.
-use Rattle.std.proofs.Common.{◌≡◌, ℕ, suc, ◌+◌, ◌-◌, ◌*◌, ◌/◌, ◌%◌, ◌^◌, ◌<◌, ◌≤◌, min, sym, ap, ap₂, subst, ◌∙◌, ⊎_elim, arith, pow_pos, pow-add, mod-eq_of_lt, div-add-mod', w32}
+use Rattle.std.proofs.Common.{◌≡◌, ℕ, suc, ◌+◌, ◌-◌, ◌*◌, ◌/◌, ◌%◌, ◌^◌, ◌<◌, ◌≤◌, min, sym, ap, ap₂, subst, ◌∙◌}
+use Rattle.std.proofs.Common.{⊎_elim, arith, pow_pos, pow-add, mod-eq_of_lt, div-add-mod', w32}
 use Rattle.std.specs.Int.{bit_at, trailing_zeros}
 use Rattle.std.proofs.Math.Arith.{mod-mul}
-use Rattle.std.proofs.Math.Nat.{div_self, div-eq_of_lt, mod-add-mod, add-mul-mod_self_right, mul-div_cancel, mul-mod_left, zero-mod}
+use Rattle.std.proofs.Math.Nat.{div_self, div-eq_of_lt, mod-add-mod, add-mul-mod_self_right, mul-div_cancel}
+use Rattle.std.proofs.Math.Nat.{mul-mod_left, zero-mod}
 use Rattle.std.proofs.Math.Pow.{mod-mod-pow, pow-lt}
 use Rattle.std.proofs.lemmas.Bool.{cases_lt}
 use Rattle.std.proofs.lemmas.Nat.{and_le_l, mod_below, mul-mod}
-use Rattle.std.proofs.lemmas.Nat.Bits.{bit_at-zero, bit_at-pow_same, bit_at-pow_other, bit_at-trailing_zeros, bit_at_and, bit_at_above, bit_at-lt, same_from_bits, same_from_bits_below}
+use Rattle.std.proofs.lemmas.Nat.Bits.{bit_at-zero, bit_at-pow_same, bit_at-pow_other, bit_at-trailing_zeros}
+use Rattle.std.proofs.lemmas.Nat.Bits.{bit_at_and, bit_at_above, bit_at-lt, same_from_bits, same_from_bits_below}
 use Rattle.flow_base.specs.Words.{Agree}
 use Rattle.transfer_rules.specs.Table1.{flipped}
 use Rattle.transfer_rules.specs.Table2.{lowest}

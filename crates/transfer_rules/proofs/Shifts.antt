@@ -1,5 +1,6 @@
 -- The rules of the shifts.
-use Rattle.std.proofs.Common.{◌≡◌, ℕ, zero, suc, ◌+◌, ◌-◌, ◌*◌, ◌/◌, ◌%◌, ◌^◌, ◌<◌, ◌≤◌, min, refl, sym, ap, subst, ◌∙◌, ⊎_elim, arith, pow_pos, shr-shr, add-zero, div-le_self}
+use Rattle.std.proofs.Common.{◌≡◌, ℕ, zero, suc, ◌+◌, ◌-◌, ◌*◌, ◌/◌, ◌%◌, ◌^◌, ◌<◌, ◌≤◌, min, refl, sym, ap, subst, ◌∙◌}
+use Rattle.std.proofs.Common.{⊎_elim, arith, pow_pos, shr-shr, add-zero, div-le_self}
 use Rattle.transfer_rules.specs.Table1.{flipped}
 use Rattle.transfer_rules.proofs.BitRules.{bit_flipped}
 use Rattle.std.specs.Prelude.{◌==◌, if◌then◌else◌}

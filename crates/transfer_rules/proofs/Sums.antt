@@ -1,5 +1,6 @@
 -- The rule of sums, differences and products: every bit from the lowest secret bit upwards.
-use Rattle.std.proofs.Common.{◌≡◌, ℕ, ◌+◌, ◌-◌, ◌*◌, ◌%◌, ◌^◌, ◌<◌, ◌≤◌, max, sym, ap, ap₂, ◌∙◌, ⊎_elim, arith, pow_pos, pow-add, mod-eq_of_lt}
+use Rattle.std.proofs.Common.{◌≡◌, ℕ, ◌+◌, ◌-◌, ◌*◌, ◌%◌, ◌^◌, ◌<◌, ◌≤◌, max, sym, ap, ap₂, ◌∙◌, ⊎_elim, arith, pow_pos}
+use Rattle.std.proofs.Common.{pow-add, mod-eq_of_lt}
 use Rattle.std.specs.Prelude.{bit_or}
 use Rattle.std.specs.Int.{bit_at}
 use Rattle.std.proofs.Math.Nat.{mul-mod_left, add-mod-mod, mod-add-mod, add-mod_left}

@@ -17,7 +17,8 @@ Table = Class → Operands → ℕ
 -- of table 1 and of table 2 a mask, or what is made of masks, is what the table wants; of any other table, as table 0,
 -- nothing is said
 abbrev pub IsByTable : {X : Type 0} → ℕ → (Table → X) → X → Type 0
-IsByTable table wanted found = (table ≡ 1 → found ≡ wanted mask_by_table_1) × (table ≡ 2 → found ≡ wanted mask_by_table_2)
+IsByTable table wanted found =
+    (table ≡ 1 → found ≡ wanted mask_by_table_1) × (table ≡ 2 → found ≡ wanted mask_by_table_2)
 
 -- a word and an immediate, as the operands of a sum
 abbrev pub sum_operands : ℕ → ℕ → ℤ → Operands

@@ -1,5 +1,5 @@
-//! Which bits of a result are secret: the mask rules of two tables, one for each class of operations of RV32IM, and books
-//! of rules that are stored as functions beside the fact of what they answer.
+//! Which bits of a result are secret: the mask rules of two tables, one for each class of operations of RV32IM, and
+//! books of rules that are stored as functions beside the fact of what they answer.
 #![tactic(auto)]
 
 mod book;

@@ -16,9 +16,9 @@ pub struct Rule {
     table: u8,
     function: fn(Operands) -> u32,
     ghost callable: { IsAlwaysCallable function },
-    ghost sound: { (given : Given) (mask : ℕ) → AreWords given → post function given mask → IsSound class given mask },
-    ghost by_table: { (given : Given) (mask : ℕ) → AreWords given → post function given mask →
-        IsByTable table (λ masks. masks class given) mask },
+    ghost sound: { (o : Given) (mask : ℕ) → AreWords o → post function o mask → IsSound class o mask },
+    ghost by_table: { (o : Given) (mask : ℕ) → AreWords o → post function o mask →
+        IsByTable table (λ masks. masks class o) mask },
 }
 
 impl Rule {
@@ -26,9 +26,9 @@ impl Rule {
     /// for the class and those of the table. It takes no memory.
     pub fn new(class: Class, table: u8, function: fn(Operands) -> u32) -> Rule
         requires callable { IsAlwaysCallable function }
-        requires sound { (given : Given) (mask : ℕ) → AreWords given → post function given mask → IsSound class given mask }
-        requires by_table { (given : Given) (mask : ℕ) → AreWords given → post function given mask →
-            IsByTable table (λ masks. masks class given) mask }
+        requires sound { (o : Given) (mask : ℕ) → AreWords o → post function o mask → IsSound class o mask }
+        requires by_table { (o : Given) (mask : ℕ) → AreWords o → post function o mask →
+            IsByTable table (λ masks. masks class o) mask }
         ensures class { result.class ≡ class }
         ensures table { result.table ≡ table }
     {

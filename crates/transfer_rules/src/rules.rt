@@ -27,8 +27,8 @@ pub fn mask_of(book: &RuleBook, instr: &Instr, operands: Operands) -> u32
     }
 }
 
-/// The mask of the address that a load, a store or JALR computes from the first operand and its mask, by the book's rule
-/// of sums (RISC-V Unprivileged ISA, "Load and Store Instructions" and "Unconditional Jumps").
+/// The mask of the address that a load, a store or JALR computes from the first operand and its mask, by the book's
+/// rule of sums (RISC-V Unprivileged ISA, "Load and Store Instructions" and "Unconditional Jumps").
 pub fn address_mask(book: &RuleBook, instr: &Instr, first: u32, mask: u32) -> u32
     requires { IsTrue (has_address instr.now) }
     ensures sound { IsSoundAddress instr.now first mask result }

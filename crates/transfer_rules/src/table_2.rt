@@ -55,7 +55,8 @@ pub fn sltu_2(operands: Operands) -> u32
     order(operands)
 }
 
-/// The mask of a test for equality: its one bit, but for operands with no secret bit, or with a known bit that differs.
+/// The mask of a test for equality: its one bit, but for operands with no secret bit, or with a known bit that
+/// differs.
 pub fn equal_2(operands: Operands) -> u32
     ensures table { result ≡ mask_by_table_2 Equal operands }
     ensures sound { IsSound Equal operands result }
@@ -63,8 +64,8 @@ pub fn equal_2(operands: Operands) -> u32
     equality(operands)
 }
 
-/// The mask of the lower word of a product: every bit from the lowest in which two products may differ, which is that of
-/// a secret bit of one operand and a bit of the other.
+/// The mask of the lower word of a product: every bit from the lowest in which two products may differ, which is that
+/// of a secret bit of one operand and a bit of the other.
 pub fn mul_2(operands: Operands) -> u32
     ensures table { result ≡ mask_by_table_2 Mul operands }
     ensures sound { IsSound Mul operands result }
