@@ -1,0 +1,4 @@
+pub mod Keeping
+pub mod Verdicts
+pub mod VerdictTexts
+pub mod Sums

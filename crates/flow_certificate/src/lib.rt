@@ -1,0 +1,13 @@
+//! Certificates of maximum flows: a graph, a flow and a side as one text, and the test that a stranger makes of them.
+#![tactic(auto)]
+
+mod across;
+mod balance;
+mod certificates;
+mod sums;
+mod verdicts;
+mod verifying;
+
+pub use certificates::Certificate;
+pub use verdicts::{CertFault, CertVerdict, NetworkNode};
+

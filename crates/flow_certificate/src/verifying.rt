@@ -1,0 +1,4 @@
+ghost use Rattle.flow_certificate.specs.Verdicts.{IsVerdict};
+
+use crate::certificates::Certificate;
+use crate::verdicts::CertVerdict;
