@@ -1,3 +1,6 @@
 pub mod Keeping
 pub mod Adding
 pub mod Blocks
+pub mod Sides
+pub mod Cutting
+pub mod Verified

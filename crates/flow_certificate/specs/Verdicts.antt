@@ -55,6 +55,12 @@ number_of count (FirstHalf point) = 2 + 2 * point
 number_of count (SecondHalf point) = 3 + 2 * point
 number_of count (Relay region) = 2 + 2 * count + region
 
+-- the node stands in a graph of so many points
+abbrev pub is_node_of : ℕ → NetworkNode → Bool
+is_node_of count (FirstHalf point) = nat_lt point count
+is_node_of count (SecondHalf point) = nat_lt point count
+is_node_of count (Relay region) = nat_lt region 65536
+
 -- ---- verdicts
 
 abbrev pub HasNoneOver : Graph → Solved → Type 0
@@ -88,15 +94,20 @@ IsOver graph solved point = IsFirst (is_over graph solved) 0 (length graph.point
 -- none is, and this node is the first that is not balanced
 pub record IsUnbalanced (graph : Graph) (solved : Solved) (node : NetworkNode) : Type 0 where
   pub none_over : HasNoneOver graph solved
+  pub known : is_node_of (length graph.points) node ≡ true
   pub first : IsFirst (is_unbalanced graph solved) 2 ((network_of graph).nodes) (number_of (length graph.points) node)
+
+-- this link is the first that leaves the source side
+pub record IsFirstAcross (graph : Graph) (solved : Solved) (link : Arc) : Type 0 where
+  pub index : ℕ
+  pub first : IsFirst (is_across graph solved) 0 (length graph.links) index
+  pub is : slice_get graph.links index ≡ Some link
 
 -- all are, and this link is the first that leaves the source side
 pub record IsOpenAcross (graph : Graph) (solved : Solved) (link : Arc) : Type 0 where
   pub none_over : HasNoneOver graph solved
   pub none_unbalanced : HasNoneUnbalanced graph solved
-  pub index : ℕ
-  pub first : IsFirst (is_across graph solved) 0 (length graph.links) index
-  pub is : slice_get graph.links index ≡ Some link
+  pub first : IsFirstAcross graph solved link
 
 -- none does, and these are the value, the flow out of the source and the side's capacity, which are not all equal
 pub record HasValues (graph : Graph) (solved : Solved) (value flow cut : ℕ) : Type 0 where

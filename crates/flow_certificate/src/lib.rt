@@ -4,10 +4,12 @@
 mod across;
 mod balance;
 mod certificates;
+mod over;
 mod sums;
+mod values;
 mod verdicts;
 mod verifying;
 
 pub use certificates::Certificate;
 pub use verdicts::{CertFault, CertVerdict, NetworkNode};
-
+pub use verifying::verify;
