@@ -4,6 +4,7 @@
 mod across;
 mod balance;
 mod certificates;
+mod end_names;
 mod over;
 mod sums;
 mod values;

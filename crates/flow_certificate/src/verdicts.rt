@@ -1,4 +1,6 @@
+use crate::end_names::EndName;
 use flow_graph::Arc;
+use std::fmt;
 
 /// A node of a graph at which what flows in must flow out: a half of a point, by the point's index, or the relay of a
 /// region. Nodes are ordered as p0.in, p0.out, p1.in and so on, and then the relays by their regions.
@@ -49,4 +51,55 @@ pub enum CertVerdict {
     Verified { value: u64 },
     /// It does not show this.
     Rejected(CertFault),
+}
+
+impl fmt::Display for NetworkNode {
+    ghost use Rattle.std.specs.Prelude.{Some};
+    ghost use Rattle.flow_certificate.specs.VerdictTexts.{node_text};
+
+    ghost output = { λ node. Some (node_text node) };
+
+    fn fmt<W: fmt::Write>(&self, f: &mut fmt::Formatter<W>) -> fmt::Result {
+        match *self {
+            NetworkNode::FirstHalf(point) => write!(f, "p{point}.in"),
+            NetworkNode::SecondHalf(point) => write!(f, "p{point}.out"),
+            NetworkNode::Relay(region) => write!(f, "r{region}"),
+        }
+    }
+}
+
+impl fmt::Display for CertFault {
+    ghost use Rattle.std.specs.Prelude.{Some};
+    ghost use Rattle.flow_certificate.specs.VerdictTexts.{fault_text};
+
+    ghost output = { λ fault. Some (fault_text fault) };
+
+    fn fmt<W: fmt::Write>(&self, f: &mut fmt::Formatter<W>) -> fmt::Result {
+        match *self {
+            CertFault::Over { point } => write!(f, "over p{point}"),
+            CertFault::Unbalanced { node } => write!(f, "unbalanced {node}"),
+            CertFault::OpenAcross { link } => {
+                let from = EndName(link.source);
+                let to = EndName(link.target);
+                write!(f, "across {from} {to}")
+            }
+            CertFault::Values { value, flow, cut } => {
+                write!(f, "values value {value} flow {flow} cut {cut}")
+            }
+        }
+    }
+}
+
+impl fmt::Display for CertVerdict {
+    ghost use Rattle.std.specs.Prelude.{Some};
+    ghost use Rattle.flow_certificate.specs.VerdictTexts.{verdict_text};
+
+    ghost output = { λ verdict. Some (verdict_text verdict) };
+
+    fn fmt<W: fmt::Write>(&self, f: &mut fmt::Formatter<W>) -> fmt::Result {
+        match *self {
+            CertVerdict::Verified { value } => write!(f, "verified {value}"),
+            CertVerdict::Rejected(fault) => write!(f, "rejected {fault}"),
+        }
+    }
 }
