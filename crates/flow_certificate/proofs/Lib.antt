@@ -4,3 +4,5 @@ pub mod Blocks
 pub mod Sides
 pub mod Cutting
 pub mod Verified
+pub mod Pieces
+pub mod Guesses

@@ -3,3 +3,5 @@ pub mod Verdicts
 pub mod VerdictTexts
 pub mod Sums
 pub mod Sides
+pub mod Lines
+pub mod Guessing
