@@ -7,7 +7,7 @@ use Rattle.max_flow.specs.Networks.{at_node, sum_below}
 use Rattle.max_flow.proofs.Sums.{sum-none, sum-suc, sum_same}
 use Rattle.flow_certificate.specs.Sums.{AreAdded, AreSmall, AreZero, HaveRoom, HaveSums, brought, differ_at}
 use Rattle.flow_certificate.specs.Verdicts.{HasNone, IsFirst}
-use Rattle.flow_certificate.proofs.Adding.{brought-small}
+use Rattle.flow_certificate.proofs.Counters.{brought-small}
 
 sum-split : (m n : ℕ) (f : ℕ → ℕ) → sum_below (m + n) f ≡ sum_below m f + sum_below n (λ i. f (m + i))
 sum-split m zero f =

@@ -1,8 +1,10 @@
 pub mod Keeping
-pub mod Adding
+pub mod Counters
 pub mod Blocks
 pub mod Sides
 pub mod Cutting
 pub mod Verified
 pub mod Pieces
 pub mod Guesses
+pub mod Lasts
+pub mod Drafting

@@ -17,7 +17,7 @@ use Rattle.max_flow.proofs.Graphs.{length-halves}
 use Rattle.flow_certificate.specs.Sums.{heads_of, tails_of}
 use Rattle.flow_certificate.specs.Sides.{leads_out}
 use Rattle.flow_certificate.specs.Verdicts.{HasNone, IsFirstAcross, is_across}
-use Rattle.flow_certificate.proofs.Adding.{heads_of-at, tails_of-at}
+use Rattle.flow_certificate.proofs.Counters.{heads_of-at, tails_of-at}
 
 marks-first : (halves : List Half) (i : ℕ) (other : Half) → i < length halves →
     get_or (marks halves) (2 * i) false ≡ has_first (get_or halves i other)

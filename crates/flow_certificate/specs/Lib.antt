@@ -5,3 +5,5 @@ pub mod Sums
 pub mod Sides
 pub mod Lines
 pub mod Guessing
+pub mod Certificates
+pub mod Drafts

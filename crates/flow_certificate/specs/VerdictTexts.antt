@@ -3,6 +3,8 @@ use Rattle.std.specs.Prelude.{ℕ, List, ◌++◌, codes}
 use Rattle.std.specs.Fmt.{decimal}
 use Rattle.flow_graph.specs.declared.ends.End.{End}
 use Rattle.flow_graph.specs.declared.ends.End.TheVariants.{Source, Point, Relay, Sink}
+use Rattle.flow_certificate.specs.declared.faults.FormFault.{FormFault}
+use Rattle.flow_certificate.specs.declared.faults.FormFault.TheVariants as forms
 use Rattle.flow_certificate.specs.declared.verdicts.NetworkNode.{NetworkNode}
 use Rattle.flow_certificate.specs.declared.verdicts.NetworkNode.TheVariants as nodes
 use Rattle.flow_certificate.specs.declared.verdicts.CertFault.{CertFault}
@@ -33,3 +35,8 @@ fault_text (Values value flow cut) =
 abbrev pub verdict_text : CertVerdict → List ℕ
 verdict_text (Verified value) = codes "verified " ++ decimal value
 verdict_text (Rejected fault) = codes "rejected " ++ fault_text fault
+
+-- why a file is no certificate
+abbrev pub form_fault_text : FormFault → List ℕ
+form_fault_text (forms.Line line) = codes "line " ++ decimal line
+form_fault_text forms.Memory = codes "out of memory"

@@ -2,9 +2,13 @@
 #![tactic(auto)]
 
 mod across;
+mod adding;
 mod balance;
 mod certificates;
+mod drafts;
 mod end_names;
+mod faults;
+mod following;
 mod guessing;
 mod line_reading;
 mod line_texts;
@@ -16,5 +20,6 @@ mod verdicts;
 mod verifying;
 
 pub use certificates::Certificate;
+pub use faults::FormFault;
 pub use verdicts::{CertFault, CertVerdict, NetworkNode};
 pub use verifying::verify;

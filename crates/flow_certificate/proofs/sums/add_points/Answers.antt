@@ -1,7 +1,7 @@
 use Rattle.std.proofs.Common.{length, sym, refl, ◌∙◌, arith}
 use Rattle.max_flow.specs.Flows.{halves_from}
 use Rattle.max_flow.proofs.Graphs.{half-at}
-use Rattle.flow_certificate.proofs.Adding.{added_none, added_more, added_room}
+use Rattle.flow_certificate.proofs.Counters.{added_none, added_more, added_room}
 use Rattle.flow_certificate.proofs.sums.add_points.Goals as goal
 
 pub loop-i-init : goal.loop-i-init
