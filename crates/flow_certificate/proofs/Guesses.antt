@@ -286,7 +286,7 @@ line_or : Line × List ℕ → Option (Line × List ℕ) → Line × List ℕ
 line_or other None = other
 line_or other (Some p) = p
 
-pair-same : (a b : Line) (x y : List ℕ) → a_line (a, x) ≡ a_line (b, y) → (a ≡ b) × (x ≡ y)
+pub pair-same : (a b : Line) (x y : List ℕ) → a_line (a, x) ≡ a_line (b, y) → (a ≡ b) × (x ≡ y)
 unfolding line_or
 pair-same a b x y e =
     let same : (a, x) ≡ (b, y) = ap (line_or (a, x)) e in

@@ -8,3 +8,6 @@ pub mod Pieces
 pub mod Guesses
 pub mod Lasts
 pub mod Drafting
+pub mod Steps
+pub mod Prefixes
+pub mod FileReads

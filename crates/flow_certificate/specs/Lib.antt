@@ -7,3 +7,4 @@ pub mod Lines
 pub mod Guessing
 pub mod Certificates
 pub mod Drafts
+pub mod Reading

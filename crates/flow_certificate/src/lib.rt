@@ -14,6 +14,7 @@ mod line_reading;
 mod line_texts;
 mod lines;
 mod over;
+mod reading;
 mod sums;
 mod values;
 mod verdicts;
