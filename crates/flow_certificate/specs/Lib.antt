@@ -8,3 +8,4 @@ pub mod Guessing
 pub mod Certificates
 pub mod Drafts
 pub mod Reading
+pub mod Pictures

@@ -13,6 +13,7 @@ mod guessing;
 mod line_reading;
 mod line_texts;
 mod lines;
+mod making;
 mod over;
 mod reading;
 mod sums;
