@@ -54,3 +54,16 @@ abbrev pub have_texts : Graph → Solved → Bool
 have_texts graph solved =
     is_number solved.value && (list_all is_node graph.points && (list_all is_region graph.relays
     && (list_all is_number solved.flow.points && list_all is_number solved.flow.links)))
+
+-- the parts of lines
+abbrev pub flow_at_point : PointLine → ℕ
+flow_at_point line = line.flow
+
+abbrev pub half_at : PointLine → Half
+half_at line = line.half
+
+abbrev pub inside_at : RelayLine → Bool
+inside_at line = line.inside
+
+abbrev pub flow_at_link : LinkLine → ℕ
+flow_at_link line = line.flow

@@ -8,6 +8,7 @@ mod certificates;
 mod drafts;
 mod end_names;
 mod faults;
+mod finishing;
 mod following;
 mod guessing;
 mod line_reading;
