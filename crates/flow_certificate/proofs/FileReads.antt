@@ -1,6 +1,7 @@
 -- A file that is read to its end is the text of what is drafted, and one that is not has its first failure there.
 use Rattle.std.proofs.Common.{◌≡◌, ◌≢◌, ℕ, zero, suc, ◌+◌, ◌-◌, ◌<◌, ◌≤◌, ◌==◌, ◌&&◌, Bool, true, false, List, [], ◌∷◌}
-use Rattle.std.proofs.Common.{◌++◌}
+use Rattle.std.proofs.Common.{◌++◌, ◌^◌, map}
+use Rattle.std.proofs.lemmas.List.{length-map}
 use Rattle.std.proofs.Common.{length, length-append, take, drop, Option, Some, None, refl, sym, ap, ◌∙◌, subst}
 use Rattle.std.proofs.Common.{append_assoc, append-nil, arith}
 use Rattle.std.specs.Prelude.{option_and_then}
@@ -277,3 +278,20 @@ none-there stage rest going whole none =
     (ap (λ (l : List ℕ). length l == 0) none) in
     let both : true ≡ false = sym done ∙ going in
     absurd cc
+
+pub points-few : (file rest : List ℕ) (draft : Draft) (number : ℕ) → IsReading file rest draft number →
+    is_whole draft.stage ≡ true → length file + 1 < 2 ^ 32 → length draft.points < 2 ^ 32
+points-few file rest draft number reading end small =
+    let made = steps-whole reading.lines (sketch_of draft) reading.known reading.drafted in
+    let lines : lines_of (sketch_of draft).picture ≡ reading.lines =
+    ap (λ (stage : Stage). lines_in stage (sketch_of draft).picture) (sym (whole-is draft.stage end))
+    ∙ made.lines_are in
+    let count : length (lines_of (sketch_of draft).picture) ≡ length reading.lines = ap length lines in
+    let whole_count = length-append (open_lines (sketch_of draft).picture) (End ∷ []) in
+    let parts = length-append (map Point draft.points) (map Relay draft.relays ++ map Link draft.links) in
+    let points : length (map Point draft.points) ≡ length draft.points = length-map draft.points Point in
+    let open_count : length (open_lines (sketch_of draft).picture) ≡ 2 + length (map Point draft.points ++ (map Relay
+    draft.relays ++ map Link draft.links)) = omega arith in
+    let counted = reading.counted in
+    let shorter = reading.shorter in
+    omega (arith, count, whole_count, parts, points, open_count, counted, shorter, small)

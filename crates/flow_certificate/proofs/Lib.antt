@@ -11,3 +11,4 @@ pub mod Drafting
 pub mod Steps
 pub mod Prefixes
 pub mod FileReads
+pub mod Wholes

@@ -24,5 +24,6 @@ mod verifying;
 
 pub use certificates::Certificate;
 pub use faults::FormFault;
+pub use reading::read_certificate;
 pub use verdicts::{CertFault, CertVerdict, NetworkNode};
 pub use verifying::verify;

@@ -1,10 +1,13 @@
 ghost use Rattle.std.specs.Prelude.{◌≡◌, ◌==◌, ◌&&◌, ◌+◌, ◌^◌, ◌<◌, IfErr, IfOk, length};
-ghost use Rattle.flow_certificate.specs.Certificates.{IsFormFault};
+ghost use Rattle.flow_certificate.specs.Certificates.{CertText, IsFormFault};
+ghost use Rattle.flow_certificate.specs.Pictures.{picture_of};
 ghost use Rattle.flow_certificate.specs.Reading.{IsWholeDraft, is_whole as is_whole_stage};
 
 use crate::adding::{add, begin};
+use crate::certificates::Certificate;
 use crate::drafts::{Draft, Stage};
 use crate::faults::FormFault;
+use crate::finishing::certificate_of;
 use crate::line_reading::line_at;
 use flow_base::NoMemory;
 use std::alloc::Global;
@@ -27,6 +30,7 @@ fn is_done(stage: Stage, rest: &[u8]) -> bool
 fn draft_of(alloc: Global, file: &[u8]) -> Result<Draft, FormFault>
     requires { length file.now + 1 < 2 ^ 32 }
     ensures ok { IfOk result (IsWholeDraft file.now) }
+    ensures few { IfOk result (λ draft. length draft.points < 2 ^ 32) }
     ensures err { IfErr result (IsFormFault file.now) }
 {
     let mut draft = begin(alloc);
@@ -44,4 +48,24 @@ fn draft_of(alloc: Global, file: &[u8]) -> Result<Draft, FormFault>
     } else {
         Err(FormFault::Line { line: number })
     }
+}
+
+/// The certificate whose text the file is. The text has the lines `flowcheck-graph 1` and `value N`, then a line
+/// `point REGION 0xADDRESS SLOT capacity N flow N side S` for each point, a line `relay REGION side S` for each relay and
+/// a line `link FROM TO flow N` for each link, each of the three strictly ascending, and `end`. Numbers are decimal
+/// without leading zeros and below 2^48, and those of regions below 65,536; addresses have eight hexadecimal digits in
+/// lower case; capacities are positive. The points are named p0, p1 and so on by their lines, relays r and the region. A
+/// side is `s` inside, `t` outside, and `m` or `o` for the first or the second half alone. One space stands between
+/// words, and each line ends with a line feed.
+///
+/// Every other file answers the first line that fails. Want of memory answers [`FormFault::Memory`]. It takes time in
+/// the length of the file.
+pub fn read_certificate(alloc: Global, file: &[u8]) -> Result<Certificate, FormFault>
+    requires { length file.now + 1 < 2 ^ 32 }
+    ensures text { IfOk result (λ c. CertText file.now (picture_of c.graph c.solved)) }
+    ensures fault { IfErr result (IsFormFault file.now) }
+{
+    let draft = draft_of(alloc, file)?;
+    let certificate = certificate_of(alloc, draft)?;
+    Ok(certificate)
 }

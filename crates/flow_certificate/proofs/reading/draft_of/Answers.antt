@@ -3,7 +3,7 @@ use Rattle.std.proofs.Common.{arith}
 use Rattle.std.proofs.lemmas.Bool.{and_parts, and_from}
 use Rattle.flow_certificate.specs.Guessing.{line_in}
 use Rattle.flow_certificate.specs.Reading.{is_whole}
-use Rattle.flow_certificate.proofs.FileReads.{line-shorter, line-stands, none-left, none-there, reading-done}
+use Rattle.flow_certificate.proofs.FileReads.{line-shorter, line-stands, none-left, none-there, points-few, reading-done}
 use Rattle.flow_certificate.proofs.FileReads.{reading-fails, reading-first, reading-more, stuck-none, stuck-there}
 use Rattle.flow_certificate.proofs.reading.draft_of.Goals as goal
 
@@ -55,3 +55,10 @@ returns-else-is_done-clause-err c =
     reading-fails c.args.file.now c.loop-draft.rest.now c.loop-draft.draft c.loop-draft.number c.loop-draft.invariant
     (stuck-none c.loop-draft.draft c.loop-draft.rest.now none)
     (none-there c.loop-draft.draft.stage c.loop-draft.rest.now (sym c.is_done.ensures ∙ c.if-is_done.false))
+
+pub returns-then-is_done-clause-few : goal.returns-then-is_done-clause-few
+returns-then-is_done-clause-few c =
+    let parts = and_parts (is_whole c.loop-draft.draft.stage) (length c.loop-draft.rest.now == 0)
+    (sym c.is_done.ensures ∙ c.if-is_done.true) in
+    points-few c.args.file.now c.loop-draft.rest.now c.loop-draft.draft c.loop-draft.number c.loop-draft.invariant
+    parts.0 c.requires
