@@ -1,18 +1,17 @@
 -- From the answer for a graph's network to the answer for the graph.
-use Rattle.std.proofs.Common.{◌≡◌, ◌⊎◌, ℕ, ◌+◌, ◌-◌, ◌*◌, ◌^◌, ◌≤◌, ◌<◌, ◌++◌, Bool, List, length, map, take, drop}
-use Rattle.std.proofs.Common.{get_or, slice_index, refl, sym, ap, ◌∙◌, subst, ⊎_elim, arith, length-append}
+use Rattle.std.proofs.Common.{◌≡◌, ℕ, ◌+◌, ◌^◌, ◌≤◌, ◌<◌, ◌++◌, Bool, List, length, take, drop}
+use Rattle.std.proofs.Common.{min, slice_index, sym, ap, ◌∙◌, subst, ⊎_elim, arith, length-append}
 use Rattle.std.proofs.lemmas.Bool.{cases_lt, ltb-true}
-use Rattle.std.proofs.lemmas.List.{length-map, length-take-le, length-drop, take-append-drop, get_or_past}
+use Rattle.std.proofs.lemmas.List.{length-map, length-take-le, length-take, length-drop, take-append-drop, get_or_past}
+use Rattle.std.proofs.lemmas.List.{get_or-take, get_or-drop}
+use Rattle.std.proofs.Math.Nat.{min-le_left}
 use Rattle.flow_graph.specs.declared.graphs.Graph.{Graph}
 use Rattle.max_flow.specs.declared.answers.Half.{Half}
-use Rattle.max_flow.specs.declared.networks.Network.{Network}
-use Rattle.max_flow.specs.Networks.{Net, IsNet, IsFlow, IsSide, value_of, capacity_of}
-use Rattle.max_flow.specs.Rooms.{HasSmallSide, IsLeast}
-use Rattle.max_flow.specs.Flows.{halves_from, tail_of, network_of, member, IsFlowOf, IsSideOf, Least, HasNoGreater}
+use Rattle.max_flow.specs.Networks.{IsFlow, IsSide, AreAtMost, value_of, capacity_of}
+use Rattle.max_flow.specs.Rooms.{IsLeast}
+use Rattle.max_flow.specs.Flows.{halves_from, tail_of, network_of, member, IsFlowOf, Least, HasNoGreater}
 use Rattle.max_flow.specs.Flows.{IsWithinLimits, is_small, flow_value, side_capacity}
 use Rattle.max_flow.specs.Searching.{is_found}
-use Rattle.max_flow.specs.Marks.{found_marks}
-use Rattle.max_flow.specs.Solving.{net_of}
 use Rattle.max_flow.proofs.Graphs.{graph_net, length-halves, all_map}
 use Rattle.max_flow.proofs.Members.{IsMade, made_side, made-capacity, member_found}
 use Rattle.max_flow.proofs.Tightness.{weak}
@@ -54,6 +53,29 @@ flow_from graph flows points links flow front back =
           (sym (take-append-drop (length graph.points) flows) ∙
           (ap (λ p. p ++ drop (length graph.points) flows) (sym front) ∙ ap (λ l. points ++ l) (sym back))) flow;
     }
+
+pub front_most : (most count : ℕ) (flows points : List ℕ) → points ≡ take count flows → AreAtMost most flows →
+    AreAtMost most points
+front_most most count flows points same each = λ i. let old : slice_index flows i ≤ most = each i in
+    ⊎_elim
+    (λ (below : i < count).
+    let e : slice_index points i ≡ slice_index flows i = ap (λ xs. slice_index xs i) same ∙
+    get_or-take count flows i 0 below in
+    omega (arith, e, old))
+    (λ (past : count ≤ i).
+    let few : length points ≡ min count (length flows) = ap length same ∙ length-take count flows in
+    let low : min count (length flows) ≤ count = min-le_left count (length flows) in
+    let e : slice_index points i ≡ 0 = get_or_past points i 0 (omega (arith, few, low, past)) in
+    omega (arith, e))
+    (cases_lt i count)
+
+pub back_most : (most count : ℕ) (flows links : List ℕ) → links ≡ drop count flows → AreAtMost most flows →
+    AreAtMost most links
+back_most most count flows links same each = λ i.
+    let old : slice_index flows (count + i) ≤ most = each (count + i) in
+    let e : slice_index links i ≡ slice_index flows (count + i) = ap (λ xs. slice_index xs i) same ∙
+    get_or-drop count flows i 0 in
+    omega (arith, e, old)
 
 pub greatest_from : (graph : Graph) (value : ℕ) (places : List ℕ) → IsSide (network_of graph) (is_found places) →
     capacity_of (network_of graph) (is_found places) ≡ value → HasNoGreater graph value

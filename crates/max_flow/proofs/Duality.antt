@@ -1,12 +1,10 @@
 -- What a set of nodes passes on: the value of a flow against the capacity of a side, and where they are equal.
-use Rattle.std.proofs.Common.{◌≡◌, ◌≢◌, ◌⊎◌, ℕ, zero, suc, ◌+◌, ◌-◌, ◌^◌, ◌≤◌, ◌<◌, ◌&&◌, not, cond, eqb, ltb, Bool}
-use Rattle.std.proofs.Common.{true, false, List, length, slice_index, refl, sym, ap, ◌∙◌, inl, inr, ⊎_elim, arith}
-use Rattle.std.proofs.Common.{add-one}
-use Rattle.std.proofs.lemmas.Bool.{cases_eq, cases_lt, cases_Bool, cases_order, lt-ltb, le-ltb, eq-eqb, ne_eqb}
-use Rattle.std.proofs.lemmas.Bool.{and_left, and_right, cond-true, cond-false}
-use Rattle.max_flow.specs.Networks.{Net, sum_below, at_node, IsNet, IsFlow, IsSide, value_of, leaves, capacity_of}
-use Rattle.max_flow.specs.Rooms.{bound, IsClosed}
-use Rattle.max_flow.proofs.Sums.{sum_same, sum_add, sum_le, sum_zero, sum_tight, sum_item, sum_front}
+use Rattle.std.proofs.Common.{◌≡◌, ◌≢◌, ◌⊎◌, ℕ, zero, suc, ◌+◌, ◌-◌, ◌≤◌, ◌<◌, ◌&&◌, cond, eqb, ltb, Bool}
+use Rattle.std.proofs.Common.{true, false, List, length, slice_index, refl, sym, ap, ◌∙◌, ⊎_elim, arith}
+use Rattle.std.proofs.lemmas.Bool.{cases_eq, cases_Bool, cases_order, lt-ltb, le-ltb, eq-eqb, ne_eqb}
+use Rattle.std.proofs.lemmas.Bool.{and_right, cond-false}
+use Rattle.max_flow.specs.Networks.{Net, sum_below, at_node, IsNet, IsFlow, value_of}
+use Rattle.max_flow.proofs.Sums.{sum_same, sum_add, sum_zero}
 
 -- the flow at the nodes of a set
 unfoldable pub at_set : List ℕ → List ℕ → (ℕ → Bool) → ℕ

@@ -1,15 +1,15 @@
 -- A search finds one node more, or nothing.
-use Rattle.std.proofs.Common.{◌≡◌, ◌≢◌, ◌⊎◌, ℕ, zero, suc, ◌+◌, ◌-◌, ◌≤◌, ◌<◌, ◌++◌, ◌∷◌, [], cond, eqb, ltb, min, Bool}
-use Rattle.std.proofs.Common.{true, false, List, length, set, slice_index, get_or, refl, sym, ap, ◌∙◌, subst, inl, inr}
+use Rattle.std.proofs.Common.{◌≡◌, ◌≢◌, ℕ, zero, suc, ◌+◌, ◌-◌, ◌≤◌, ◌<◌, ◌++◌, ◌∷◌, [], cond, eqb, min, Bool}
+use Rattle.std.proofs.Common.{true, false, List, length, set, slice_index, refl, sym, ap, ◌∙◌, subst}
 use Rattle.std.proofs.Common.{⊎_elim, arith}
-use Rattle.std.proofs.lemmas.Bool.{cases_eq, cases_lt, cases_Bool, eqb-true, eqb-false, eq-eqb, ne_eqb, cond-true}
+use Rattle.std.proofs.lemmas.Bool.{cases_eq, cases_lt, eq-eqb, ne_eqb, cond-true}
 use Rattle.std.proofs.lemmas.Bool.{cond-false}
 use Rattle.std.proofs.lemmas.List.{length-set, get_or-set_same, get_or-set_other, get_or_append_left, get_or_push}
 use Rattle.std.proofs.lemmas.List.{length_push}
 use Rattle.max_flow.specs.Networks.{Net, sum_below, IsNet}
 use Rattle.max_flow.specs.Rooms.{bound, room_into, other_end, IsClosed}
-use Rattle.max_flow.specs.Searching.{Arrives, HasWalks, IsFound, IsStart, unfound, HasGrown, Reaches}
-use Rattle.max_flow.proofs.Sums.{sum_same, sum_changed}
+use Rattle.max_flow.specs.Searching.{Arrives, IsFound, IsStart, unfound, HasGrown, Reaches}
+use Rattle.max_flow.proofs.Sums.{sum_changed}
 
 sum_ones : (n : ℕ) → sum_below n (λ v. 1) ≡ n
 unfolding sum_below

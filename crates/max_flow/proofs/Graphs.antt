@@ -1,6 +1,6 @@
 -- The network of a graph is one: its edges join nodes that there are, and none enters the source.
-use Rattle.std.proofs.Common.{◌≡◌, ◌≢◌, ◌⊎◌, ℕ, zero, suc, ◌+◌, ◌-◌, ◌*◌, ◌≤◌, ◌<◌, ◌++◌, ◌∷◌, [], Bool, true, false}
-use Rattle.std.proofs.Common.{List, length, map, get_or, slice_index, refl, sym, ap, ◌∙◌, subst, inl, inr, ⊎_elim}
+use Rattle.std.proofs.Common.{◌≡◌, ◌≢◌, ℕ, zero, suc, ◌+◌, ◌-◌, ◌*◌, ◌≤◌, ◌<◌, ◌++◌, ◌∷◌, [], Bool, true}
+use Rattle.std.proofs.Common.{List, length, map, get_or, slice_index, refl, sym, ◌∙◌, subst, ⊎_elim}
 use Rattle.std.proofs.Common.{arith, length-append, add-one}
 use Rattle.std.specs.List.{list_all}
 use Rattle.std.proofs.lemmas.Bool.{cases_lt, cases_eq, and_parts, ltb-true}
@@ -9,8 +9,8 @@ use Rattle.flow_graph.specs.declared.ends.Arc.{Arc}
 use Rattle.flow_graph.specs.declared.ends.End.{End}
 use Rattle.flow_graph.specs.declared.ends.End.TheVariants.{Source, Point, Relay, Sink}
 use Rattle.flow_graph.specs.declared.graphs.Graph.{Graph}
-use Rattle.flow_graph.specs.Graphs.{is_origin, is_target, is_link, is_relay, leads_on}
-use Rattle.max_flow.specs.Networks.{Net, IsNet}
+use Rattle.flow_graph.specs.Graphs.{is_origin, is_target, is_link}
+use Rattle.max_flow.specs.Networks.{IsNet}
 use Rattle.max_flow.specs.Flows.{halves_from, tail_of, head_of, network_of}
 
 pub length-halves : (start n : ℕ) → length (halves_from start n) ≡ n

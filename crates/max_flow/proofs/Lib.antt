@@ -6,6 +6,7 @@ pub mod Linking
 pub mod Finding
 pub mod Scans
 pub mod Walking
+pub mod Amounts
 pub mod Rounds
 pub mod Members
 pub mod Answering

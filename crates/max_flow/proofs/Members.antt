@@ -1,20 +1,18 @@
 -- The nodes that a search has found are those of the side that is made of them.
-use Rattle.std.proofs.Common.{◌≡◌, ◌≢◌, ◌⊎◌, ℕ, zero, suc, ◌+◌, ◌-◌, ◌*◌, ◌≤◌, ◌<◌, ◌++◌, ◌∷◌, [], ◌&&◌, not, cond, eqb}
-use Rattle.std.proofs.Common.{ltb, Bool, true, false, List, length, map, get_or, slice_index, refl, sym, ap, ◌∙◌, subst}
-use Rattle.std.proofs.Common.{inl, inr, ⊎_elim, arith, append_assoc, length-append, add-one}
-use Rattle.std.specs.List.{list_all, list_any}
-use Rattle.std.proofs.lemmas.Bool.{cases_lt, cases_eq, cases_Bool, and_parts, or_cases, ltb-true, eqb-true, eq-eqb}
+use Rattle.std.proofs.Common.{◌≡◌, ◌≢◌, ℕ, zero, suc, ◌+◌, ◌-◌, ◌*◌, ◌≤◌, ◌<◌, ◌++◌, ◌∷◌, [], ◌&&◌, not, cond, eqb}
+use Rattle.std.proofs.Common.{ltb, Bool, true, false, List, length, map, get_or, slice_index, refl, sym, ap, ◌∙◌}
+use Rattle.std.proofs.Common.{⊎_elim, arith, length-append, add-one}
+use Rattle.std.specs.List.{list_any}
+use Rattle.std.proofs.lemmas.Bool.{cases_lt, cases_eq, and_parts, or_cases, ltb-true, eqb-true, eq-eqb}
 use Rattle.std.proofs.lemmas.Bool.{ne_eqb, lt-ltb, le-ltb, cond-true, cond-false}
-use Rattle.std.proofs.lemmas.List.{length-map, get_or_append_left, get_or-append_right, length_push}
-use Rattle.flow_graph.specs.declared.ends.Arc.{Arc}
+use Rattle.std.proofs.lemmas.List.{get_or_append_left, get_or-append_right}
 use Rattle.flow_graph.specs.declared.ends.End.{End}
 use Rattle.flow_graph.specs.declared.ends.End.TheVariants.{Source, Point, Relay, Sink}
 use Rattle.flow_graph.specs.declared.graphs.Graph.{Graph}
-use Rattle.flow_graph.specs.Graphs.{is_origin, is_target, is_link, is_relay, leads_on}
+use Rattle.flow_graph.specs.Graphs.{is_origin, is_target, is_link, is_relay}
 use Rattle.max_flow.specs.declared.answers.Half.{Half}
-use Rattle.max_flow.specs.declared.answers.Half.TheVariants.{Both, FirstOnly, SecondOnly, Neither}
-use Rattle.max_flow.specs.Networks.{Net, IsNet, IsSide, capacity_of, leaves, sum_below}
-use Rattle.max_flow.specs.Flows.{halves_from, tail_of, head_of, network_of, member, marks, relay_in, has_first}
+use Rattle.max_flow.specs.Networks.{IsNet, IsSide, capacity_of, leaves}
+use Rattle.max_flow.specs.Flows.{tail_of, head_of, network_of, member, marks, relay_in, has_first}
 use Rattle.max_flow.specs.Flows.{has_second}
 use Rattle.max_flow.specs.Marks.{found_marks}
 use Rattle.max_flow.specs.Searching.{is_found}

@@ -1,9 +1,9 @@
 -- The rounds of the solver: no flow at all at first, and at last a flow and a set that nothing more leaves.
-use Rattle.std.proofs.Common.{◌≡◌, ◌≢◌, ◌⊎◌, ℕ, ◌+◌, ◌-◌, ◌^◌, ◌≤◌, ◌<◌, cond, eqb, ltb, Bool, true, false, List}
-use Rattle.std.proofs.Common.{length, slice_index, refl, sym, ap, ◌∙◌, subst, ⊎_elim, arith}
+use Rattle.std.proofs.Common.{◌≡◌, ℕ, ◌-◌, ◌^◌, ◌≤◌, ◌<◌, cond, eqb, true, false, List}
+use Rattle.std.proofs.Common.{length, slice_index, refl, sym, ◌∙◌, ⊎_elim, arith}
 use Rattle.std.proofs.lemmas.Bool.{cases_Bool, ltb-true, lt-ltb, le-ltb}
-use Rattle.max_flow.specs.Networks.{Net, sum_below, at_node, IsNet, IsFlow, IsSide, value_of, capacity_of}
-use Rattle.max_flow.specs.Rooms.{bound, IsBounded, IsClosed, HasSmallSide, IsLeast}
+use Rattle.max_flow.specs.Networks.{Net, at_node, IsNet, IsFlow, IsSide, AreAtMost, value_of, capacity_of}
+use Rattle.max_flow.specs.Rooms.{IsBounded, IsClosed, HasSmallSide, IsLeast}
 use Rattle.max_flow.specs.Searching.{IsFound, is_found}
 use Rattle.max_flow.specs.declared.searching.Tree.{Tree}
 use Rattle.max_flow.specs.Solving.{IsRaised, AreZeros}
@@ -35,6 +35,9 @@ none_bounded net flow zeros = record {
 
 pub none-value : (net : Net) (flow : List ℕ) → AreZeros (length net.tails) flow → value_of net flow ≡ 0
 none-value net flow zeros = none_at net.tails flow 0 (length net.tails) zeros
+
+pub none_most : (n : ℕ) (flow : List ℕ) → AreZeros n flow → AreAtMost 0 flow
+none_most n flow zeros = λ i. let e : slice_index flow i ≡ 0 = zeros.each i in omega (arith, e)
 
 pub value_small : (net : Net) (flow : List ℕ) → IsNet net → HasSmallSide net → IsFlow net flow → value_of net flow < 2
     ^ 64 - 1

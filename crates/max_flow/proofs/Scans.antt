@@ -1,9 +1,9 @@
 -- Edge by edge along a chain, and node by node along the queue.
-use Rattle.std.proofs.Common.{◌≡◌, ◌≢◌, ◌⊎◌, ℕ, ◌+◌, ◌-◌, ◌≤◌, ◌<◌, cond, eqb, ltb, Bool, true, false, List, length}
+use Rattle.std.proofs.Common.{◌≡◌, ◌≢◌, ℕ, ◌+◌, ◌-◌, ◌≤◌, ◌<◌, eqb, true, false, List, length}
 use Rattle.std.proofs.Common.{slice_index, refl, sym, ap, ◌∙◌, subst, ⊎_elim, arith}
 use Rattle.std.proofs.lemmas.Bool.{cases_eq, cases_lt, ltb-true, lt-ltb, eq-eqb, ne_eqb, cond-true, cond-false}
 use Rattle.max_flow.specs.Networks.{Net, IsNet}
-use Rattle.max_flow.specs.Rooms.{bound, IsClosed, room_into, other_end}
+use Rattle.max_flow.specs.Rooms.{bound, IsClosed}
 use Rattle.max_flow.specs.Adjacency.{IsLast, AreChains}
 use Rattle.max_flow.specs.Searching.{IsFound, HasGrown, HasLeft, HasEntered, IsScanned, Reaches, is_found}
 

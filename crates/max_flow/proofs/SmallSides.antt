@@ -1,17 +1,17 @@
 -- Within the limits the side of all first halves is small, so each sum that the solver makes fits in a number.
-use Rattle.std.proofs.Common.{◌≡◌, ◌≢◌, ◌⊎◌, ℕ, zero, suc, ◌+◌, ◌-◌, ◌*◌, ◌%◌, ◌^◌, ◌≤◌, ◌<◌, ◌++◌, ◌&&◌, not, cond}
+use Rattle.std.proofs.Common.{◌≡◌, ℕ, zero, suc, ◌+◌, ◌-◌, ◌*◌, ◌%◌, ◌^◌, ◌≤◌, ◌<◌, ◌&&◌, cond}
 use Rattle.std.proofs.Common.{eqb, ltb, Bool, true, false, List, [], ◌∷◌, length, map, get_or, slice_index, refl, sym}
-use Rattle.std.proofs.Common.{ap, ◌∙◌, subst, ⊎_elim, arith, length-append}
+use Rattle.std.proofs.Common.{ap, ◌∙◌, ⊎_elim, arith, length-append}
 use Rattle.std.specs.List.{list_all}
-use Rattle.std.proofs.lemmas.Bool.{cases_lt, cases_Bool, and_parts, and_from, ltb-true, eqb-true, eq-eqb, ne_eqb}
-use Rattle.std.proofs.lemmas.Bool.{lt-ltb, le-ltb, cond-true, cond-false}
+use Rattle.std.proofs.lemmas.Bool.{cases_Bool, and_parts, and_from, ltb-true, eqb-true, eq-eqb}
+use Rattle.std.proofs.lemmas.Bool.{lt-ltb, cond-true, cond-false}
 use Rattle.std.proofs.lemmas.List.{length-map, get_or-append_right}
 use Rattle.flow_graph.specs.declared.ends.Arc.{Arc}
 use Rattle.flow_graph.specs.declared.ends.End.{End}
 use Rattle.flow_graph.specs.declared.ends.End.TheVariants.{Source, Point, Relay, Sink}
 use Rattle.flow_graph.specs.declared.graphs.Graph.{Graph}
-use Rattle.flow_graph.specs.Graphs.{is_origin, is_target, is_link, is_relay, leads_on, is_point}
-use Rattle.max_flow.specs.Networks.{Net, IsSide, capacity_of, leaves, sum_below}
+use Rattle.flow_graph.specs.Graphs.{is_origin, is_target, is_link, leads_on}
+use Rattle.max_flow.specs.Networks.{capacity_of, leaves, sum_below}
 use Rattle.max_flow.specs.Rooms.{HasSmallSide}
 use Rattle.max_flow.specs.Flows.{halves_from, tail_of, head_of, network_of, is_small, IsWithinLimits}
 use Rattle.max_flow.proofs.Graphs.{length-halves, all_map}

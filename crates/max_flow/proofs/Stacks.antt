@@ -1,15 +1,14 @@
 -- The last node of a walk is taken out again.
-use Rattle.std.proofs.Common.{◌≡◌, ◌≢◌, ◌⊎◌, ℕ, zero, suc, ◌+◌, ◌-◌, ◌≤◌, ◌<◌, ◌∷◌, [], cond, eqb, List, length}
-use Rattle.std.proofs.Common.{set, take, slice_index, get_or, refl, sym, ap, ◌∙◌, subst, ⊎_elim, arith, min}
+use Rattle.std.proofs.Common.{◌≡◌, ◌≢◌, ℕ, ◌+◌, ◌-◌, ◌≤◌, ◌<◌, ◌∷◌, [], cond, eqb, List, length}
+use Rattle.std.proofs.Common.{set, take, slice_index, get_or, sym, ap, ◌∙◌, subst, ⊎_elim, arith}
 use Rattle.std.proofs.lemmas.Bool.{cases_eq, cases_lt, eq-eqb, ne_eqb, cond-true, cond-false}
 use Rattle.std.proofs.lemmas.List.{length-set, get_or-set_same, get_or-set_other, length-take, get_or-take, get_or_past}
-use Rattle.max_flow.specs.Networks.{Net, sum_below, IsNet}
-use Rattle.max_flow.specs.Rooms.{IsClosed, other_end}
+use Rattle.max_flow.specs.Networks.{Net, sum_below}
+use Rattle.max_flow.specs.Rooms.{other_end}
 use Rattle.max_flow.specs.Adjacency.{IsLast, AreChains}
-use Rattle.max_flow.specs.Searching.{Arrives, HasWalks, IsFound, IsStart, unfound, HasGrown}
+use Rattle.max_flow.specs.Searching.{IsFound, IsStart, unfound}
 use Rattle.max_flow.specs.Stacks.{IsStack, AreCursors}
 use Rattle.max_flow.proofs.Sums.{sum_changed}
-use Rattle.max_flow.proofs.Finding.{found_first}
 
 pub stack_of : (net : Net) (flow places arrivals rooms queue : List ℕ) → IsFound net flow places arrivals rooms queue →
     slice_index places 0 ≡ 1 → IsStack net.nodes places arrivals rooms queue

@@ -1,12 +1,12 @@
 -- The value of a flow is at most the capacity of a side; where they are equal nothing more leaves the side; and a set
 -- that nothing more leaves is a side of that capacity.
-use Rattle.std.proofs.Common.{◌≡◌, ◌≢◌, ◌⊎◌, ℕ, zero, suc, ◌+◌, ◌-◌, ◌^◌, ◌≤◌, ◌<◌, ◌&&◌, not, cond, eqb, ltb, Bool}
-use Rattle.std.proofs.Common.{true, false, List, length, slice_index, refl, sym, ap, ◌∙◌, inl, inr, ⊎_elim, arith}
+use Rattle.std.proofs.Common.{◌≡◌, ◌≢◌, ℕ, ◌+◌, ◌-◌, ◌^◌, ◌≤◌, ◌<◌, ◌&&◌, not, cond, eqb, ltb, Bool}
+use Rattle.std.proofs.Common.{true, false, List, length, slice_index, refl, sym, ap, ◌∙◌, ⊎_elim, arith}
 use Rattle.std.proofs.lemmas.Bool.{cases_eq, cases_lt, cases_Bool, lt-ltb, le-ltb, eq-eqb, ne_eqb, cond-true}
 use Rattle.std.proofs.lemmas.Bool.{cond-false}
-use Rattle.max_flow.specs.Networks.{Net, sum_below, at_node, IsNet, IsFlow, IsSide, value_of, leaves, capacity_of}
+use Rattle.max_flow.specs.Networks.{Net, sum_below, IsNet, IsFlow, IsSide, value_of, leaves, capacity_of}
 use Rattle.max_flow.specs.Rooms.{bound, IsClosed}
-use Rattle.max_flow.proofs.Sums.{sum_same, sum_add, sum_le, sum_zero, sum_tight, sum_item, sum_front}
+use Rattle.max_flow.proofs.Sums.{sum_same, sum_add, sum_le, sum_tight, sum_item, sum_front}
 use Rattle.max_flow.proofs.Duality.{at_set, conserved}
 
 -- an edge from a set that has it to where the set has not: within its limit, at its limit, and back

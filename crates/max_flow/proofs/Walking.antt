@@ -1,12 +1,12 @@
 -- One step back along the walk over which the sink was found, from the sink to the source.
-use Rattle.std.proofs.Common.{◌≡◌, ◌≢◌, ◌⊎◌, ℕ, ◌+◌, ◌-◌, ◌^◌, ◌≤◌, ◌<◌, cond, eqb, ltb, Bool, true, false, List}
+use Rattle.std.proofs.Common.{◌≡◌, ◌≢◌, ℕ, ◌+◌, ◌-◌, ◌^◌, ◌≤◌, ◌<◌, cond, eqb, ltb, Bool, true, false, List}
 use Rattle.std.proofs.Common.{length, set, slice_index, refl, sym, ap, ◌∙◌, subst, ⊎_elim, arith}
 use Rattle.std.proofs.lemmas.Bool.{cases_eq, cases_lt, eq-eqb, ne_eqb, lt-ltb, le-ltb, cond-true, cond-false}
-use Rattle.std.proofs.lemmas.Bool.{cases_Bool, eqb-true, eqb-false}
+use Rattle.std.proofs.lemmas.Bool.{cases_Bool}
 use Rattle.std.proofs.lemmas.List.{length-set, get_or-set_same, get_or-set_other}
 use Rattle.max_flow.specs.Networks.{Net, sum_below, at_node, IsNet, IsFlow, value_of}
 use Rattle.max_flow.specs.Rooms.{bound, IsBounded, room_into, other_end, pushed}
-use Rattle.max_flow.specs.Searching.{Arrives, HasWalks, Carries, IsWalking, IsFound}
+use Rattle.max_flow.specs.Searching.{Arrives, Carries, IsWalking, IsFound}
 use Rattle.max_flow.proofs.Sums.{sum_changed}
 use Rattle.max_flow.proofs.Duality.{source_entered}
 

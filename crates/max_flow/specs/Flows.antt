@@ -2,11 +2,10 @@
 -- 2 + 2 * i, its second half 3 + 2 * i, and the relay of region r 2 + 2 * P + r. The edges are the inner ones of the
 -- points, each from a first half to a second half with the point's capacity as its limit, and then the links, all open,
 -- in the graph's order.
-use Rattle.std.specs.Prelude.{◌≡◌, ℕ, zero, suc, ◌+◌, ◌-◌, ◌*◌, ◌^◌, ◌≤◌, ◌<◌, ◌++◌, cond, nat_eq, nat_lt, nat_le, Bool}
+use Rattle.std.specs.Prelude.{◌≡◌, ℕ, zero, suc, ◌+◌, ◌-◌, ◌*◌, ◌^◌, ◌≤◌, ◌<◌, ◌++◌, cond, nat_eq, nat_lt, Bool}
 use Rattle.std.specs.Prelude.{true, false, IsTrue}
 use Rattle.std.specs.Prelude.{List, [], ◌∷◌, length, map, slice_index_or}
 use Rattle.std.specs.List.{list_all}
-use Rattle.flow_graph.specs.declared.ends.Arc.{Arc}
 use Rattle.flow_graph.specs.declared.ends.End.{End}
 use Rattle.flow_graph.specs.declared.ends.End.TheVariants.{Source, Point, Relay, Sink}
 use Rattle.flow_graph.specs.declared.graphs.Graph.{Graph}

@@ -35,6 +35,10 @@ pub record IsFlow (net : Net) (flow : List ℕ) : Type 0 where
   pub within : (i : ℕ) → i < length net.limits → slice_index flow i ≤ slice_index net.limits i
   pub balanced : (v : ℕ) → 2 ≤ v → v < net.nodes → at_node net.heads flow v ≡ at_node net.tails flow v
 
+-- no number of a list exceeds this one
+abbrev pub AreAtMost : ℕ → List ℕ → Type 0
+AreAtMost most numbers = (i : ℕ) → slice_index numbers i ≤ most
+
 -- what flows out of the source
 abbrev pub value_of : Net → List ℕ → ℕ
 value_of net flow = at_node net.tails flow 0

@@ -1,7 +1,7 @@
 -- A search from the source over edges with room: which nodes are found, in which order, and over which edges.
 use Rattle.std.specs.Prelude.{◌≡◌, ℕ, ◌+◌, ◌-◌, ◌≤◌, ◌<◌, ◌≢◌, ◌==◌, nat_lt, cond, Bool, true}
 use Rattle.std.specs.Prelude.{List, [], ◌∷◌, length, slice_index}
-use Rattle.max_flow.specs.Networks.{Net, at_node, sum_below}
+use Rattle.max_flow.specs.Networks.{Net, at_node, sum_below, AreAtMost}
 use Rattle.max_flow.specs.Rooms.{bound, room_into, other_end, IsBounded, IsClosed}
 
 -- how a node other than the source was found
@@ -32,6 +32,12 @@ pub record IsWalking (net : Net) (flow places arrivals rooms : List ℕ) (value 
   pub bounded : IsBounded net flow
   pub carries : Carries net flow value at d
   pub walks : HasWalks net flow places arrivals rooms (slice_index places at)
+
+-- a walk back has raised no edge by more than d, and none between nodes that it has yet to leave
+pub record IsRaising (net : Net) (flow places : List ℕ) (value at d : ℕ) : Type 0 where
+  pub most : AreAtMost (value + d) flow
+  pub ahead : (i : ℕ) → slice_index places (slice_index net.tails i) ≤ slice_index places at → slice_index places
+      (slice_index net.heads i) ≤ slice_index places at → slice_index flow i ≤ value
 
 -- how many of the first n nodes are not found yet
 unfoldable pub unfound : List ℕ → ℕ → ℕ

@@ -1,8 +1,8 @@
 -- What the parts of the solver keep of a graph's network.
-use Rattle.std.specs.Prelude.{◌≡◌, ℕ, ◌+◌, ◌^◌, ◌<◌, List, length, slice_index}
+use Rattle.std.specs.Prelude.{◌≡◌, ℕ, ◌^◌, ◌<◌, List, length, slice_index}
 use Rattle.max_flow.specs.declared.networks.Network.{Network}
 use Rattle.max_flow.specs.declared.searching.Tree.{Tree}
-use Rattle.max_flow.specs.Networks.{Net, IsNet, IsFlow, value_of}
+use Rattle.max_flow.specs.Networks.{Net, IsNet, IsFlow, value_of, AreAtMost}
 use Rattle.max_flow.specs.Adjacency.{AreChains}
 use Rattle.max_flow.specs.Searching.{IsFound, is_found}
 use Rattle.max_flow.specs.Rooms.{IsClosed}
@@ -31,6 +31,7 @@ IsTree net flow tree = IsFound net flow tree.places.items tree.arrivals.items tr
 pub record IsRaised (net : Net) (flow : List ℕ) (value : ℕ) (tree : Tree) : Type 0 where
   pub flow_is : IsFlow net flow
   pub value_is : value_of net flow ≡ value
+  pub most : AreAtMost value flow
   pub tree_is : IsTree net flow tree
   pub sink : slice_index tree.places.items 1 ≡ 0
   pub shut : IsClosed net flow (is_found tree.places.items)

@@ -10,8 +10,8 @@ use flow_graph::{Arc, End, Graph, Node};
 use std::alloc::Global;
 
 /// The number of the node that a link leaves, where there are `count` points.
-fn tail_number(count: usize, end: End) -> usize
-    requires { count ≤ 65536 }
+pub fn tail_number(count: usize, end: End) -> usize
+    requires { count < 2 ^ 32 }
     ensures { result ≡ tail_of count end }
 {
     match end {
@@ -23,8 +23,8 @@ fn tail_number(count: usize, end: End) -> usize
 }
 
 /// The number of the node that a link enters, where there are `count` points.
-fn head_number(count: usize, end: End) -> usize
-    requires { count ≤ 65536 }
+pub fn head_number(count: usize, end: End) -> usize
+    requires { count < 2 ^ 32 }
     ensures { result ≡ head_of count end }
 {
     match end {

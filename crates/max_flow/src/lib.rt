@@ -18,6 +18,7 @@ mod solving;
 mod tests;
 
 pub use answers::{Flow, Half, Side, Solved};
+pub use building::{head_number, tail_number};
 pub use laws::{equal_is_best, no_flow_exceeds_a_side};
 pub use limits::is_within_limits;
 pub use solving::solve;

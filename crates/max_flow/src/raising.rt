@@ -1,5 +1,5 @@
 ghost use Rattle.std.specs.Prelude.{◌≡◌, ◌+◌, ◌<◌, ◌≤◌, length, slice_index, IfOk};
-ghost use Rattle.max_flow.specs.Networks.{IsFlow, IsSide, value_of, capacity_of};
+ghost use Rattle.max_flow.specs.Networks.{AreAtMost, IsFlow, IsSide, value_of, capacity_of};
 ghost use Rattle.max_flow.specs.Rooms.{IsBounded, IsClosed, HasSmallSide, IsLeast};
 ghost use Rattle.max_flow.specs.Searching.{is_found};
 ghost use Rattle.max_flow.specs.Solving.{net_of, IsNetwork, IsTree, IsRaised, AreZeros};
@@ -41,6 +41,7 @@ fn raise(alloc: Global, network: &Network, flows: &mut [u64]) -> Result<Raised, 
     requires flow { IsFlow (net_of network.now) flows.old }
     requires bounded { IsBounded (net_of network.now) flows.old }
     requires none { value_of (net_of network.now) flows.old ≡ 0 }
+    requires most { AreAtMost 0 flows.old }
     ensures { IfOk result (λ raised. IsRaised (net_of network.now) flows.new raised.value raised.tree) }
 {
     let mut value = 0;
@@ -59,6 +60,7 @@ pub fn solve_network(alloc: Global, network: &Network) -> Result<Answer, NoMemor
     ensures count { IfOk result (λ answer. length answer.places.items ≡ network.now.nodes) }
     ensures flow { IfOk result (λ answer. IsFlow (net_of network.now) answer.flows.items) }
     ensures value { IfOk result (λ answer. value_of (net_of network.now) answer.flows.items ≡ answer.value) }
+    ensures most { IfOk result (λ answer. AreAtMost answer.value answer.flows.items) }
     ensures side { IfOk result (λ answer. IsSide (net_of network.now) (is_found answer.places.items)) }
     ensures capacity { IfOk result (λ answer. capacity_of (net_of network.now) (is_found answer.places.items) ≡
         answer.value) }

@@ -1,27 +1,45 @@
-use Rattle.std.proofs.Common.{◌≢◌}
+use Rattle.std.proofs.Common.{◌≡◌, ◌≢◌, ◌+◌}
+use Rattle.max_flow.specs.Networks.{value_of}
 use Rattle.max_flow.specs.Solving.{net_of}
 use Rattle.max_flow.proofs.Walking.{walking_first, walking_on, walked_flow, walked-value}
+use Rattle.max_flow.proofs.Amounts.{raising_first, raising_on, raised_most}
 use Rattle.max_flow.proofs.augmenting.augment.Goals as goal
 
 pub loop-at-init : goal.loop-at-init
-loop-at-init c =
-    rw c.room-amount.ensures (walking_first (net_of c.args.network.now) c.args.flows.now _ _ _
-    c.args.tree.now.queue.items c.requires.network.net c.requires.flow c.requires.bounded c.requires.tree
-    c.requires.found)
+loop-at-init c = record {
+  walking = rw c.room-amount.ensures (walking_first (net_of c.args.network.now) c.args.flows.now _ _ _
+      c.args.tree.now.queue.items c.requires.network.net c.requires.flow c.requires.bounded c.requires.tree
+      c.requires.found);
+  raising = raising_first (net_of c.args.network.now) c.args.flows.now c.args.tree.now.places.items
+      (value_of (net_of c.args.network.now) c.args.flows.now) 1 c.room-amount.result c.requires.most;
+}
 
 pub loop-at-preserved : goal.loop-at-preserved
 loop-at-preserved c =
     let ne : c.loop-at.at ≢ 0 = λ e. c.loop-at-test.true e in
-    rw (c.push-at.ensures.flows, c.push-at.ensures.end, c.arrival.ensures)
-    (walking_on (net_of c.args.network.now) c.loop-at.flows _ _ _ _ c.loop-at.at c.room-amount.result
-    c.requires.network.net c.loop-at.invariant ne)
+    record {
+      walking = rw (c.push-at.ensures.flows, c.push-at.ensures.end, c.arrival.ensures)
+          (walking_on (net_of c.args.network.now) c.loop-at.flows _ _ _ _ c.loop-at.at c.room-amount.result
+          c.requires.network.net c.loop-at.invariant.walking ne);
+      raising = rw (c.push-at.ensures.flows, c.push-at.ensures.end, c.arrival.ensures)
+          (raising_on (net_of c.args.network.now) c.loop-at.flows _ _ _ _ c.loop-at.at c.room-amount.result
+          c.loop-at.invariant.walking ne c.loop-at.invariant.raising);
+    }
 
 pub returns-clause-flow : goal.returns-clause-flow
 returns-clause-flow c =
     walked_flow (net_of c.args.network.now) c.loop-at.flows _ _ _ _ c.loop-at.at c.room-amount.result
-    c.requires.network.net c.loop-at-test.false c.loop-at.invariant
+    c.requires.network.net c.loop-at-test.false c.loop-at.invariant.walking
 
 pub returns-clause-value : goal.returns-clause-value
 returns-clause-value c =
     walked-value (net_of c.args.network.now) c.loop-at.flows _ _ _ _ c.loop-at.at c.room-amount.result
-    c.requires.network.net c.loop-at-test.false c.loop-at.invariant
+    c.requires.network.net c.loop-at-test.false c.loop-at.invariant.walking
+
+pub returns-clause-most : goal.returns-clause-most
+returns-clause-most c =
+    let total : value_of (net_of c.args.network.now) c.loop-at.flows ≡ value_of (net_of c.args.network.now)
+    c.args.flows.now + c.room-amount.result =
+    walked-value (net_of c.args.network.now) c.loop-at.flows _ _ _ _ c.loop-at.at c.room-amount.result
+    c.requires.network.net c.loop-at-test.false c.loop-at.invariant.walking in
+    raised_most c.loop-at.flows _ _ total c.loop-at.invariant.raising.most

@@ -1,13 +1,16 @@
 use Rattle.std.proofs.Common.{slice_index}
 use Rattle.max_flow.specs.Networks.{value_of}
-use Rattle.max_flow.specs.Searching.{IsWalking}
+use Rattle.max_flow.specs.Searching.{IsWalking, IsRaising}
 use Rattle.max_flow.specs.Solving.{net_of}
 use Rattle.max_flow.proofs.augmenting.augment.Given as goal
 
 abbrev pub invariant-loop-at : goal.invariant-loop-at
-invariant-loop-at l =
-    IsWalking (net_of l.network) l.flows l.tree.places.items l.tree.arrivals.items l.tree.rooms.items
-    (value_of (net_of l.network) l.initial.flows) l.at l.amount
+invariant-loop-at l = record {
+  walking : IsWalking (net_of l.network) l.flows l.tree.places.items l.tree.arrivals.items l.tree.rooms.items
+      (value_of (net_of l.network) l.initial.flows) l.at l.amount;
+  raising : IsRaising (net_of l.network) l.flows l.tree.places.items (value_of (net_of l.network) l.initial.flows) l.at
+      l.amount;
+}
 
 abbrev pub decreases-loop-at : goal.decreases-loop-at
 decreases-loop-at l = slice_index l.tree.places.items l.at

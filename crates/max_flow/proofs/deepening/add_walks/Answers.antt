@@ -23,6 +23,7 @@ loop-preserved-then-at-eq1 c =
       flow = c.augment-total.ensures.flow;
       bounded = c.augment-total.ensures.bounded;
       value = omega (arith, c.augment-total.ensures.value, c.loop.invariant.value);
+      most = c.augment-total.ensures.most;
       tree = found_first (net_of c.args.network.now) c.augment-total.new.flows t.places.items t.arrivals.items
           t.rooms.items t.queue.items c.requires.network.net start;
       root = start.source;

@@ -1,5 +1,5 @@
 use Rattle.std.proofs.Common.{◌≡◌, ◌+◌, slice_index}
-use Rattle.max_flow.specs.Networks.{IsFlow, value_of}
+use Rattle.max_flow.specs.Networks.{AreAtMost, IsFlow, value_of}
 use Rattle.max_flow.specs.Rooms.{IsBounded}
 use Rattle.max_flow.specs.Solving.{net_of, IsTree}
 use Rattle.max_flow.specs.Stacks.{AreCursors}
@@ -10,6 +10,7 @@ invariant-loop l = record {
   flow : IsFlow (net_of l.network) l.flows;
   bounded : IsBounded (net_of l.network) l.flows;
   value : value_of (net_of l.network) l.flows ≡ value_of (net_of l.network) l.initial.flows + l.total;
+  most : AreAtMost (value_of (net_of l.network) l.flows) l.flows;
   tree : IsTree (net_of l.network) l.flows l.tree;
   root : slice_index l.tree.places.items 0 ≡ 1;
   leaving : AreCursors l.network.tails.items l.network.nodes l.leaving;

@@ -1,5 +1,5 @@
 use Rattle.std.proofs.Common.{◌≡◌, ◌-◌, ◌^◌, slice_index}
-use Rattle.max_flow.specs.Networks.{IsFlow, value_of}
+use Rattle.max_flow.specs.Networks.{AreAtMost, IsFlow, value_of}
 use Rattle.max_flow.specs.Rooms.{IsBounded, IsClosed}
 use Rattle.max_flow.specs.Searching.{is_found}
 use Rattle.max_flow.specs.Solving.{net_of, IsTree}
@@ -10,6 +10,7 @@ invariant-loop-alloc l = record {
   flow : IsFlow (net_of l.network) l.flows;
   bounded : IsBounded (net_of l.network) l.flows;
   value : value_of (net_of l.network) l.flows ≡ l.value;
+  most : AreAtMost l.value l.flows;
   tree : IsTree (net_of l.network) l.flows l.tree;
   closed : slice_index l.tree.places.items 1 ≡ 0 → IsClosed (net_of l.network) l.flows (is_found l.tree.places.items);
 }

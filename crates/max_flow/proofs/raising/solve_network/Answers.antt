@@ -1,6 +1,6 @@
 use Rattle.std.proofs.Common.{length, sym, subst}
 use Rattle.max_flow.specs.Solving.{net_of, AreZeros}
-use Rattle.max_flow.proofs.Rounds.{none_flow, none_bounded, none-value, raised_side, raised-capacity, raised_least}
+use Rattle.max_flow.proofs.Rounds.{none_flow, none_bounded, none-value, none_most, raised_side, raised-capacity, raised_least}
 use Rattle.max_flow.proofs.raising.solve_network.Goals as goal
 
 pub raise-requires-clause-flow : goal.raise-requires-clause-flow
@@ -13,6 +13,10 @@ raise-requires-clause-bounded c = none_bounded (net_of c.args.network.now) c.der
 
 pub raise-requires-clause-none : goal.raise-requires-clause-none
 raise-requires-clause-none c = none-value (net_of c.args.network.now) c.deref_mut.result.now
+    (subst (AreZeros (length c.args.network.now.tails.items)) (sym c.deref_mut.ensures.value) c.in_ok-flows.ensures)
+
+pub raise-requires-clause-most : goal.raise-requires-clause-most
+raise-requires-clause-most c = none_most (length c.args.network.now.tails.items) c.deref_mut.result.now
     (subst (AreZeros (length c.args.network.now.tails.items)) (sym c.deref_mut.ensures.value) c.in_ok-flows.ensures)
 
 pub returns-clause-side : goal.returns-clause-side

@@ -1,4 +1,4 @@
-use Rattle.std.proofs.Common.{length, slice_index, subst}
+use Rattle.std.proofs.Common.{length, subst}
 use Rattle.max_flow.specs.Searching.{HasLeft, HasEntered}
 use Rattle.max_flow.specs.Solving.{net_of}
 use Rattle.max_flow.proofs.Finding.{grown_on}

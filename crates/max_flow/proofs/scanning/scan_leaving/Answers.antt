@@ -1,4 +1,4 @@
-use Rattle.std.proofs.Common.{◌≡◌, ◌<◌, ◌-◌, length, slice_index, refl, sym, ap, ◌∙◌, arith}
+use Rattle.std.proofs.Common.{◌≡◌, ◌<◌, ◌-◌, length, slice_index, ap, ◌∙◌, arith}
 use Rattle.max_flow.specs.Solving.{net_of}
 use Rattle.max_flow.proofs.Finding.{grown_on}
 use Rattle.max_flow.proofs.Scans.{reaches_head, left_next}

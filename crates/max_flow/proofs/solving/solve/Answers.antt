@@ -7,7 +7,7 @@ use Rattle.max_flow.specs.Searching.{is_found}
 use Rattle.max_flow.specs.Solving.{net_of}
 use Rattle.max_flow.proofs.SmallSides.{small_side}
 use Rattle.max_flow.proofs.Members.{IsMade, made-capacity}
-use Rattle.max_flow.proofs.Answering.{edges-count, flow_from, least_from, greatest_from}
+use Rattle.max_flow.proofs.Answering.{edges-count, flow_from, front_most, back_most, least_from, greatest_from}
 use Rattle.max_flow.proofs.solving.solve.Goals as goal
 
 pub solve_network-requires-clause-small : goal.solve_network-requires-clause-small
@@ -29,6 +29,16 @@ returns-clause-flow c =
     flow_from c.args.graph.now c.in_ok-value.field-0.flows.items _ _ flow
     (rw c.deref.ensures.value at c.in_ok-flow.ensures.points)
     (rw c.deref.ensures.value at c.in_ok-flow.ensures.links)
+
+pub returns-clause-points : goal.returns-clause-points
+returns-clause-points c = front_most c.in_ok-value.field-0.value (length c.args.graph.now.points)
+    c.in_ok-value.field-0.flows.items _ (rw c.deref.ensures.value at c.in_ok-flow.ensures.points)
+    c.in_ok-value.ensures.most
+
+pub returns-clause-links : goal.returns-clause-links
+returns-clause-links c = back_most c.in_ok-value.field-0.value (length c.args.graph.now.points)
+    c.in_ok-value.field-0.flows.items _ (rw c.deref.ensures.value at c.in_ok-flow.ensures.links)
+    c.in_ok-value.ensures.most
 
 pub returns-clause-side : goal.returns-clause-side
 returns-clause-side c =

@@ -1,0 +1,14 @@
+pub mod Keeping
+pub mod Counters
+pub mod Blocks
+pub mod Sides
+pub mod Cutting
+pub mod Verified
+pub mod Pieces
+pub mod Guesses
+pub mod Lasts
+pub mod Drafting
+pub mod Steps
+pub mod Prefixes
+pub mod FileReads
+pub mod Wholes

@@ -1,0 +1,11 @@
+pub mod Keeping
+pub mod Verdicts
+pub mod VerdictTexts
+pub mod Sums
+pub mod Sides
+pub mod Lines
+pub mod Guessing
+pub mod Certificates
+pub mod Drafts
+pub mod Reading
+pub mod Pictures

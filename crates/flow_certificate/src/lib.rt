@@ -1,0 +1,29 @@
+//! Certificates of maximum flows: a graph, a flow and a side as one text, and the test that a stranger makes of them.
+#![tactic(auto)]
+
+mod across;
+mod adding;
+mod balance;
+mod certificates;
+mod drafts;
+mod end_names;
+mod faults;
+mod finishing;
+mod following;
+mod guessing;
+mod line_reading;
+mod line_texts;
+mod lines;
+mod making;
+mod over;
+mod reading;
+mod sums;
+mod values;
+mod verdicts;
+mod verifying;
+
+pub use certificates::Certificate;
+pub use faults::FormFault;
+pub use reading::read_certificate;
+pub use verdicts::{CertFault, CertVerdict, NetworkNode};
+pub use verifying::verify;

@@ -1,0 +1,125 @@
+ghost use Rattle.std.specs.Prelude.{◌≡◌, IfOk, nat_lt, option_map};
+ghost use Rattle.flow_base.specs.Points.{is_slot as is_known_slot};
+ghost use Rattle.flow_certificate.specs.Guessing.{after_text, line_in};
+ghost use Rattle.flow_certificate.specs.Keeping.{is_number as is_known_number, is_place as is_known_place};
+ghost use Rattle.flow_certificate.specs.Keeping.{is_region as is_known_region};
+ghost use Rattle.flow_certificate.specs.Lines.{is_end as is_known_end, is_line as is_known_line};
+
+use crate::guessing::guess;
+use crate::line_texts::put_line;
+use crate::lines::Line;
+use flow_base::{NoMemory, Point, Slot};
+use flow_graph::End;
+use std::alloc::Global;
+
+/// Numbers of a certificate are below this one, 2^48.
+pub const LIMIT: u64 = 281_474_976_710_656;
+
+/// The rest after a wanted text; None where the bytes do not begin with it.
+fn after<'a>(wanted: &[u8], bytes: &'a [u8]) -> Option<&'a [u8]>
+    ensures { option_map (λ rest. rest.now) result ≡ after_text wanted.now bytes.entry.now }
+{
+    let mut left = wanted;
+    let mut rest = bytes;
+    while let [first, others @ ..] = left {
+        let [byte, more @ ..] = rest else {
+            return None;
+        };
+        if *first != *byte {
+            return None;
+        }
+        left = others;
+        rest = more;
+    }
+    Some(rest)
+}
+
+/// Whether a region has such an output register or such a range.
+pub fn is_slot(slot: Slot) -> bool
+    ensures { result ≡ is_known_slot slot }
+{
+    match slot {
+        Slot::OutReg(register) => 1 <= register && register <= 31,
+        Slot::OutRange(range) => range < 64,
+        _ => true,
+    }
+}
+
+/// Whether a number of 16 bits can be that of a region: each can.
+pub fn is_region(region: u16) -> bool
+    ensures { result ≡ is_known_region region }
+{
+    let _ = region;
+    true
+}
+
+/// Whether a number of 32 bits can be an address or an index: each can.
+fn is_word(word: u32) -> bool
+    ensures { result ≡ nat_lt word 4294967296 }
+{
+    let _ = word;
+    true
+}
+
+/// Whether a certificate can name a number.
+pub fn is_number(number: u64) -> bool
+    ensures { result ≡ is_known_number number }
+{
+    number < LIMIT
+}
+
+/// Whether a certificate can name a point.
+pub fn is_place(point: Point) -> bool
+    ensures { result ≡ is_known_place point }
+{
+    is_region(point.region) && is_word(point.address) && is_slot(point.slot)
+}
+
+/// Whether a link can name an end.
+fn is_end(end: End) -> bool
+    ensures { result ≡ is_known_end end }
+{
+    match end {
+        End::Source | End::Sink => true,
+        End::Point(index) => is_word(index),
+        End::Relay(region) => is_region(region),
+    }
+}
+
+/// Whether the numbers of a line are in their ranges, and its slot is one.
+fn is_line(line: &Line) -> bool
+    ensures { result ≡ is_known_line line.now }
+{
+    match line {
+        Line::Version => true,
+        Line::End => true,
+        Line::Value(value) => is_number(*value),
+        Line::Point(line) => {
+            is_place(line.point)
+                && 0 < line.capacity
+                && is_number(line.capacity)
+                && is_number(line.flow)
+        }
+        Line::Relay(line) => is_region(line.region),
+        Line::Link(line) => {
+            is_end(line.link.source) && is_end(line.link.target) && is_number(line.flow)
+        }
+    }
+}
+
+/// The line in front of bytes, and what stands behind its line feed; None where no line stands there.
+#[tactic(auto, unfolding(crate::specs::Guessing::line_in))]
+pub fn line_at(alloc: Global, bytes: &[u8]) -> Result<Option<(Line, &[u8])>, NoMemory>
+    ensures { IfOk result (λ found. option_map (λ p. (p.0, p.1.now)) found ≡ line_in bytes.now) }
+{
+    let line = guess(bytes);
+    if !is_line(&line) {
+        return Ok(None);
+    }
+    let mut text = Vec::new(alloc);
+    put_line(alloc, &mut text, &line)?;
+    match after(text.as_slice(), bytes) {
+        Some(rest) => Ok(Some((line, rest))),
+        None => Ok(None),
+    }
+}

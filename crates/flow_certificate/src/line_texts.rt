@@ -1,0 +1,168 @@
+ghost use Rattle.std.specs.Prelude.{◌≡◌, ◌++◌, ◌∷◌, [], OnOk, codes};
+ghost use Rattle.std.specs.Fmt.{decimal};
+ghost use Rattle.flow_certificate.specs.Lines.{half_text, inside_text, line_text, link_text, point_text, relay_text};
+ghost use Rattle.flow_certificate.specs.Lines.{slot_text};
+ghost use Rattle.flow_certificate.specs.VerdictTexts.{end_text};
+
+use crate::lines::{Line, LinkLine, PointLine, RelayLine};
+use flow_base::{NoMemory, Slot, hex_word};
+use flow_graph::End;
+use max_flow::Half;
+use std::alloc::Global;
+
+/// Puts bytes at the end of a text.
+pub fn put(text: &mut Vec<u8>, bytes: &[u8]) -> Result<(), NoMemory>
+    ensures { OnOk result (text.new.items ≡ text.old.items ++ bytes.now) }
+{
+    text.extend_from_slice(bytes)?;
+    Ok(())
+}
+
+/// Puts a number in decimal at the end of a text.
+fn put_number(alloc: Global, text: &mut Vec<u8>, number: u64) -> Result<(), NoMemory>
+    ensures { OnOk result (text.new.items ≡ text.old.items ++ decimal number) }
+{
+    let digits = format!(in alloc; "{number}")?;
+    put(text, digits.as_bytes())
+}
+
+/// Puts a letter and a number at the end of a text.
+fn put_lettered(
+    alloc: Global,
+    text: &mut Vec<u8>,
+    letter: u8,
+    number: u64,
+) -> Result<(), NoMemory>
+    ensures { OnOk result (text.new.items ≡ text.old.items ++ (letter ∷ decimal number)) }
+{
+    put(text, &[letter])?;
+    put_number(alloc, text, number)
+}
+
+/// Puts the text of a slot at the end of a text.
+fn put_slot(alloc: Global, text: &mut Vec<u8>, slot: Slot) -> Result<(), NoMemory>
+    ensures { OnOk result (text.new.items ≡ text.old.items ++ slot_text slot) }
+{
+    match slot {
+        Slot::First => put(text, b"u1"),
+        Slot::Second => put(text, b"u2"),
+        Slot::Address => put(text, b"ad"),
+        Slot::Result => put(text, b"rs"),
+        Slot::Decision => put(text, b"de"),
+        Slot::Number => put(text, b"nr"),
+        Slot::Arg0 => put(text, b"a0"),
+        Slot::Arg1 => put(text, b"a1"),
+        Slot::Arg2 => put(text, b"a2"),
+        Slot::SecretIn => put(text, b"in"),
+        Slot::ByteOut => put(text, b"ou"),
+        Slot::Status => put(text, b"st"),
+        Slot::OutReg(register) => put_lettered(alloc, text, b'x', u64::from(register)),
+        Slot::OutRange(range) => put_lettered(alloc, text, b'r', u64::from(range)),
+    }
+}
+
+/// Puts the text of an end of a link at the end of a text.
+fn put_end(alloc: Global, text: &mut Vec<u8>, end: End) -> Result<(), NoMemory>
+    ensures { OnOk result (text.new.items ≡ text.old.items ++ end_text end) }
+{
+    match end {
+        End::Source => put(text, b"source"),
+        End::Point(index) => put_lettered(alloc, text, b'p', u64::from(index)),
+        End::Relay(region) => put_lettered(alloc, text, b'r', u64::from(region)),
+        End::Sink => put(text, b"sink"),
+    }
+}
+
+/// Puts the letter of a point's halves at the end of a text.
+fn put_half(text: &mut Vec<u8>, half: Half) -> Result<(), NoMemory>
+    ensures { OnOk result (text.new.items ≡ text.old.items ++ half_text half) }
+{
+    match half {
+        Half::Both => put(text, b"s"),
+        Half::FirstOnly => put(text, b"m"),
+        Half::SecondOnly => put(text, b"o"),
+        Half::Neither => put(text, b"t"),
+    }
+}
+
+/// Puts the letter of a relay at the end of a text.
+fn put_inside(text: &mut Vec<u8>, inside: bool) -> Result<(), NoMemory>
+    ensures { OnOk result (text.new.items ≡ text.old.items ++ inside_text inside) }
+{
+    if inside { put(text, b"s") } else { put(text, b"t") }
+}
+
+/// Puts the line of a point at the end of a text.
+fn put_point(alloc: Global, text: &mut Vec<u8>, line: &PointLine) -> Result<(), NoMemory>
+    ensures { OnOk result (text.new.items ≡ text.old.items ++ point_text line.now) }
+{
+    put(text, b"point ")?;
+    put_number(alloc, text, u64::from(line.point.region))?;
+    put(text, b" ")?;
+    put(text, &hex_word(line.point.address))?;
+    put(text, b" ")?;
+    put_slot(alloc, text, line.point.slot)?;
+    put(text, b" capacity ")?;
+    put_number(alloc, text, line.capacity)?;
+    put(text, b" flow ")?;
+    put_number(alloc, text, line.flow)?;
+    put(text, b" side ")?;
+    put_half(text, line.half)?;
+    Ok(())
+}
+
+/// Puts the line of a relay at the end of a text.
+fn put_relay(alloc: Global, text: &mut Vec<u8>, line: &RelayLine) -> Result<(), NoMemory>
+    ensures { OnOk result (text.new.items ≡ text.old.items ++ relay_text line.now) }
+{
+    put(text, b"relay ")?;
+    put_number(alloc, text, u64::from(line.region))?;
+    put(text, b" side ")?;
+    put_inside(text, line.inside)?;
+    Ok(())
+}
+
+/// Puts the line of a link at the end of a text.
+fn put_link(alloc: Global, text: &mut Vec<u8>, line: &LinkLine) -> Result<(), NoMemory>
+    ensures { OnOk result (text.new.items ≡ text.old.items ++ link_text line.now) }
+{
+    put(text, b"link ")?;
+    put_end(alloc, text, line.link.source)?;
+    put(text, b" ")?;
+    put_end(alloc, text, line.link.target)?;
+    put(text, b" flow ")?;
+    put_number(alloc, text, line.flow)?;
+    Ok(())
+}
+
+/// Puts the number of the line of a value behind its first word.
+fn put_value(alloc: Global, text: &mut Vec<u8>, value: u64) -> Result<(), NoMemory>
+    ensures { OnOk result (text.new.items ≡ text.old.items ++ (codes "value " ++ decimal value)) }
+{
+    put(text, b"value ")?;
+    put_number(alloc, text, value)
+}
+
+/// Puts the text of a line at the end of a text, without its line feed.
+#[tactic(auto, unfolding(crate::specs::Lines::line_text))]
+fn put_form(alloc: Global, text: &mut Vec<u8>, line: &Line) -> Result<(), NoMemory>
+    ensures { OnOk result (text.new.items ≡ text.old.items ++ line_text line.now) }
+{
+    match line {
+        Line::Version => put(text, b"flowcheck-graph 1"),
+        Line::Value(value) => put_value(alloc, text, *value),
+        Line::Point(line) => put_point(alloc, text, line),
+        Line::Relay(line) => put_relay(alloc, text, line),
+        Line::Link(line) => put_link(alloc, text, line),
+        Line::End => put(text, b"end"),
+    }
+}
+
+/// Puts a line with its line feed at the end of a text.
+pub fn put_line(alloc: Global, text: &mut Vec<u8>, line: &Line) -> Result<(), NoMemory>
+    ensures { OnOk result (text.new.items ≡ text.old.items ++ (line_text line.now ++ (10 ∷ []))) }
+{
+    put_form(alloc, text, line)?;
+    put(text, b"\n")?;
+    Ok(())
+}
