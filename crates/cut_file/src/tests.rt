@@ -1,5 +1,5 @@
-use crate::{CutFault, CutPoint, Run, mask_at, read_cut, write_cut};
-use flow_base::{List, Point, Slot};
+use crate::{CutFault, CutPoint, Run, fold, mask_at, migrate, read_cut, write_cut};
+use flow_base::{Bytes, List, Point, Slot};
 use std::alloc::{AllocError, Global};
 
 // What a file answers: None where it is read, and then written as the same text.
@@ -240,5 +240,69 @@ fn a_mask_is_that_of_its_run(rt: HostRuntime) {
         (u64::MAX, 6),
     ] {
         assert_eq!(rt; mask_at(&point, visit), mask, "visit {visit}");
+    }
+}
+
+// The text of a cut with one point of that form.
+fn with_form(alloc: Global, version: u32, form: &str) -> Result<String, AllocError> {
+    format!(in alloc;
+        "flowcheck-cut {version}\nsecret 1\nbits 1\npoint 0 0x00000000 u1 {form}\nend\n"
+    )
+}
+
+// The text of the folded cut of a text, and of the migrated cut.
+fn others_of(alloc: Global, text: &str) -> Option<(Bytes, Bytes)> {
+    if text.len() >= 4_000_000_000 {
+        return None;
+    }
+    let cut = read_cut(alloc, text.as_bytes()).ok()?;
+    if cut.version != 1 {
+        return None;
+    }
+    let folded = fold(alloc, &cut).ok()?;
+    let migrated = migrate(alloc, &cut).ok()?;
+    Some((
+        write_cut(alloc, &folded).ok()?,
+        write_cut(alloc, &migrated).ok()?,
+    ))
+}
+
+#[test]
+fn lists_that_repeat_are_folded(rt: HostRuntime) {
+    for (runs, folded) in [
+        ("", "rest 1*0x00000009"),
+        ("1*0x00000001 ", "1*0x00000001 rest 1*0x00000009"),
+        ("2*0x00000001 ", "rest 1*0x00000001"),
+        ("65536*0x00000001 ", "rest 1*0x00000001"),
+        ("65537*0x00000001 ", "65537*0x00000001 rest 1*0x00000009"),
+        (
+            "1*0x00000001 1*0x00000003 1*0x00000001 1*0x00000003 ",
+            "rest 1*0x00000001 1*0x00000003",
+        ),
+        (
+            "1*0x00000001 1*0x00000003 1*0x00000001 1*0x00000003 1*0x00000001 ",
+            "rest 1*0x00000001 1*0x00000003",
+        ),
+        (
+            "1*0x00000001 1*0x00000003 1*0x00000001 ",
+            "1*0x00000001 1*0x00000003 1*0x00000001 rest 1*0x00000009",
+        ),
+        (
+            "63*0x00000001 1*0x00000002 63*0x00000001 1*0x00000002 ",
+            "rest 63*0x00000001 1*0x00000002",
+        ),
+        (
+            "64*0x00000001 1*0x00000002 64*0x00000001 1*0x00000002 ",
+            "64*0x00000001 1*0x00000002 64*0x00000001 1*0x00000002 rest 1*0x00000009",
+        ),
+    ] {
+        let form = format!(in rt.alloc(); "{runs}rest 0x00000009").expect(&rt, "memory");
+        let text = with_form(rt.alloc(), 1, &form).expect(&rt, "memory");
+        let whole = format!(in rt.alloc(); "{runs}rest 1*0x00000009").expect(&rt, "memory");
+        let (first, second) = others_of(rt.alloc(), &text).expect(&rt, "cut");
+        let wanted = with_form(rt.alloc(), 2, folded).expect(&rt, "memory");
+        assert_eq!(rt; first.as_slice(), wanted.as_bytes(), "{runs}");
+        let kept = with_form(rt.alloc(), 2, &whole).expect(&rt, "memory");
+        assert_eq!(rt; second.as_slice(), kept.as_bytes(), "{runs}");
     }
 }
