@@ -4,22 +4,24 @@ use Rattle.std.proofs.Common.{[], ◌∷◌, ◌++◌, codes, length, Option, So
 use Rattle.std.proofs.Common.{inr, refl, sym, ◌∙◌, ap, subst, append_assoc, arith, length-append, get_or}
 use Rattle.std.specs.Str.{bytes_eq}
 use Rattle.std.proofs.lemmas.Slice.Eq.{bytes_eq-Decides}
-use Rattle.std.proofs.lemmas.Bool.{and_parts, cases_Bool, not-true, both_ways, and_right}
+use Rattle.std.proofs.lemmas.Bool.{and_parts, and_from, cases_Bool, not-true, both_ways, and_right}
 use Rattle.cut_file.specs.declared.points.CutPoint.{CutPoint}
 use Rattle.cut_file.specs.declared.faults.CutFault.{CutFault}
 use Rattle.cut_file.specs.declared.faults.CutFault.TheVariants.{Version, Line, Order, Truncated, Trailing}
-use Rattle.cut_file.specs.Cuts.{CutPicture, is_valid}
+use Rattle.cut_file.specs.Cuts.{CutPicture, is_valid, is_version}
 use Rattle.cut_file.specs.Cuts.{neighbours_pass, stands_before}
 use Rattle.cut_file.specs.Texts.{cut_text, end_line, ended, joined, listed_lines, point_line}
 use Rattle.cut_file.specs.Texts.{secret_line, skip_line, version_line}
 use Rattle.cut_file.specs.Faults.{FirstCutFault, Front, HasLine, MayStand, is_front, lines_before}
 use Rattle.cut_file.specs.Faults.Front.{Nothing, Versioned, Sized, Listed}
 use Rattle.cut_file.specs.Reading.{bare_cut, bits_in, cut_in, divided, head_in, is_empty, lines_in, may_follow}
-use Rattle.cut_file.specs.Reading.{or_fault, parts, point_in, secret_in, skip_in, whole_cut, with_either, with_line}
+use Rattle.cut_file.specs.Reading.{or_fault, parts, point_in, secret_in, skip_in, version_in, whole_cut, with_either}
+use Rattle.cut_file.specs.Reading.{with_line}
 use Rattle.cut_file.proofs.Parts.{IsDivided, clean_words, divided-found, divided-none, has_byte, joined-parts}
 use Rattle.cut_file.proofs.Parts.{parts-clean}
 use Rattle.cut_file.proofs.Following.{neighbours-push}
-use Rattle.cut_file.proofs.Lines.{bits-own, secret-found, secret-own, skip-found, skip-own}
+use Rattle.cut_file.proofs.Lines.{bits-own, secret-found, secret-own, skip-found, skip-own, version-found}
+use Rattle.cut_file.proofs.Lines.{version-own}
 use Rattle.cut_file.proofs.PointLines.{point-found, point-own}
 use Rattle.cut_file.proofs.LineSteps.{cons-end, cons-other, next_lines, parts-some, read_err, read_ok}
 use Rattle.cut_file.proofs.FileReads.{feed-byte, fine, faulty, faulty-same, faulty-found, there-found, none-found}
@@ -38,8 +40,8 @@ line-here file front line more ordered clean text = record {
   text = text;
 }
 
-skip-no_point : (region : ℕ) (point : CutPoint) → skip_line region ≡ point_line point → ⊥
-skip-no_point region point e = absurd (omega (arith, ap (λ (l : List ℕ). get_or l 0 0) e))
+skip-no_point : (version region : ℕ) (point : CutPoint) → skip_line region ≡ point_line version point → ⊥
+skip-no_point version region point e = absurd (omega (arith, ap (λ (l : List ℕ). get_or l 0 0) e))
 
 none-some : {A : Type 0} (o : Option A) (value : A) → o ≡ None → o ≡ Some value → ⊥
 none-some None value e f = cc
@@ -75,7 +77,7 @@ unordered test items item other = neighbours-push test items item ∙ and_right 
 pub either-fault : (file : List ℕ) (number : ℕ) (cut : CutPicture) (line : List ℕ) (region : Option ℕ)
     (point : Option CutPoint) (fault : CutFault) →
     HasLine file (Listed cut) line → number ≡ suc (length (listed_lines cut)) → bytes_eq line (codes "end") ≡ false →
-    skip_in line ≡ region → point_in line ≡ point → with_either number cut region point ≡ faulty fault →
+    skip_in line ≡ region → point_in cut.version line ≡ point → with_either number cut region point ≡ faulty fault →
     FirstCutFault file fault
 either-fault file number cut line (Some region) point fault here count other is point_is e =
     let own = skip-found line region is in
@@ -103,12 +105,12 @@ either-fault file number cut line (Some region) point fault here count other is 
             | inl end ↦ not-end line other end
             | inr others ↦ elim others [
               | inl skip ↦ is-some cut.points p.0 skip.1
-              | inr q ↦ skip-no_point region q.0 (sym own.text ∙ q.2)
+              | inr q ↦ skip-no_point cut.version region q.0 (sym own.text ∙ q.2)
             ]
           ]))
     ]
 either-fault file number cut line None (Some point) fault here count other is point_is e =
-    let own = point-found line point point_is in
+    let own = point-found cut.version line point point_is in
     let order = chosen-fault (may_follow stands_before cut.points point) (record cut {
       points = cut.points ++
           (point ∷ []);
@@ -126,7 +128,8 @@ either-fault file number cut line None None fault here count other is point_is e
       | inl end ↦ not-end line other end
       | inr others ↦ elim others [
         | inl skip ↦ none-some (skip_in line) skip.0.0 is (ap skip_in skip.0.2 ∙ skip-own skip.0.0 skip.0.1)
-        | inr q ↦ none-some (point_in line) q.0 point_is (ap point_in q.2 ∙ point-own q.0 q.1)
+        | inr q ↦ none-some (point_in cut.version line) q.0 point_is (ap (point_in cut.version) q.2
+            ∙ point-own cut.version q.0 q.1)
       ]
     ]))
 
@@ -135,7 +138,7 @@ pub fault-line : (file : List ℕ) (number : ℕ) (cut : CutPicture) (line : Lis
     with_line number cut line ≡ faulty fault → FirstCutFault file fault
 unfolding with_line
 fault-line file number cut line fault here count other e =
-    either-fault file number cut line (skip_in line) (point_in line) fault here count other refl refl e
+    either-fault file number cut line (skip_in line) (point_in cut.version line) fault here count other refl refl e
 
 longer-count : (number : ℕ) (cut longer : CutPicture) (line : List ℕ) → number ≡ suc (length (listed_lines cut)) →
     IsLonger cut longer line →
@@ -183,33 +186,34 @@ lines-fault-found (line ∷ (next ∷ lines)) file number cut fault valid clean 
 -- ---- faults of the first three lines
 
 version-fault : (file line rest : List ℕ) → file ≡ line ++ (10 ∷ rest) → has_byte 10 line ≡ false →
-    bytes_eq line (codes "flowcheck-cut 1") ≡ false →
-    FirstCutFault file Version
-version-fault file line rest text clean other = (
+    version_in line ≡ None → FirstCutFault file Version
+version-fault file line rest text clean none = (
   line,
   line-here file Nothing line rest refl clean text,
-  λ stands. both_ways _ other ((bytes_eq-Decides line (codes "flowcheck-cut 1")).1 stands),
+  λ stands. none-some (version_in line) stands.0 none (ap version_in stands.2 ∙ version-own stands.0 stands.1),
 )
 
-secret-fault : (file line rest : List ℕ) → file ≡ ended (lines_before Versioned) ++ (line ++ (10 ∷ rest)) →
+secret-fault : (file line rest : List ℕ) (version : ℕ) → is_version version ≡ true →
+    file ≡ ended (lines_before (Versioned version)) ++ (line ++ (10 ∷ rest)) →
     has_byte 10 line ≡ false →
     secret_in line ≡ None → FirstCutFault file (Line 2)
-secret-fault file line rest text clean none = (
-  Versioned,
+secret-fault file line rest version known text clean none = (
+  Versioned version,
   line,
-  line-here file Versioned line rest refl clean text,
+  line-here file (Versioned version) line rest known clean text,
   (λ stands. none-some (secret_in line) stands.0 none (ap secret_in stands.2 ∙ secret-own stands.0 stands.1)),
   refl,
   omega arith,
 )
 
-bits-fault : (file line rest : List ℕ) (secret_length : ℕ) → file ≡ ended (lines_before (Sized secret_length)) ++
-    (line ++ (10 ∷ rest)) →
-    has_byte 10 line ≡ false → nat_le secret_length 65536 ≡ true → bits_in line ≡ None → FirstCutFault file (Line 3)
-bits-fault file line rest secret_length text clean short none = (
-  Sized secret_length,
+bits-fault : (file line rest : List ℕ) (version secret_len : ℕ) →
+    is_front (Sized version secret_len) ≡ true →
+    file ≡ ended (lines_before (Sized version secret_len)) ++ (line ++ (10 ∷ rest)) →
+    has_byte 10 line ≡ false → bits_in line ≡ None → FirstCutFault file (Line 3)
+bits-fault file line rest version secret_len known text clean none = (
+  Sized version secret_len,
   line,
-  line-here file (Sized secret_length) line rest short clean text,
+  line-here file (Sized version secret_len) line rest known clean text,
   (λ stands. none-some (bits_in line) stands.0 none (ap bits_in stands.2 ∙ bits-own stands.0 stands.1)),
   refl,
   omega arith,
@@ -221,72 +225,78 @@ cut-off : (file : List ℕ) (front : Front) (rest : List ℕ) → is_front front
 cut-off file front rest ordered none text = (front, rest, ordered, feed-byte rest ∙ divided-none 10 rest none, text)
 
 -- the file behind its first line, and behind its second
-behind-first : (file first rest : List ℕ) → file ≡ first ++ (10 ∷ rest) → first ≡ version_line →
-    file ≡ ended (lines_before Versioned) ++ rest
-behind-first file first rest text is =
-    text ∙ ap (λ (l : List ℕ). l ++ (10 ∷ rest)) is ∙ sym (append_assoc version_line (10 ∷ []) rest)
+behind-first : (file first rest : List ℕ) (version : ℕ) → file ≡ first ++ (10 ∷ rest) → first ≡ version_line version →
+    file ≡ ended (lines_before (Versioned version)) ++ rest
+behind-first file first rest version text is =
+    text ∙ ap (λ (l : List ℕ). l ++ (10 ∷ rest)) is ∙ sym (append_assoc (version_line version) (10 ∷ []) rest)
 
-behind-second : (file second middle rest : List ℕ) (secret_length : ℕ) →
-    file ≡ ended (lines_before Versioned) ++ middle →
-    middle ≡ second ++ (10 ∷ rest) → second ≡ secret_line secret_length →
-    file ≡ ended (lines_before (Sized secret_length)) ++ rest
-behind-second file second middle rest secret_length text split is =
-    text ∙ ap (λ (l : List ℕ). ended (lines_before Versioned) ++ l) (split ∙ ap (λ (l : List ℕ). l ++ (10 ∷ rest)) is)
-    ∙ line-over (lines_before Versioned) (secret_line secret_length) rest
+behind-second : (file second middle rest : List ℕ) (version secret_len : ℕ) →
+    file ≡ ended (lines_before (Versioned version)) ++ middle →
+    middle ≡ second ++ (10 ∷ rest) → second ≡ secret_line secret_len →
+    file ≡ ended (lines_before (Sized version secret_len)) ++ rest
+behind-second file second middle rest version secret_len text split is =
+    text ∙ ap (λ (l : List ℕ). ended (lines_before (Versioned version)) ++ l)
+    (split ∙ ap (λ (l : List ℕ). l ++ (10 ∷ rest)) is)
+    ∙ line-over (lines_before (Versioned version)) (secret_line secret_len) rest
 
-third-fault : (file : List ℕ) (secret_length : ℕ) (second : List ℕ × List ℕ) (fault : CutFault) →
-    nat_le secret_length 65536 ≡ true →
-    file ≡ ended (lines_before (Sized secret_length)) ++ second.1 → head_third second secret_length ≡ faulty fault →
-    FirstCutFault file fault
-third-fault file secret_length second fault short text e =
-    elim (faulty-found (or_fault (divided 10 second.1) Truncated) (head_bits secret_length) fault e) [
+third-fault : (file : List ℕ) (version secret_len : ℕ) (second : List ℕ × List ℕ) (fault : CutFault) →
+    is_front (Sized version secret_len) ≡ true →
+    file ≡ ended (lines_before (Sized version secret_len)) ++ second.1 →
+    head_third version second secret_len ≡ faulty fault → FirstCutFault file fault
+third-fault file version secret_len second fault known text e =
+    elim (faulty-found (or_fault (divided 10 second.1) Truncated) (head_bits version secret_len) fault e) [
       | inl told ↦
           let none = none-found (divided 10 second.1) Truncated fault told in
-          subst (FirstCutFault file) none.1 (cut-off file (Sized secret_length) second.1 short none.0 text)
+          subst (FirstCutFault file) none.1 (cut-off file (Sized version secret_len) second.1 known none.0 text)
       | inr third ↦
           let split = divided-found 10 second.1 third.0.0 third.0.1 (there-found _ Truncated third.0 third.1) in
           elim (faulty-found (or_fault (bits_in third.0.0) (Line 3)) (λ (b : ℕ). fine
-          (bare_cut secret_length b, third.0.1)) fault third.2) [
+          (bare_cut version secret_len b, third.0.1)) fault third.2) [
             | inl told ↦
                 let none = none-found (bits_in third.0.0) (Line 3) fault told in
-                subst (FirstCutFault file) none.1 (bits-fault file third.0.0 third.0.1 secret_length
+                subst (FirstCutFault file) none.1 (bits-fault file third.0.0 third.0.1 version secret_len known
                 (text ∙ ap (λ (l : List ℕ). ended (lines_before
-                (Sized secret_length)) ++ l) split.whole) split.clean short none.0)
+                (Sized version secret_len)) ++ l) split.whole) split.clean none.0)
             | inr bits ↦ absurd (let f : fine {A = Head}
-                (bare_cut secret_length bits.0, third.0.1) ≡ faulty fault = bits.2 in cc)
+                (bare_cut version secret_len bits.0, third.0.1) ≡ faulty fault = bits.2 in cc)
           ]
     ]
 
-second-fault : (file : List ℕ) (first : List ℕ × List ℕ) (fault : CutFault) →
-    file ≡ ended (lines_before Versioned) ++ first.1 →
-    head_second first ≡ faulty fault → FirstCutFault file fault
-second-fault file first fault text e =
-    elim (faulty-found (or_fault (divided 10 first.1) Truncated) head_secret fault e) [
+second-fault : (file : List ℕ) (version : ℕ) (first : List ℕ × List ℕ) (fault : CutFault) →
+    is_version version ≡ true →
+    file ≡ ended (lines_before (Versioned version)) ++ first.1 →
+    head_second first version ≡ faulty fault → FirstCutFault file fault
+second-fault file version first fault known text e =
+    elim (faulty-found (or_fault (divided 10 first.1) Truncated) (head_secret version) fault e) [
       | inl told ↦
           let none = none-found (divided 10 first.1) Truncated fault told in
-          subst (FirstCutFault file) none.1 (cut-off file Versioned first.1 refl none.0 text)
+          subst (FirstCutFault file) none.1 (cut-off file (Versioned version) first.1 known none.0 text)
       | inr second ↦
           let split = divided-found 10 first.1 second.0.0 second.0.1 (there-found _ Truncated second.0 second.1) in
-          elim (faulty-found (or_fault (secret_in second.0.0) (Line 2)) (head_third second.0) fault second.2) [
+          elim (faulty-found (or_fault (secret_in second.0.0) (Line 2)) (head_third version second.0) fault second.2) [
             | inl told ↦
                 let none = none-found (secret_in second.0.0) (Line 2) fault told in
-                subst (FirstCutFault file) none.1 (secret-fault file second.0.0 second.0.1
-                (text ∙ ap (λ (l : List ℕ). ended (lines_before Versioned) ++ l) split.whole) split.clean none.0)
+                subst (FirstCutFault file) none.1 (secret-fault file second.0.0 second.0.1 version known
+                (text ∙ ap (λ (l : List ℕ). ended (lines_before (Versioned version)) ++ l) split.whole)
+                split.clean none.0)
             | inr secret ↦
                 let own = secret-found second.0.0 secret.0 (there-found _ (Line 2) secret.0 secret.1) in
-                third-fault file secret.0 second.0 fault own.short
-                (behind-second file second.0.0 first.1 second.0.1 secret.0 text split.whole own.text) secret.2
+                third-fault file version secret.0 second.0 fault (and_from _ _ known own.known)
+                (behind-second file second.0.0 first.1 second.0.1 version secret.0 text split.whole own.text) secret.2
           ]
     ]
 
 first-fault : (file : List ℕ) (first : List ℕ × List ℕ) (fault : CutFault) → IsDivided 10 file first.0 first.1 →
     head_first first ≡ faulty fault → FirstCutFault file fault
 first-fault file first fault split e =
-    elim (chosen-either (bytes_eq first.0 (codes "flowcheck-cut 1")) (head_second first) Version fault e) [
-      | inl p ↦
-          second-fault file first fault (behind-first file first.0 first.1 split.whole ((bytes_eq-Decides first.0
-          (codes "flowcheck-cut 1")).0 p.0)) p.1
-      | inr p ↦ subst (FirstCutFault file) p.1 (version-fault file first.0 first.1 split.whole split.clean p.0)
+    elim (faulty-found (or_fault (version_in first.0) Version) (head_second first) fault e) [
+      | inl told ↦
+          let none = none-found (version_in first.0) Version fault told in
+          subst (FirstCutFault file) none.1 (version-fault file first.0 first.1 split.whole split.clean none.0)
+      | inr version ↦
+          let own = version-found first.0 version.0 (there-found _ Version version.0 version.1) in
+          second-fault file version.0 first fault own.known (behind-first file first.0 first.1 version.0 split.whole
+          own.text) version.2
     ]
 
 head-fault-found : (file : List ℕ) (fault : CutFault) → head_in file ≡ faulty fault → FirstCutFault file fault

@@ -10,16 +10,17 @@ use Rattle.std.proofs.lemmas.List.{append-nil}
 use Rattle.cut_file.specs.declared.points.CutPoint.{CutPoint}
 use Rattle.cut_file.specs.declared.faults.CutFault.{CutFault}
 use Rattle.cut_file.specs.declared.faults.CutFault.TheVariants.{Version, Line, Order, Truncated, Trailing}
-use Rattle.cut_file.specs.Cuts.{CutPicture, are_points, are_regions, is_cut_point, is_region, is_valid, is_word}
-use Rattle.cut_file.specs.Cuts.{stands_before}
+use Rattle.cut_file.specs.Cuts.{CutPicture, are_points_of, are_regions, is_point_of, is_region, is_valid, is_version}
+use Rattle.cut_file.specs.Cuts.{is_word, stands_before}
 use Rattle.cut_file.specs.Texts.{CutText, bits_line, cut_text, end_line, ended, joined, listed_lines, point_line}
 use Rattle.cut_file.specs.Texts.{secret_line, skip_line, version_line}
 use Rattle.cut_file.specs.Faults.{has_feed}
 use Rattle.cut_file.specs.Reading.{◌>>◌, bare_cut, bits_in, cut_in, divided, head_in, is_empty, lines_in, may_follow}
-use Rattle.cut_file.specs.Reading.{or_fault, parts, point_in, secret_in, skip_in, whole_cut, with_either, with_line}
+use Rattle.cut_file.specs.Reading.{or_fault, parts, point_in, secret_in, skip_in, version_in, whole_cut, with_either}
+use Rattle.cut_file.specs.Reading.{with_line}
 use Rattle.cut_file.proofs.Parts.{divided-found, has_byte, joined-parts}
 use Rattle.cut_file.proofs.Following.{list-push}
-use Rattle.cut_file.proofs.Lines.{bits-found, secret-found, skip-found}
+use Rattle.cut_file.proofs.Lines.{bits-found, secret-found, skip-found, version-found}
 use Rattle.cut_file.proofs.PointLines.{point-found}
 use Rattle.cut_file.proofs.LineSteps.{cons-end, cons-other, next_lines, read_ok}
 use Rattle.cut_file.proofs.Pieces.{ended-append}
@@ -97,7 +98,7 @@ pub record IsLonger (cut longer : CutPicture) (line : List ℕ) : Type 0 where
   pub lines : listed_lines longer ≡ listed_lines cut ++ (line ∷ [])
 
 abbrev head_lines : CutPicture → List (List ℕ)
-head_lines cut = version_line ∷ (secret_line cut.secret_length ∷ (bits_line cut.bits ∷ []))
+head_lines cut = version_line cut.version ∷ (secret_line cut.secret_len ∷ (bits_line cut.bits ∷ []))
 
 pub map-push : {A B : Type 0} (f : A → B) (items : List A) (item : A) →
     map f (items ++ (item ∷ [])) ≡ map f items ++ (f item ∷ [])
@@ -113,43 +114,45 @@ regions-longer : (cut : CutPicture) (region : ℕ) (line : List ℕ) → is_vali
     is_empty cut.points ≡ true → may_follow nat_lt cut.skip region ≡ true →
     IsLonger cut (record cut { skip = cut.skip ++ (region ∷ []) }) line
 regions-longer cut region line valid own text none follows =
-    let short = and_parts (nat_le cut.secret_length 65536) _ valid in
+    let version = and_parts (is_version cut.version) _ valid in
+    let short = and_parts (nat_le cut.secret_len 65536) _ version.1 in
     let bits = and_parts (is_word cut.bits) _ short.1 in
-    let lists = and_parts (are_regions cut.skip) (are_points cut.points) bits.1 in
+    let lists = and_parts (are_regions cut.skip) (are_points_of cut.version cut.points) bits.1 in
     let points = is_nothing cut.points none in
     record {
-      valid = and_from _ _ short.0 (and_from _ _ bits.0 (and_from _ _
-          (list-push is_region nat_lt cut.skip region lists.0 own follows) lists.1));
+      valid = and_from _ _ version.0 (and_from _ _ short.0 (and_from _ _ bits.0 (and_from _ _
+          (list-push is_region nat_lt cut.skip region lists.0 own follows) lists.1)));
       lines =
           ap (λ (l : List CutPoint). head_lines cut ++ (map skip_line (cut.skip ++
-          (region ∷ [])) ++ map point_line l)) points
+          (region ∷ [])) ++ map (point_line cut.version) l)) points
           ∙ ap (λ (l : List (List ℕ)). head_lines cut ++ l) (append-nil (map skip_line (cut.skip ++ (region ∷ [])))
           ∙ map-push skip_line cut.skip region
           ∙ ap (λ (l : List ℕ). map skip_line cut.skip ++ (l ∷ [])) (sym text)
           ∙ ap (λ (l : List (List ℕ)). l ++ (line ∷ [])) (sym (append-nil (map skip_line cut.skip))))
-          ∙ ap (λ (l : List CutPoint). (head_lines cut ++ (map skip_line cut.skip ++ map point_line l)) ++
+          ∙ ap (λ (l : List CutPoint). (head_lines cut ++ (map skip_line cut.skip ++ map (point_line cut.version) l)) ++
           (line ∷ [])) (sym points);
     }
 
 points-longer : (cut : CutPicture) (point : CutPoint) (line : List ℕ) → is_valid cut ≡ true →
-    is_cut_point point ≡ true → line ≡ point_line point →
+    is_point_of cut.version point ≡ true → line ≡ point_line cut.version point →
     may_follow stands_before cut.points point ≡ true → IsLonger cut (record cut {
       points = cut.points ++
           (point ∷ []);
     }) line
 points-longer cut point line valid own text follows =
-    let short = and_parts (nat_le cut.secret_length 65536) _ valid in
+    let version = and_parts (is_version cut.version) _ valid in
+    let short = and_parts (nat_le cut.secret_len 65536) _ version.1 in
     let bits = and_parts (is_word cut.bits) _ short.1 in
-    let lists = and_parts (are_regions cut.skip) (are_points cut.points) bits.1 in
+    let lists = and_parts (are_regions cut.skip) (are_points_of cut.version cut.points) bits.1 in
     record {
-      valid = and_from _ _ short.0 (and_from _ _ bits.0 (and_from _ _ lists.0
-          (list-push is_cut_point stands_before cut.points point lists.1 own follows)));
+      valid = and_from _ _ version.0 (and_from _ _ short.0 (and_from _ _ bits.0 (and_from _ _ lists.0
+          (list-push (is_point_of cut.version) stands_before cut.points point lists.1 own follows))));
       lines =
           ap (λ (l : List (List ℕ)). head_lines cut ++ (map skip_line cut.skip ++ l))
-          (map-push point_line cut.points point
-          ∙ ap (λ (l : List ℕ). map point_line cut.points ++ (l ∷ [])) (sym text))
+          (map-push (point_line cut.version) cut.points point
+          ∙ ap (λ (l : List ℕ). map (point_line cut.version) cut.points ++ (l ∷ [])) (sym text))
           ∙ ap (λ (l : List (List ℕ)). head_lines cut ++ l) (sym (append_assoc (map skip_line cut.skip)
-          (map point_line cut.points) (line ∷ [])));
+          (map (point_line cut.version) cut.points) (line ∷ [])));
     }
 
 chosen-ok : {A : Type 0} (test : Bool) (value : A) (fault : CutFault) (answer : A) →
@@ -166,7 +169,7 @@ chosen-first false first fault answer e = absurd cc
 
 either-longer : (number : ℕ) (cut longer : CutPicture) (line : List ℕ) (region : Option ℕ)
     (point : Option CutPoint) → is_valid cut ≡ true →
-    skip_in line ≡ region → point_in line ≡ point → with_either number cut region point ≡ fine longer →
+    skip_in line ≡ region → point_in cut.version line ≡ point → with_either number cut region point ≡ fine longer →
     IsLonger cut longer line
 either-longer number cut longer line (Some region) point valid is other e =
     let own = skip-found line region is in
@@ -177,7 +180,7 @@ either-longer number cut longer line (Some region) point valid is other e =
     subst (λ (p : CutPicture). IsLonger cut p line) second.1
     (regions-longer cut region line valid own.known own.text first.0 second.0)
 either-longer number cut longer line None (Some point) valid is other e =
-    let own = point-found line point other in
+    let own = point-found cut.version line point other in
     let longest : CutPicture = record cut { points = cut.points ++ (point ∷ []) } in
     let second = chosen-ok (may_follow stands_before cut.points point) longest (Order number) longer e in
     subst (λ (p : CutPicture). IsLonger cut p line) second.1
@@ -189,7 +192,7 @@ pub line-longer : (number : ℕ) (cut longer : CutPicture) (line : List ℕ) →
     IsLonger cut longer line
 unfolding with_line
 line-longer number cut longer line valid e = either-longer number cut longer line (skip_in line)
-    (point_in line) valid refl refl e
+    (point_in cut.version line) valid refl refl e
 
 -- ---- lines up to the last
 
@@ -291,51 +294,58 @@ some-length (byte ∷ bytes) e = refl
 abbrev pub Head : Type 0
 Head = CutPicture × List ℕ
 
-abbrev pub head_bits : ℕ → List ℕ × List ℕ → Result Head CutFault
-head_bits secret_length third = or_fault (bits_in third.0) (Line 3) >> λ bits. Ok
-    (bare_cut secret_length bits, third.1)
+abbrev pub head_bits : ℕ → ℕ → List ℕ × List ℕ → Result Head CutFault
+head_bits version secret_len third = or_fault (bits_in third.0) (Line 3) >> λ bits. Ok
+    (bare_cut version secret_len bits, third.1)
 
-abbrev pub head_third : List ℕ × List ℕ → ℕ → Result Head CutFault
-head_third second secret_length = or_fault (divided 10 second.1) Truncated >> head_bits secret_length
+abbrev pub head_third : ℕ → List ℕ × List ℕ → ℕ → Result Head CutFault
+head_third version second secret_len = or_fault (divided 10 second.1) Truncated >> head_bits version secret_len
 
-abbrev pub head_secret : List ℕ × List ℕ → Result Head CutFault
-head_secret second = or_fault (secret_in second.0) (Line 2) >> head_third second
+abbrev pub head_secret : ℕ → List ℕ × List ℕ → Result Head CutFault
+head_secret version second = or_fault (secret_in second.0) (Line 2) >> head_third version second
 
-abbrev pub head_second : List ℕ × List ℕ → Result Head CutFault
-head_second first = or_fault (divided 10 first.1) Truncated >> head_secret
+abbrev pub head_second : List ℕ × List ℕ → ℕ → Result Head CutFault
+head_second first version = or_fault (divided 10 first.1) Truncated >> head_secret version
 
 abbrev pub head_first : List ℕ × List ℕ → Result Head CutFault
-head_first first = if bytes_eq first.0 (codes "flowcheck-cut 1") then head_second first else faulty Version
+head_first first = or_fault (version_in first.0) Version >> head_second first
 
 pub record IsHead (file : List ℕ) (cut : CutPicture) (rest : List ℕ) : Type 0 where
   pub valid : is_valid cut ≡ true
   pub count : length (listed_lines cut) ≡ 3
   pub text : file ≡ ended (listed_lines cut) ++ rest
 
-bare-head : (secret_length bits : ℕ) (file first second third a b c : List ℕ) → nat_le secret_length 65536 ≡ true →
-    is_word bits ≡ true →
-    file ≡ first ++ (10 ∷ a) → a ≡ second ++ (10 ∷ b) → b ≡ third ++ (10 ∷ c) → first ≡ version_line →
-    second ≡ secret_line secret_length →
-    third ≡ bits_line bits → IsHead file (bare_cut secret_length bits) c
-bare-head secret_length bits file first second third a b c short word x y z first_is second_is third_is = record {
-  valid = and_from _ _ short (and_from _ _ word refl);
-  count = refl;
-  text =
-      x ∙ ap (λ (l : List ℕ). l ++ (10 ∷ a)) first_is
-      ∙ ap (λ (l : List ℕ). version_line ++ (10 ∷ l)) (y ∙ ap (λ (l : List ℕ). l ++ (10 ∷ b)) second_is)
-      ∙ ap (λ (l : List ℕ). version_line ++ (10 ∷ (secret_line secret_length ++ (10 ∷ l)))) (z
-      ∙ ap (λ (l : List ℕ). l ++ (10 ∷ c)) third_is)
-      ∙ sym (append_assoc (version_line ++ (10 ∷ [])) (ended (secret_line secret_length ∷ (bits_line bits ∷ []))) c
-      ∙ ap (λ (l : List ℕ). (version_line ++ (10 ∷ [])) ++ l) (append_assoc (secret_line secret_length) (10 ∷
-      (bits_line bits ++ (10 ∷ []))) c
-      ∙ ap (λ (l : List ℕ). secret_line secret_length ++ (10 ∷ l)) (append_assoc (bits_line bits) (10 ∷ []) c)));
-}
+-- three lines and what comes behind them
+pub ended-three : (first second third rest : List ℕ) →
+    ended (first ∷ (second ∷ (third ∷ []))) ++ rest
+    ≡ first ++ (10 ∷ (second ++ (10 ∷ (third ++ (10 ∷ rest)))))
+ended-three first second third rest =
+    append_assoc first (10 ∷ ended (second ∷ (third ∷ []))) rest
+    ∙ ap (λ (l : List ℕ). first ++ (10 ∷ l)) (append_assoc second (10 ∷ ended (third ∷ [])) rest
+    ∙ ap (λ (l : List ℕ). second ++ (10 ∷ l)) (append_assoc third (10 ∷ []) rest))
 
-head-same : (secret_length bits : ℕ) (rest : List ℕ) (cut : CutPicture) (left : List ℕ) (file : List ℕ) →
-    fine {A = Head} (bare_cut secret_length bits, rest) ≡ fine {A = Head} (cut, left) →
-    IsHead file (bare_cut secret_length bits) rest → IsHead file cut left
-head-same secret_length bits rest cut left file e own =
-    subst (λ (p : CutPicture × List ℕ). IsHead file p.0 p.1) (fine-same (bare_cut secret_length bits, rest)
+bare-head : (version secret_len bits : ℕ) (file first second third a b c : List ℕ) → is_version version ≡ true →
+    nat_le secret_len 65536 ≡ true → is_word bits ≡ true →
+    file ≡ first ++ (10 ∷ a) → a ≡ second ++ (10 ∷ b) → b ≡ third ++ (10 ∷ c) → first ≡ version_line version →
+    second ≡ secret_line secret_len →
+    third ≡ bits_line bits → IsHead file (bare_cut version secret_len bits) c
+bare-head version secret_len bits file first second third a b c known short word x y z first_is second_is third_is =
+    record {
+      valid = and_from _ _ known (and_from _ _ short (and_from _ _ word refl));
+      count = refl;
+      text =
+          x ∙ ap (λ (l : List ℕ). l ++ (10 ∷ a)) first_is
+          ∙ ap (λ (l : List ℕ). version_line version ++ (10 ∷ l)) (y ∙ ap (λ (l : List ℕ). l ++ (10 ∷ b)) second_is)
+          ∙ ap (λ (l : List ℕ). version_line version ++ (10 ∷ (secret_line secret_len ++ (10 ∷ l)))) (z
+          ∙ ap (λ (l : List ℕ). l ++ (10 ∷ c)) third_is)
+          ∙ sym (ended-three (version_line version) (secret_line secret_len) (bits_line bits) c);
+    }
+
+head-same : (version secret_len bits : ℕ) (rest : List ℕ) (cut : CutPicture) (left : List ℕ) (file : List ℕ) →
+    fine {A = Head} (bare_cut version secret_len bits, rest) ≡ fine {A = Head} (cut, left) →
+    IsHead file (bare_cut version secret_len bits) rest → IsHead file cut left
+head-same version secret_len bits rest cut left file e own =
+    subst (λ (p : CutPicture × List ℕ). IsHead file p.0 p.1) (fine-same (bare_cut version secret_len bits, rest)
     (cut, left) e) own
 
 pub head-found : (file : List ℕ) (cut : CutPicture) (rest : List ℕ) → head_in file ≡ fine (cut, rest) →
@@ -343,27 +353,28 @@ pub head-found : (file : List ℕ) (cut : CutPicture) (rest : List ℕ) → head
 unfolding head_in
 head-found file cut rest e =
     let first = fine-found (or_fault (divided 10 file) Truncated) head_first (cut, rest) e in
-    let version = chosen-first (bytes_eq first.value.0 (codes "flowcheck-cut 1")) (head_second first.value) Version
-    (cut, rest) first.then_is in
-    let second = fine-found (or_fault (divided 10 first.value.1) Truncated) head_secret (cut, rest) version.1 in
-    let secret = fine-found (or_fault (secret_in second.value.0) (Line 2)) (head_third second.value)
+    let version = fine-found (or_fault (version_in first.value.0) Version) (head_second first.value) (cut, rest)
+    first.then_is in
+    let second = fine-found (or_fault (divided 10 first.value.1) Truncated) (head_secret version.value)
+    (cut, rest) version.then_is in
+    let secret = fine-found (or_fault (secret_in second.value.0) (Line 2)) (head_third version.value second.value)
     (cut, rest) second.then_is in
-    let third = fine-found (or_fault (divided 10 second.value.1) Truncated) (head_bits secret.value)
+    let third = fine-found (or_fault (divided 10 second.value.1) Truncated) (head_bits version.value secret.value)
     (cut, rest) secret.then_is in
     let bits = fine-found (or_fault (bits_in third.value.0) (Line 3)) (λ (b : ℕ). fine
-    (bare_cut secret.value b, third.value.1)) (cut, rest) third.then_is in
+    (bare_cut version.value secret.value b, third.value.1)) (cut, rest) third.then_is in
     let one = divided-found 10 file first.value.0 first.value.1 (there-found _ Truncated first.value first.is) in
     let two = divided-found 10 first.value.1 second.value.0 second.value.1
     (there-found _ Truncated second.value second.is) in
     let three = divided-found 10 second.value.1 third.value.0 third.value.1
     (there-found _ Truncated third.value third.is) in
+    let form = version-found first.value.0 version.value (there-found _ Version version.value version.is) in
     let size = secret-found second.value.0 secret.value (there-found _ (Line 2) secret.value secret.is) in
     let count = bits-found third.value.0 bits.value (there-found _ (Line 3) bits.value bits.is) in
-    head-same secret.value bits.value third.value.1 cut rest file bits.then_is
-    (bare-head secret.value bits.value file first.value.0 second.value.0 third.value.0 first.value.1 second.value.1
-    third.value.1 size.short count.word
-    one.whole two.whole three.whole ((bytes_eq-Decides first.value.0
-    (codes "flowcheck-cut 1")).0 version.0) size.text count.text)
+    head-same version.value secret.value bits.value third.value.1 cut rest file bits.then_is
+    (bare-head version.value secret.value bits.value file first.value.0 second.value.0 third.value.0 first.value.1
+    second.value.1 third.value.1 form.known size.known count.known
+    one.whole two.whole three.whole form.text size.text count.text)
 
 -- ---- what is read is the text of the cut
 

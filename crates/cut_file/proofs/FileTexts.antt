@@ -13,24 +13,26 @@ use Rattle.std.proofs.lemmas.List.{append-nil, length-map}
 use Rattle.cut_file.specs.declared.points.CutPoint.{CutPoint}
 use Rattle.cut_file.specs.declared.faults.CutFault.{CutFault}
 use Rattle.cut_file.specs.declared.faults.CutFault.TheVariants.{Version, Line, Order, Truncated, Trailing, Memory}
-use Rattle.cut_file.specs.Cuts.{CutPicture, are_points, are_regions, is_cut_point, is_region, is_valid, is_word}
-use Rattle.cut_file.specs.Cuts.{neighbours_pass, stands_before}
+use Rattle.cut_file.specs.Cuts.{CutPicture, are_points_of, are_regions, is_point_of, is_region, is_valid, is_version}
+use Rattle.cut_file.specs.Cuts.{is_word, neighbours_pass, stands_before}
 use Rattle.cut_file.specs.Texts.{CutText, bits_line, cut_text, end_line, ended, joined, listed_lines, point_line}
 use Rattle.cut_file.specs.Texts.{secret_line, skip_line, version_line}
 use Rattle.cut_file.specs.Faults.{FirstCutFault, Front, HasLine, IsOutOfOrder, MayStand, is_front, lines_before}
 use Rattle.cut_file.specs.Faults.Front.{Nothing, Versioned, Sized, Listed}
 use Rattle.cut_file.specs.Reading.{◌>>◌, bare_cut, bits_in, cut_in, divided, head_in, is_empty, lines_in, may_follow}
-use Rattle.cut_file.specs.Reading.{or_fault, parts, point_in, secret_in, skip_in, whole_cut, with_either, with_line}
+use Rattle.cut_file.specs.Reading.{or_fault, parts, point_in, secret_in, skip_in, version_in, whole_cut, with_either}
+use Rattle.cut_file.specs.Reading.{with_line}
 use Rattle.cut_file.proofs.Parts.{clean_words, divided-own, has_byte, joined-parts, none-divided, parts-front}
 use Rattle.cut_file.proofs.Parts.{parts-last}
 use Rattle.cut_file.proofs.Following.{kept-step, neighbours-push}
 use Rattle.cut_file.proofs.Numbers.{clean-append, decimal-clean}
-use Rattle.cut_file.proofs.Lines.{bits-found, bits-own, secret-found, secret-own, skip-found, skip-own, word-below}
+use Rattle.cut_file.proofs.Lines.{bits-found, bits-own, region-word, secret-found, secret-own, short-word, skip-found}
+use Rattle.cut_file.proofs.Lines.{skip-own, version-found, version-own, version-word, word-below}
 use Rattle.cut_file.proofs.PointLines.{point-found, point-own, point_line-clean}
 use Rattle.cut_file.proofs.LineSteps.{cons-end, cons-fault, cons-next, more_err, more_ok, parts-some, read_err}
 use Rattle.cut_file.proofs.Pieces.{ended-append}
 use Rattle.cut_file.proofs.FileReads.{Head, faulty, faulty-same, feed-byte, fine, fine-same, head_bits, head_first}
-use Rattle.cut_file.proofs.FileReads.{head_second, head_secret, head_third, listed}
+use Rattle.cut_file.proofs.FileReads.{head_second, head_secret, head_third, ended-three, listed}
 
 -- ---- lines without line feeds
 
@@ -46,12 +48,6 @@ behind-clean : (wanted : List ℕ) (number : ℕ) → has_byte 10 wanted ≡ fal
 behind-clean wanted number clean small = clean-append 10 wanted (decimal number) clean (decimal-clean 10 number
     (omega arith) small)
 
-region-word : (region : ℕ) → is_region region ≡ true → region < 4294967296
-region-word region known = grind arith
-
-short-word : (number : ℕ) → nat_le number 65536 ≡ true → number < 4294967296
-short-word number short = grind arith
-
 skips-clean : (skip : List ℕ) → list_all is_region skip ≡ true → clean_words 10 (map skip_line skip) ≡ true
 skips-clean [] all = refl
 skips-clean (region ∷ skip) all =
@@ -59,12 +55,12 @@ skips-clean (region ∷ skip) all =
     and_from _ _ (not_from_false _ (behind-clean (codes "skip ") region refl (region-word region both.0)))
     (skips-clean skip both.1)
 
-points-clean : (points : List CutPoint) → list_all is_cut_point points ≡ true →
-    clean_words 10 (map point_line points) ≡ true
-points-clean [] all = refl
-points-clean (point ∷ points) all =
-    let both = and_parts (is_cut_point point) (list_all is_cut_point points) all in
-    and_from _ _ (not_from_false _ (point_line-clean point both.0)) (points-clean points both.1)
+points-clean : (version : ℕ) (points : List CutPoint) → list_all (is_point_of version) points ≡ true →
+    clean_words 10 (map (point_line version) points) ≡ true
+points-clean version [] all = refl
+points-clean version (point ∷ points) all =
+    let both = and_parts (is_point_of version point) (list_all (is_point_of version) points) all in
+    and_from _ _ (not_from_false _ (point_line-clean version point both.0)) (points-clean version points both.1)
 
 -- whole lines are the first parts
 pub parts-ended : (lines : List (List ℕ)) (rest : List ℕ) → clean_words 10 lines ≡ true →
@@ -82,40 +78,42 @@ some-behind : (first second : List (List ℕ)) → is_empty second ≡ false →
 some-behind [] second some = some
 some-behind (line ∷ first) second some = refl
 
-abbrev pub of_lists : ℕ → ℕ → List ℕ → List CutPoint → CutPicture
-of_lists secret_length bits skip points = record {
-  secret_length = secret_length;
+abbrev pub of_lists : ℕ → ℕ → ℕ → List ℕ → List CutPoint → CutPicture
+of_lists version secret_len bits skip points = record {
+  version = version;
+  secret_len = secret_len;
   bits = bits;
   skip = skip;
   points =
       points;
 }
 
-with-skip : (number secret_length bits : ℕ) (skip : List ℕ) (region : ℕ) → is_region region ≡ true →
+with-skip : (number version secret_len bits : ℕ) (skip : List ℕ) (region : ℕ) → is_region region ≡ true →
     may_follow nat_lt skip region ≡ true →
-    with_line number (of_lists secret_length bits skip []) (skip_line region) ≡ more_ok (of_lists secret_length bits
+    with_line number (of_lists version secret_len bits skip []) (skip_line region) ≡ more_ok (of_lists version secret_len bits
     (skip ++ (region ∷ [])) [])
 unfolding with_line
-with-skip number secret_length bits skip region own follows =
-    ap (λ (o : Option ℕ). with_either number (of_lists secret_length bits skip []) o (point_in (skip_line region)))
+with-skip number version secret_len bits skip region own follows =
+    ap (λ (o : Option ℕ). with_either number (of_lists version secret_len bits skip []) o (point_in version (skip_line region)))
     (skip-own region own)
-    ∙ cond-true (may_follow nat_lt skip region) (more_ok (of_lists secret_length bits (skip ++ (region ∷ [])) []))
+    ∙ cond-true (may_follow nat_lt skip region) (more_ok (of_lists version secret_len bits (skip ++ (region ∷ [])) []))
     (more_err (Order number)) follows
 
-pub point-no_skip : (point : CutPoint) → skip_in (point_line point) ≡ None
+pub point-no_skip : (version : ℕ) (point : CutPoint) → skip_in (point_line version point) ≡ None
 unfolding skip_in
-point-no_skip point = refl
+point-no_skip version point = refl
 
-point-either : (number : ℕ) (cut : CutPicture) (point : CutPoint) → is_cut_point point ≡ true →
-    with_line number cut (point_line point) ≡ with_either number cut None (Some point)
+point-either : (number : ℕ) (cut : CutPicture) (point : CutPoint) → is_point_of cut.version point ≡ true →
+    with_line number cut (point_line cut.version point) ≡ with_either number cut None (Some point)
 unfolding with_line
 point-either number cut point own =
-    ap (λ (o : Option ℕ). with_either number cut o (point_in (point_line point))) (point-no_skip point)
-    ∙ ap (with_either number cut None) (point-own point own)
+    ap (λ (o : Option ℕ). with_either number cut o (point_in cut.version (point_line cut.version point)))
+    (point-no_skip cut.version point)
+    ∙ ap (with_either number cut None) (point-own cut.version point own)
 
-with-point : (number : ℕ) (cut : CutPicture) (point : CutPoint) → is_cut_point point ≡ true →
+with-point : (number : ℕ) (cut : CutPicture) (point : CutPoint) → is_point_of cut.version point ≡ true →
     may_follow stands_before cut.points point ≡ true →
-    with_line number cut (point_line point) ≡ more_ok (record cut { points = cut.points ++ (point ∷ []) })
+    with_line number cut (point_line cut.version point) ≡ more_ok (record cut { points = cut.points ++ (point ∷ []) })
 with-point number cut point own follows =
     point-either number cut point own
     ∙ cond-true (may_follow stands_before cut.points point) (more_ok (record cut {
@@ -123,72 +121,78 @@ with-point number cut point own follows =
           (point ∷ []);
     })) (more_err (Order number)) follows
 
-skips-own : (more done : List ℕ) (number secret_length bits : ℕ) (tail : List (List ℕ)) →
+skips-own : (more done : List ℕ) (number version secret_len bits : ℕ) (tail : List (List ℕ)) →
     are_regions (done ++ more) ≡ true → is_empty tail ≡ false →
-    lines_in number (of_lists secret_length bits done []) (map skip_line more ++ tail)
-    ≡ lines_in (number + length more) (of_lists secret_length bits (done ++ more) []) tail
-skips-own [] done number secret_length bits tail known some =
+    lines_in number (of_lists version secret_len bits done []) (map skip_line more ++ tail)
+    ≡ lines_in (number + length more) (of_lists version secret_len bits (done ++ more) []) tail
+skips-own [] done number version secret_len bits tail known some =
     let same : number ≡ number + length {A = ℕ} [] = omega arith in
-    ap (λ (n : ℕ). lines_in n (of_lists secret_length bits done []) tail) same
-    ∙ ap (λ (l : List ℕ). lines_in (number + length {A = ℕ} []) (of_lists secret_length bits l []) tail) (sym
+    ap (λ (n : ℕ). lines_in n (of_lists version secret_len bits done []) tail) same
+    ∙ ap (λ (l : List ℕ). lines_in (number + length {A = ℕ} []) (of_lists version secret_len bits l []) tail) (sym
     (append-nil done))
-skips-own (region ∷ more) done number secret_length bits tail known some =
+skips-own (region ∷ more) done number version secret_len bits tail known some =
     let step = kept-step is_region nat_lt done region more known in
     let same : done ++ (region ∷ more) ≡ (done ++ (region ∷ [])) ++ more = sym (append_assoc done
     (region ∷ []) more) in
     let count : (number + 1) + length more ≡ number + length (region ∷ more) = omega arith in
-    cons-next number (of_lists secret_length bits done []) (of_lists secret_length bits (done ++ (region ∷ [])) [])
+    cons-next number (of_lists version secret_len bits done []) (of_lists version secret_len bits (done ++ (region ∷ [])) [])
     (skip_line region)
     (map skip_line more ++ tail) (some-behind (map skip_line more) tail some) refl
-    (with-skip number secret_length bits done region step.own step.follows)
-    ∙ skips-own more (done ++ (region ∷ [])) (number + 1) secret_length bits tail (ap are_regions (sym same)
+    (with-skip number version secret_len bits done region step.own step.follows)
+    ∙ skips-own more (done ++ (region ∷ [])) (number + 1) version secret_len bits tail (ap are_regions (sym same)
     ∙ known) some
-    ∙ ap (λ (n : ℕ). lines_in n (of_lists secret_length bits ((done ++ (region ∷ [])) ++ more) []) tail) count
-    ∙ ap (λ (l : List ℕ). lines_in (number + length (region ∷ more)) (of_lists secret_length bits l []) tail)
+    ∙ ap (λ (n : ℕ). lines_in n (of_lists version secret_len bits ((done ++ (region ∷ [])) ++ more) []) tail) count
+    ∙ ap (λ (l : List ℕ). lines_in (number + length (region ∷ more)) (of_lists version secret_len bits l []) tail)
     (sym same)
 
-points-own : (more done : List CutPoint) (number secret_length bits : ℕ) (skip : List ℕ) (tail : List (List ℕ)) →
-    are_points (done ++ more) ≡ true →
+points-own : (more done : List CutPoint) (number version secret_len bits : ℕ) (skip : List ℕ) (tail : List (List ℕ)) →
+    are_points_of version (done ++ more) ≡ true →
     is_empty tail ≡ false →
-    lines_in number (of_lists secret_length bits skip done) (map point_line more ++ tail)
-    ≡ lines_in (number + length more) (of_lists secret_length bits skip (done ++ more)) tail
-points-own [] done number secret_length bits skip tail known some =
+    lines_in number (of_lists version secret_len bits skip done) (map (point_line version) more ++ tail)
+    ≡ lines_in (number + length more) (of_lists version secret_len bits skip (done ++ more)) tail
+points-own [] done number version secret_len bits skip tail known some =
     let same : number ≡ number + length {A = CutPoint} [] = omega arith in
-    ap (λ (n : ℕ). lines_in n (of_lists secret_length bits skip done) tail) same
+    ap (λ (n : ℕ). lines_in n (of_lists version secret_len bits skip done) tail) same
     ∙ ap (λ (l : List CutPoint). lines_in (number + length {A = CutPoint} [])
-    (of_lists secret_length bits skip l) tail) (sym (append-nil done))
-points-own (point ∷ more) done number secret_length bits skip tail known some =
-    let step = kept-step is_cut_point stands_before done point more known in
+    (of_lists version secret_len bits skip l) tail) (sym (append-nil done))
+points-own (point ∷ more) done number version secret_len bits skip tail known some =
+    let step = kept-step (is_point_of version) stands_before done point more known in
     let same : done ++ (point ∷ more) ≡ (done ++ (point ∷ [])) ++ more = sym (append_assoc done (point ∷ []) more) in
     let count : (number + 1) + length more ≡ number + length (point ∷ more) = omega arith in
-    cons-next number (of_lists secret_length bits skip done) (of_lists secret_length bits skip (done ++
-    (point ∷ []))) (point_line point)
-    (map point_line more ++ tail) (some-behind (map point_line more) tail some) refl
-    (with-point number (of_lists secret_length bits skip done) point step.own step.follows)
-    ∙ points-own more (done ++ (point ∷ [])) (number + 1) secret_length bits skip tail (ap are_points (sym same)
+    cons-next number (of_lists version secret_len bits skip done) (of_lists version secret_len bits skip (done ++
+    (point ∷ []))) (point_line version point)
+    (map (point_line version) more ++ tail) (some-behind (map (point_line version) more) tail some) refl
+    (with-point number (of_lists version secret_len bits skip done) point step.own step.follows)
+    ∙ points-own more (done ++ (point ∷ [])) (number + 1) version secret_len bits skip tail (ap (are_points_of version) (sym same)
     ∙ known) some
-    ∙ ap (λ (n : ℕ). lines_in n (of_lists secret_length bits skip ((done ++ (point ∷ [])) ++ more)) tail) count
+    ∙ ap (λ (n : ℕ). lines_in n (of_lists version secret_len bits skip ((done ++ (point ∷ [])) ++ more)) tail) count
     ∙ ap (λ (l : List CutPoint). lines_in (number + length (point ∷ more))
-    (of_lists secret_length bits skip l) tail) (sym same)
+    (of_lists version secret_len bits skip l) tail) (sym same)
 
 -- ---- the first three lines
 
-version-own : (file rest : List ℕ) → file ≡ ended (lines_before Versioned) ++ rest →
-    head_in file ≡ head_second (version_line, rest)
-unfolding head_in
-version-own file rest text =
-    let split : divided 10 (version_line ++ (10 ∷ rest)) ≡ Some
-    (version_line, rest) = divided-own 10 version_line rest refl in
-    ap (λ (l : List ℕ). or_fault (divided 10 l) Truncated >> head_first) (text
-    ∙ append_assoc version_line (10 ∷ []) rest)
-    ∙ ap (λ (o : Option (List ℕ × List ℕ)). or_fault o Truncated >> head_first) split
+version-clean : (version : ℕ) → is_version version ≡ true → has_byte 10 (version_line version) ≡ false
+version-clean version known = behind-clean (codes "flowcheck-cut ") version refl (version-word version known)
 
-secret-clean : (secret_length : ℕ) → nat_le secret_length 65536 ≡ true →
-    has_byte 10 (secret_line secret_length) ≡ false
-secret-clean secret_length short = behind-clean (codes "secret ") secret_length refl (short-word secret_length short)
+secret-clean : (secret_len : ℕ) → nat_le secret_len 65536 ≡ true →
+    has_byte 10 (secret_line secret_len) ≡ false
+secret-clean secret_len short = behind-clean (codes "secret ") secret_len refl (short-word secret_len short)
 
 bits-clean : (bits : ℕ) → is_word bits ≡ true → has_byte 10 (bits_line bits) ≡ false
 bits-clean bits word = behind-clean (codes "bits ") bits refl (word-below bits word)
+
+versioned-own : (file rest : List ℕ) (version : ℕ) → is_version version ≡ true →
+    file ≡ ended (lines_before (Versioned version)) ++ rest →
+    head_in file ≡ head_second (version_line version, rest) version
+unfolding head_in
+versioned-own file rest version known text =
+    let split : divided 10 (version_line version ++ (10 ∷ rest)) ≡ Some
+    (version_line version, rest) = divided-own 10 (version_line version) rest (version-clean version known) in
+    ap (λ (l : List ℕ). or_fault (divided 10 l) Truncated >> head_first) (text
+    ∙ append_assoc (version_line version) (10 ∷ []) rest)
+    ∙ ap (λ (o : Option (List ℕ × List ℕ)). or_fault o Truncated >> head_first) split
+    ∙ ap (λ (o : Option ℕ). or_fault o Version >> head_second (version_line version, rest))
+    (version-own version known)
 
 over : (first second rest : List ℕ) → (first ++ (10 ∷ (second ++ (10 ∷ [])))) ++ rest ≡ (first ++ (10 ∷ [])) ++
     (second ++ (10 ∷ rest))
@@ -197,66 +201,65 @@ over first second rest =
     ∙ ap (λ (l : List ℕ). first ++ (10 ∷ l)) (append_assoc second (10 ∷ []) rest)
     ∙ sym (append_assoc first (10 ∷ []) (second ++ (10 ∷ rest)))
 
-secret-read : (secret_length : ℕ) (rest : List ℕ) → nat_le secret_length 65536 ≡ true →
-    head_second (version_line, secret_line secret_length ++ (10 ∷ rest)) ≡ head_third
-    (secret_line secret_length, rest) secret_length
-secret-read secret_length rest short =
-    ap (λ (o : Option (List ℕ × List ℕ)). or_fault o Truncated >> head_secret) (divided-own 10
-    (secret_line secret_length) rest (secret-clean secret_length short))
-    ∙ ap (λ (o : Option ℕ). or_fault o (Line 2) >> head_third (secret_line secret_length, rest))
-    (secret-own secret_length short)
+over-two : (first second rest : List ℕ) →
+    ended (first ∷ (second ∷ [])) ++ rest ≡ first ++ (10 ∷ (second ++ (10 ∷ rest)))
+over-two first second rest = over first second rest ∙ append_assoc first (10 ∷ []) (second ++ (10 ∷ rest))
 
-sized-own : (file rest : List ℕ) (secret_length : ℕ) → nat_le secret_length 65536 ≡ true →
-    file ≡ ended (lines_before (Sized secret_length)) ++ rest →
-    head_in file ≡ head_third (secret_line secret_length, rest) secret_length
-sized-own file rest secret_length short text =
-    version-own file (secret_line secret_length ++ (10 ∷ rest)) (text
-    ∙ over version_line (secret_line secret_length) rest)
-    ∙ secret-read secret_length rest short
+sized-own : (file rest : List ℕ) (version secret_len : ℕ) → is_front (Sized version secret_len) ≡ true →
+    file ≡ ended (lines_before (Sized version secret_len)) ++ rest →
+    head_in file ≡ head_third version (secret_line secret_len, rest) secret_len
+sized-own file rest version secret_len known text =
+    let both = and_parts (is_version version) (nat_le secret_len 65536) known in
+    versioned-own file (secret_line secret_len ++ (10 ∷ rest)) version both.0 (text
+    ∙ over (version_line version) (secret_line secret_len) rest)
+    ∙ ap (λ (o : Option (List ℕ × List ℕ)). or_fault o Truncated >> head_secret version) (divided-own 10
+    (secret_line secret_len) rest (secret-clean secret_len both.1))
+    ∙ ap (λ (o : Option ℕ). or_fault o (Line 2) >> head_third version (secret_line secret_len, rest))
+    (secret-own secret_len both.1)
 
-bits-read : (secret_length bits : ℕ) (rest : List ℕ) → is_word bits ≡ true →
-    head_third (secret_line secret_length, bits_line bits ++ (10 ∷ rest)) secret_length ≡ fine
-    (bare_cut secret_length bits, rest)
-bits-read secret_length bits rest word =
-    ap (λ (o : Option (List ℕ × List ℕ)). or_fault o Truncated >> head_bits secret_length) (divided-own 10
+bits-read : (version secret_len bits : ℕ) (rest : List ℕ) → is_word bits ≡ true →
+    head_third version (secret_line secret_len, bits_line bits ++ (10 ∷ rest)) secret_len ≡ fine
+    (bare_cut version secret_len bits, rest)
+bits-read version secret_len bits rest word =
+    ap (λ (o : Option (List ℕ × List ℕ)). or_fault o Truncated >> head_bits version secret_len) (divided-own 10
     (bits_line bits) rest (bits-clean bits word))
-    ∙ ap (λ (o : Option ℕ). or_fault o (Line 3) >> λ (b : ℕ). fine {A = Head} (bare_cut secret_length b, rest))
+    ∙ ap (λ (o : Option ℕ). or_fault o (Line 3) >> λ (b : ℕ). fine {A = Head} (bare_cut version secret_len b, rest))
     (bits-own bits word)
 
-abbrev head_three : ℕ → ℕ → List (List ℕ)
-head_three secret_length bits = version_line ∷ (secret_line secret_length ∷ (bits_line bits ∷ []))
+abbrev head_three : ℕ → ℕ → ℕ → List (List ℕ)
+head_three version secret_len bits = version_line version ∷ (secret_line secret_len ∷ (bits_line bits ∷ []))
 
-head-own : (file rest : List ℕ) (secret_length bits : ℕ) → nat_le secret_length 65536 ≡ true → is_word bits ≡ true →
-    file ≡ ended (head_three secret_length bits) ++ rest → head_in file ≡ fine (bare_cut secret_length bits, rest)
-head-own file rest secret_length bits short word text =
-    sized-own file (bits_line bits ++ (10 ∷ rest)) secret_length short
-    (text ∙ ap (λ (l : List ℕ). l ++ rest) (ended-append (version_line ∷ (secret_line secret_length ∷ []))
-    (bits_line bits ∷ []))
-    ∙ append_assoc (ended (version_line ∷ (secret_line secret_length ∷ []))) (bits_line bits ++ (10 ∷ [])) rest
-    ∙ ap (λ (l : List ℕ). ended (version_line ∷ (secret_line secret_length ∷ [])) ++ l) (append_assoc
-    (bits_line bits) (10 ∷ []) rest))
-    ∙ bits-read secret_length bits rest word
+head-own : (file rest : List ℕ) (version secret_len bits : ℕ) → is_version version ≡ true →
+    nat_le secret_len 65536 ≡ true → is_word bits ≡ true →
+    file ≡ ended (head_three version secret_len bits) ++ rest →
+    head_in file ≡ fine (bare_cut version secret_len bits, rest)
+head-own file rest version secret_len bits known short word text =
+    sized-own file (bits_line bits ++ (10 ∷ rest)) version secret_len (and_from _ _ known short)
+    (text ∙ ended-three (version_line version) (secret_line secret_len) (bits_line bits) rest
+    ∙ sym (over-two (version_line version) (secret_line secret_len) (bits_line bits ++ (10 ∷ rest))))
+    ∙ bits-read version secret_len bits rest word
 
 -- ---- the lines of a cut
 
 listed-own : (cut : CutPicture) (tail : List (List ℕ)) → is_valid cut ≡ true → is_empty tail ≡ false →
-    lines_in 4 (bare_cut cut.secret_length cut.bits) ((map skip_line cut.skip ++ map point_line cut.points) ++ tail)
+    lines_in 4 (bare_cut cut.version cut.secret_len cut.bits) ((map skip_line cut.skip ++ map (point_line cut.version) cut.points) ++ tail)
     ≡ lines_in (suc (length (listed_lines cut))) cut tail
 listed-own cut tail valid some =
-    let short = and_parts (nat_le cut.secret_length 65536) _ valid in
+    let version = and_parts (is_version cut.version) _ valid in
+    let short = and_parts (nat_le cut.secret_len 65536) _ version.1 in
     let bits = and_parts (is_word cut.bits) _ short.1 in
-    let lists = and_parts (are_regions cut.skip) (are_points cut.points) bits.1 in
+    let lists = and_parts (are_regions cut.skip) (are_points_of cut.version cut.points) bits.1 in
     let skips : length (map skip_line cut.skip) ≡ length cut.skip = length-map cut.skip skip_line in
-    let points : length (map point_line cut.points) ≡ length cut.points = length-map cut.points point_line in
-    let both : length (map skip_line cut.skip ++ map point_line cut.points) ≡ length
-    (map skip_line cut.skip) + length (map point_line cut.points) =
-    length-append (map skip_line cut.skip) (map point_line cut.points) in
+    let points : length (map (point_line cut.version) cut.points) ≡ length cut.points = length-map cut.points (point_line cut.version) in
+    let both : length (map skip_line cut.skip ++ map (point_line cut.version) cut.points) ≡ length
+    (map skip_line cut.skip) + length (map (point_line cut.version) cut.points) =
+    length-append (map skip_line cut.skip) (map (point_line cut.version) cut.points) in
     let count : (4 + length cut.skip) + length cut.points ≡ suc (length (listed_lines cut)) = omega arith in
-    ap (lines_in 4 (bare_cut cut.secret_length cut.bits)) (append_assoc (map skip_line cut.skip)
-    (map point_line cut.points) tail)
-    ∙ skips-own cut.skip [] 4 cut.secret_length cut.bits (map point_line cut.points ++ tail) lists.0 (some-behind
-    (map point_line cut.points) tail some)
-    ∙ points-own cut.points [] (4 + length cut.skip) cut.secret_length cut.bits cut.skip tail lists.1 some
+    ap (lines_in 4 (bare_cut cut.version cut.secret_len cut.bits)) (append_assoc (map skip_line cut.skip)
+    (map (point_line cut.version) cut.points) tail)
+    ∙ skips-own cut.skip [] 4 cut.version cut.secret_len cut.bits (map (point_line cut.version) cut.points ++ tail) lists.0 (some-behind
+    (map (point_line cut.version) cut.points) tail some)
+    ∙ points-own cut.points [] (4 + length cut.skip) cut.version cut.secret_len cut.bits cut.skip tail lists.1 some
     ∙ ap (λ (n : ℕ). lines_in n cut tail) count
 
 -- a file that begins with the lines of a cut
@@ -266,20 +269,21 @@ pub front-own : (file : List ℕ) (cut : CutPicture) (rest : List ℕ) → is_va
     (length file) whole.0 (joined 10 whole.1))
 unfolding cut_in
 front-own file cut rest valid text =
-    let short = and_parts (nat_le cut.secret_length 65536) _ valid in
+    let version = and_parts (is_version cut.version) _ valid in
+    let short = and_parts (nat_le cut.secret_len 65536) _ version.1 in
     let bits = and_parts (is_word cut.bits) _ short.1 in
-    let lists = and_parts (are_regions cut.skip) (are_points cut.points) bits.1 in
-    let lines : List (List ℕ) = map skip_line cut.skip ++ map point_line cut.points in
+    let lists = and_parts (are_regions cut.skip) (are_points_of cut.version cut.points) bits.1 in
+    let lines : List (List ℕ) = map skip_line cut.skip ++ map (point_line cut.version) cut.points in
     let skips = and_parts (list_all is_region cut.skip) _ lists.0 in
-    let points = and_parts (list_all is_cut_point cut.points) _ lists.1 in
+    let points = and_parts (list_all (is_point_of cut.version) cut.points) _ lists.1 in
     let clean : clean_words 10 lines ≡ true =
-    clean-lines (map skip_line cut.skip) (map point_line cut.points) (skips-clean cut.skip skips.0)
-    (points-clean cut.points points.0) in
-    let head = head-own file (ended lines ++ rest) cut.secret_length cut.bits short.0 bits.0
-    (text ∙ ap (λ (l : List ℕ). l ++ rest) (ended-append (head_three cut.secret_length cut.bits) lines)
-    ∙ append_assoc (ended (head_three cut.secret_length cut.bits)) (ended lines) rest) in
+    clean-lines (map skip_line cut.skip) (map (point_line cut.version) cut.points) (skips-clean cut.skip skips.0)
+    (points-clean cut.version cut.points points.0) in
+    let head = head-own file (ended lines ++ rest) cut.version cut.secret_len cut.bits version.0 short.0 bits.0
+    (text ∙ ap (λ (l : List ℕ). l ++ rest) (ended-append (head_three cut.version cut.secret_len cut.bits) lines)
+    ∙ append_assoc (ended (head_three cut.version cut.secret_len cut.bits)) (ended lines) rest) in
     ap (λ (r : Result Head CutFault). r >> listed file) head
-    ∙ ap (λ (l : List (List ℕ)). lines_in 4 (bare_cut cut.secret_length cut.bits) l >> λ whole. whole_cut
+    ∙ ap (λ (l : List (List ℕ)). lines_in 4 (bare_cut cut.version cut.secret_len cut.bits) l >> λ whole. whole_cut
     (length file) whole.0 (joined 10 whole.1))
     (parts-ended lines rest clean)
     ∙ ap (λ (r : Result (CutPicture × List (List ℕ)) CutFault). r >> λ whole. whole_cut (length file) whole.0
@@ -339,7 +343,7 @@ skip-late : (number : ℕ) (cut : CutPicture) (region : ℕ) → is_region regio
 unfolding with_line
 skip-late number cut region own none late =
     let longer : CutPicture = record cut { skip = cut.skip ++ (region ∷ []) } in
-    ap (λ (o : Option ℕ). with_either number cut o (point_in (skip_line region))) (skip-own region own)
+    ap (λ (o : Option ℕ). with_either number cut o (point_in cut.version (skip_line region))) (skip-own region own)
     ∙ cond-true (is_empty cut.points) (if may_follow nat_lt cut.skip region then more_ok longer else more_err
     (Order number)) (more_err (Line number)) (ap is_empty none)
     ∙ cond-false (may_follow nat_lt cut.skip region) (more_ok longer) (more_err (Order number)) late
@@ -357,7 +361,7 @@ last-line number cut line clean = ap (lines_in number cut) (parts-last 10 line c
 
 -- the fault of a line of unfit form
 line-err : (number : ℕ) (cut : CutPicture) (line : List ℕ) (region : Option ℕ) (point : Option CutPoint) →
-    skip_in line ≡ region → point_in line ≡ point →
+    skip_in line ≡ region → point_in cut.version line ≡ point →
     (MayStand (Listed cut) line → ⊥) → with_either number cut region point ≡ more_err (Line number)
 line-err number cut line (Some region) point is other unfit =
     let own = skip-found line region is in
@@ -369,14 +373,14 @@ line-err number cut line (Some region) point is other unfit =
           (region ∷ []);
     }) else more_err (Order number)) (more_err (Line number)) some
 line-err number cut line None (Some point) is other unfit =
-    let own = point-found line point other in
+    let own = point-found cut.version line point other in
     absurd (unfit (inr (inr (point, own.known, own.text))))
 line-err number cut line None None is other unfit = refl
 
 with-err : (number : ℕ) (cut : CutPicture) (line : List ℕ) → (MayStand (Listed cut) line → ⊥) →
     with_line number cut line ≡ more_err (Line number)
 unfolding with_line
-with-err number cut line unfit = line-err number cut line (skip_in line) (point_in line) refl refl unfit
+with-err number cut line unfit = line-err number cut line (skip_in line) (point_in cut.version line) refl refl unfit
 
 listed-line : (file : List ℕ) (cut : CutPicture) (line : List ℕ) (fault : CutFault) →
     HasLine file (Listed cut) line → bytes_eq line (codes "end") ≡ false →
@@ -392,24 +396,24 @@ line-own : (front : Front) (file : List ℕ) (number : ℕ) (line : List ℕ) �
     (MayStand front line → ⊥) →
     number ≡ suc (length (lines_before front)) → 2 ≤ number → cut_in file ≡ faulty (Line number)
 line-own Nothing file number line here unfit count later = absurd (omega (arith, count))
-line-own Versioned file number line here unfit count later =
+line-own (Versioned version) file number line here unfit count later =
     let none = nothing-from (secret_in line) (λ (n : ℕ) e. let own = secret-found line n e in unfit
-    (n, own.short, own.text)) in
+    (n, own.known, own.text)) in
     head-faulty file (Line number)
-    (version-own file (line ++ (10 ∷ here.more)) here.text
-    ∙ ap (λ (o : Option (List ℕ × List ℕ)). or_fault o Truncated >> head_secret) (divided-own 10 line here.more
-    (here-clean file Versioned line here))
-    ∙ ap (λ (o : Option ℕ). or_fault o (Line 2) >> head_third (line, here.more)) none
+    (versioned-own file (line ++ (10 ∷ here.more)) version here.ordered here.text
+    ∙ ap (λ (o : Option (List ℕ × List ℕ)). or_fault o Truncated >> head_secret version) (divided-own 10 line here.more
+    (here-clean file (Versioned version) line here))
+    ∙ ap (λ (o : Option ℕ). or_fault o (Line 2) >> head_third version (line, here.more)) none
     ∙ ap (λ (n : ℕ). faulty {A = Head} (Line n)) (sym count))
-line-own (Sized secret_length) file number line here unfit count later =
+line-own (Sized version secret_len) file number line here unfit count later =
     let none = nothing-from (bits_in line) (λ (n : ℕ) e. let own = bits-found line n e in unfit
-    (n, own.word, own.text)) in
+    (n, own.known, own.text)) in
     head-faulty file (Line number)
-    (sized-own file (line ++ (10 ∷ here.more)) secret_length here.ordered here.text
-    ∙ ap (λ (o : Option (List ℕ × List ℕ)). or_fault o Truncated >> head_bits secret_length)
-    (divided-own 10 line here.more (here-clean file (Sized secret_length) line here))
+    (sized-own file (line ++ (10 ∷ here.more)) version secret_len here.ordered here.text
+    ∙ ap (λ (o : Option (List ℕ × List ℕ)). or_fault o Truncated >> head_bits version secret_len)
+    (divided-own 10 line here.more (here-clean file (Sized version secret_len) line here))
     ∙ ap (λ (o : Option ℕ). or_fault o (Line 3) >> λ (b : ℕ). fine {A = Head}
-    (bare_cut secret_length b, here.more)) none
+    (bare_cut version secret_len b, here.more)) none
     ∙ ap (λ (n : ℕ). faulty {A = Head} (Line n)) (sym count))
 line-own (Listed cut) file number line here unfit count later =
     listed-line file cut line (Line number) here (other-text line end_line (λ is. unfit (inl is)))
@@ -426,12 +430,13 @@ order-own : (front : Front) (file : List ℕ) (number : ℕ) (line : List ℕ) �
     IsOutOfOrder front line →
     number ≡ suc (length (lines_before front)) → cut_in file ≡ faulty (Order number)
 order-own Nothing file number line here out count = absurd out
-order-own Versioned file number line here out count = absurd out
-order-own (Sized secret_length) file number line here out count = absurd out
+order-own (Versioned version) file number line here out count = absurd out
+order-own (Sized version secret_len) file number line here out count = absurd out
 order-own (Listed cut) file number line here out count =
-    let short = and_parts (nat_le cut.secret_length 65536) _ here.ordered in
+    let version = and_parts (is_version cut.version) _ here.ordered in
+    let short = and_parts (nat_le cut.secret_len 65536) _ version.1 in
     let bits = and_parts (is_word cut.bits) _ short.1 in
-    let lists = and_parts (are_regions cut.skip) (are_points cut.points) bits.1 in
+    let lists = and_parts (are_regions cut.skip) (are_points_of cut.version cut.points) bits.1 in
     elim out [
       | inl skip ↦
           listed-line file cut line (Order number) here (ap (λ (l : List ℕ). bytes_eq l (codes "end")) skip.2)
@@ -448,7 +453,7 @@ order-own (Listed cut) file number line here out count =
                 (point.0 ∷ []);
           }))
           (more_err (Order (suc (length (listed_lines cut)))))
-          (follows-not is_cut_point stands_before cut.points point.0 lists.1 point.3)
+          (follows-not (is_point_of cut.version) stands_before cut.points point.0 lists.1 point.3)
           ∙ ap (λ (n : ℕ). more_err (Order n)) (sym count))
     ]
 
@@ -456,31 +461,31 @@ truncated-own : (front : Front) (file line : List ℕ) → is_front front ≡ tr
     file ≡ ended (lines_before front) ++ line →
     cut_in file ≡ faulty Truncated
 truncated-own Nothing file line ordered clean text = head-faulty file Truncated (nothing-read file line clean text)
-truncated-own Versioned file line ordered clean text =
-    head-faulty file Truncated (version-own file line text
-    ∙ ap (λ (o : Option (List ℕ × List ℕ)). or_fault o Truncated >> head_secret) (none-divided 10 line clean))
-truncated-own (Sized secret_length) file line ordered clean text =
-    head-faulty file Truncated (sized-own file line secret_length ordered text
-    ∙ ap (λ (o : Option (List ℕ × List ℕ)). or_fault o Truncated >> head_bits secret_length)
+truncated-own (Versioned version) file line ordered clean text =
+    head-faulty file Truncated (versioned-own file line version ordered text
+    ∙ ap (λ (o : Option (List ℕ × List ℕ)). or_fault o Truncated >> head_secret version) (none-divided 10 line clean))
+truncated-own (Sized version secret_len) file line ordered clean text =
+    head-faulty file Truncated (sized-own file line version secret_len ordered text
+    ∙ ap (λ (o : Option (List ℕ × List ℕ)). or_fault o Truncated >> head_bits version secret_len)
     (none-divided 10 line clean))
 truncated-own (Listed cut) file line ordered clean text =
     lines-faulty file cut line Truncated ordered text (last-line (suc (length (listed_lines cut))) cut line clean)
 
 version-err : (file line more : List ℕ) → file ≡ line ++ (10 ∷ more) → has_byte 10 line ≡ false →
-    bytes_eq line (codes "flowcheck-cut 1") ≡ false →
-    head_in file ≡ faulty Version
+    version_in line ≡ None → head_in file ≡ faulty Version
 unfolding head_in
-version-err file line more text clean other =
+version-err file line more text clean none =
     ap (λ (l : List ℕ). or_fault (divided 10 l) Truncated >> head_first) text
     ∙ ap (λ (o : Option (List ℕ × List ℕ)). or_fault o Truncated >> head_first) (divided-own 10 line more clean)
-    ∙ cond-false (bytes_eq line (codes "flowcheck-cut 1")) (head_second (line, more)) (faulty Version) other
+    ∙ ap (λ (o : Option ℕ). or_fault o Version >> head_second (line, more)) none
 
 pub fault-own : (fault : CutFault) (file : List ℕ) → (fault ≡ Memory → ⊥) → FirstCutFault file fault →
     cut_in file ≡ faulty fault
 fault-own Version file free known =
     head-faulty file Version (version-err file known.0 known.1.more known.1.text
     (here-clean file Nothing known.0 known.1)
-    (other-text known.0 (codes "flowcheck-cut 1") known.2))
+    (nothing-from (version_in known.0) (λ (n : ℕ) e. let own = version-found known.0 n e in
+    known.2 (n, own.known, own.text))))
 fault-own (Line number) file free known = line-own known.0 file number known.1 known.2 known.3 known.4 known.5
 fault-own (Order number) file free known = order-own known.0 file number known.1 known.2 known.3 known.4
 fault-own Truncated file free known = truncated-own known.0 file known.1 known.2 (sym (feed-byte known.1)

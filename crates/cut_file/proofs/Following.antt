@@ -1,13 +1,13 @@
 -- Items that follow one another.
-use Rattle.std.proofs.Common.{◌≡◌, ℕ, ◌-◌, ◌<◌, ◌&&◌, Bool, true, false, List, [], ◌∷◌, ◌++◌, length, get_or, refl}
+use Rattle.std.proofs.Common.{◌≡◌, ℕ, ◌-◌, ◌<◌, ◌==◌, ◌&&◌, ◌||◌, Bool, true, false, List, [], ◌∷◌, ◌++◌, length, get_or, refl}
 use Rattle.std.proofs.Common.{sym, ap, ◌∙◌, append_assoc, arith}
 use Rattle.std.specs.List.{list_all}
 use Rattle.std.proofs.Common.{nat_lt, nat_le, IsTrue}
 use Rattle.std.proofs.lemmas.Bool.{and_parts, and_from}
 use Rattle.flow_base.specs.Points.{is_slot}
 use Rattle.cut_file.specs.declared.points.CutPoint.{CutPoint}
-use Rattle.cut_file.specs.Cuts.{are_points, are_regions, is_valid, is_cut_point, is_point, is_region, is_word}
-use Rattle.cut_file.specs.Cuts.{neighbours_pass, stands_before}
+use Rattle.cut_file.specs.Cuts.{are_points, are_points_of, are_regions, is_valid, is_cut_point, is_point, is_point_of}
+use Rattle.cut_file.specs.Cuts.{is_region, is_rest, is_single, is_word, neighbours_pass, stands_before}
 use Rattle.cut_file.specs.declared.cuts.Cut.{Cut}
 use Rattle.cut_file.specs.Pictures.{picture_of}
 use Rattle.cut_file.specs.Reading.{may_follow}
@@ -63,11 +63,11 @@ pub regions-push : (skip : List ℕ) (region : ℕ) → IsTrue (are_regions skip
 regions-push skip region known own follows =
     is_true _ (list-push is_region nat_lt skip region (is_so _ known) (is_so _ own) follows)
 
-pub points-push : (points : List CutPoint) (point : CutPoint) → IsTrue (are_points points) →
-    IsTrue (is_cut_point point) →
-    may_follow stands_before points point ≡ true → IsTrue (are_points (points ++ (point ∷ [])))
-points-push points point known own follows =
-    is_true _ (list-push is_cut_point stands_before points point (is_so _ known) (is_so _ own) follows)
+pub points-push : (version : ℕ) (points : List CutPoint) (point : CutPoint) → IsTrue (are_points_of version points) →
+    IsTrue (is_point_of version point) →
+    may_follow stands_before points point ≡ true → IsTrue (are_points_of version (points ++ (point ∷ [])))
+points-push version points point known own follows =
+    is_true _ (list-push (is_point_of version) stands_before points point (is_so _ known) (is_so _ own) follows)
 
 pub slot-of : (point : CutPoint) → is_cut_point point ≡ true → IsTrue (is_slot point.point.slot)
 slot-of point known =
@@ -82,11 +82,46 @@ slot-last points last known some =
     slot-of (get_or points (length points - 1) last) (all-last is_cut_point points last (and_parts _ _
     (is_so _ known)).0 some)
 
+points-all : (version : ℕ) (points : List CutPoint) → list_all (is_point_of version) points ≡ true →
+    list_all is_cut_point points ≡ true
+points-all version [] all = refl
+points-all version (point ∷ points) all =
+    let both = and_parts (is_point_of version point) (list_all (is_point_of version) points) all in
+    and_from _ _ (and_parts (is_cut_point point) ((version == 2) || is_single point.rest) both.0).0
+    (points-all version points both.1)
+
+-- the points of a cut of either version ascend
+pub points-known : (version : ℕ) (points : List CutPoint) → IsTrue (are_points_of version points) →
+    IsTrue (are_points points)
+points-known version points known =
+    let both = and_parts (list_all (is_point_of version) points) (neighbours_pass stands_before points)
+    (is_so _ known) in
+    is_true _ (and_from _ _ (points-all version points both.0) both.1)
+
+-- and are points of version 2
+pub all-migrated : (points : List CutPoint) → list_all is_cut_point points ≡ true →
+    list_all (is_point_of 2) points ≡ true
+all-migrated [] all = refl
+all-migrated (point ∷ points) all =
+    let both = and_parts (is_cut_point point) (list_all is_cut_point points) all in
+    and_from _ _ (and_from _ _ both.0 refl) (all-migrated points both.1)
+
+pub points-migrated : (version : ℕ) (points : List CutPoint) → IsTrue (are_points_of version points) →
+    IsTrue (are_points_of 2 points)
+points-migrated version points known =
+    let both = and_parts (list_all (is_point_of version) points) (neighbours_pass stands_before points)
+    (is_so _ known) in
+    is_true _ (and_from _ _ (all-migrated points (points-all version points both.0)) both.1)
+
+pub point-known : (version : ℕ) (point : CutPoint) → IsTrue (is_point_of version point) → IsTrue (is_cut_point point)
+point-known version point known =
+    is_true _ (and_parts (is_cut_point point) ((version == 2) || is_single point.rest) (is_so _ known)).0
+
 -- what a cut keeps makes its picture valid
 pub cut-valid : (cut : Cut) → is_valid (picture_of cut) ≡ true
 cut-valid cut =
-    and_from _ _ (is_so _ cut.is_short) (and_from _ _ (is_so _ cut.is_number) (and_from _ _ (is_so _ cut.skips)
-    (is_so _ cut.crosses)))
+    and_from _ _ (is_so _ cut.is_known) (and_from _ _ (is_so _ cut.is_short) (and_from _ _ (is_so _ cut.is_number)
+    (and_from _ _ (is_so _ cut.skips) (is_so _ cut.crosses))))
 
 -- ---- the front of a list that is kept
 

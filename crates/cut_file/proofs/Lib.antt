@@ -1,5 +1,7 @@
 pub mod Parts
 pub mod MaskLists
+pub mod Repeats
+pub mod Periods
 pub mod Following
 pub mod Pieces
 pub mod Numbers

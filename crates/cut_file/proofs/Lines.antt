@@ -1,10 +1,10 @@
 -- The words of a line, and the lines, are read as what they are written from, and as nothing else.
-use Rattle.std.proofs.Common.{◌≡◌, ℕ, ◌<◌, nat_le, Bool, true, false, List, [], ◌∷◌, ◌++◌, codes, if◌then◌else◌}
+use Rattle.std.proofs.Common.{◌≡◌, ℕ, ◌<◌, ◌≤◌, length, nat_le, Bool, true, false, List, [], ◌∷◌, ◌++◌, codes, if◌then◌else◌}
 use Rattle.std.proofs.Common.{Option, Some, None, refl, sym, ◌∙◌, ap, subst, arith}
 use Rattle.std.specs.Fmt.{decimal}
-use Rattle.cut_file.specs.Cuts.{is_region, is_word}
-use Rattle.cut_file.specs.Texts.{bits_line, secret_line, skip_line}
-use Rattle.cut_file.specs.Reading.{◌>>=◌, after_text, bits_in, number_in, secret_in, skip_in}
+use Rattle.cut_file.specs.Cuts.{is_region, is_version, is_word}
+use Rattle.cut_file.specs.Texts.{bits_line, secret_line, skip_line, version_line}
+use Rattle.cut_file.specs.Reading.{◌>>=◌, after_text, bits_in, number_in, secret_in, skip_in, version_in}
 use Rattle.cut_file.proofs.Numbers.{number-found, number-own}
 
 -- ---- steps that may fail
@@ -87,61 +87,85 @@ regroup : (wanted line : List ℕ) (next : ℕ → Option ℕ) →
     (after_text wanted line >>= λ digits. (number_in digits >>= next)) ≡ (number_behind wanted line >>= next)
 regroup wanted line next = regrouped (after_text wanted line) next
 
-pub record IsSecretLine (line : List ℕ) (number : ℕ) : Type 0 where
-  pub text : line ≡ secret_line number
-  pub short : nat_le number 65536 ≡ true
+-- the number behind a wanted text, where it passes a test
+abbrev pub kept_number : List ℕ → (ℕ → Bool) → List ℕ → Option ℕ
+kept_number wanted test line =
+    after_text wanted line >>= λ digits. (number_in digits >>= λ number. if test number then Some number else None)
 
-pub secret-found : (line : List ℕ) (number : ℕ) → secret_in line ≡ Some number → IsSecretLine line number
+pub record IsNumberLine (wanted : List ℕ) (test : ℕ → Bool) (line : List ℕ) (number : ℕ) : Type 0 where
+  pub text : line ≡ wanted ++ decimal number
+  pub known : test number ≡ true
+
+kept_number-found : (wanted : List ℕ) (test : ℕ → Bool) (line : List ℕ) (number : ℕ) →
+    kept_number wanted test line ≡ Some number → IsNumberLine wanted test line number
+kept_number-found wanted test line number e =
+    let keep : ℕ → Option ℕ = λ number. if test number then Some number else None in
+    let t = then-found (number_behind wanted line) keep number (sym (regroup wanted line keep) ∙ e) in
+    let b = behind-found wanted line t.value t.is in
+    kept-found (test t.value) t.value number (λ n. IsNumberLine wanted test line n) t.then_is
+    (λ known. record { text = b.0; known = known })
+
+kept_number-own : (wanted : List ℕ) (test : ℕ → Bool) (number : ℕ) → test number ≡ true → number < 4294967296 →
+    kept_number wanted test (wanted ++ decimal number) ≡ Some number
+kept_number-own wanted test number known small =
+    let keep : ℕ → Option ℕ = λ number. if test number then Some number else None in
+    regroup wanted (wanted ++ decimal number) keep
+    ∙ then-own (number_behind wanted (wanted ++ decimal number)) keep number (behind-own wanted number small)
+    ∙ rw known refl
+
+pub version-word : (version : ℕ) → is_version version ≡ true → version < 4294967296
+version-word version known = grind arith
+
+pub version-found : (line : List ℕ) (version : ℕ) → version_in line ≡ Some version →
+    IsNumberLine (codes "flowcheck-cut ") is_version line version
+unfolding version_in
+version-found line version e = kept_number-found (codes "flowcheck-cut ") is_version line version e
+
+pub version-own : (version : ℕ) → is_version version ≡ true → version_in (version_line version) ≡ Some version
+unfolding version_in
+version-own version known =
+    kept_number-own (codes "flowcheck-cut ") is_version version known (version-word version known)
+
+pub version-long : (line : List ℕ) (version : ℕ) → version_in line ≡ Some version → 1 ≤ length line
+version-long line version e =
+    let own = version-found line version e in
+    let long : length line ≡ length (version_line version) = ap length own.text in
+    omega (arith, long)
+
+abbrev pub is_short : ℕ → Bool
+is_short number = nat_le number 65536
+
+pub short-word : (number : ℕ) → nat_le number 65536 ≡ true → number < 4294967296
+short-word number short = grind arith
+
+pub secret-found : (line : List ℕ) (number : ℕ) → secret_in line ≡ Some number →
+    IsNumberLine (codes "secret ") is_short line number
 unfolding secret_in
-secret-found line number e =
-    let t = then-found (number_behind (codes "secret ") line)
-    (λ number. if nat_le number 65536 then Some number else None) number
-    (sym (regroup (codes "secret ") line (λ number. if nat_le number 65536 then Some number else None)) ∙ e) in
-    let b = behind-found (codes "secret ") line t.value t.is in
-    kept-found (nat_le t.value 65536) t.value number (λ n. IsSecretLine line n) t.then_is
-    (λ short. record { text = b.0; short = short })
+secret-found line number e = kept_number-found (codes "secret ") is_short line number e
 
 pub secret-own : (number : ℕ) → nat_le number 65536 ≡ true → secret_in (secret_line number) ≡ Some number
 unfolding secret_in
-secret-own number short =
-    let small : number < 4294967296 = grind arith in
-    regroup (codes "secret ") (secret_line number) (λ number. if nat_le number 65536 then Some number else None)
-    ∙ then-own (number_behind (codes "secret ") (secret_line number)) _ number (behind-own
-    (codes "secret ") number small)
-    ∙ rw short refl
+secret-own number short = kept_number-own (codes "secret ") is_short number short (short-word number short)
 
-pub record IsBitsLine (line : List ℕ) (number : ℕ) : Type 0 where
-  pub text : line ≡ bits_line number
-  pub word : is_word number ≡ true
-
-pub bits-found : (line : List ℕ) (number : ℕ) → bits_in line ≡ Some number → IsBitsLine line number
+pub bits-found : (line : List ℕ) (number : ℕ) → bits_in line ≡ Some number →
+    IsNumberLine (codes "bits ") is_word line number
 unfolding bits_in
 bits-found line number e =
     let b = behind-found (codes "bits ") line number e in
-    record { text = b.0; word = below-word number b.1 }
+    record { text = b.0; known = below-word number b.1 }
 
 pub bits-own : (number : ℕ) → is_word number ≡ true → bits_in (bits_line number) ≡ Some number
 unfolding bits_in
 bits-own number word = behind-own (codes "bits ") number (word-below number word)
 
-pub record IsSkipOf (line : List ℕ) (region : ℕ) : Type 0 where
-  pub text : line ≡ skip_line region
-  pub known : is_region region ≡ true
+pub region-word : (region : ℕ) → is_region region ≡ true → region < 4294967296
+region-word region known = grind arith
 
-pub skip-found : (line : List ℕ) (region : ℕ) → skip_in line ≡ Some region → IsSkipOf line region
+pub skip-found : (line : List ℕ) (region : ℕ) → skip_in line ≡ Some region →
+    IsNumberLine (codes "skip ") is_region line region
 unfolding skip_in
-skip-found line region e =
-    let t = then-found (number_behind (codes "skip ") line)
-    (λ number. if is_region number then Some number else None) region
-    (sym (regroup (codes "skip ") line (λ number. if is_region number then Some number else None)) ∙ e) in
-    let b = behind-found (codes "skip ") line t.value t.is in
-    kept-found (is_region t.value) t.value region (λ n. IsSkipOf line n) t.then_is
-    (λ own. record { text = b.0; known = own })
+skip-found line region e = kept_number-found (codes "skip ") is_region line region e
 
 pub skip-own : (region : ℕ) → is_region region ≡ true → skip_in (skip_line region) ≡ Some region
 unfolding skip_in
-skip-own region known =
-    let small : region < 4294967296 = grind arith in
-    regroup (codes "skip ") (skip_line region) (λ number. if is_region number then Some number else None)
-    ∙ then-own (number_behind (codes "skip ") (skip_line region)) _ region (behind-own (codes "skip ") region small)
-    ∙ rw known refl
+skip-own region known = kept_number-own (codes "skip ") is_region region known (region-word region known)

@@ -1,11 +1,13 @@
 -- The mask at a visit, as runs are passed over one by one.
 use Rattle.std.proofs.Common.{◌≡◌, ℕ, ◌+◌, ◌-◌, ◌<◌, ◌≤◌, List, [], ◌∷◌, length, refl, sym, ap, ◌∙◌, arith, drop}
-use Rattle.std.proofs.Common.{drop-cons, get_or, suc, add-one}
-use Rattle.std.specs.Prelude.{replicate, slice_index_or}
+use Rattle.std.proofs.Common.{drop-cons, get_or, length-append, suc, add-one}
+use Rattle.std.specs.Prelude.{◌%◌, nat_lt, replicate, slice_index_or}
 use Rattle.std.proofs.Math.ListN.{get_or-append, drop_of_length-le}
 use Rattle.std.proofs.lemmas.List.{get_or-append_right, get_or-replicate, length-replicate}
 use Rattle.cut_file.specs.declared.points.Run.{Run}
-use Rattle.cut_file.specs.Masks.{listed_masks}
+use Rattle.std.proofs.Math.Nat.{mod-eq_of_lt}
+use Rattle.std.proofs.lemmas.Bool.{cond-false, cond-true, le-ltb, lt-ltb}
+use Rattle.cut_file.specs.Masks.{listed_masks, repeated}
 
 -- the mask of runs at a visit
 abbrev pub mask_in : List Run → ℕ → ℕ → ℕ
@@ -61,3 +63,52 @@ pub mask-rest_at : (runs : List Run) (index visit rest whole : ℕ) → length r
 mask-rest_at runs index visit rest whole past known =
     sym (mask-rest visit rest) ∙ ap (λ (l : List Run). mask_in l visit rest) (sym (drop_of_length-le runs past))
     ∙ known
+
+-- ---- how many masks runs list
+
+pub masks-count : (run : Run) (runs : List Run) → length (listed_masks (run ∷ runs)) ≡ run.count + length (listed_masks runs)
+unfolding listed_masks
+masks-count run runs =
+    length-append (replicate run.count run.mask) (listed_masks runs)
+    ∙ ap (λ (n : ℕ). n + length (listed_masks runs)) (length-replicate run.count run.mask)
+
+pub masks-none : length (listed_masks []) ≡ 0
+unfolding listed_masks
+masks-none = refl
+
+pub masks-count_at : (runs : List Run) (index : ℕ) (other : Run) → index < length runs →
+    length (listed_masks (drop index runs))
+    ≡ (get_or runs index other).count + length (listed_masks (drop (index + 1) runs))
+masks-count_at runs index other inside =
+    let tail : drop index runs ≡ get_or runs index other ∷ drop
+    (suc index) runs = drop-cons runs index other inside in
+    rw add-one (ap (λ (l : List Run). length (listed_masks l)) tail
+    ∙ masks-count (get_or runs index other) (drop (suc index) runs))
+
+pub masks-past : (runs : List Run) (index : ℕ) → length runs ≤ index → length (listed_masks (drop index runs)) ≡ 0
+masks-past runs index past =
+    ap (λ (l : List Run). length (listed_masks l)) (drop_of_length-le runs past) ∙ masks-none
+
+-- ---- a pattern
+
+-- no mask stands in an empty pattern
+pub empty-mask : (masks : List ℕ) (place : ℕ) → length masks ≡ 0 → slice_index_or masks place 0 ≡ 0
+empty-mask [] place none = refl
+empty-mask (mask ∷ masks) place none = absurd (omega (arith, none))
+
+pub first-round : (masks : List ℕ) (place : ℕ) → place < length masks →
+    slice_index_or masks place 0 ≡ slice_index_or masks (place % length masks) 0
+first-round masks place inside = ap (λ (n : ℕ). slice_index_or masks n 0) (sym (mod-eq_of_lt inside))
+
+-- within the list its mask stands, and behind it that of the pattern
+pub repeated-here : (masks pattern : List ℕ) (place : ℕ) → place < length masks →
+    repeated masks pattern place ≡ slice_index_or masks place 0
+repeated-here masks pattern place inside =
+    cond-true (nat_lt place (length masks)) (slice_index_or masks place 0)
+    (slice_index_or pattern ((place - length masks) % length pattern) 0) (lt-ltb _ _ inside)
+
+pub repeated-behind : (masks pattern : List ℕ) (place : ℕ) → length masks ≤ place →
+    repeated masks pattern place ≡ slice_index_or pattern ((place - length masks) % length pattern) 0
+repeated-behind masks pattern place behind =
+    cond-false (nat_lt place (length masks)) (slice_index_or masks place 0)
+    (slice_index_or pattern ((place - length masks) % length pattern) 0) (le-ltb _ _ behind)

@@ -1,5 +1,5 @@
 -- The line of a point is read as that point, and as no other.
-use Rattle.std.proofs.Common.{◌≡◌, ℕ, ◌<◌, nat_le, not, Bool, true, false, List, [], ◌∷◌, ◌++◌, codes, if◌then◌else◌}
+use Rattle.std.proofs.Common.{◌≡◌, ℕ, ◌<◌, ◌==◌, ◌||◌, length, nat_le, not, Bool, true, false, List, [], ◌∷◌, ◌++◌, codes, if◌then◌else◌}
 use Rattle.std.proofs.Common.{Option, Some, None, refl, sym, ◌∙◌, ap, subst, append_assoc, arith}
 use Rattle.std.specs.Prelude.{map}
 use Rattle.std.specs.Fmt.{decimal}
@@ -7,7 +7,7 @@ use Rattle.std.specs.List.{list_all}
 use Rattle.std.specs.Str.{bytes_eq}
 use Rattle.std.proofs.lemmas.Slice.Eq.{bytes_eq-Decides}
 use Rattle.std.proofs.lemmas.Bool.{and_parts, and_from, cases_Bool, false_from_ne_true, not_from_false, not-true}
-use Rattle.std.proofs.lemmas.Bool.{cond-true, cond-false}
+use Rattle.std.proofs.lemmas.Bool.{cond-true, cond-false, eqb-true, le-leb, or_left, or_right}
 use Rattle.std.proofs.lemmas.List.{append-nil}
 use Rattle.std.proofs.Common.{inl, inr}
 use Rattle.flow_base.specs.declared.points.Point.{Point}
@@ -15,11 +15,13 @@ use Rattle.flow_base.specs.declared.points.Slot.{Slot}
 use Rattle.flow_base.specs.Points.{is_slot}
 use Rattle.cut_file.specs.declared.points.CutPoint.{CutPoint}
 use Rattle.cut_file.specs.declared.points.Run.{Run}
-use Rattle.cut_file.specs.Cuts.{are_runs, have_other_masks, is_cut_point, is_point, is_run, is_word}
+use Rattle.cut_file.specs.Cuts.{are_runs, have_other_masks, is_cut_point, is_point, is_point_of, is_rest, is_run}
+use Rattle.cut_file.specs.Cuts.{is_single, is_word}
 use Rattle.flow_base.specs.HexWords.{hex_word}
-use Rattle.cut_file.specs.Texts.{joined, point_line, point_words, run_text, slot_text}
-use Rattle.cut_file.specs.Reading.{◌>>=◌, after_text, divided, first_of, may_follow, number_in, others_of, parts}
-use Rattle.cut_file.specs.Reading.{place_in, point_in, point_in_words, rest_in, run_in, runs_in, slot_in, word_in}
+use Rattle.cut_file.specs.Texts.{joined, point_line, point_words, rest_text, run_text, slot_text}
+use Rattle.cut_file.specs.Reading.{◌>>=◌, after_text, divided, first_of, is_empty, may_follow, number_in, others_of, parts}
+use Rattle.cut_file.specs.Reading.{only_mask_in, pattern_in, place_in, point_in, point_in_words, rest_in, run_in, runs_in, single_in}
+use Rattle.cut_file.specs.Reading.{slot_in, word_in}
 use Rattle.cut_file.proofs.Parts.{clean_words, divided-found, divided-own, has_byte, joined-parts, parts-joined}
 use Rattle.cut_file.proofs.Following.{kept-step, list-push}
 use Rattle.cut_file.proofs.Numbers.{clean-append, clean-cons, decimal-clean, number-found, number-own}
@@ -264,71 +266,229 @@ place-own point rest known =
 
 -- ---- the whole line
 
-pub record IsRestOf (words : List (List ℕ)) (mask : ℕ) : Type 0 where
+or_other : (a b : Bool) → a ≡ false → (a || b) ≡ true → b ≡ true
+or_other true b e f = absurd cc
+or_other false b e f = f
+
+pub record IsMaskOf (words : List (List ℕ)) (mask : ℕ) : Type 0 where
   pub text : words ≡ hex_word mask ∷ []
   pub word : is_word mask ≡ true
 
-rest-found : (words : List (List ℕ)) (mask : ℕ) → rest_in words ≡ Some mask → IsRestOf words mask
-unfolding rest_in
-rest-found [] mask e = absurd cc
-rest-found (word ∷ []) mask e =
+mask-found : (words : List (List ℕ)) (mask : ℕ) → only_mask_in words ≡ Some mask → IsMaskOf words mask
+unfolding only_mask_in
+mask-found [] mask e = absurd cc
+mask-found (word ∷ []) mask e =
     let own = word-found word mask e in
     record { text = ap (λ (w : List ℕ). w ∷ []) own.text; word = below-word mask own.small }
-rest-found (word ∷ (next ∷ words)) mask e = absurd cc
+mask-found (word ∷ (next ∷ words)) mask e = absurd cc
 
-rest-own : (mask : ℕ) → is_word mask ≡ true → rest_in (hex_word mask ∷ []) ≡ Some mask
+mask-own : (mask : ℕ) → is_word mask ≡ true → only_mask_in (hex_word mask ∷ []) ≡ Some mask
+unfolding only_mask_in
+mask-own mask word = word-own mask (word-below mask word)
+
+pub record IsRestOf (version : ℕ) (words : List (List ℕ)) (rest : List Run) : Type 0 where
+  pub text : words ≡ map (rest_text version) rest
+  pub known : is_rest rest ≡ true
+  pub fits : ((version == 2) || is_single rest) ≡ true
+
+-- the words of a pattern in either version
+texts-two : (version : ℕ) (rest : List Run) → (version == 2) ≡ true → map (rest_text version) rest ≡ map run_text rest
+texts-two version [] two = refl
+texts-two version (run ∷ rest) two =
+    ap (λ (w : List ℕ). w ∷ map (rest_text version) rest)
+    (cond-true (version == 2) (run_text run) (hex_word run.mask) two)
+    ∙ ap (λ (l : List (List ℕ)). run_text run ∷ l) (texts-two version rest two)
+
+texts-one : (version : ℕ) (run : Run) → (version == 2) ≡ false →
+    map (rest_text version) (run ∷ []) ≡ hex_word run.mask ∷ []
+texts-one version run one =
+    ap (λ (w : List ℕ). w ∷ []) (cond-false (version == 2) (run_text run) (hex_word run.mask) one)
+
+abbrev one_visit : ℕ → List Run
+one_visit mask = record { count = 1; mask = mask } ∷ []
+
+abbrev some_rest : List Run → Option (List Run)
+some_rest runs = Some runs
+
+single-found : (version : ℕ) (words : List (List ℕ)) (rest : List Run) → (version == 2) ≡ false →
+    single_in words ≡ Some rest → IsRestOf version words rest
+unfolding single_in
+single-found version words rest one e =
+    let mask = then-found (only_mask_in words) (λ mask. some_rest (one_visit mask)) rest e in
+    let own = mask-found words mask.value mask.is in
+    subst (λ (r : List Run). IsRestOf version words r) (the-same (one_visit mask.value) rest mask.then_is)
+    (record {
+      text = own.text ∙ sym (texts-one version (record { count = 1; mask = mask.value }) one);
+      known = rw own.word refl;
+      fits = or_right (version == 2) true refl;
+    })
+
+single-own : (rest : List Run) → is_rest rest ≡ true → is_single rest ≡ true → (version : ℕ) →
+    (version == 2) ≡ false → single_in (map (rest_text version) rest) ≡ Some rest
+unfolding single_in
+single-own [] known single version one = absurd cc
+single-own (run ∷ []) known single version one =
+    let all = and_parts (list_all is_run (run ∷ [])) true (and_parts true (are_runs (run ∷ [])) known).1 in
+    let own = and_parts (is_run run) true all.0 in
+    let some = and_parts (nat_le 1 run.count) _ own.0 in
+    let words = and_parts (is_word run.count) (is_word run.mask) some.1 in
+    let count : run.count ≡ 1 = eqb-true run.count 1 single in
+    ap (λ (l : List (List ℕ)). only_mask_in l >>= λ mask. some_rest (one_visit mask)) (texts-one version run one)
+    ∙ then-own (only_mask_in (hex_word run.mask ∷ [])) (λ mask. some_rest (one_visit mask)) run.mask
+    (mask-own run.mask words.1)
+    ∙ ap (λ (n : ℕ). some_rest (record { count = n; mask = run.mask } ∷ [])) (sym count)
+single-own (run ∷ (next ∷ rest)) known single version one = absurd cc
+
+pub record IsPatternOf (runs : List Run) (words : List (List ℕ)) (found : List Run) : Type 0 where
+  pub more : List Run
+  pub whole : found ≡ runs ++ more
+  pub text : words ≡ map run_text more
+  pub known : is_rest found ≡ true
+
+pattern-end : (runs found : List Run) → are_runs runs ≡ true →
+    (if is_empty runs then None else some_rest runs) ≡ some_rest found → IsPatternOf runs [] found
+pattern-end [] found known e = absurd cc
+pattern-end (run ∷ runs) found known e =
+    let same = the-same (run ∷ runs) found e in
+    record {
+      more = [];
+      whole = sym same ∙ sym (append-nil (run ∷ runs));
+      text = refl;
+      known = ap is_rest (sym same)
+          ∙ and_from (nat_le 1 (length (run ∷ runs))) (are_runs (run ∷ runs)) (le-leb 1 (length (run ∷ runs))
+          (omega arith)) known;
+    }
+
+abbrev pattern_then : List Run → List (List ℕ) → Run → Option (List Run)
+pattern_then runs words run =
+    if may_follow have_other_masks runs run then pattern_in (runs ++ run ∷ []) words else None
+
+goes-found : (test : Bool) (answer : Option (List Run)) (found : List Run) →
+    (if test then answer else None) ≡ some_rest found → (test ≡ true) × (answer ≡ some_rest found)
+goes-found true answer found e = (refl, e)
+goes-found false answer found e = absurd cc
+
+pattern-found : (words : List (List ℕ)) (runs found : List Run) → are_runs runs ≡ true →
+    pattern_in runs words ≡ some_rest found → IsPatternOf runs words found
+unfolding pattern_in
+pattern-found [] runs found known e = pattern-end runs found known e
+pattern-found (word ∷ words) runs found known e =
+    let run = then-found (run_in word) (pattern_then runs words) found e in
+    let own = run-found word run.value run.is in
+    let step = goes-found (may_follow have_other_masks runs run.value) (pattern_in (runs ++ run.value ∷ []) words)
+    found run.then_is in
+    let inner = pattern-found words (runs ++ run.value ∷ []) found
+    (list-push is_run have_other_masks runs run.value known own.known step.0) step.1 in
+    record {
+      more = run.value ∷ inner.more;
+      whole = inner.whole ∙ append_assoc runs (run.value ∷ []) inner.more;
+      text = ap (λ (w : List ℕ). w ∷ words) own.text ∙ ap (λ (l : List (List ℕ)). run_text run.value ∷ l) inner.text;
+      known = inner.known;
+    }
+
+pattern-done : (runs : List Run) → is_rest runs ≡ true → (if is_empty runs then None else some_rest runs) ≡ some_rest runs
+pattern-done [] known = absurd cc
+pattern-done (run ∷ runs) known = refl
+
+pattern-own : (more runs : List Run) → is_rest (runs ++ more) ≡ true →
+    pattern_in runs (map run_text more) ≡ some_rest (runs ++ more)
+unfolding pattern_in
+pattern-own [] runs known =
+    let same : runs ++ [] ≡ runs = append-nil runs in
+    pattern-done runs (ap is_rest (sym same) ∙ known) ∙ ap some_rest (sym same)
+pattern-own (run ∷ more) runs known =
+    let both = and_parts (nat_le 1 (length (runs ++ (run ∷ more)))) (are_runs (runs ++ (run ∷ more))) known in
+    let step = kept-step is_run have_other_masks runs run more both.1 in
+    let same : runs ++ (run ∷ more) ≡ (runs ++ (run ∷ [])) ++ more = sym (append_assoc runs (run ∷ []) more) in
+    then-own (run_in (run_text run)) (pattern_then runs (map run_text more)) run (run-own run step.own)
+    ∙ cond-true (may_follow have_other_masks runs run) (pattern_in (runs ++ run ∷ []) (map run_text more)) None
+    step.follows
+    ∙ pattern-own more (runs ++ run ∷ []) (ap is_rest (sym same) ∙ known)
+    ∙ ap some_rest (sym same)
+
+rest-found : (version : ℕ) (words : List (List ℕ)) (rest : List Run) → rest_in version words ≡ Some rest →
+    IsRestOf version words rest
 unfolding rest_in
-rest-own mask word = word-own mask (word-below mask word)
+rest-found version words rest e = elim (cases_Bool (version == 2)) [
+  | inl two ↦
+      let own = pattern-found words [] rest refl (sym (cond-true (version == 2) (pattern_in [] words)
+      (single_in words) two) ∙ e) in
+      record {
+        text = own.text ∙ ap (map run_text) (sym own.whole) ∙ sym (texts-two version rest two);
+        known = own.known;
+        fits = or_left (version == 2) (is_single rest) two;
+      }
+  | inr one ↦
+      single-found version words rest one (sym (cond-false (version == 2) (pattern_in [] words)
+      (single_in words) one) ∙ e)
+]
 
-pub record IsPointOf (words : List (List ℕ)) (point : CutPoint) : Type 0 where
-  pub text : words ≡ point_words point
-  pub known : is_cut_point point ≡ true
+rest-own : (version : ℕ) (rest : List Run) → is_rest rest ≡ true → ((version == 2) || is_single rest) ≡ true →
+    rest_in version (map (rest_text version) rest) ≡ Some rest
+unfolding rest_in
+rest-own version rest known fits = elim (cases_Bool (version == 2)) [
+  | inl two ↦
+      cond-true (version == 2) (pattern_in [] (map (rest_text version) rest)) (single_in (map (rest_text version) rest))
+      two
+      ∙ ap (pattern_in []) (texts-two version rest two) ∙ pattern-own rest [] known
+  | inr one ↦
+      cond-false (version == 2) (pattern_in [] (map (rest_text version) rest))
+      (single_in (map (rest_text version) rest)) one
+      ∙ single-own rest known (or_other (version == 2) (is_single rest) one fits) version one
+]
 
-abbrev keep_point : Point → List Run → ℕ → Option CutPoint
+pub record IsPointOf (version : ℕ) (words : List (List ℕ)) (point : CutPoint) : Type 0 where
+  pub text : words ≡ point_words version point
+  pub known : is_point_of version point ≡ true
+
+abbrev keep_point : Point → List Run → List Run → Option CutPoint
 keep_point point runs rest = Some (record { point = point; runs = runs; rest = rest })
 
-abbrev rested : Point → List Run × List (List ℕ) → Option CutPoint
-rested point runs = rest_in runs.1 >>= λ rest. keep_point point runs.0 rest
+abbrev rested : ℕ → Point → List Run × List (List ℕ) → Option CutPoint
+rested version point runs = rest_in version runs.1 >>= λ rest. keep_point point runs.0 rest
 
-abbrev ran : List (List ℕ) → Point → Option CutPoint
-ran words point = runs_in [] (others_of (others_of (others_of words))) >>= rested point
+abbrev ran : ℕ → List (List ℕ) → Point → Option CutPoint
+ran version words point = runs_in [] (others_of (others_of (others_of words))) >>= rested version point
 
-pub words-found : (words : List (List ℕ)) (point : CutPoint) → point_in_words words ≡ Some point →
-    IsPointOf words point
+pub words-found : (version : ℕ) (words : List (List ℕ)) (point : CutPoint) →
+    point_in_words version words ≡ Some point → IsPointOf version words point
 unfolding point_in_words
-words-found words point e =
-    let place = then-found (place_in words) (ran words) point e in
+words-found version words point e =
+    let place = then-found (place_in words) (ran version words) point e in
     let left = others_of (others_of (others_of words)) in
-    let runs = then-found (runs_in [] left) (rested place.value) point place.then_is in
-    let rest = then-found (rest_in runs.value.1) (λ rest. keep_point place.value runs.value.0 rest) point
+    let runs = then-found (runs_in [] left) (rested version place.value) point place.then_is in
+    let rest = then-found (rest_in version runs.value.1) (λ rest. keep_point place.value runs.value.0 rest) point
     runs.then_is in
     let first = place-found words place.value place.is in
     let second = runs-found left [] runs.value.0 runs.value.1 refl runs.is in
-    let third = rest-found runs.value.1 rest.value rest.is in
-    let own : IsPointOf words (record { point = place.value; runs = runs.value.0; rest = rest.value }) = record {
+    let third = rest-found version runs.value.1 rest.value rest.is in
+    let own : IsPointOf version words (record { point = place.value; runs = runs.value.0; rest = rest.value }) = record {
       text = first.text
           ∙ ap (λ (l : List (List ℕ)). decimal place.value.region ∷ (hex_word place.value.address ∷
           (slot_text place.value.slot ∷ l)))
           (second.text
           ∙ ap (λ (l : List Run). map run_text l ++ (codes "rest" ∷ runs.value.1)) (sym second.whole)
           ∙ ap (λ (l : List (List ℕ)). map run_text runs.value.0 ++ (codes "rest" ∷ l)) third.text);
-      known = and_from _ _ first.known (and_from _ _ second.known third.word);
+      known = and_from _ _ (and_from _ _ first.known (and_from _ _ second.known third.known)) third.fits;
     } in
-    subst (λ (p : CutPoint). IsPointOf words p) (the-same
+    subst (λ (p : CutPoint). IsPointOf version words p) (the-same
     (record { point = place.value; runs = runs.value.0; rest = rest.value }) point rest.then_is) own
 
-pub words-own : (point : CutPoint) → is_cut_point point ≡ true → point_in_words (point_words point) ≡ Some point
+pub words-own : (version : ℕ) (point : CutPoint) → is_point_of version point ≡ true →
+    point_in_words version (point_words version point) ≡ Some point
 unfolding point_in_words
-words-own point known =
-    let place = and_parts (is_point point.point) _ known in
-    let other = and_parts (are_runs point.runs) (is_word point.rest) place.1 in
-    then-own (place_in (point_words point)) (ran (point_words point)) point.point
-    (place-own point.point (map run_text point.runs ++ (codes "rest" ∷ (hex_word point.rest ∷ []))) place.0)
-    ∙ then-own (runs_in [] (map run_text point.runs ++ (codes "rest" ∷ (hex_word point.rest ∷ []))))
-    (rested point.point) (point.runs, hex_word point.rest ∷ [])
-    (runs-own point.runs [] (hex_word point.rest ∷ []) other.0)
-    ∙ then-own (rest_in (hex_word point.rest ∷ [])) (λ rest. keep_point point.point point.runs rest) point.rest
-    (rest-own point.rest other.1)
+words-own version point known =
+    let both = and_parts (is_cut_point point) ((version == 2) || is_single point.rest) known in
+    let place = and_parts (is_point point.point) _ both.0 in
+    let other = and_parts (are_runs point.runs) (is_rest point.rest) place.1 in
+    let words : List (List ℕ) = map (rest_text version) point.rest in
+    then-own (place_in (point_words version point)) (ran version (point_words version point)) point.point
+    (place-own point.point (map run_text point.runs ++ (codes "rest" ∷ words)) place.0)
+    ∙ then-own (runs_in [] (map run_text point.runs ++ (codes "rest" ∷ words)))
+    (rested version point.point) (point.runs, words)
+    (runs-own point.runs [] words other.0)
+    ∙ then-own (rest_in version words) (λ rest. keep_point point.point point.runs rest) point.rest
+    (rest-own version point.rest other.1 both.1)
 
 clean-runs : (separator : ℕ) (runs : List Run) (words : List (List ℕ)) → separator < 42 →
     list_all is_run runs ≡ true →
@@ -339,11 +499,28 @@ clean-runs separator (run ∷ runs) words low all clean =
     and_from _ _ (not_from_false _ (run-clean separator run low both.0))
     (clean-runs separator runs words low both.1 clean)
 
-pub words-clean : (separator : ℕ) (point : CutPoint) → separator < 42 → is_cut_point point ≡ true →
-    clean_words separator (point_words point) ≡ true
-words-clean separator point low known =
-    let place = and_parts (is_point point.point) _ known in
-    let other = and_parts (are_runs point.runs) (is_word point.rest) place.1 in
+rest-clean : (separator version : ℕ) (rest : List Run) → separator < 42 → list_all is_run rest ≡ true →
+    clean_words separator (map (rest_text version) rest) ≡ true
+rest-clean separator version [] low all = refl
+rest-clean separator version (run ∷ rest) low all =
+    let both = and_parts (is_run run) (list_all is_run rest) all in
+    and_from _ _ (not_from_false _ (elim (cases_Bool (version == 2)) [
+      | inl two ↦
+          ap (has_byte separator) (cond-true (version == 2) (run_text run) (hex_word run.mask) two)
+          ∙ run-clean separator run low both.0
+      | inr one ↦
+          ap (has_byte separator) (cond-false (version == 2) (run_text run) (hex_word run.mask) one)
+          ∙ hex_word-clean separator run.mask (omega arith)
+    ])) (rest-clean separator version rest low both.1)
+
+pub words-clean : (separator version : ℕ) (point : CutPoint) → separator < 42 → is_point_of version point ≡ true →
+    clean_words separator (point_words version point) ≡ true
+words-clean separator version point low known =
+    let both = and_parts (is_cut_point point) ((version == 2) || is_single point.rest) known in
+    let place = and_parts (is_point point.point) _ both.0 in
+    let other = and_parts (are_runs point.runs) (is_rest point.rest) place.1 in
+    let pattern = and_parts (nat_le 1 (length point.rest)) (are_runs point.rest) other.1 in
+    let masks = and_parts (list_all is_run point.rest) _ pattern.1 in
     let runs = and_parts (list_all is_run point.runs) _ other.0 in
     let region = and_parts (nat_le point.point.region 65535) _ place.0 in
     let slot = and_parts (is_word point.point.address) (is_slot point.point.slot) region.1 in
@@ -353,33 +530,34 @@ words-clean separator point low known =
     and_from _ _ (not_from_false _ (decimal-clean separator point.point.region (omega arith) small))
     (and_from _ _ (not_from_false _ (hex_word-clean separator point.point.address (omega arith)))
     (and_from _ _ (not_from_false _ (slot-clean separator point.point.slot (omega arith) slot.1))
-    (clean-runs separator point.runs (codes "rest" ∷ (hex_word point.rest ∷ [])) low runs.0
-    (and_from _ _ (not_from_false _ rest) (and_from _ _ (not_from_false _ (hex_word-clean separator point.rest
-    (omega arith))) refl)))))
+    (clean-runs separator point.runs (codes "rest" ∷ map (rest_text version) point.rest) low runs.0
+    (and_from _ _ (not_from_false _ rest) (rest-clean separator version point.rest low masks.0)))))
 
-pub record IsPointLineOf (line : List ℕ) (point : CutPoint) : Type 0 where
-  pub text : line ≡ point_line point
-  pub known : is_cut_point point ≡ true
+pub record IsPointLineOf (version : ℕ) (line : List ℕ) (point : CutPoint) : Type 0 where
+  pub text : line ≡ point_line version point
+  pub known : is_point_of version point ≡ true
 
-pub point-found : (line : List ℕ) (point : CutPoint) → point_in line ≡ Some point → IsPointLineOf line point
+pub point-found : (version : ℕ) (line : List ℕ) (point : CutPoint) → point_in version line ≡ Some point →
+    IsPointLineOf version line point
 unfolding point_in
-point-found line point e =
-    let rest = then-found (after_text (codes "point ") line) (λ words. point_in_words (parts 32 words)) point e in
-    let own = words-found (parts 32 rest.value) point rest.then_is in
+point-found version line point e =
+    let rest = then-found (after_text (codes "point ") line) (λ words. point_in_words version (parts 32 words)) point e in
+    let own = words-found version (parts 32 rest.value) point rest.then_is in
     record {
       text = after-found (codes "point ") line rest.value rest.is
           ∙ ap (λ (l : List ℕ). codes "point " ++ l) (sym (joined-parts 32 rest.value) ∙ ap (joined 32) own.text);
       known = own.known;
     }
 
-pub point-own : (point : CutPoint) → is_cut_point point ≡ true → point_in (point_line point) ≡ Some point
+pub point-own : (version : ℕ) (point : CutPoint) → is_point_of version point ≡ true →
+    point_in version (point_line version point) ≡ Some point
 unfolding point_in
-point-own point known =
-    then-own (after_text (codes "point ") (point_line point)) (λ words. point_in_words (parts 32 words)) (joined 32
-    (point_words point))
-    (after-own (codes "point ") (joined 32 (point_words point)))
-    ∙ ap point_in_words (parts-joined 32 _ _ (words-clean 32 point (omega arith) known))
-    ∙ words-own point known
+point-own version point known =
+    then-own (after_text (codes "point ") (point_line version point)) (λ words. point_in_words version (parts 32 words)) (joined 32
+    (point_words version point))
+    (after-own (codes "point ") (joined 32 (point_words version point)))
+    ∙ ap (point_in_words version) (parts-joined 32 _ _ (words-clean 32 version point (omega arith) known))
+    ∙ words-own version point known
 
 clean-joined : (separator : ℕ) (words : List (List ℕ)) → (32 ≡ separator → ⊥) → clean_words separator words ≡ true →
     has_byte separator (joined 32 words) ≡ false
@@ -390,7 +568,8 @@ clean-joined separator (word ∷ (next ∷ words)) other clean =
     clean-append separator word (32 ∷ joined 32 (next ∷ words)) (not-true _ both.0)
     (clean-cons separator 32 (joined 32 (next ∷ words)) other (clean-joined separator (next ∷ words) other both.1))
 
-pub point_line-clean : (point : CutPoint) → is_cut_point point ≡ true → has_byte 10 (point_line point) ≡ false
-point_line-clean point known =
-    clean-append 10 (codes "point ") (joined 32 (point_words point)) refl
-    (clean-joined 10 (point_words point) (λ e. omega (arith, e)) (words-clean 10 point (omega arith) known))
+pub point_line-clean : (version : ℕ) (point : CutPoint) → is_point_of version point ≡ true →
+    has_byte 10 (point_line version point) ≡ false
+point_line-clean version point known =
+    clean-append 10 (codes "point ") (joined 32 (point_words version point)) refl
+    (clean-joined 10 (point_words version point) (λ e. omega (arith, e)) (words-clean 10 version point (omega arith) known))

@@ -1,5 +1,5 @@
 -- A cut, and what it keeps: ranges, orders, and runs of masks that differ from their neighbours.
-use Rattle.std.specs.Prelude.{ℕ, ◌==◌, ◌&&◌, ◌||◌, nat_le, nat_lt, not, Bool, true, List, [], ◌∷◌}
+use Rattle.std.specs.Prelude.{ℕ, ◌==◌, ◌&&◌, ◌||◌, nat_le, nat_lt, not, length, Bool, true, false, List, [], ◌∷◌}
 use Rattle.std.specs.List.{list_all}
 use Rattle.flow_base.specs.declared.points.Point.{Point}
 use Rattle.flow_base.specs.Points.{is_slot, number_of}
@@ -8,10 +8,15 @@ use Rattle.cut_file.specs.declared.points.Run.{Run}
 
 -- a cut without the proofs of what it keeps
 pub record CutPicture : Type 0 where
-  pub secret_length : ℕ
+  pub version : ℕ
+  pub secret_len : ℕ
   pub bits : ℕ
   pub skip : List ℕ
   pub points : List CutPoint
+
+-- the version of a cut's text
+abbrev pub is_version : ℕ → Bool
+is_version version = (version == 1) || (version == 2)
 
 -- each two neighbours pass a test
 abbrev pub neighbours_pass : {A : Type 0} → (A → A → Bool) → List A → Bool
@@ -32,6 +37,16 @@ have_other_masks first second = not (first.mask == second.mask)
 abbrev pub are_runs : List Run → Bool
 are_runs runs = list_all is_run runs && neighbours_pass have_other_masks runs
 
+-- the pattern behind the listed masks: one run or more
+abbrev pub is_rest : List Run → Bool
+is_rest rest = nat_le 1 (length rest) && are_runs rest
+
+-- one mask for one visit
+abbrev pub is_single : List Run → Bool
+is_single [] = false
+is_single (run ∷ []) = run.count == 1
+is_single (run ∷ (next ∷ runs)) = false
+
 -- the number of a region; 0 stands for what is outside regions
 abbrev pub is_region : ℕ → Bool
 is_region region = nat_le 1 region && nat_le region 65535
@@ -51,7 +66,11 @@ abbrev pub is_point : Point → Bool
 is_point point = nat_le point.region 65535 && (is_word point.address && is_slot point.slot)
 
 abbrev pub is_cut_point : CutPoint → Bool
-is_cut_point cut_point = is_point cut_point.point && (are_runs cut_point.runs && is_word cut_point.rest)
+is_cut_point cut_point = is_point cut_point.point && (are_runs cut_point.runs && is_rest cut_point.rest)
+
+-- a point of a cut of that version: in version 1 the pattern is one mask
+abbrev pub is_point_of : ℕ → CutPoint → Bool
+is_point_of version cut_point = is_cut_point cut_point && ((version == 2) || is_single cut_point.rest)
 
 abbrev pub has_slot : CutPoint → Bool
 has_slot cut_point = is_slot cut_point.point.slot
@@ -63,6 +82,12 @@ stands_before first second = is_below first.point second.point
 abbrev pub are_points : List CutPoint → Bool
 are_points points = list_all is_cut_point points && neighbours_pass stands_before points
 
+-- points of a cut of that version
+abbrev pub are_points_of : ℕ → List CutPoint → Bool
+are_points_of version points = list_all (is_point_of version) points && neighbours_pass stands_before points
+
 -- the picture is that of a cut
 abbrev pub is_valid : CutPicture → Bool
-is_valid cut = nat_le cut.secret_length 65536 && (is_word cut.bits && (are_regions cut.skip && are_points cut.points))
+is_valid cut =
+    is_version cut.version && (nat_le cut.secret_len 65536 && (is_word cut.bits
+    && (are_regions cut.skip && are_points_of cut.version cut.points)))

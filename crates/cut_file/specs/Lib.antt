@@ -2,6 +2,7 @@ pub mod Cuts
 pub mod Texts
 pub mod Faults
 pub mod Masks
+pub mod Folds
 pub mod Pictures
 pub mod Reading
 pub mod Writing

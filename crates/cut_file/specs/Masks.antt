@@ -1,6 +1,6 @@
 -- The mask of a cut at a visit of a point.
-use Rattle.std.specs.Prelude.{ℕ, ◌-◌, ◌==◌, ◌&&◌, Bool, List, [], ◌∷◌, ◌++◌, replicate, slice_index_or, bit_and}
-use Rattle.std.specs.Prelude.{if◌then◌else◌}
+use Rattle.std.specs.Prelude.{ℕ, ◌-◌, ◌%◌, ◌==◌, ◌&&◌, nat_lt, Bool, List, [], ◌∷◌, ◌++◌, length, replicate}
+use Rattle.std.specs.Prelude.{slice_index_or, bit_and, if◌then◌else◌}
 use Rattle.flow_base.specs.declared.points.Point.{Point}
 use Rattle.flow_base.specs.Points.{number_of, width_of}
 use Rattle.cut_file.specs.declared.points.CutPoint.{CutPoint}
@@ -11,9 +11,16 @@ unfoldable pub listed_masks : List Run → List ℕ
 listed_masks [] = []
 listed_masks (run ∷ runs) = replicate run.count run.mask ++ listed_masks runs
 
--- the mask that is listed for a visit, counted from 1, or `rest` behind those
+-- the item at a place, counted from 0, of a list and, behind it, of a pattern that repeats
+abbrev pub repeated : List ℕ → List ℕ → ℕ → ℕ
+repeated masks pattern place =
+    if nat_lt place (length masks) then slice_index_or masks place 0
+    else slice_index_or pattern ((place - length masks) % length pattern) 0
+
+-- the mask that is listed for a visit, counted from 1, and behind those that of the pattern
 abbrev pub listed_mask : CutPoint → ℕ → ℕ
-listed_mask cut_point visit = slice_index_or (listed_masks cut_point.runs) (visit - 1) cut_point.rest
+listed_mask cut_point visit =
+    repeated (listed_masks cut_point.runs) (listed_masks cut_point.rest) (visit - 1)
 
 -- that mask within the slot's width
 abbrev pub mask_of : CutPoint → ℕ → ℕ

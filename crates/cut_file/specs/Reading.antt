@@ -11,7 +11,7 @@ use Rattle.cut_file.specs.declared.points.CutPoint.{CutPoint}
 use Rattle.cut_file.specs.declared.points.Run.{Run}
 use Rattle.cut_file.specs.declared.faults.CutFault.{CutFault}
 use Rattle.cut_file.specs.declared.faults.CutFault.TheVariants.{Version, Line, Order, Truncated, Trailing}
-use Rattle.cut_file.specs.Cuts.{CutPicture, have_other_masks, stands_before}
+use Rattle.cut_file.specs.Cuts.{CutPicture, have_other_masks, is_version, stands_before}
 use Rattle.flow_base.specs.HexWords.{hex_word}
 use Rattle.cut_file.specs.Texts.{joined}
 
@@ -155,6 +155,13 @@ run_in bytes = do
 
 -- ---- lines
 
+-- the version in a line of that form
+unfoldable pub version_in : List ℕ → Option ℕ
+version_in line = do
+  digits ← after_text (codes "flowcheck-cut ") line
+  number ← number_in digits
+  if is_version number then Some number else None
+
 -- the secret's length in a line of that form
 unfoldable pub secret_in : List ℕ → Option ℕ
 secret_in line = do
@@ -199,22 +206,39 @@ runs_in runs (word ∷ words) =
     (λ run. if may_follow have_other_masks runs run then runs_in (runs ++ run ∷ []) words else None) (run_in word)
 
 -- the mask of the one word
-unfoldable pub rest_in : List (List ℕ) → Option ℕ
-rest_in [] = None
-rest_in (word ∷ []) = word_in word
-rest_in (word ∷ (next ∷ words)) = None
+unfoldable pub only_mask_in : List (List ℕ) → Option ℕ
+only_mask_in [] = None
+only_mask_in (word ∷ []) = word_in word
+only_mask_in (word ∷ (next ∷ words)) = None
 
-unfoldable pub point_in_words : List (List ℕ) → Option CutPoint
-point_in_words words = do
+-- that mask for one visit
+unfoldable pub single_in : List (List ℕ) → Option (List Run)
+single_in words = do
+  mask ← only_mask_in words
+  Some (record { count = 1; mask = mask } ∷ [])
+
+-- the runs of all words, behind those of the words before them
+unfoldable pub pattern_in : List Run → List (List ℕ) → Option (List Run)
+pattern_in runs [] = if is_empty runs then None else Some runs
+pattern_in runs (word ∷ words) =
+    option_and_then
+    (λ run. if may_follow have_other_masks runs run then pattern_in (runs ++ run ∷ []) words else None) (run_in word)
+
+-- the pattern of the words behind "rest"
+unfoldable pub rest_in : ℕ → List (List ℕ) → Option (List Run)
+rest_in version words = if version == 2 then pattern_in [] words else single_in words
+
+unfoldable pub point_in_words : ℕ → List (List ℕ) → Option CutPoint
+point_in_words version words = do
   point ← place_in words
   runs ← runs_in [] (others_of (others_of (others_of words)))
-  rest ← rest_in runs.1
+  rest ← rest_in version runs.1
   Some (record { point = point; runs = runs.0; rest = rest })
 
-unfoldable pub point_in : List ℕ → Option CutPoint
-point_in line = do
+unfoldable pub point_in : ℕ → List ℕ → Option CutPoint
+point_in version line = do
   words ← after_text (codes "point ") line
-  point_in_words (parts 32 words)
+  point_in_words version (parts 32 words)
 
 -- ---- the file
 
@@ -248,7 +272,7 @@ with_either number cut None None = Err (Line number)
 
 -- a cut with what a line adds
 unfoldable pub with_line : ℕ → CutPicture → List ℕ → Result CutPicture CutFault
-with_line number cut line = with_either number cut (skip_in line) (point_in line)
+with_line number cut line = with_either number cut (skip_in line) (point_in cut.version line)
 
 -- a cut with what the lines up to `end` add, and the parts of the file behind them
 unfoldable pub lines_in : ℕ → CutPicture → List (List ℕ) → Result (CutPicture × List (List ℕ)) CutFault
@@ -264,20 +288,19 @@ whole_cut size cut [] = Ok cut
 whole_cut size cut (byte ∷ bytes) = Err (Trailing (size - length (byte ∷ bytes)))
 
 -- a cut without regions and points
-abbrev pub bare_cut : ℕ → ℕ → CutPicture
-bare_cut secret_length bits = record { secret_length = secret_length; bits = bits; skip = []; points = [] }
+abbrev pub bare_cut : ℕ → ℕ → ℕ → CutPicture
+bare_cut version secret_len bits = record { version = version; secret_len = secret_len; bits = bits; skip = []; points = [] }
 
 -- the cut of the first three lines, and the rest of the file
 unfoldable pub head_in : List ℕ → Result (CutPicture × List ℕ) CutFault
 head_in file =
     or_fault (divided 10 file) Truncated >> λ first.
-    if bytes_eq first.0 (codes "flowcheck-cut 1")
-    then (or_fault (divided 10 first.1) Truncated >> λ second.
-    or_fault (secret_in second.0) (Line 2) >> λ secret_length.
+    or_fault (version_in first.0) Version >> λ version.
+    or_fault (divided 10 first.1) Truncated >> λ second.
+    or_fault (secret_in second.0) (Line 2) >> λ secret_len.
     or_fault (divided 10 second.1) Truncated >> λ third.
     or_fault (bits_in third.0) (Line 3) >> λ bits.
-    Ok (bare_cut secret_length bits, third.1))
-    else Err Version
+    Ok (bare_cut version secret_len bits, third.1)
 
 -- the cut of a file, or its first fault
 unfoldable pub cut_in : List ℕ → Result CutPicture CutFault

@@ -1,5 +1,5 @@
 -- The one text of a cut: its lines, each of words with one space between them.
-use Rattle.std.specs.Prelude.{◌≡◌, ℕ, true, List, [], ◌∷◌, ◌++◌, codes, map}
+use Rattle.std.specs.Prelude.{◌≡◌, ℕ, ◌==◌, if◌then◌else◌, true, List, [], ◌∷◌, ◌++◌, codes, map}
 use Rattle.std.specs.Fmt.{decimal}
 use Rattle.flow_base.specs.HexWords.{hex_word}
 use Rattle.flow_base.specs.declared.points.Slot.{Slot}
@@ -44,10 +44,14 @@ slot_text (OutRange range) = 114 ∷ decimal range
 abbrev pub run_text : Run → List ℕ
 run_text run = decimal run.count ++ (42 ∷ hex_word run.mask)
 
+-- a run behind `rest`: in version 1 its mask, as there is one run of one visit
+abbrev pub rest_text : ℕ → Run → List ℕ
+rest_text version run = if version == 2 then run_text run else hex_word run.mask
+
 -- ---- the lines
 
-abbrev pub version_line : List ℕ
-version_line = codes "flowcheck-cut 1"
+abbrev pub version_line : ℕ → List ℕ
+version_line version = codes "flowcheck-cut " ++ decimal version
 
 abbrev pub secret_line : ℕ → List ℕ
 secret_line length = codes "secret " ++ decimal length
@@ -59,13 +63,13 @@ abbrev pub skip_line : ℕ → List ℕ
 skip_line region = codes "skip " ++ decimal region
 
 -- the words of a point behind the first
-abbrev pub point_words : CutPoint → List (List ℕ)
-point_words cut_point =
+abbrev pub point_words : ℕ → CutPoint → List (List ℕ)
+point_words version cut_point =
     decimal cut_point.point.region ∷ (hex_word cut_point.point.address ∷ (slot_text cut_point.point.slot
-    ∷ (map run_text cut_point.runs ++ (codes "rest" ∷ (hex_word cut_point.rest ∷ [])))))
+    ∷ (map run_text cut_point.runs ++ (codes "rest" ∷ map (rest_text version) cut_point.rest))))
 
-abbrev pub point_line : CutPoint → List ℕ
-point_line cut_point = codes "point " ++ spaced (point_words cut_point)
+abbrev pub point_line : ℕ → CutPoint → List ℕ
+point_line version cut_point = codes "point " ++ spaced (point_words version cut_point)
 
 abbrev pub end_line : List ℕ
 end_line = codes "end"
@@ -73,8 +77,8 @@ end_line = codes "end"
 -- the lines of a cut before the last
 abbrev pub listed_lines : CutPicture → List (List ℕ)
 listed_lines cut =
-    version_line ∷ (secret_line cut.secret_length ∷ (bits_line cut.bits
-    ∷ (map skip_line cut.skip ++ map point_line cut.points)))
+    version_line cut.version ∷ (secret_line cut.secret_len ∷ (bits_line cut.bits
+    ∷ (map skip_line cut.skip ++ map (point_line cut.version) cut.points)))
 
 -- the one text of a cut
 abbrev pub cut_text : CutPicture → List ℕ

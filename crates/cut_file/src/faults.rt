@@ -4,7 +4,7 @@ use std::alloc::AllocError;
 /// Why a file gives no cut: what is wrong with the first line that fails.
 #[derive(Clone, Copy, Debug, PartialEq, Eq)]
 pub enum CutFault {
-    /// The first line is whole and not `flowcheck-cut 1`.
+    /// The first line is whole and neither `flowcheck-cut 1` nor `flowcheck-cut 2`.
     Version,
     /// A whole line is of no form that may stand there.
     Line {

@@ -1,3 +1,4 @@
+ghost use Rattle.cut_file.specs.Folds.{FoldsKeepMasks};
 ghost use Rattle.cut_file.specs.CutLaws.{FaultsAreOne, MasksAreOfTheirPoints, MasksAreWithinWidths, TextsAreOne};
 ghost use Rattle.cut_file.specs.CutLaws.{TextsHaveNoFault};
 
@@ -17,4 +18,10 @@ pub fn faults_are_first()
 pub fn masks_are_of_their_points()
     ensures point { MasksAreOfTheirPoints }
     ensures width { MasksAreWithinWidths }
+{}
+
+/// A cut and its [`fold`](crate::fold) have the same mask at each visit that the cut lists. It does nothing when it is
+/// called.
+pub fn folds_keep_masks()
+    ensures { FoldsKeepMasks }
 {}

@@ -1,12 +1,15 @@
 //! Cuts as texts: which bits of which values of a run cross, read from a text and written as one.
 #![tactic(auto)]
 
+mod copies;
 mod cuts;
 mod faults;
+mod folding;
 mod laws;
 mod line_forms;
 mod line_words;
 mod masks;
+mod migrating;
 mod points;
 mod reading;
 mod words;
@@ -14,8 +17,10 @@ mod writing;
 
 pub use cuts::Cut;
 pub use faults::CutFault;
-pub use laws::{faults_are_first, masks_are_of_their_points, texts_are_one};
+pub use folding::fold;
+pub use laws::{faults_are_first, folds_keep_masks, masks_are_of_their_points, texts_are_one};
 pub use masks::mask_at;
+pub use migrating::migrate;
 pub use points::{CutPoint, Run};
 pub use reading::read_cut;
 pub use writing::write_cut;

@@ -1,7 +1,7 @@
-ghost use Rattle.std.specs.Prelude.{◌≡◌, ◌<◌, ◌≤◌, [], option_map, IfOk, IfSome, IsTrue, OnSome};
-ghost use Rattle.cut_file.specs.Cuts.{have_other_masks, is_region};
-ghost use Rattle.cut_file.specs.Reading.{bits_in, may_follow, others_of, place_in, point_in, point_in_words};
-ghost use Rattle.cut_file.specs.Reading.{rest_in, runs_in, secret_in, skip_in};
+ghost use Rattle.std.specs.Prelude.{◌≡◌, ◌<◌, ◌≤◌, [], length, option_map, IfOk, IfSome, IsTrue, OnSome};
+ghost use Rattle.cut_file.specs.Cuts.{have_other_masks, is_region, is_version};
+ghost use Rattle.cut_file.specs.Reading.{bits_in, may_follow, only_mask_in, others_of, pattern_in, place_in, point_in};
+ghost use Rattle.cut_file.specs.Reading.{point_in_words, rest_in, runs_in, secret_in, single_in, skip_in, version_in};
 
 use crate::line_words::LineWords;
 use crate::points::{CutPoint, Run};
@@ -15,9 +15,24 @@ const LONGEST_SECRET: u32 = 65_536;
 /// The highest number of a region.
 const HIGHEST_REGION: u32 = 65_535;
 
+/// The version of a cut in a line of that form.
+#[tactic(auto, unfolding(crate::specs::Reading::version_in))]
+pub(crate) fn version(line: &[u8]) -> Option<u8>
+    ensures number { result ≡ version_in line.now }
+    ensures known { IfSome result (λ version. IsTrue (is_version version)) }
+    ensures long { IfSome result (λ _. 1 ≤ length line.now) }
+{
+    let version = number(after(b"flowcheck-cut ", line)?)?;
+    if version == 1 || version == 2 {
+        Some(version as u8)
+    } else {
+        None
+    }
+}
+
 /// The secret's length in a line of that form.
 #[tactic(auto, unfolding(crate::specs::Reading::secret_in))]
-pub(crate) fn secret_length(line: &[u8]) -> Option<u32>
+pub(crate) fn secret_len(line: &[u8]) -> Option<u32>
     ensures number { result ≡ secret_in line.now }
     ensures short { IfSome result (λ length. length ≤ 65536) }
 {
@@ -104,9 +119,9 @@ fn runs(alloc: Global, words: &mut LineWords) -> Result<Option<List<Run>>, NoMem
 }
 
 // The mask of the one word that is left.
-#[tactic(auto, unfolding(crate::specs::Reading::rest_in))]
-fn rest(words: &mut LineWords) -> Option<u32>
-    ensures { result ≡ rest_in words.old }
+#[tactic(auto, unfolding(crate::specs::Reading::only_mask_in))]
+fn only_mask(words: &mut LineWords) -> Option<u32>
+    ensures { result ≡ only_mask_in words.old }
 {
     let mask = words.next()?;
     if words.next().is_some() {
@@ -115,10 +130,61 @@ fn rest(words: &mut LineWords) -> Option<u32>
     word(mask)
 }
 
+// The mask of the one word that is left, for one visit.
+#[tactic(auto, unfolding(crate::specs::Reading::single_in))]
+fn single(alloc: Global, words: &mut LineWords) -> Result<Option<List<Run>>, NoMemory>
+    ensures { IfOk result (λ found. found ≡ single_in words.old) }
+{
+    let Some(mask) = only_mask(words) else {
+        return Ok(None);
+    };
+    let mut rest = List::new(alloc);
+    rest.push(Run { count: 1, mask })?;
+    Ok(Some(rest))
+}
+
+// The runs of the words that are left.
+#[tactic(auto, unfolding(crate::specs::Reading::pattern_in))]
+fn pattern(alloc: Global, words: &mut LineWords) -> Result<Option<List<Run>>, NoMemory>
+    ensures { IfOk result (λ found. found ≡ pattern_in [] words.old) }
+{
+    let mut rest: List<Run> = List::new(alloc);
+    while let Some(word) = words.next() {
+        let Some(run) = run(word) else {
+            return Ok(None);
+        };
+        if !may_follow_runs(rest.as_slice(), &run) {
+            return Ok(None);
+        }
+        rest.push(run)?;
+    }
+    if rest.len() == 0 {
+        Ok(None)
+    } else {
+        Ok(Some(rest))
+    }
+}
+
+// The pattern of the words behind `rest`.
+#[tactic(auto, unfolding(crate::specs::Reading::rest_in))]
+fn rest(alloc: Global, version: u8, words: &mut LineWords) -> Result<Option<List<Run>>, NoMemory>
+    ensures { IfOk result (λ found. found ≡ rest_in version words.old) }
+{
+    if version == 2 {
+        pattern(alloc, words)
+    } else {
+        single(alloc, words)
+    }
+}
+
 // The point of a line of that form.
 #[tactic(auto, unfolding(crate::specs::Reading::point_in_words))]
-fn point_of_words(alloc: Global, words: &mut LineWords) -> Result<Option<CutPoint>, NoMemory>
-    ensures { IfOk result (λ found. found ≡ point_in_words words.old) }
+fn point_of_words(
+    alloc: Global,
+    version: u8,
+    words: &mut LineWords,
+) -> Result<Option<CutPoint>, NoMemory>
+    ensures { IfOk result (λ found. found ≡ point_in_words version words.old) }
 {
     let Some(point) = place(words) else {
         return Ok(None);
@@ -126,20 +192,24 @@ fn point_of_words(alloc: Global, words: &mut LineWords) -> Result<Option<CutPoin
     let Some(runs) = runs(alloc, words)? else {
         return Ok(None);
     };
-    let Some(rest) = rest(words) else {
+    let Some(rest) = rest(alloc, version, words)? else {
         return Ok(None);
     };
     Ok(Some(CutPoint { point, runs, rest }))
 }
 
-/// The point in a line of that form.
+/// The point in a line of that form, in a text of that version.
 #[tactic(auto, unfolding(crate::specs::Reading::point_in))]
-pub(crate) fn cut_point(alloc: Global, line: &[u8]) -> Result<Option<CutPoint>, NoMemory>
-    ensures { IfOk result (λ found. found ≡ point_in line.now) }
+pub(crate) fn cut_point(
+    alloc: Global,
+    version: u8,
+    line: &[u8],
+) -> Result<Option<CutPoint>, NoMemory>
+    ensures { IfOk result (λ found. found ≡ point_in version line.now) }
 {
     let Some(words) = after(b"point ", line) else {
         return Ok(None);
     };
     let mut words = LineWords::of(words);
-    point_of_words(alloc, &mut words)
+    point_of_words(alloc, version, &mut words)
 }

@@ -1,6 +1,6 @@
 use flow_base::{List, Point};
 
-/// A mask that is the same for a number of visits.
+/// A mask that is the same for a number of visits. In a cut the number is 1 or more.
 #[derive(Clone, Copy, Debug, PartialEq, Eq)]
 pub struct Run {
     /// The number of visits.
@@ -9,13 +9,14 @@ pub struct Run {
     pub mask: u32,
 }
 
-/// A point at which bits cross, with a mask for each visit: those of the runs in order, and `rest` at all later visits.
+/// A point at which bits cross, with a mask for each visit: those of the runs in order, and then those of `rest`
+/// over and over.
 #[derive(Drop)]
 pub struct CutPoint {
     /// The place of the values.
     pub point: Point,
     /// The masks of the first visits.
     pub runs: List<Run>,
-    /// The mask of the later visits.
-    pub rest: u32,
+    /// The masks of the later visits, as a pattern that repeats.
+    pub rest: List<Run>,
 }

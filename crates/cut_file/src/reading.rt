@@ -1,7 +1,7 @@
 ghost use Rattle.std.specs.Prelude.{◌≡◌, ◌≢◌, ◌<◌, ◌≤◌, ◌+◌, ◌^◌, length, nat_lt, Err, IfErr, IfOk, IsTrue};
 ghost use Rattle.flow_base.specs.Points.{is_slot};
-ghost use Rattle.cut_file.specs.Cuts.{CutPicture, are_points, is_below as is_point_below, is_cut_point, is_region};
-ghost use Rattle.cut_file.specs.Cuts.{stands_before};
+ghost use Rattle.cut_file.specs.Cuts.{CutPicture, are_points, is_below as is_point_below, is_cut_point};
+ghost use Rattle.cut_file.specs.Cuts.{is_point_of, is_region, stands_before};
 ghost use Rattle.cut_file.specs.Faults.{FirstCutFault};
 ghost use Rattle.cut_file.specs.Pictures.{picture_of};
 ghost use Rattle.cut_file.specs.Reading.{cut_in, head_in, lines_in, may_follow, parts, with_line as lined};
@@ -10,7 +10,7 @@ ghost use Rattle.cut_file.specs.Texts.{CutText};
 
 use crate::cuts::Cut;
 use crate::faults::CutFault;
-use crate::line_forms::{bits, cut_point, secret_length, skipped_region};
+use crate::line_forms::{bits, cut_point, secret_len, skipped_region, version};
 use crate::points::CutPoint;
 use crate::words::divide;
 use flow_base::{List, Point, slot_number};
@@ -59,7 +59,8 @@ fn with_region(cut: Cut, number: u32, region: u16) -> Result<Cut, CutFault>
         → regioned number (picture_of cut) region ≡ Err fault) }
 {
     let Cut {
-        secret_length,
+        version,
+        secret_len,
         bits,
         mut skip,
         points,
@@ -72,7 +73,8 @@ fn with_region(cut: Cut, number: u32, region: u16) -> Result<Cut, CutFault>
     }
     skip.push(region)?;
     Ok(Cut {
-        secret_length,
+        version,
+        secret_len,
         bits,
         skip,
         points,
@@ -81,12 +83,13 @@ fn with_region(cut: Cut, number: u32, region: u16) -> Result<Cut, CutFault>
 
 // The cut with a point behind its own, by the line of that number.
 fn with_point(cut: Cut, number: u32, point: CutPoint) -> Result<Cut, CutFault>
-    requires { IsTrue (is_cut_point point) }
+    requires { IsTrue (is_point_of cut.version point) }
     ensures ok { IfOk result (λ longer. pointed number (picture_of cut) point ≡ Ok (picture_of longer)) }
     ensures err { IfErr result (λ fault. fault ≢ CutFault.Memory → pointed number (picture_of cut) point ≡ Err fault) }
 {
     let Cut {
-        secret_length,
+        version,
+        secret_len,
         bits,
         skip,
         mut points,
@@ -96,7 +99,8 @@ fn with_point(cut: Cut, number: u32, point: CutPoint) -> Result<Cut, CutFault>
     }
     points.push(point)?;
     Ok(Cut {
-        secret_length,
+        version,
+        secret_len,
         bits,
         skip,
         points,
@@ -112,7 +116,7 @@ fn with_line(alloc: Global, cut: Cut, number: u32, line: &[u8]) -> Result<Cut, C
     if let Some(region) = skipped_region(line) {
         return with_region(cut, number, region);
     }
-    match cut_point(alloc, line)? {
+    match cut_point(alloc, cut.version, line)? {
         Some(point) => with_point(cut, number, point),
         None => Err(CutFault::Line { number }),
     }
@@ -148,16 +152,15 @@ fn head(alloc: Global, file: &[u8]) -> Result<(Cut, &[u8]), CutFault>
     ensures err { IfErr result (λ fault. fault ≢ CutFault.Memory → head_in file.now ≡ Err fault) }
     ensures shorter { IfOk result (λ p. length p.1.now + 4 ≤ length file.now) }
 {
-    let (version, rest) = divide(b'\n', file).ok_or(CutFault::Truncated)?;
-    if version != b"flowcheck-cut 1".as_slice() {
-        return Err(CutFault::Version);
-    }
+    let (first, rest) = divide(b'\n', file).ok_or(CutFault::Truncated)?;
+    let version = version(first).ok_or(CutFault::Version)?;
     let (secret, rest) = divide(b'\n', rest).ok_or(CutFault::Truncated)?;
-    let secret_length = secret_length(secret).ok_or(CutFault::Line { number: 2 })?;
+    let secret_len = secret_len(secret).ok_or(CutFault::Line { number: 2 })?;
     let (budget, rest) = divide(b'\n', rest).ok_or(CutFault::Truncated)?;
     let bits = bits(budget).ok_or(CutFault::Line { number: 3 })?;
     let cut = Cut {
-        secret_length,
+        version,
+        secret_len,
         bits,
         skip: List::new(alloc),
         points: List::new(alloc),
@@ -183,10 +186,10 @@ fn cut_of(alloc: Global, file: &[u8]) -> Result<Cut, CutFault>
     }
 }
 
-/// The cut whose text the file is. The text has the lines `flowcheck-cut 1`, `secret LENGTH` and `bits NUMBER`, then
-/// a line `skip REGION` for each skipped region and a line `point REGION 0xADDRESS SLOT RUNS rest 0xMASK` for each
+/// The cut whose text the file is. The text has the lines `flowcheck-cut VERSION`, `secret LENGTH` and `bits NUMBER`,
+/// then a line `skip REGION` for each skipped region and a line `point REGION 0xADDRESS SLOT RUNS rest REST` for each
 /// point, both strictly ascending, and `end`. RUNS are none or more words `COUNT*0xMASK`, each with another mask than
-/// the one before. Numbers are decimal without leading zeros; addresses and masks have eight hexadecimal digits in
+/// the one before. REST is one word `0xMASK` in version 1, and one or more such runs in version 2. Numbers are decimal without leading zeros; addresses and masks have eight hexadecimal digits in
 /// lower case; one space stands between words, and each line ends with a line feed.
 ///
 /// Every other file answers its first fault, as [`CutFault`] tells them; want of memory answers [`CutFault::Memory`].

@@ -1,5 +1,5 @@
-use crate::{CutFault, CutPoint, Run, mask_at, read_cut, write_cut};
-use flow_base::{List, Point, Slot};
+use crate::{CutFault, CutPoint, Run, fold, mask_at, migrate, read_cut, write_cut};
+use flow_base::{Bytes, List, Point, Slot};
 use std::alloc::{AllocError, Global};
 
 // What a file answers: None where it is read, and then written as the same text.
@@ -21,6 +21,10 @@ fn texts_are_read_and_written_back(rt: HostRuntime) {
     for text in [
         "flowcheck-cut 1\nsecret 1\nbits 0\nend\n",
         "flowcheck-cut 1\nsecret 0\nbits 0\nend\n",
+        "flowcheck-cut 2\nsecret 0\nbits 0\nend\n",
+        "flowcheck-cut 2\nsecret 4\nbits 6\npoint 0 0x00010020 rs rest 1*0x00000001 1*0x00000003\n\
+         point 1 0x00010020 rs 1*0x00000001 rest 1*0x00000001\n\
+         point 1 0x00010024 in rest 4294967295*0x00000000\nend\n",
         "flowcheck-cut 1\nsecret 65536\nbits 4294967295\nend\n",
         "flowcheck-cut 1\nsecret 1\nbits 8\npoint 0 0x00010010 in 1*0x000000ff rest 0x000000ff\nend\n",
         "flowcheck-cut 1\nsecret 1\nbits 1\npoint 0 0x00010018 rs 1*0x00000001 rest 0x00000001\nend\n",
@@ -51,6 +55,10 @@ fn other_heads_have_faults(rt: HostRuntime) {
         ("\n", CutFault::Version),
         ("flowcheck-cut 9\n", CutFault::Version),
         ("flowcheck-cut 1 \n", CutFault::Version),
+        ("flowcheck-cut 0\n", CutFault::Version),
+        ("flowcheck-cut 3\n", CutFault::Version),
+        ("flowcheck-cut 01\n", CutFault::Version),
+        ("flowcheck-cut 2\n", CutFault::Truncated),
         ("flowcheck-cut 1\n", CutFault::Truncated),
         (
             "flowcheck-cut 1\nsecret 65537\n",
@@ -108,6 +116,32 @@ fn other_heads_have_faults(rt: HostRuntime) {
         ),
     ] {
         assert_eq!(rt; fault_of(rt.alloc(), text), Some(fault), "{text}");
+    }
+}
+
+#[test]
+fn patterns_are_of_their_version(rt: HostRuntime) {
+    for (version, rest, is_read) in [
+        (1, "0x00000001", true),
+        (1, "1*0x00000001", false),
+        (1, "0x00000001 0x00000002", false),
+        (2, "1*0x00000001", true),
+        (2, "0x00000001", false),
+        (2, "0*0x00000001", false),
+        (2, "1*0x00000001 1*0x00000001", false),
+        (2, "1*0x00000001 rest 1*0x00000002", false),
+        (2, "1*0x00000001 ", false),
+        (2, "", false),
+    ] {
+        let text = format!(in rt.alloc();
+            "flowcheck-cut {version}\nsecret 1\nbits 1\npoint 0 0x00000000 u1 rest {rest}\nend\n"
+        ).expect(&rt, "memory");
+        let wanted = if is_read {
+            None
+        } else {
+            Some(CutFault::Line { number: 4 })
+        };
+        assert_eq!(rt; fault_of(rt.alloc(), &text), wanted, "{text}");
     }
 }
 
@@ -182,8 +216,10 @@ fn other_listings_have_faults(rt: HostRuntime) {
 fn a_mask_is_that_of_its_run(rt: HostRuntime) {
     let mut runs = List::new(rt.alloc());
     runs.push(Run { count: 2, mask: 1 }).expect(&rt, "memory");
-    runs.push(Run {
-        count: 1,
+    let mut rest = List::new(rt.alloc());
+    rest.push(Run { count: 1, mask: 6 }).expect(&rt, "memory");
+    rest.push(Run {
+        count: 2,
         mask: 0x1ff,
     })
     .expect(&rt, "memory");
@@ -192,12 +228,81 @@ fn a_mask_is_that_of_its_run(rt: HostRuntime) {
         address: 0,
         slot: Slot::ByteOut,
     };
-    let point = CutPoint {
-        point,
-        runs,
-        rest: 0x302,
-    };
-    for (visit, mask) in [(1, 1), (2, 1), (3, 0xff), (4, 2), (u64::MAX, 2)] {
+    let point = CutPoint { point, runs, rest };
+    for (visit, mask) in [
+        (1, 1),
+        (2, 1),
+        (3, 6),
+        (4, 0xff),
+        (5, 0xff),
+        (6, 6),
+        (7, 0xff),
+        (u64::MAX, 6),
+    ] {
         assert_eq!(rt; mask_at(&point, visit), mask, "visit {visit}");
+    }
+}
+
+// The text of a cut with one point of that form.
+fn with_form(alloc: Global, version: u32, form: &str) -> Result<String, AllocError> {
+    format!(in alloc;
+        "flowcheck-cut {version}\nsecret 1\nbits 1\npoint 0 0x00000000 u1 {form}\nend\n"
+    )
+}
+
+// The text of the folded cut of a text, and of the migrated cut.
+fn others_of(alloc: Global, text: &str) -> Option<(Bytes, Bytes)> {
+    if text.len() >= 4_000_000_000 {
+        return None;
+    }
+    let cut = read_cut(alloc, text.as_bytes()).ok()?;
+    if cut.version != 1 {
+        return None;
+    }
+    let folded = fold(alloc, &cut).ok()?;
+    let migrated = migrate(alloc, &cut).ok()?;
+    Some((
+        write_cut(alloc, &folded).ok()?,
+        write_cut(alloc, &migrated).ok()?,
+    ))
+}
+
+#[test]
+fn lists_that_repeat_are_folded(rt: HostRuntime) {
+    for (runs, folded) in [
+        ("", "rest 1*0x00000009"),
+        ("1*0x00000001 ", "1*0x00000001 rest 1*0x00000009"),
+        ("2*0x00000001 ", "rest 1*0x00000001"),
+        ("65536*0x00000001 ", "rest 1*0x00000001"),
+        ("65537*0x00000001 ", "65537*0x00000001 rest 1*0x00000009"),
+        (
+            "1*0x00000001 1*0x00000003 1*0x00000001 1*0x00000003 ",
+            "rest 1*0x00000001 1*0x00000003",
+        ),
+        (
+            "1*0x00000001 1*0x00000003 1*0x00000001 1*0x00000003 1*0x00000001 ",
+            "rest 1*0x00000001 1*0x00000003",
+        ),
+        (
+            "1*0x00000001 1*0x00000003 1*0x00000001 ",
+            "1*0x00000001 1*0x00000003 1*0x00000001 rest 1*0x00000009",
+        ),
+        (
+            "63*0x00000001 1*0x00000002 63*0x00000001 1*0x00000002 ",
+            "rest 63*0x00000001 1*0x00000002",
+        ),
+        (
+            "64*0x00000001 1*0x00000002 64*0x00000001 1*0x00000002 ",
+            "64*0x00000001 1*0x00000002 64*0x00000001 1*0x00000002 rest 1*0x00000009",
+        ),
+    ] {
+        let form = format!(in rt.alloc(); "{runs}rest 0x00000009").expect(&rt, "memory");
+        let text = with_form(rt.alloc(), 1, &form).expect(&rt, "memory");
+        let whole = format!(in rt.alloc(); "{runs}rest 1*0x00000009").expect(&rt, "memory");
+        let (first, second) = others_of(rt.alloc(), &text).expect(&rt, "cut");
+        let wanted = with_form(rt.alloc(), 2, folded).expect(&rt, "memory");
+        assert_eq!(rt; first.as_slice(), wanted.as_bytes(), "{runs}");
+        let kept = with_form(rt.alloc(), 2, &whole).expect(&rt, "memory");
+        assert_eq!(rt; second.as_slice(), kept.as_bytes(), "{runs}");
     }
 }

@@ -1,9 +1,9 @@
 ghost use Rattle.std.specs.Prelude.{◌≡◌, ◌++◌, ◌∷◌, IfOk, OnOk, map, codes, []};
 ghost use Rattle.std.specs.Fmt.{decimal};
 ghost use Rattle.cut_file.specs.Pictures.{picture_of};
-ghost use Rattle.cut_file.specs.Writing.{point_pieces, runs_text};
-ghost use Rattle.cut_file.specs.Texts.{CutText, bits_line, ended, point_line, run_text, secret_line, skip_line};
-ghost use Rattle.cut_file.specs.Texts.{slot_text, version_line};
+ghost use Rattle.cut_file.specs.Writing.{led, point_pieces};
+ghost use Rattle.cut_file.specs.Texts.{CutText, bits_line, ended, point_line, rest_text, run_text, secret_line};
+ghost use Rattle.cut_file.specs.Texts.{skip_line, slot_text, version_line};
 
 use crate::cuts::Cut;
 use crate::points::{CutPoint, Run};
@@ -56,11 +56,10 @@ fn put_slot(alloc: Global, text: &mut Vec<u8>, slot: Slot) -> Result<(), NoMemor
     }
 }
 
-// Puts a space and a run at the end of a text.
+// Puts a run at the end of a text.
 fn put_run(alloc: Global, text: &mut Vec<u8>, run: &Run) -> Result<(), NoMemory>
-    ensures { OnOk result (text.new.items ≡ text.old.items ++ (32 ∷ run_text run.now)) }
+    ensures { OnOk result (text.new.items ≡ text.old.items ++ run_text run.now) }
 {
-    put(text, b" ")?;
     put_number(alloc, text, run.count)?;
     put(text, b"*")?;
     put(text, &hex_word(run.mask))?;
@@ -69,17 +68,45 @@ fn put_run(alloc: Global, text: &mut Vec<u8>, run: &Run) -> Result<(), NoMemory>
 
 // Puts runs at the end of a text, each behind a space.
 fn put_runs(alloc: Global, text: &mut Vec<u8>, runs: &[Run]) -> Result<(), NoMemory>
-    ensures { OnOk result (text.new.items ≡ text.old.items ++ runs_text runs.now) }
+    ensures { OnOk result (text.new.items ≡ text.old.items ++ led (map run_text runs.now)) }
 {
     for run in runs {
+        put(text, b" ")?;
         put_run(alloc, text, run)?;
     }
     Ok(())
 }
 
+// Puts a run behind `rest` at the end of a text.
+fn put_rest_run(alloc: Global, text: &mut Vec<u8>, version: u8, run: &Run) -> Result<(), NoMemory>
+    ensures { OnOk result (text.new.items ≡ text.old.items ++ rest_text version run.now) }
+{
+    if version == 2 {
+        put_run(alloc, text, run)
+    } else {
+        put(text, &hex_word(run.mask))
+    }
+}
+
+// Puts the runs behind `rest` at the end of a text, each behind a space.
+fn put_rest(alloc: Global, text: &mut Vec<u8>, version: u8, rest: &[Run]) -> Result<(), NoMemory>
+    ensures { OnOk result (text.new.items ≡ text.old.items ++ led (map (rest_text version) rest.now)) }
+{
+    for run in rest {
+        put(text, b" ")?;
+        put_rest_run(alloc, text, version, run)?;
+    }
+    Ok(())
+}
+
 // Puts the line of a point at the end of a text.
-fn put_point(alloc: Global, text: &mut Vec<u8>, point: &CutPoint) -> Result<(), NoMemory>
-    ensures { OnOk result (text.new.items ≡ text.old.items ++ point_pieces point.now) }
+fn put_point(
+    alloc: Global,
+    text: &mut Vec<u8>,
+    version: u8,
+    point: &CutPoint,
+) -> Result<(), NoMemory>
+    ensures { OnOk result (text.new.items ≡ text.old.items ++ point_pieces version point.now) }
 {
     put(text, b"point ")?;
     put_number(alloc, text, u32::from(point.point.region))?;
@@ -88,18 +115,23 @@ fn put_point(alloc: Global, text: &mut Vec<u8>, point: &CutPoint) -> Result<(), 
     put(text, b" ")?;
     put_slot(alloc, text, point.point.slot)?;
     put_runs(alloc, text, point.runs.as_slice())?;
-    put(text, b" rest ")?;
-    put(text, &hex_word(point.rest))?;
+    put(text, b" rest")?;
+    put_rest(alloc, text, version, point.rest.as_slice())?;
     put(text, b"\n")?;
     Ok(())
 }
 
 // Puts the lines of points at the end of a text.
-fn put_points(alloc: Global, text: &mut Vec<u8>, points: &[CutPoint]) -> Result<(), NoMemory>
-    ensures { OnOk result (text.new.items ≡ text.old.items ++ ended (map point_line points.now)) }
+fn put_points(
+    alloc: Global,
+    text: &mut Vec<u8>,
+    version: u8,
+    points: &[CutPoint],
+) -> Result<(), NoMemory>
+    ensures { OnOk result (text.new.items ≡ text.old.items ++ ended (map (point_line version) points.now)) }
 {
     for point in points {
-        put_point(alloc, text, point)?;
+        put_point(alloc, text, version, point)?;
     }
     Ok(())
 }
@@ -117,13 +149,15 @@ fn put_regions(alloc: Global, text: &mut Vec<u8>, regions: &[u16]) -> Result<(),
 }
 
 // The first three lines of a cut.
-fn head(alloc: Global, secret_length: u32, bits: u32) -> Result<Vec<u8>, NoMemory>
+fn head(alloc: Global, version: u8, secret_len: u32, bits: u32) -> Result<Vec<u8>, NoMemory>
     ensures { IfOk result (λ text. text.items
-        ≡ ended (version_line ∷ (secret_line secret_length ∷ (bits_line bits ∷ [])))) }
+        ≡ ended (version_line version ∷ (secret_line secret_len ∷ (bits_line bits ∷ [])))) }
 {
     let mut text = Vec::new(alloc);
-    put(&mut text, b"flowcheck-cut 1\nsecret ")?;
-    put_number(alloc, &mut text, secret_length)?;
+    put(&mut text, b"flowcheck-cut ")?;
+    put_number(alloc, &mut text, u32::from(version))?;
+    put(&mut text, b"\nsecret ")?;
+    put_number(alloc, &mut text, secret_len)?;
     put(&mut text, b"\nbits ")?;
     put_number(alloc, &mut text, bits)?;
     put(&mut text, b"\n")?;
@@ -134,9 +168,9 @@ fn head(alloc: Global, secret_length: u32, bits: u32) -> Result<Vec<u8>, NoMemor
 pub fn write_cut(alloc: Global, cut: &Cut) -> Result<Bytes, NoMemory>
     ensures { IfOk result (λ text. CutText text (picture_of cut.now)) }
 {
-    let mut text = head(alloc, cut.secret_length, cut.bits)?;
+    let mut text = head(alloc, cut.version, cut.secret_len, cut.bits)?;
     put_regions(alloc, &mut text, cut.skip.as_slice())?;
-    put_points(alloc, &mut text, cut.points.as_slice())?;
+    put_points(alloc, &mut text, cut.version, cut.points.as_slice())?;
     put(&mut text, b"end\n")?;
     Ok(List::from_vec(text))
 }

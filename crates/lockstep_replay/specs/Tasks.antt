@@ -33,7 +33,7 @@ task_of program public_input regions cut = record {
   public_input = public_input;
   enclosures = record { regions = regions; skip = cut.skip };
   masks = MaskAt cut.points;
-  secret_length = cut.secret_length;
+  secret_length = cut.secret_len;
 }
 
 -- ---- the real run on a secret

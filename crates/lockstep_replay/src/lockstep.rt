@@ -84,7 +84,7 @@ impl Lockstep {
                 tally,
                 replay,
             },
-            wanted: cut.secret_length,
+            wanted: cut.secret_len,
             got,
             turns,
         })

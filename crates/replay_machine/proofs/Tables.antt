@@ -1,5 +1,5 @@
 -- What a table of masks has ahead, before and after a visit.
-use Rattle.std.proofs.Common.{◌≡◌, ℕ, zero, suc, ◌+◌, ◌<◌, ◌≤◌, inl, inr, true, false, Bool, List, [], ◌∷◌, length}
+use Rattle.std.proofs.Common.{◌≡◌, ℕ, zero, suc, ◌+◌, ◌-◌, ◌<◌, ◌≤◌, inl, inr, true, false, Bool, List, [], ◌∷◌, length}
 use Rattle.std.proofs.Common.{get_or, take, refl, sym, ap, subst, ◌∙◌, arith, Option, Some, None, if◌then◌else◌}
 use Rattle.std.specs.Prelude.{replicate, slice_set}
 use Rattle.std.specs.List.{list_all}
@@ -12,13 +12,14 @@ use Rattle.cut_file.specs.declared.points.CutPoint.{CutPoint}
 use Rattle.flow_base.specs.Points.{is_slot, width_of}
 use Rattle.cut_file.specs.Cuts.{are_points, is_cut_point}
 use Rattle.cut_file.proofs.CutMasks.{same-width, same-slot, slot-known}
-use Rattle.cut_file.specs.Masks.{MaskAt, is_same_point, mask_of}
+use Rattle.cut_file.specs.Masks.{MaskAt, is_same_point, listed_masks, mask_of, repeated}
 use Rattle.crossing_bits.proofs.Feeding.{le_or_lt}
 use Rattle.replay_machine.specs.declared.cursors.Cursor.{Cursor}
 use Rattle.replay_machine.specs.Runs.{Masks, times_passed, mask_at}
 use Rattle.replay_machine.specs.Visits.{IsAhead, MovesOn}
 use Rattle.replay_machine.specs.Tables.{first_cursor, ahead_of, all_ahead, index_from, is_marked, mark_place}
-use Rattle.replay_machine.proofs.RunsAhead.{run-ended, masked, list-pass}
+use Rattle.replay_machine.proofs.RunsAhead.{masked, list-pass}
+use Rattle.cut_file.proofs.Repeats.{masks-ended}
 use Rattle.replay_machine.proofs.Searching.{same-parts, same-sym, same-with}
 
 -- ---- indices
@@ -309,7 +310,8 @@ first-masks [] point visit first = refl
 first-masks (q ∷ points) point visit first =
     ap (λ (m : ℕ). if is_same_point q.point point then m else MaskAt
     (all_ahead points (replicate (length points) first_cursor)) point visit)
-    (masked _ _ _ _ (run-ended 0 0 q.runs visit q.rest refl first) refl)
+    (masked _ _ _ _ (ap (λ (l : List ℕ). repeated l (listed_masks q.rest) (visit - 1))
+    (masks-ended 0 0 q.runs refl)) refl)
     ∙ ap (λ (m : ℕ). if is_same_point q.point point then mask_of q visit else m) (first-masks points point visit first)
 
 from-none : (visit : ℕ) → visit ≡ 0 + visit

@@ -3,18 +3,24 @@ use Rattle.std.specs.Prelude.{ℕ, suc, ◌/◌, ◌%◌, List, [], ◌∷◌, d
 use Rattle.std.specs.Prelude.{if◌then◌else◌}
 use Rattle.flow_base.specs.declared.points.Point.{Point}
 use Rattle.cut_file.specs.declared.points.CutPoint.{CutPoint}
+use Rattle.cut_file.specs.declared.points.Run.{Run}
 use Rattle.cut_file.specs.Masks.{is_same_point}
 use Rattle.replay_machine.specs.declared.cursors.Cursor.{Cursor}
 
 -- at the start no run has begun
 abbrev pub first_cursor : Cursor
-first_cursor = record { run = 0; left = 0; mask = 0 }
+first_cursor = record { repeats = false; run = 0; left = 0; mask = 0 }
 
--- the masks that a point has ahead: what is left of the run that has begun, then the later runs, and the rest
+-- the runs among which a cursor stands: those of the list, and behind them those of the pattern
+abbrev pub runs_at : CutPoint → Cursor → List Run
+runs_at cut_point cursor = if cursor.repeats then cut_point.rest else cut_point.runs
+
+-- the masks that a point has ahead: what is left of the run that has begun, then the later runs, and then the pattern
+-- over and over
 abbrev pub ahead_of : CutPoint → Cursor → CutPoint
 ahead_of cut_point cursor = record {
   point = cut_point.point;
-  runs = record { count = cursor.left; mask = cursor.mask } ∷ drop cursor.run cut_point.runs;
+  runs = record { count = cursor.left; mask = cursor.mask } ∷ drop cursor.run (runs_at cut_point cursor);
   rest = cut_point.rest;
 }
 

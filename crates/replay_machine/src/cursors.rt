@@ -2,14 +2,16 @@ ghost use Rattle.std.specs.Prelude.{◌≡◌, ℕ, suc, ◌≤◌, IsTrue};
 ghost use Rattle.cut_file.specs.Cuts.{is_cut_point};
 ghost use Rattle.cut_file.specs.Masks.{mask_of};
 ghost use Rattle.flow_base.specs.Points.{width_of};
-ghost use Rattle.replay_machine.specs.Tables.{ahead_of};
+ghost use Rattle.replay_machine.specs.Tables.{ahead_of, runs_at};
 
-use cut_file::CutPoint;
+use cut_file::{CutPoint, Run};
 use flow_base::slot_width;
 
 /// Where the masks of a point have come to.
 #[derive(Clone, Copy, Debug, PartialEq, Eq)]
 pub(crate) struct Cursor {
+    /// Whether the listed runs are behind, and those of the pattern are passed over and over.
+    pub repeats: bool,
     /// The index of the next run.
     pub run: usize,
     /// For how many more visits the mask of the run that has begun stands.
@@ -19,6 +21,58 @@ pub(crate) struct Cursor {
 }
 
 impl Cursor {
+    // The runs among which the cursor stands.
+    fn runs(self, point: &CutPoint) -> &[Run]
+        ensures { result.now ≡ runs_at point.now self }
+    {
+        if self.repeats {
+            point.rest.as_slice()
+        } else {
+            point.runs.as_slice()
+        }
+    }
+
+    // The cursor at the begin of the next run; at the end of the list, and of the pattern, the pattern begins.
+    fn begun(self, point: &CutPoint) -> Cursor
+        requires point { IsTrue (is_cut_point point.now) }
+        requires ended { self.left ≡ 0 }
+        ensures some { 1 ≤ result.left }
+        ensures same { (visit : ℕ) → mask_of (ahead_of point.now result) visit
+            ≡ mask_of (ahead_of point.now self) visit }
+    {
+        match self.runs(point).get(self.run) {
+            Some(run) => Cursor {
+                repeats: self.repeats,
+                run: self.run + 1,
+                left: run.count,
+                mask: run.mask,
+            },
+            None => {
+                let first = point.rest.as_slice()[0];
+                Cursor {
+                    repeats: true,
+                    run: 1,
+                    left: first.count,
+                    mask: first.mask,
+                }
+            }
+        }
+    }
+
+    // The cursor in a run of which some is left.
+    fn ready(self, point: &CutPoint) -> Cursor
+        requires point { IsTrue (is_cut_point point.now) }
+        ensures some { 1 ≤ result.left }
+        ensures same { (visit : ℕ) → mask_of (ahead_of point.now result) visit
+            ≡ mask_of (ahead_of point.now self) visit }
+    {
+        if self.left == 0 {
+            self.begun(point)
+        } else {
+            self
+        }
+    }
+
     /// The mask at the point's next visit, which is then behind. It takes the same time at each visit.
     pub fn pass(&mut self, point: &CutPoint) -> u32
         requires { IsTrue (is_cut_point point.now) }
@@ -27,19 +81,11 @@ impl Cursor {
         ensures later { (visit : ℕ) → 1 ≤ visit →
             mask_of (ahead_of point.now self.new) visit ≡ mask_of (ahead_of point.now self.old) (suc visit) }
     {
-        let width = slot_width(point.point.slot);
-        if self.left != 0 {
-            self.left -= 1;
-            return self.mask & width;
-        }
-        match point.runs.as_slice().get(self.run) {
-            Some(run) => {
-                self.run += 1;
-                self.left = run.count - 1;
-                self.mask = run.mask;
-                run.mask & width
-            }
-            None => point.rest & width,
-        }
+        let ready = self.ready(point);
+        *self = Cursor {
+            left: ready.left - 1,
+            ..ready
+        };
+        ready.mask & slot_width(point.point.slot)
     }
 }

@@ -126,13 +126,13 @@ impl Replay {
         cut: &Cut,
     ) -> Result<Replay, NoMemory>
         ensures stands { IfOk result (λ replay. Stands replay (MaskAt cut.now.points)
-            (replay_guest (picture_of image.now) public.now cut.now.secret_length)) }
+            (replay_guest (picture_of image.now) public.now cut.now.secret_len)) }
         ensures enclosures { IfOk result (λ replay. replay.enclosures ≡
             (record { regions = regions.now.items; skip = cut.now.skip })) }
         ensures untaken { IfOk result (λ replay. replay.taken ≡ 0) }
     {
         let masks = VisitMasks::new(alloc, cut)?;
-        let zeros = zeroed(alloc, cut.secret_length as usize)?;
+        let zeros = zeroed(alloc, cut.secret_len as usize)?;
         let machine = Machine::new(alloc, image, public, &zeros, OUTPUT_LIMIT)?;
         let bits = Bits::with_room(alloc, 0)?;
         let regions = copy_regions(alloc, regions)?;

@@ -7,7 +7,7 @@ ghost use Rattle.replay_machine.specs.Runs.{Masks, mask_at};
 ghost use Rattle.replay_machine.specs.Visits.{IsAhead, MovesOn};
 ghost use Rattle.replay_machine.specs.Tables.{all_ahead, index_of};
 
-use crate::copies::{copy_points, first_cursors};
+use crate::copies::{cut_points, first_cursors};
 use crate::cursors::Cursor;
 use crate::marking::{marks_of, place};
 use crate::search::find;
@@ -59,7 +59,7 @@ impl VisitMasks {
     pub fn new(alloc: Global, cut: &Cut) -> Result<VisitMasks, NoMemory>
         ensures { IfOk result (λ table. IsAhead table (MaskAt cut.now.points) []) }
     {
-        let points = copy_points(alloc, cut.points.as_slice())?;
+        let points = cut_points(alloc, cut)?;
         let cursors = first_cursors(alloc, points.len())?;
         let marks = marks_of(alloc, points.as_slice())?;
         Ok(VisitMasks {

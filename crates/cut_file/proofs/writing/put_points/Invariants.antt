@@ -5,5 +5,5 @@ use Rattle.cut_file.proofs.writing.put_points.Given as goal
 
 abbrev pub invariant-loop-point : goal.invariant-loop-point
 invariant-loop-point l =
-    l.text.items ++ ended (map point_line (drop l.point-index l.points)) ≡ l.fn.text.items ++ ended
-    (map point_line l.points)
+    l.text.items ++ ended (map (point_line l.version) (drop l.point-index l.points)) ≡ l.fn.text.items ++ ended
+    (map (point_line l.version) l.points)

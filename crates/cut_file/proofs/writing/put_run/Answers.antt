@@ -6,8 +6,7 @@ use Rattle.cut_file.proofs.writing.put_run.Goals as goal
 
 pub returns : goal.returns
 returns c =
-    let last : c.put-3.new.text.items ≡ c.put-2.new.text.items ++ hex_word c.args.run.now.mask =
-    c.in_ok-put-3.ensures ∙ ap (λ (l : List ℕ). c.put-2.new.text.items ++ l) c.hex_word.ensures in
-    joins _ (codes " ") _ _ _ c.in_ok-put.ensures
-    (joins _ (decimal c.args.run.now.count) _ _ _ c.in_ok-put_number.ensures
-    (joins _ (codes "*") _ _ _ c.in_ok-put-2.ensures last))
+    let last : c.put-2.new.text.items ≡ c.put.new.text.items ++ hex_word c.args.run.now.mask =
+    c.in_ok-put-2.ensures ∙ ap (λ (l : List ℕ). c.put.new.text.items ++ l) c.hex_word.ensures in
+    joins _ (decimal c.args.run.now.count) _ _ _ c.in_ok-put_number.ensures
+    (joins _ (codes "*") _ _ _ c.in_ok-put.ensures last)

@@ -9,18 +9,18 @@ use Rattle.cut_file.proofs.writing.write_cut.Goals as goal
 
 pub returns : goal.returns
 returns c =
-    let start : List ℕ = ended (version_line ∷ (secret_line c.args.cut.now.secret_length ∷
+    let start : List ℕ = ended (version_line c.args.cut.now.version ∷ (secret_line c.args.cut.now.secret_len ∷
     (bits_line c.args.cut.now.bits ∷ []))) in
     record {
       valid = cut-valid c.args.cut.now;
       text =
           c.from_vec.ensures ∙ c.in_ok-put.ensures
           ∙ ap (λ (l : List ℕ). l ++ codes "end\n") (c.in_ok-put_points.ensures
-          ∙ ap (λ (l : List ℕ). l ++ ended (map point_line c.as_slice-2.result.now)) (c.in_ok-put_regions.ensures
+          ∙ ap (λ (l : List ℕ). l ++ ended (map (point_line c.args.cut.now.version) c.as_slice-2.result.now)) (c.in_ok-put_regions.ensures
           ∙ ap (λ (l : List ℕ). l ++ ended (map skip_line c.as_slice.result.now)) c.in_ok-text.ensures))
           ∙ ap (λ (l : List CutPoint). ((start ++ ended (map skip_line c.as_slice.result.now)) ++ ended
-          (map point_line l)) ++ codes "end\n") c.as_slice-2.ensures
+          (map (point_line c.args.cut.now.version) l)) ++ codes "end\n") c.as_slice-2.ensures
           ∙ ap (λ (l : List ℕ). ((start ++ ended (map skip_line l)) ++ ended
-          (map point_line c.args.cut.now.points)) ++ codes "end\n") c.as_slice.ensures
+          (map (point_line c.args.cut.now.version) c.args.cut.now.points)) ++ codes "end\n") c.as_slice.ensures
           ∙ cut-pieces (picture_of c.args.cut.now);
     }

@@ -12,6 +12,6 @@ returns c =
     omega (arith, c.len.ensures, c.in_ok-points.points.ok) in
     subst (λ (l : List CutPoint). IsAhead (all_ahead c.in_ok-points.points.items c.in_ok-cursors.cursors.items)
     (MaskAt l) [])
-    (c.in_ok-points.ensures ∙ c.as_slice.ensures)
+    c.in_ok-points.ensures.same
     (first-ahead c.in_ok-points.points.items c.in_ok-cursors.cursors.items
     (c.in_ok-cursors.ensures ∙ ap (λ (n : ℕ). replicate n first_cursor) count))

@@ -1,0 +1,23 @@
+ghost use Rattle.std.specs.Prelude.{◌≡◌, IfOk};
+ghost use Rattle.cut_file.specs.Folds.{migrated};
+ghost use Rattle.cut_file.specs.Pictures.{picture_of};
+
+use crate::copies::{copy_points, copy_regions};
+use crate::cuts::Cut;
+use flow_base::NoMemory;
+use std::alloc::Global;
+
+/// The same cut in version 2; its masks are the same at each visit. Its error is want of memory.
+pub fn migrate(alloc: Global, cut: &Cut) -> Result<Cut, NoMemory>
+    ensures { IfOk result (λ other. picture_of other ≡ migrated (picture_of cut.now)) }
+{
+    let skip = copy_regions(alloc, &cut.skip)?;
+    let points = copy_points(alloc, &cut.points)?;
+    Ok(Cut {
+        version: 2,
+        secret_len: cut.secret_len,
+        bits: cut.bits,
+        skip,
+        points,
+    })
+}
