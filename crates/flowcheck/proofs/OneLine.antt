@@ -23,10 +23,10 @@ pub record Clean (text : List ℕ) : Type 0 where
   pub none : has_line_feed text ≡ false
 
 is : {text : List ℕ} → has_line_feed text ≡ false → Clean text
-is e = record { none = e; }
+is e = record { none = e }
 
 pub literal : (text : List ℕ) → has_line_feed text ≡ false → Clean text
-literal text e = record { none = e; }
+literal text e = record { none = e }
 
 pub joined : (a b : List ℕ) → Clean a → Clean b → Clean (a ++ b)
 joined a b x y = is (list_any-append (λ byte. byte == 10) a b ∙ (ap (λ l. l || has_line_feed b) x.none ∙ y.none))

@@ -174,7 +174,7 @@ high n low two = omega arith
 
 line-of : (answer : Answer) → Line answer → 2 ≤ number_of (told answer).status → IsOneLine (told answer).text
 line-of (Ok reply) line two = absurd (high (number_of reply.status) line two)
-line-of (Err refusal) line two = record { line = refusal_text refusal; ends = refl; one = line.none; }
+line-of (Err refusal) line two = record { line = refusal_text refusal; ends = refl; one = line.none }
 
 -- a refusal is told by one line
 pub one_line : (source : Option Told) (words : List (List ℕ)) (answer : Answer) (reply : Reply) → AnswersWords source words answer →
