@@ -40,6 +40,7 @@ says task limits secret (Accepts bits output) e =
     let law = accepted_law task limits secret bits output e in
     record {
       accept = law.0;
+      crossing = rw law.1 refl;
       few = rw law.1 law.0.within;
       replay = rw law.1 (done_law task limits secret output law.0);
       real = law.0.exits;
@@ -47,6 +48,7 @@ says task limits secret (Accepts bits output) e =
 says task limits secret (Rejects why) e = record {
   refused = rejected_law task limits secret why e;
   cause = causes_law task limits secret why e;
+  first = e;
 }
 
 all-say : (task : Task) (limits : Limits) (secrets : List (List ℕ)) →

@@ -10,4 +10,5 @@ pub mod Rows
 pub mod Others
 pub mod Headlines
 pub mod Files
+pub mod OneLine
 pub mod Told

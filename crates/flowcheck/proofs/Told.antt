@@ -1,5 +1,5 @@
 -- The statuses of answers.
-use Rattle.std.proofs.Common.{◌≡◌, ◌≢◌, ◌≤◌, ◌==◌, ◌∙◌, inl, inr, ℕ, List, [], ◌∷◌, length, Bool, true, false, Option, Some, None, Result, Ok, Err, IsTrue, refl, sym, ap, subst, arith, if◌then◌else◌}
+use Rattle.std.proofs.Common.{◌≡◌, ◌≢◌, ◌≤◌, ◌==◌, ◌∙◌, ◌+◌, codes, inl, inr, ℕ, List, [], ◌∷◌, length, Bool, true, false, Option, Some, None, Result, Ok, Err, IsTrue, refl, sym, ap, subst, arith, if◌then◌else◌}
 use Rattle.flow_base.specs.Loads.{Told}
 use Rattle.flow_base.specs.Counts.{Rose}
 use Rattle.elf32_loader.specs.Pictures.{Picture}
@@ -18,44 +18,55 @@ use Rattle.flowcheck.specs.Checks.{AnswersCheck, AnswersCut, AnswersOthers, Answ
 use Rattle.flowcheck.specs.CommandLines.{Check, Command, Checks, Assembles, Lists, IsCommand, IsNoCommand}
 use Rattle.flowcheck.specs.Listings.{AnswersListed, AnswersListing}
 use Rattle.flowcheck.specs.Loading.{Want, IsLoadRefusal, Loads}
-use Rattle.flowcheck.specs.Refusals.{refusal_status}
+use Rattle.flowcheck.specs.Refusals.{refusal_status, refusal_text}
+use Rattle.flowcheck.specs.FileLimits.{limit_of}
+use Rattle.flowcheck.specs.Lines.{has_line_feed, IsOneLine}
+use Rattle.flowcheck.proofs.OneLine.{Clean, literal, joined, cut_fault, region, program, source_fault, name, number}
 use Rattle.flowcheck.specs.Replies.{AnswersFiles, AnswersLoads, AnswersWords, Replies, reply_of, wants_of}
 use Rattle.flowcheck.specs.SingleLoads.{HasCause}
 use Rattle.flowcheck.specs.Statuses.{is_one_of, number_of}
 use Rattle.flowcheck.specs.Names.{shown}
 
 -- an answer other than usage
+-- where a refusal is told, its line has no line feed within
+abbrev Line : Answer → Type 0
+Line (Ok reply) = number_of reply.status ≤ 1
+Line (Err refusal) = Clean (refusal_text refusal)
+
 abbrev NoUsage : Answer → Type 0
 NoUsage answer =
     (number_of (told answer).status ≢ 2)
     × (number_of (told answer).status ≡ 5 → (name : List ℕ) × (answer ≡ Err (Load name)))
-    × (number_of (told answer).status ≤ 6)
+    × (number_of (told answer).status ≤ 6) × Line answer
 
 other : (answer : Answer) → number_of (told answer).status ≢ 2 → number_of (told answer).status ≢ 5 →
-    number_of (told answer).status ≤ 6 → NoUsage answer
-other answer two five low = (two, (λ e. absurd (five e)), low)
+    number_of (told answer).status ≤ 6 → Line answer → NoUsage answer
+other answer two five low line = (two, (λ e. absurd (five e)), low, line)
 
 done-status : (b : Bool) (text : List ℕ) → NoUsage (Ok (record { status = if b then Done else Rejected; text = text }))
-done-status true text = other _ (λ e. omega (arith, e)) (λ e. omega (arith, e)) (omega arith)
-done-status false text = other _ (λ e. omega (arith, e)) (λ e. omega (arith, e)) (omega arith)
+done-status true text = other _ (λ e. omega (arith, e)) (λ e. omega (arith, e)) (omega arith) (omega arith)
+done-status false text = other _ (λ e. omega (arith, e)) (λ e. omega (arith, e)) (omega arith) (omega arith)
 
 by : (answer same : Answer) → answer ≡ same → NoUsage same → NoUsage answer
 by answer same e known = subst (λ a. NoUsage a) (sym e) known
 
 cut-status : (picture : Picture) (public_input : List ℕ) (regions : List Region) (cut_file : List ℕ) (limits : Limits) (secrets : List (List ℕ)) (answer : Answer) →
     AnswersCut picture public_input regions cut_file limits secrets answer → NoUsage answer
-cut-status picture public_input regions cut_file limits secrets answer (inl (fault, first, room, e)) = by answer _ e (other _ (λ n. omega (arith, n)) (λ n. omega (arith, n)) (omega arith))
+cut-status picture public_input regions cut_file limits secrets answer (inl (fault, first, room, e)) =
+    by answer _ e (other _ (λ n. omega (arith, n)) (λ n. omega (arith, n)) (omega arith) (joined (codes "refused 3 cut ") _ (literal (codes "refused 3 cut ") refl) (cut_fault fault)))
 cut-status picture public_input regions cut_file limits secrets answer (inr (cut, text, e)) = by answer _ e (done-status _ _)
 
 regions-status : (picture : Picture) (public_input : List ℕ) (region_file : Option (List ℕ)) (cut_file : List ℕ) (limits : Limits) (secrets : List (List ℕ)) (answer : Answer) →
     AnswersRegions picture public_input region_file cut_file limits secrets answer → NoUsage answer
-regions-status picture public_input region_file cut_file limits secrets answer (inl (fault, first, e)) = by answer _ e (other _ (λ n. omega (arith, n)) (λ n. omega (arith, n)) (omega arith))
+regions-status picture public_input region_file cut_file limits secrets answer (inl (fault, first, e)) =
+    by answer _ e (other _ (λ n. omega (arith, n)) (λ n. omega (arith, n)) (omega arith) (joined (codes "refused 3 regions ") _ (literal (codes "refused 3 regions ") refl) (region fault)))
 regions-status picture public_input region_file cut_file limits secrets answer (inr (regions, are, rest)) =
     cut-status picture public_input regions cut_file limits secrets answer rest
 
 program-status : (limits : Limits) (program_file public_input cut_file : List ℕ) (region_file : Option (List ℕ)) (secrets : List (List ℕ)) (answer : Answer) →
     AnswersProgram limits program_file public_input cut_file region_file secrets answer → NoUsage answer
-program-status limits program_file public_input cut_file region_file secrets answer (inl (fault, first, e)) = by answer _ e (other _ (λ n. omega (arith, n)) (λ n. omega (arith, n)) (omega arith))
+program-status limits program_file public_input cut_file region_file secrets answer (inl (fault, first, e)) =
+    by answer _ e (other _ (λ n. omega (arith, n)) (λ n. omega (arith, n)) (omega arith) (joined (codes "refused 3 program ") _ (literal (codes "refused 3 program ") refl) (program fault)))
 program-status limits program_file public_input cut_file region_file secrets answer (inr (picture, image, rest)) =
     regions-status picture public_input region_file cut_file limits secrets answer rest
 
@@ -75,8 +86,9 @@ check-status check (program_file ∷ (public_input ∷ (cut_file ∷ others))) a
     others-status check.limits program_file public_input cut_file check.region_file others answer h
 
 assembled-status : (result : Result Picture AsmFault) → NoUsage (program_answer result)
-assembled-status (Ok picture) = other _ (λ n. omega (arith, n)) (λ n. omega (arith, n)) (omega arith)
-assembled-status (Err fault) = other _ (λ n. omega (arith, n)) (λ n. omega (arith, n)) (omega arith)
+assembled-status (Ok picture) = other _ (λ n. omega (arith, n)) (λ n. omega (arith, n)) (omega arith) (omega arith)
+assembled-status (Err fault) =
+    other _ (λ n. omega (arith, n)) (λ n. omega (arith, n)) (omega arith) (joined (codes "refused 3 source ") _ (literal (codes "refused 3 source ") refl) (source_fault fault))
 
 source-status : (files : List (List ℕ)) (answer : Answer) → AnswersSource files answer → NoUsage answer
 source-status [] answer h = absurd h
@@ -84,8 +96,10 @@ source-status (source ∷ []) answer h = by answer _ h (assembled-status (assemb
 source-status (source ∷ (other ∷ files)) answer h = absurd h
 
 listed-status : (program_file : List ℕ) (answer : Answer) → AnswersListed program_file answer → NoUsage answer
-listed-status program_file answer (inl (fault, first, e)) = by answer _ e (other _ (λ n. omega (arith, n)) (λ n. omega (arith, n)) (omega arith))
-listed-status program_file answer (inr (picture, image, e)) = by answer _ e (other _ (λ n. omega (arith, n)) (λ n. omega (arith, n)) (omega arith))
+listed-status program_file answer (inl (fault, first, e)) =
+    by answer _ e (other _ (λ n. omega (arith, n)) (λ n. omega (arith, n)) (omega arith) (joined (codes "refused 3 program ") _ (literal (codes "refused 3 program ") refl) (program fault)))
+listed-status program_file answer (inr (picture, image, e)) =
+    by answer _ e (other _ (λ n. omega (arith, n)) (λ n. omega (arith, n)) (omega arith) (omega arith))
 
 listing-status : (files : List (List ℕ)) (answer : Answer) → AnswersListing files answer → NoUsage answer
 listing-status [] answer h = absurd h
@@ -100,15 +114,20 @@ files-status (Lists program) files answer h = listing-status files answer h
 refusal-status : (wants : List Want) (refusal : Refusal) → IsLoadRefusal wants refusal → NoUsage (Err refusal)
 refusal-status [] refusal is = absurd is
 refusal-status (w ∷ wants) refusal (inl is) =
-    subst (λ r. NoUsage (Err r)) (sym is) (λ n. omega (arith, n), (λ n. (shown w.name, refl)), omega arith)
+    subst (λ r. NoUsage (Err r)) (sym is) (λ n. omega (arith, n), (λ n. (shown w.name, refl)), omega arith, joined (codes "refused 5 load ") _ (literal (codes "refused 5 load ") refl) (name w.name))
 refusal-status (w ∷ wants) refusal (inr (inl is)) =
-    subst (λ r. NoUsage (Err r)) (sym is) (other _ (λ n. omega (arith, n)) (λ n. omega (arith, n)) (omega arith))
+    subst (λ r. NoUsage (Err r)) (sym is) (other _ (λ n. omega (arith, n)) (λ n. omega (arith, n)) (omega arith)
+    (joined (codes "refused 6 too-large ") _ (literal (codes "refused 6 too-large ") refl) (joined (shown w.name) _ (name w.name) (joined (codes " ") _ (literal (codes " ") refl) (number (limit_of w.kind + 1))))))
 refusal-status (w ∷ wants) refusal (inr (inr is)) = refusal-status wants refusal is
 
 loads-status : (source : Option Told) (command : Command) (loaded : Result (List (List ℕ)) Refusal) (answer : Answer) →
     Loads source (wants_of command) loaded → AnswersLoads command loaded answer → NoUsage answer
 loads-status source command (Ok files) answer loads h = files-status command files answer h
 loads-status source command (Err refusal) answer loads h = by answer _ h (refusal-status (wants_of command) refusal loads.0)
+
+line-in : (source : Option Told) (words : List (List ℕ)) (answer : Answer) → AnswersWords source words answer → Line answer
+line-in source words answer (inl (none, e)) = subst (λ a. Line a) (sym e) (literal (codes "refused 2 usage") refl)
+line-in source words answer (inr (command, named, (loaded, loads, h))) = (loads-status source command loaded answer loads h).3
 
 -- status 2 comes for other words
 pub usage_words : (source : Option Told) (words : List (List ℕ)) (answer : Answer) (reply : Reply) → AnswersWords source words answer →
@@ -149,6 +168,20 @@ low_status source words answer reply (inl (none, e)) is =
 low_status source words answer reply (inr (command, named, (loaded, loads, h))) is =
     low-number (number_of reply.status) (number_of (told answer).status) (ap (λ r. number_of r.status) is)
     (loads-status source command loaded answer loads h).2
+
+high : (n : ℕ) → n ≤ 1 → 2 ≤ n → ⊥
+high n low two = omega arith
+
+line-of : (answer : Answer) → Line answer → 2 ≤ number_of (told answer).status → IsOneLine (told answer).text
+line-of (Ok reply) line two = absurd (high (number_of reply.status) line two)
+line-of (Err refusal) line two = record { line = refusal_text refusal; ends = refl; one = line.none }
+
+-- a refusal is told by one line
+pub one_line : (source : Option Told) (words : List (List ℕ)) (answer : Answer) (reply : Reply) → AnswersWords source words answer →
+    reply ≡ told answer → 2 ≤ number_of reply.status → IsOneLine reply.text
+one_line source words answer reply answers is two =
+    subst (λ (r : Reply). IsOneLine r.text) (sym is)
+    (line-of answer (line-in source words answer answers) (subst (λ (r : Reply). 2 ≤ number_of r.status) is two))
 
 -- a reply by its number
 pub reply_shown : (answer : Answer) (reply : Reply) → reply ≡ told answer →

@@ -10,9 +10,9 @@ use Rattle.crossing_bits.specs.Askers.{AllDifferent}
 use Rattle.lockstep_replay.specs.declared.verdicts.Why.{Why}
 use Rattle.cut_file.specs.Cuts.{CutPicture}
 use Rattle.cut_file.specs.Texts.{CutText}
-use Rattle.lockstep_replay.specs.Tasks.{Task, Limits, task_of, real_of}
+use Rattle.lockstep_replay.specs.Tasks.{Task, Limits, task_of, real_of, Cross}
 use Rattle.lockstep_replay.specs.Acceptance.{Accept, Done, HasExited, IsOutput}
-use Rattle.lockstep_replay.specs.Verdicts.{Judgement, Accepts, Rejects}
+use Rattle.lockstep_replay.specs.Verdicts.{Judgement, Accepts, Rejects, First}
 use Rattle.lockstep_replay.specs.VerdictLaws.{Cause}
 use Rattle.flowcheck.specs.CommandLines.{Check, Checks, IsCommand}
 use Rattle.flowcheck.specs.Texts.{check_text, accepted_count}
@@ -35,19 +35,22 @@ IsHeld source (Some name) None = ⊥
 IsHeld None (Some name) (Some file) = Unit {0}
 IsHeld (Some told) (Some name) (Some file) = told.held name ≡ Some file
 
--- An accepted secret: it is accepted within the limits; there are at most so many bits; the replay of these bits, on
--- the task alone, is done with the output of the secret's real run.
+-- An accepted secret: it is accepted within the limits; the bits are its crossing bits, and at most so many; the replay
+-- of these bits, on the task alone, is done with the output of the secret's real run.
 pub record IsAccepted (task : Task) (limits : Limits) (secret : List ℕ) (bits : List Bool) (output : Output) :
     Type 0 where
   pub accept : Accept task limits secret output
+  pub crossing : bits ≡ Cross task secret limits.turns
   pub few : length bits ≤ limits.budget
   pub replay : Done task limits.turns bits output
   pub real : HasExited (real_of task secret limits.turns).state output
 
--- A rejected secret: no output of it is accepted, and the reason that is printed holds.
+-- A rejected secret: no output of it is accepted, and the reason that is printed holds, and is the first that does: of
+-- the earliest turn, and of one turn the first in their order.
 pub record IsRejected (task : Task) (limits : Limits) (secret : List ℕ) (why : Why) : Type 0 where
   pub refused : (output : Output) → ¬ Accept task limits secret output
   pub cause : Cause task limits secret why
+  pub first : First task limits secret ≡ Rejects why
 
 -- what the judgement of a secret says
 abbrev pub Says : Task → Limits → List ℕ → Judgement → Type 0

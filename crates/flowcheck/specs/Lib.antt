@@ -1,4 +1,5 @@
 pub mod Names
+pub mod Lines
 pub mod FileLimits
 pub mod Statuses
 pub mod FaultTexts

@@ -4,6 +4,7 @@ ghost use Rattle.flow_base.specs.Counts.{Rose};
 ghost use Rattle.flow_base.specs.Puts.{after_put};
 ghost use Rattle.flowcheck.specs.CommandLines.{Check, Checks, IsCommand, IsNoCommand};
 ghost use Rattle.flowcheck.specs.Headline.{Headline};
+ghost use Rattle.flowcheck.specs.Lines.{IsOneLine};
 ghost use Rattle.flowcheck.specs.Replies.{LeavesWords, LeavesWordsPart, Replies, Reply as WholeReply};
 ghost use Rattle.flowcheck.specs.Statuses.{is_one_of, number_of};
 
@@ -26,6 +27,7 @@ fn reply_to<F: Files>(alloc: Global, files: &mut F, words: &[String]) -> Result<
         files.new)) }
     ensures usage { IfOk result (λ reply. number_of reply.status ≡ 2 → IsNoCommand (map string_bytes words.now)) }
     ensures told { IfOk result (λ reply. number_of reply.status ≤ 6) }
+    ensures line { IfOk result (λ reply. 2 ≤ number_of reply.status → IsOneLine reply.text) }
     ensures refused { IfOk result (λ reply. IsNoCommand (map string_bytes words.now) → number_of reply.status ≡ 2) }
 {
     let answer = answer_words(alloc, files, words);
@@ -57,6 +59,8 @@ pub fn flowcheck<F: Files, K: Sink>(
         (text : Seq ℕ)
         × Replies (F.told files.old) (map string_bytes words.items) (record { status = result; text = text })
         × (K.told out.new ≡ option_map (after_put text) (K.told out.old)) }
+    ensures line { 2 ≤ result → result ≤ 6 →
+        (text : Seq ℕ) × IsOneLine text × (K.told out.new ≡ option_map (after_put text) (K.told out.old)) }
     ensures headline { (check : Check) → IsCommand (map string_bytes words.items) (Checks check) → result ≤ 1 →
         (text : Seq ℕ) × Headline (F.told files.old) (map string_bytes words.items) result text
         × (K.told out.new ≡ option_map (after_put text) (K.told out.old)) }

@@ -52,3 +52,10 @@ returns-clause-failed_put g c = λ seven.
     let text = c.in-Ok.reply.text in
     let (count, few, put) = rw c.as_slice-2.ensures at c.in-Err.ensures.puts in
     (record { status = number_of c.in-Ok.reply.status; text = text }, count, replies, few, put)
+
+pub returns-in-Ok-put-clause-line : goal.returns-in-Ok-put-clause-line
+returns-in-Ok-put-clause-line g c = λ two. λ six. (
+  c.in-Ok.reply.text,
+  c.in-Ok.ensures.line (subst (λ n. 2 ≤ n) c.number-in-Ok-put.ensures two),
+  rw c.as_slice-2.ensures at c.in-Ok-put.ensures.puts,
+)

@@ -1,6 +1,6 @@
 use Rattle.std.proofs.Common.{◌≡◌, ap, map, string_bytes}
 use Rattle.std.proofs.lemmas.Result.{IfOk-weaker}
-use Rattle.flowcheck.proofs.Told.{usage_words, words_usage, load_cause, low_status, reply_shown}
+use Rattle.flowcheck.proofs.Told.{usage_words, words_usage, load_cause, low_status, one_line, reply_shown}
 use Rattle.flowcheck.proofs.top.reply_to.Goals as goal
 
 pub returns-clause-reply : goal.returns-clause-reply
@@ -38,5 +38,12 @@ pub returns-clause-told : goal.returns-clause-told
 returns-clause-told g c =
     IfOk-weaker c.reply_of.result _ _
     (λ reply. λ (known, is). low_status (g.F.Files.told c.args.files.now) (map string_bytes c.args.words.now) c.answer_words-answer.result reply
+    (c.answer_words-answer.ensures.answers known) is)
+    c.reply_of.ensures
+
+pub returns-clause-line : goal.returns-clause-line
+returns-clause-line g c =
+    IfOk-weaker c.reply_of.result _ _
+    (λ reply. λ (known, is). one_line (g.F.Files.told c.args.files.now) (map string_bytes c.args.words.now) c.answer_words-answer.result reply
     (c.answer_words-answer.ensures.answers known) is)
     c.reply_of.ensures
