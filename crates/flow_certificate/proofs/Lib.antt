@@ -12,3 +12,4 @@ pub mod Steps
 pub mod Prefixes
 pub mod FileReads
 pub mod Wholes
+pub mod Written

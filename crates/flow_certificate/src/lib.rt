@@ -21,9 +21,11 @@ mod sums;
 mod values;
 mod verdicts;
 mod verifying;
+mod writing;
 
 pub use certificates::Certificate;
 pub use faults::FormFault;
 pub use reading::read_certificate;
 pub use verdicts::{CertFault, CertVerdict, NetworkNode};
 pub use verifying::verify;
+pub use writing::write_certificate;
