@@ -336,8 +336,11 @@ line-from true line bytes None answer rest is after e = absurd cc
 line-from true line bytes (Some more) answer rest is after e =
     let same = pair-same line answer more rest e in
     subst (λ (l : Line). IsLineOf bytes l rest) same.0 (subst (λ (r : List ℕ). IsLineOf bytes line r) same.1
-    (record { known = is; text = after-found (line_text line ++ (10 ∷ [])) bytes more after ∙ append_assoc
-    (line_text line) (10 ∷ []) more }))
+    (record {
+      known = is;
+      text = after-found (line_text line ++ (10 ∷ [])) bytes more after ∙ append_assoc
+          (line_text line) (10 ∷ []) more;
+    }))
 
 pub line-found : (bytes : List ℕ) (answer : Line) (rest : List ℕ) → line_in bytes ≡ Some (answer, rest) →
     IsLineOf bytes answer rest

@@ -170,8 +170,11 @@ stepped before Version after e =
       made = λ made known. made;
     })
 stepped before (Value value) after e =
-    kept (is_version before.stage && is_bare before.picture) (record { stage = stages.Open; picture = record
-    before.picture { value = value } }) after (λ s. IsStep before (Value value) s) e
+    kept (is_version before.stage && is_bare before.picture) (record {
+      stage = stages.Open;
+      picture = record
+          before.picture { value = value };
+    }) after (λ s. IsStep before (Value value) s) e
     (λ is.
     let parts = and_parts (is_version before.stage) (is_bare before.picture) is in
     let none = and_parts (is_empty before.picture.points) _ parts.1 in
@@ -254,8 +257,10 @@ steps-by before lines line more after None later is was here e = absurd cc
 steps-by before lines line more after (Some next) later is was here e =
     let one = stepped before line next is in
     subst (λ ls. AreSteps ls after) (append_assoc lines (line ∷ []) more)
-    (later next (record { lines_are = one.lines ∙ ap (λ (ls : List Line). ls ++ (line ∷ [])) was.lines_are;
-    made = one.made was.made here }) e)
+    (later next (record {
+      lines_are = one.lines ∙ ap (λ (ls : List Line). ls ++ (line ∷ [])) was.lines_are;
+      made = one.made was.made here;
+    }) e)
 
 pub steps-from : (before : Sketch) (lines more : List Line) (after : Sketch) → AreSteps lines before →
     list_all is_line more ≡ true → steps before more ≡ Some after → AreSteps (lines ++ more) after

@@ -55,8 +55,13 @@ verified_of graph solved points links halves relays over unbalanced across flow 
               (length graph.points + (i - length graph.points))) ≡ true = ap (λ k. member graph solved.side.points
               solved.side.relays (slice_index (network_of graph).tails k)) back ∙ inside in
               ap (λ k. member graph solved.side.points solved.side.relays (slice_index (network_of graph).heads k))
-              (sym back) ∙ not-and _ _ (across (i - length graph.points) (omega arith) (omega (arith, limits, from,
-              below, edges))) tail;
+              (sym back) ∙ not-and _ _ (across (i - length graph.points) (omega arith) (omega (
+                arith,
+                limits,
+                from,
+                below,
+                edges,
+              ))) tail;
         };
       };
       flow_value = flow;
