@@ -1,4 +1,4 @@
-use Rattle.std.proofs.Common.{◌≡◌, ◌++◌, length, map, true}
+use Rattle.std.proofs.Common.{◌≡◌, ◌++◌, length, map}
 use Rattle.flow_certificate.specs.declared.lines.Line.TheVariants as forms
 use Rattle.flow_certificate.specs.Certificates.{lines_text}
 use Rattle.flow_certificate.specs.Pictures.{link_lines}
