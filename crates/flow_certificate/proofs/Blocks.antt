@@ -1,6 +1,6 @@
 -- The sums of a block of nodes, over the points and then over the links, are those of the network.
-use Rattle.std.proofs.Common.{◌≡◌, ℕ, zero, suc, ◌+◌, ◌-◌, ◌*◌, ◌^◌, ◌≤◌, ◌<◌, ◌==◌, ◌++◌, cond, eqb, not, Bool, true, false}
-use Rattle.std.proofs.Common.{List, length, get_or, slice_index, refl, sym, ap, ◌∙◌, subst, ⊎_elim, arith, add-one}
+use Rattle.std.proofs.Common.{◌≡◌, ℕ, zero, suc, ◌+◌, ◌-◌, ◌*◌, ◌^◌, ◌≤◌, ◌<◌, ◌==◌, ◌++◌, cond, eqb, not, Bool}
+use Rattle.std.proofs.Common.{List, length, get_or, slice_index, refl, sym, ap, ◌∙◌, arith, add-one}
 use Rattle.std.proofs.Common.{length-append}
 use Rattle.std.proofs.lemmas.List.{get_or_append_left, get_or-append_right}
 use Rattle.max_flow.specs.Networks.{at_node, sum_below}

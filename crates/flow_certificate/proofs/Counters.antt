@@ -1,9 +1,8 @@
 -- Counters, edge by edge.
-use Rattle.std.proofs.Common.{◌≡◌, ℕ, zero, suc, ◌+◌, ◌*◌, ◌^◌, ◌≤◌, ◌<◌, ◌==◌, cond, eqb, Bool, true, false, List, [], ◌∷◌}
-use Rattle.std.proofs.Common.{length, map, get_or, slice_index, refl, sym, ap, ◌∙◌, subst, ⊎_elim, arith, add-one}
+use Rattle.std.proofs.Common.{◌≡◌, ℕ, zero, suc, ◌+◌, ◌*◌, ◌^◌, ◌≤◌, ◌<◌, cond, eqb, Bool, true, false, List, [], ◌∷◌}
+use Rattle.std.proofs.Common.{length, map, get_or, slice_index, refl, ap, ◌∙◌, subst, arith, add-one}
 use Rattle.flow_graph.specs.declared.ends.Arc.{Arc}
 use Rattle.max_flow.specs.Flows.{head_of, tail_of}
-use Rattle.max_flow.specs.Networks.{sum_below}
 use Rattle.max_flow.proofs.Sums.{sum-none, sum-suc}
 use Rattle.flow_certificate.specs.Sums.{AreAdded, AreSmall, HaveRoom, brought, given, heads_of, tails_of}
 

@@ -1,6 +1,6 @@
 -- The capacity of the side of a certificate, point by point.
-use Rattle.std.proofs.Common.{◌≡◌, ℕ, zero, suc, ◌+◌, ◌*◌, ◌^◌, ◌≤◌, ◌<◌, ◌++◌, ◌&&◌, cond, not, Bool, true, false}
-use Rattle.std.proofs.Common.{List, [], ◌∷◌, length, map, get_or, slice_index, refl, sym, ap, ◌∙◌, arith}
+use Rattle.std.proofs.Common.{◌≡◌, ℕ, zero, suc, ◌+◌, ◌*◌, ◌^◌, ◌≤◌, ◌<◌, ◌&&◌, cond, not, Bool, true, false}
+use Rattle.std.proofs.Common.{List, [], ◌∷◌, length, get_or, slice_index, sym, ap, ◌∙◌, arith}
 use Rattle.std.specs.List.{list_all}
 use Rattle.std.proofs.lemmas.Bool.{and_parts, ltb-true}
 use Rattle.std.proofs.lemmas.List.{get_or-map, get_or_append_left, length-map}

@@ -1,25 +1,23 @@
 -- Lines follow each other as those of a certificate do, and only so.
-use Rattle.std.proofs.Common.{◌≡◌, ℕ, ◌+◌, ◌==◌, ◌&&◌, Bool, true, false, List, [], ◌∷◌, ◌++◌, length, map, if◌then◌else◌}
-use Rattle.std.proofs.Common.{Option, Some, None, refl, sym, ap, ◌∙◌, subst, append_assoc, append-nil, arith}
+use Rattle.std.proofs.Common.{◌≡◌, ℕ, true, List, [], ◌∷◌, ◌++◌, length, map}
+use Rattle.std.proofs.Common.{Some, sym, ap, ◌∙◌, append_assoc, append-nil}
 use Rattle.std.specs.List.{list_all}
 use Rattle.std.specs.Ordering.{nat_cmp}
-use Rattle.std.proofs.lemmas.Bool.{and_from, and_parts, eqb-true}
+use Rattle.std.proofs.lemmas.Bool.{and_parts}
 use Rattle.std.proofs.lemmas.List.{length-map}
-use Rattle.flow_graph.specs.Graphs.{arc_cmp, are_arcs, are_links, are_points, are_relays, ascend, has_capacity, is_link}
+use Rattle.flow_graph.specs.Graphs.{arc_cmp, are_arcs, are_points, are_relays, ascend, has_capacity, is_link}
 use Rattle.flow_graph.specs.Graphs.{node_cmp}
-use Rattle.flow_certificate.specs.declared.drafts.Stage.{Stage}
 use Rattle.flow_certificate.specs.declared.drafts.Stage.TheVariants as stages
 use Rattle.flow_certificate.specs.declared.lines.Line.{Line}
-use Rattle.flow_certificate.specs.declared.lines.Line.TheVariants.{Version, Value, Point, Relay, Link, End}
+use Rattle.flow_certificate.specs.declared.lines.Line.TheVariants.{Point, Relay, Link, End}
 use Rattle.flow_certificate.specs.declared.lines.LinkLine.{LinkLine}
 use Rattle.flow_certificate.specs.declared.lines.PointLine.{PointLine}
 use Rattle.flow_certificate.specs.declared.lines.RelayLine.{RelayLine}
-use Rattle.flow_certificate.specs.Certificates.{Picture, arc_of, lines_of, makes_graph, node_of, open_lines, region_of}
-use Rattle.flow_certificate.specs.Drafts.{Sketch, blank, is_bare, is_empty, is_nothing, is_open, is_version, lines_in}
-use Rattle.flow_certificate.specs.Drafts.{link_line_cmp, may_add_link, may_add_point, may_add_relay, may_follow}
-use Rattle.flow_certificate.specs.Drafts.{point_line_cmp, step, steps, with_link, with_point, with_relay}
-use Rattle.flow_certificate.specs.Lines.{is_line}
-use Rattle.flow_certificate.proofs.Lasts.{all-middle, all-push, ascend-middle, ascend-push, follow-map, map-append}
+use Rattle.flow_certificate.specs.Certificates.{Picture, arc_of, lines_of, makes_graph, node_of, region_of}
+use Rattle.flow_certificate.specs.Drafts.{Sketch, blank}
+use Rattle.flow_certificate.specs.Drafts.{link_line_cmp, may_follow}
+use Rattle.flow_certificate.specs.Drafts.{point_line_cmp, step, steps}
+use Rattle.flow_certificate.proofs.Lasts.{all-middle, ascend-middle, follow-map, map-append}
 
 -- ---- each certificate is drafted
 

@@ -1,14 +1,14 @@
 -- A file that is read to its end is the text of what is drafted, and one that is not has its first failure there.
-use Rattle.std.proofs.Common.{◌≡◌, ◌≢◌, ℕ, zero, suc, ◌+◌, ◌-◌, ◌<◌, ◌≤◌, ◌==◌, ◌&&◌, Bool, true, false, List, [], ◌∷◌}
+use Rattle.std.proofs.Common.{◌≡◌, ℕ, zero, suc, ◌+◌, ◌-◌, ◌<◌, ◌==◌, ◌&&◌, true, false, List, [], ◌∷◌}
 use Rattle.std.proofs.Common.{◌++◌, ◌^◌, map}
 use Rattle.std.proofs.lemmas.List.{length-map}
-use Rattle.std.proofs.Common.{length, length-append, take, drop, Option, Some, None, refl, sym, ap, ◌∙◌, subst}
+use Rattle.std.proofs.Common.{length, length-append, take, drop, Option, Some, None, refl, sym, ap, ◌∙◌}
 use Rattle.std.proofs.Common.{append_assoc, append-nil, arith}
 use Rattle.std.specs.Prelude.{option_and_then}
 use Rattle.std.specs.List.{list_all}
 use Rattle.std.proofs.lemmas.Bool.{and_from, and_parts}
 use Rattle.std.proofs.Math.Seq.{take-append_seam}
-use Rattle.std.proofs.lemmas.List.{length-take-le, take-append-drop, take-append-le, take_all}
+use Rattle.std.proofs.lemmas.List.{length-take-le, take-append-drop}
 use Rattle.flow_certificate.specs.declared.drafts.Draft.{Draft}
 use Rattle.flow_certificate.specs.declared.drafts.Stage.{Stage}
 use Rattle.flow_certificate.specs.declared.drafts.Stage.TheVariants as stages
@@ -16,7 +16,7 @@ use Rattle.flow_certificate.specs.declared.lines.Line.{Line}
 use Rattle.flow_certificate.specs.declared.lines.Line.TheVariants.{Version, Value, Point, Relay, Link, End}
 use Rattle.flow_certificate.specs.Certificates.{BeginsWith, CertText, IsFirstFailure, Picture, is_valid, lines_of}
 use Rattle.flow_certificate.specs.Certificates.{lines_text, makes_graph, open_lines}
-use Rattle.flow_certificate.specs.Drafts.{IsDraft, Sketch, blank, lines_in, sketch_of, step, steps}
+use Rattle.flow_certificate.specs.Drafts.{IsDraft, blank, lines_in, sketch_of, step, steps}
 use Rattle.flow_certificate.specs.Guessing.{line_in}
 use Rattle.flow_certificate.specs.Lines.{is_line, line_text}
 use Rattle.flow_certificate.specs.Reading.{IsReading, is_whole}
@@ -24,7 +24,7 @@ use Rattle.flow_certificate.proofs.Drafting.{drafted, whole}
 use Rattle.flow_certificate.proofs.Guesses.{line-found, line-own, pair-same}
 use Rattle.flow_certificate.proofs.Lasts.{all-middle, all-push}
 use Rattle.flow_certificate.proofs.Prefixes.{front-of, text-append, text-more, text-none, whole-longer}
-use Rattle.flow_certificate.proofs.Steps.{AreSteps, sketch-same, steps-append, steps-one, steps-whole}
+use Rattle.flow_certificate.proofs.Steps.{sketch-same, steps-append, steps-one, steps-whole}
 
 whole-is : (stage : Stage) → is_whole stage ≡ true → stage ≡ stages.Whole
 whole-is stages.Nothing is = absurd cc

@@ -1,10 +1,10 @@
 -- The text of a line is guessed as that line, whatever stands behind its line feed.
-use Rattle.std.proofs.Common.{◌≡◌, ℕ, ◌+◌, ◌-◌, ◌*◌, ◌/◌, ◌%◌, ◌^◌, ◌<◌, ◌≤◌, ◌==◌, ◌&&◌, nat_le, nat_lt, Bool, true, false}
-use Rattle.std.proofs.Common.{List, [], ◌∷◌, ◌++◌, codes, length, drop, get_or, slice_index, if◌then◌else◌, refl, sym}
+use Rattle.std.proofs.Common.{◌≡◌, ℕ, ◌+◌, ◌*◌, ◌/◌, ◌%◌, ◌^◌, ◌<◌, ◌≤◌, ◌==◌, nat_lt, Bool, true, false}
+use Rattle.std.proofs.Common.{List, [], ◌∷◌, ◌++◌, codes, length, get_or, slice_index, if◌then◌else◌, refl, sym}
 use Rattle.std.proofs.Common.{◌∙◌, ap, subst, append_assoc, arith, Option, Some, None}
 use Rattle.std.specs.Prelude.{option_map}
 use Rattle.std.specs.Fmt.{decimal}
-use Rattle.std.proofs.lemmas.Fmt.{decimal_by_steps, decimal_digit, decimal_step, decimal_nonempty, first_decimal}
+use Rattle.std.proofs.lemmas.Fmt.{decimal_by_steps}
 use Rattle.std.proofs.lemmas.Bool.{and_parts, lt-ltb, ltb-true}
 use Rattle.flow_base.specs.HexWords.{hex_digit, hex_digits, hex_word}
 use Rattle.flow_base.specs.Points.{is_slot}
@@ -336,8 +336,11 @@ line-from true line bytes None answer rest is after e = absurd cc
 line-from true line bytes (Some more) answer rest is after e =
     let same = pair-same line answer more rest e in
     subst (λ (l : Line). IsLineOf bytes l rest) same.0 (subst (λ (r : List ℕ). IsLineOf bytes line r) same.1
-    (record { known = is; text = after-found (line_text line ++ (10 ∷ [])) bytes more after ∙ append_assoc
-    (line_text line) (10 ∷ []) more }))
+    (record {
+      known = is;
+      text = after-found (line_text line ++ (10 ∷ [])) bytes more after ∙ append_assoc
+          (line_text line) (10 ∷ []) more;
+    }))
 
 pub line-found : (bytes : List ℕ) (answer : Line) (rest : List ℕ) → line_in bytes ≡ Some (answer, rest) →
     IsLineOf bytes answer rest

@@ -13,3 +13,4 @@ pub mod Prefixes
 pub mod FileReads
 pub mod Wholes
 pub mod Written
+pub mod OneText

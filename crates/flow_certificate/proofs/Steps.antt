@@ -1,12 +1,12 @@
 -- What is drafted from lines has these lines, and makes a graph.
-use Rattle.std.proofs.Common.{◌≡◌, ℕ, ◌+◌, ◌==◌, ◌&&◌, Bool, true, false, List, [], ◌∷◌, ◌++◌, length, map, if◌then◌else◌}
+use Rattle.std.proofs.Common.{◌≡◌, ℕ, ◌&&◌, Bool, true, false, List, [], ◌∷◌, ◌++◌, length, map, if◌then◌else◌}
 use Rattle.std.proofs.Common.{Option, Some, None, refl, sym, ap, ◌∙◌, subst, append_assoc, append-nil, arith}
 use Rattle.std.specs.Prelude.{option_and_then}
 use Rattle.std.specs.List.{list_all}
 use Rattle.std.specs.Ordering.{nat_cmp}
-use Rattle.std.proofs.lemmas.Bool.{and_from, and_parts, eqb-true}
+use Rattle.std.proofs.lemmas.Bool.{and_from, and_parts}
 use Rattle.std.proofs.lemmas.List.{length-map}
-use Rattle.flow_graph.specs.Graphs.{arc_cmp, are_arcs, are_links, are_points, are_relays, ascend, has_capacity, is_link}
+use Rattle.flow_graph.specs.Graphs.{arc_cmp, are_arcs, are_points, are_relays, ascend, has_capacity, is_link}
 use Rattle.flow_graph.specs.Graphs.{node_cmp}
 use Rattle.flow_certificate.specs.declared.drafts.Stage.{Stage}
 use Rattle.flow_certificate.specs.declared.drafts.Stage.TheVariants as stages
@@ -15,7 +15,7 @@ use Rattle.flow_certificate.specs.declared.lines.Line.TheVariants.{Version, Valu
 use Rattle.flow_certificate.specs.declared.lines.LinkLine.{LinkLine}
 use Rattle.flow_certificate.specs.declared.lines.PointLine.{PointLine}
 use Rattle.flow_certificate.specs.declared.lines.RelayLine.{RelayLine}
-use Rattle.flow_certificate.specs.Certificates.{Picture, arc_of, lines_of, makes_graph, node_of, open_lines, region_of}
+use Rattle.flow_certificate.specs.Certificates.{Picture, arc_of, makes_graph, node_of, open_lines, region_of}
 use Rattle.flow_certificate.specs.Drafts.{Sketch, blank, is_bare, is_empty, is_nothing, is_open, is_version, lines_in}
 use Rattle.flow_certificate.specs.Drafts.{link_line_cmp, may_add_link, may_add_point, may_add_relay, may_follow}
 use Rattle.flow_certificate.specs.Drafts.{point_line_cmp, step, steps, with_link, with_point, with_relay}
@@ -170,8 +170,11 @@ stepped before Version after e =
       made = λ made known. made;
     })
 stepped before (Value value) after e =
-    kept (is_version before.stage && is_bare before.picture) (record { stage = stages.Open; picture = record
-    before.picture { value = value } }) after (λ s. IsStep before (Value value) s) e
+    kept (is_version before.stage && is_bare before.picture) (record {
+      stage = stages.Open;
+      picture = record
+          before.picture { value = value };
+    }) after (λ s. IsStep before (Value value) s) e
     (λ is.
     let parts = and_parts (is_version before.stage) (is_bare before.picture) is in
     let none = and_parts (is_empty before.picture.points) _ parts.1 in
@@ -254,8 +257,10 @@ steps-by before lines line more after None later is was here e = absurd cc
 steps-by before lines line more after (Some next) later is was here e =
     let one = stepped before line next is in
     subst (λ ls. AreSteps ls after) (append_assoc lines (line ∷ []) more)
-    (later next (record { lines_are = one.lines ∙ ap (λ (ls : List Line). ls ++ (line ∷ [])) was.lines_are;
-    made = one.made was.made here }) e)
+    (later next (record {
+      lines_are = one.lines ∙ ap (λ (ls : List Line). ls ++ (line ∷ [])) was.lines_are;
+      made = one.made was.made here;
+    }) e)
 
 pub steps-from : (before : Sketch) (lines more : List Line) (after : Sketch) → AreSteps lines before →
     list_all is_line more ≡ true → steps before more ≡ Some after → AreSteps (lines ++ more) after

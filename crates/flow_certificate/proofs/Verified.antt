@@ -1,7 +1,7 @@
 -- A certificate with nothing wrong shows a maximum flow.
-use Rattle.std.proofs.Common.{◌≡◌, ℕ, ◌+◌, ◌-◌, ◌≤◌, ◌<◌, ◌++◌, ◌&&◌, eqb, ltb, not, Bool, true, false, length}
-use Rattle.std.proofs.Common.{slice_index, refl, sym, ap, ◌∙◌, subst, ⊎_elim, arith, length-append}
-use Rattle.std.proofs.lemmas.Bool.{cases_Bool, eqb-true, ltb-false}
+use Rattle.std.proofs.Common.{◌≡◌, ◌+◌, ◌-◌, ◌&&◌, not, Bool, true, false, length}
+use Rattle.std.proofs.Common.{slice_index, refl, sym, ap, ◌∙◌, arith, length-append}
+use Rattle.std.proofs.lemmas.Bool.{eqb-true, ltb-false}
 use Rattle.std.proofs.lemmas.List.{length-map}
 use Rattle.flow_graph.specs.declared.graphs.Graph.{Graph}
 use Rattle.max_flow.specs.declared.answers.Solved.{Solved}
@@ -9,7 +9,7 @@ use Rattle.max_flow.specs.Flows.{member, network_of}
 use Rattle.max_flow.specs.Networks.{at_node}
 use Rattle.max_flow.proofs.Answering.{edges-count}
 use Rattle.flow_certificate.specs.Verdicts.{HasNoneAcross, HasNoneOver, HasNoneUnbalanced, IsVerified, cut_in, flow_in}
-use Rattle.flow_certificate.specs.Verdicts.{flows_of, is_across}
+use Rattle.flow_certificate.specs.Verdicts.{flows_of}
 use Rattle.flow_certificate.proofs.Sides.{member-sink, member-source}
 
 not_not : (b : Bool) → not b ≡ false → b ≡ true
@@ -55,8 +55,13 @@ verified_of graph solved points links halves relays over unbalanced across flow 
               (length graph.points + (i - length graph.points))) ≡ true = ap (λ k. member graph solved.side.points
               solved.side.relays (slice_index (network_of graph).tails k)) back ∙ inside in
               ap (λ k. member graph solved.side.points solved.side.relays (slice_index (network_of graph).heads k))
-              (sym back) ∙ not-and _ _ (across (i - length graph.points) (omega arith) (omega (arith, limits, from,
-              below, edges))) tail;
+              (sym back) ∙ not-and _ _ (across (i - length graph.points) (omega arith) (omega (
+                arith,
+                limits,
+                from,
+                below,
+                edges,
+              ))) tail;
         };
       };
       flow_value = flow;

@@ -1,5 +1,5 @@
 -- What is written of a certificate is its text.
-use Rattle.std.proofs.Common.{◌≡◌, ℕ, ◌<◌, ◌^◌, ◌&&◌, nat_lt, Bool, true, false, List, [], ◌∷◌, ◌++◌, length, map, refl, sym}
+use Rattle.std.proofs.Common.{◌≡◌, ℕ, ◌<◌, ◌^◌, nat_lt, Bool, true, List, [], ◌∷◌, ◌++◌, length, map, refl, sym}
 use Rattle.std.proofs.Common.{ap, ◌∙◌, append_assoc, arith}
 use Rattle.std.specs.List.{list_all}
 use Rattle.std.proofs.lemmas.Bool.{and_from, and_parts, lt-ltb, ltb-true}
@@ -13,11 +13,8 @@ use Rattle.max_flow.specs.declared.answers.Half.{Half}
 use Rattle.flow_certificate.specs.declared.certificates.Certificate.{Certificate}
 use Rattle.flow_certificate.specs.declared.lines.Line.{Line}
 use Rattle.flow_certificate.specs.declared.lines.Line.TheVariants.{Version, Value, Point, Relay, Link, End}
-use Rattle.flow_certificate.specs.declared.lines.LinkLine.{LinkLine}
-use Rattle.flow_certificate.specs.declared.lines.PointLine.{PointLine}
-use Rattle.flow_certificate.specs.declared.lines.RelayLine.{RelayLine}
 use Rattle.flow_certificate.specs.Certificates.{Picture, arc_of, is_valid, lines_of, lines_text, makes_graph, node_of}
-use Rattle.flow_certificate.specs.Certificates.{open_lines, region_of}
+use Rattle.flow_certificate.specs.Certificates.{region_of}
 use Rattle.flow_certificate.specs.Keeping.{is_node, is_number, is_place, is_region}
 use Rattle.flow_certificate.specs.Lines.{is_end, is_line, line_text}
 use Rattle.flow_certificate.specs.Pictures.{link_lines, picture_of, point_lines, relay_lines}

@@ -1,5 +1,5 @@
 -- How the lines of a certificate follow each other.
-use Rattle.std.specs.Prelude.{◌≡◌, ℕ, ◌==◌, ◌&&◌, Bool, true, false, List, [], ◌∷◌, ◌++◌, length, map, if◌then◌else◌}
+use Rattle.std.specs.Prelude.{◌≡◌, ◌==◌, ◌&&◌, Bool, true, false, List, [], ◌∷◌, ◌++◌, length, map, if◌then◌else◌}
 use Rattle.std.specs.Prelude.{Option, Some, None, option_and_then}
 use Rattle.std.specs.Ordering.{is_lt, nat_cmp}
 use Rattle.std.specs.declared.cmp.Ordering.{Ordering}
@@ -12,7 +12,7 @@ use Rattle.flow_certificate.specs.declared.lines.Line.TheVariants.{Version, Valu
 use Rattle.flow_certificate.specs.declared.lines.LinkLine.{LinkLine}
 use Rattle.flow_certificate.specs.declared.lines.PointLine.{PointLine}
 use Rattle.flow_certificate.specs.declared.lines.RelayLine.{RelayLine}
-use Rattle.flow_certificate.specs.Certificates.{Picture, arc_of, lines_of, open_lines, region_of}
+use Rattle.flow_certificate.specs.Certificates.{Picture, lines_of, open_lines, region_of}
 
 -- the first lines of a certificate, and how far they come
 pub record Sketch : Type 0 where

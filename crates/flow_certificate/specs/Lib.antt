@@ -9,3 +9,4 @@ pub mod Certificates
 pub mod Drafts
 pub mod Reading
 pub mod Pictures
+pub mod Laws

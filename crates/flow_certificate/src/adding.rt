@@ -81,11 +81,7 @@ fn may_add_link(draft: &Draft, line: &LinkLine) -> bool
 {
     is_open(draft.stage)
         && may_follow_links(draft.links.as_slice(), line)
-        && is_link(
-            draft.points.len(),
-            draft.regions.as_slice(),
-            &line.link,
-        )
+        && is_link(draft.points.len(), draft.regions.as_slice(), &line.link)
 }
 
 /// Takes the line of the version, where it may come.

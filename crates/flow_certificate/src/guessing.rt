@@ -122,7 +122,11 @@ fn short(number: u64) -> u16
 fn word(number: u64) -> u32
     ensures { result ≡ below_limit 4294967296 number }
 {
-    if number < 4_294_967_296 { number as u32 } else { 0 }
+    if number < 4_294_967_296 {
+        number as u32
+    } else {
+        0
+    }
 }
 
 /// The slot in front, and the rest.

@@ -11,6 +11,7 @@ mod faults;
 mod finishing;
 mod following;
 mod guessing;
+mod laws;
 mod line_reading;
 mod line_texts;
 mod lines;
@@ -25,6 +26,7 @@ mod writing;
 
 pub use certificates::Certificate;
 pub use faults::FormFault;
+pub use laws::texts_are_one;
 pub use reading::read_certificate;
 pub use verdicts::{CertFault, CertVerdict, NetworkNode};
 pub use verifying::verify;

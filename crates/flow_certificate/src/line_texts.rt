@@ -27,12 +27,7 @@ fn put_number(alloc: Global, text: &mut Vec<u8>, number: u64) -> Result<(), NoMe
 }
 
 /// Puts a letter and a number at the end of a text.
-fn put_lettered(
-    alloc: Global,
-    text: &mut Vec<u8>,
-    letter: u8,
-    number: u64,
-) -> Result<(), NoMemory>
+fn put_lettered(alloc: Global, text: &mut Vec<u8>, letter: u8, number: u64) -> Result<(), NoMemory>
     ensures { OnOk result (text.new.items ≡ text.old.items ++ (letter ∷ decimal number)) }
 {
     put(text, &[letter])?;
@@ -89,7 +84,11 @@ fn put_half(text: &mut Vec<u8>, half: Half) -> Result<(), NoMemory>
 fn put_inside(text: &mut Vec<u8>, inside: bool) -> Result<(), NoMemory>
     ensures { OnOk result (text.new.items ≡ text.old.items ++ inside_text inside) }
 {
-    if inside { put(text, b"s") } else { put(text, b"t") }
+    if inside {
+        put(text, b"s")
+    } else {
+        put(text, b"t")
+    }
 }
 
 /// Puts the line of a point at the end of a text.

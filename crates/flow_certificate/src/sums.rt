@@ -67,7 +67,13 @@ pub fn sum_outflows(certificate: &Certificate, base: usize, sums: &mut [u128])
     let Certificate { graph, solved } = certificate;
     let count = graph.points.len();
     add_points(sums, base, 2, solved.flow.points.as_slice());
-    add_sources(sums, base, count, graph.links.as_slice(), solved.flow.links.as_slice());
+    add_sources(
+        sums,
+        base,
+        count,
+        graph.links.as_slice(),
+        solved.flow.links.as_slice(),
+    );
 }
 
 /// Puts into each counter what flows into its node, the nodes being those from `base` on.
@@ -79,5 +85,11 @@ pub fn sum_inflows(certificate: &Certificate, base: usize, sums: &mut [u128])
     let Certificate { graph, solved } = certificate;
     let count = graph.points.len();
     add_points(sums, base, 3, solved.flow.points.as_slice());
-    add_targets(sums, base, count, graph.links.as_slice(), solved.flow.links.as_slice());
+    add_targets(
+        sums,
+        base,
+        count,
+        graph.links.as_slice(),
+        solved.flow.links.as_slice(),
+    );
 }

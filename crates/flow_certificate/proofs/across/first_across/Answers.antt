@@ -1,4 +1,4 @@
-use Rattle.std.proofs.Common.{◌≡◌, ◌<◌, length, sym, ◌∙◌, arith}
+use Rattle.std.proofs.Common.{◌<◌, length, sym, ◌∙◌}
 use Rattle.flow_certificate.specs.Verdicts.{is_across}
 use Rattle.flow_certificate.proofs.Sides.{across-at, first-link, none-more}
 use Rattle.flow_certificate.proofs.across.first_across.Goals as goal

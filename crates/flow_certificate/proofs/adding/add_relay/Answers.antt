@@ -1,5 +1,4 @@
-use Rattle.std.proofs.Common.{◌≡◌, ◌∙◌, ap, sym, true}
-use Rattle.flow_certificate.specs.Certificates.{region_of}
+use Rattle.std.proofs.Common.{◌≡◌, ◌∙◌, sym, true}
 use Rattle.flow_certificate.specs.Drafts.{may_add_relay, sketch_of}
 use Rattle.flow_certificate.proofs.Lasts.{regions-grow, relays-grow}
 use Rattle.flow_certificate.proofs.adding.add_relay.Goals as goal

@@ -1,4 +1,4 @@
-use Rattle.std.proofs.Common.{◌≡◌, ◌≤◌, length, refl, arith}
+use Rattle.std.proofs.Common.{refl, arith}
 use Rattle.max_flow.specs.Flows.{network_of}
 use Rattle.flow_certificate.specs.Verdicts.{flows_of}
 use Rattle.flow_certificate.proofs.Blocks.{first_differs, none_differs}

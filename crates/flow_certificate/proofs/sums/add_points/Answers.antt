@@ -1,4 +1,4 @@
-use Rattle.std.proofs.Common.{length, sym, refl, ◌∙◌, arith}
+use Rattle.std.proofs.Common.{length, sym, refl, arith}
 use Rattle.max_flow.specs.Flows.{halves_from}
 use Rattle.max_flow.proofs.Graphs.{half-at}
 use Rattle.flow_certificate.proofs.Counters.{added_none, added_more, added_room}

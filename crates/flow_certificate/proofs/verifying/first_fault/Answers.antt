@@ -1,4 +1,4 @@
-use Rattle.std.proofs.Common.{◌≡◌, refl, sym, ◌∙◌}
+use Rattle.std.proofs.Common.{refl, sym, ◌∙◌}
 use Rattle.flow_certificate.proofs.Verified.{verified_of}
 use Rattle.flow_certificate.proofs.verifying.first_fault.Goals as goal
 

@@ -10,7 +10,7 @@ abbrev pub invariant-loop-rest : goal.invariant-loop-rest
 invariant-loop-rest l = record {
   named : list_all is_node l.rest ≡ true;
   text : l.text.items ++ lines_text (map forms.Point (point_lines l.rest l.flows_left l.halves_left)) ≡ l.initial.text.items
-    ++ lines_text (map forms.Point (point_lines l.nodes l.flows l.halves));
+      ++ lines_text (map forms.Point (point_lines l.nodes l.flows l.halves));
 }
 
 abbrev pub decreases-loop-rest : goal.decreases-loop-rest

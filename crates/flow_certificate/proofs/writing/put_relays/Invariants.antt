@@ -1,11 +1,11 @@
-use Rattle.std.proofs.Common.{◌≡◌, ◌++◌, length, map, true}
+use Rattle.std.proofs.Common.{◌≡◌, ◌++◌, length, map}
 use Rattle.flow_certificate.specs.declared.lines.Line.TheVariants as forms
 use Rattle.flow_certificate.specs.Certificates.{lines_text}
 use Rattle.flow_certificate.specs.Pictures.{relay_lines}
 use Rattle.flow_certificate.proofs.writing.put_relays.Given as goal
 
 abbrev pub invariant-loop-rest : goal.invariant-loop-rest
-invariant-loop-rest l = 
+invariant-loop-rest l =
     l.text.items ++ lines_text (map forms.Relay (relay_lines l.rest l.answers_left)) ≡ l.initial.text.items
     ++ lines_text (map forms.Relay (relay_lines l.regions l.answers))
 

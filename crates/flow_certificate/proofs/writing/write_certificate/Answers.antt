@@ -1,4 +1,4 @@
-use Rattle.std.proofs.Common.{ap, ◌∙◌}
+use Rattle.std.proofs.Common.{◌∙◌}
 use Rattle.flow_certificate.specs.Pictures.{picture_of}
 use Rattle.flow_certificate.proofs.Written.{written-text, written-valid}
 use Rattle.flow_certificate.proofs.writing.write_certificate.Goals as goal
