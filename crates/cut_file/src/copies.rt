@@ -24,7 +24,10 @@ pub(crate) fn copy_point(alloc: Global, cut_point: &CutPoint) -> Result<CutPoint
 }
 
 /// A copy of points with their masks.
-pub(crate) fn copy_points(alloc: Global, points: &List<CutPoint>) -> Result<List<CutPoint>, NoMemory>
+pub(crate) fn copy_points(
+    alloc: Global,
+    points: &List<CutPoint>,
+) -> Result<List<CutPoint>, NoMemory>
     ensures { IfOk result (λ copies. copies ≡ points.now) }
 {
     let mut copies = List::new(alloc);
