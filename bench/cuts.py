@@ -33,7 +33,7 @@ def filled(version, lines):
 
 
 def many_points(version):
-    lines = (f"point 0 {4 * n:#010x} rs 1*0x00000001 rest {rest(version)}\n" for n in range(1 << 30))
+    lines = (f"point 1 {4 * n:#010x} rs 1*0x00000001 rest {rest(version)}\n" for n in range(1 << 30))
     return filled(version, lines)
 
 
@@ -41,7 +41,7 @@ def long_list(version):
     """One point, with as many runs as have room."""
     room = SIZE - 200
     runs = "1*0x00000001 1*0x00000002 " * (room // 26)
-    return filled(version, [f"point 0 0x00010000 rs {runs}rest {rest(version)}\n"])
+    return filled(version, [f"point 1 0x00010000 rs {runs}rest {rest(version)}\n"])
 
 
 def main(executable):

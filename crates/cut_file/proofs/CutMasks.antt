@@ -148,7 +148,8 @@ pub same-width : (first second : Slot) → is_slot first ≡ true → is_slot se
     number_of first ≡ number_of second → width_of first ≡ width_of second
 same-width first second known other e = width-number first known ∙ ap width_at e ∙ sym (width-number second other)
 
-pub same-slot : (first second : Point) → is_same_point first second ≡ true → number_of first.slot ≡ number_of second.slot
+pub same-slot : (first second : Point) → is_same_point first second ≡ true → number_of first.slot ≡ number_of
+    second.slot
 same-slot first second same =
     let rest = and_parts (first.region == second.region) _ same in
     let slots = and_parts (first.address == second.address) (number_of first.slot == number_of second.slot) rest.1 in

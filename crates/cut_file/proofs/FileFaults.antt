@@ -1,5 +1,5 @@
 -- A fault that is told is the first one.
-use Rattle.std.proofs.Common.{◌≡◌, ◌⊎◌, ℕ, suc, ◌+◌, ◌-◌, nat_le, nat_lt, not, Bool, true, false, List}
+use Rattle.std.proofs.Common.{◌≡◌, ◌⊎◌, ℕ, suc, ◌+◌, ◌-◌, nat_lt, not, Bool, true, false, List}
 use Rattle.std.proofs.Common.{[], ◌∷◌, ◌++◌, codes, length, Option, Some, None, Result, if◌then◌else◌, inl}
 use Rattle.std.proofs.Common.{inr, refl, sym, ◌∙◌, ap, subst, append_assoc, arith, length-append, get_or}
 use Rattle.std.specs.Str.{bytes_eq}

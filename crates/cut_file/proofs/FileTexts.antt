@@ -90,11 +90,13 @@ of_lists version secret_len bits skip points = record {
 
 with-skip : (number version secret_len bits : ℕ) (skip : List ℕ) (region : ℕ) → is_region region ≡ true →
     may_follow nat_lt skip region ≡ true →
-    with_line number (of_lists version secret_len bits skip []) (skip_line region) ≡ more_ok (of_lists version secret_len bits
+    with_line number (of_lists version secret_len bits skip []) (skip_line region) ≡ more_ok (of_lists version
+    secret_len bits
     (skip ++ (region ∷ [])) [])
 unfolding with_line
 with-skip number version secret_len bits skip region own follows =
-    ap (λ (o : Option ℕ). with_either number (of_lists version secret_len bits skip []) o (point_in version (skip_line region)))
+    ap (λ (o : Option ℕ). with_either number (of_lists version secret_len bits skip []) o (point_in version (skip_line
+    region)))
     (skip-own region own)
     ∙ cond-true (may_follow nat_lt skip region) (more_ok (of_lists version secret_len bits (skip ++ (region ∷ [])) []))
     (more_err (Order number)) follows
@@ -135,7 +137,8 @@ skips-own (region ∷ more) done number version secret_len bits tail known some 
     let same : done ++ (region ∷ more) ≡ (done ++ (region ∷ [])) ++ more = sym (append_assoc done
     (region ∷ []) more) in
     let count : (number + 1) + length more ≡ number + length (region ∷ more) = omega arith in
-    cons-next number (of_lists version secret_len bits done []) (of_lists version secret_len bits (done ++ (region ∷ [])) [])
+    cons-next number (of_lists version secret_len bits done []) (of_lists version secret_len bits (done ++ (region ∷
+    [])) [])
     (skip_line region)
     (map skip_line more ++ tail) (some-behind (map skip_line more) tail some) refl
     (with-skip number version secret_len bits done region step.own step.follows)
@@ -163,7 +166,8 @@ points-own (point ∷ more) done number version secret_len bits skip tail known 
     (point ∷ []))) (point_line version point)
     (map (point_line version) more ++ tail) (some-behind (map (point_line version) more) tail some) refl
     (with-point number (of_lists version secret_len bits skip done) point step.own step.follows)
-    ∙ points-own more (done ++ (point ∷ [])) (number + 1) version secret_len bits skip tail (ap (are_points_of version) (sym same)
+    ∙ points-own more (done ++ (point ∷ [])) (number + 1) version secret_len bits skip tail (ap (are_points_of
+    version) (sym same)
     ∙ known) some
     ∙ ap (λ (n : ℕ). lines_in n (of_lists version secret_len bits skip ((done ++ (point ∷ [])) ++ more)) tail) count
     ∙ ap (λ (l : List CutPoint). lines_in (number + length (point ∷ more))
@@ -242,7 +246,8 @@ head-own file rest version secret_len bits known short word text =
 -- ---- the lines of a cut
 
 listed-own : (cut : CutPicture) (tail : List (List ℕ)) → is_valid cut ≡ true → is_empty tail ≡ false →
-    lines_in 4 (bare_cut cut.version cut.secret_len cut.bits) ((map skip_line cut.skip ++ map (point_line cut.version) cut.points) ++ tail)
+    lines_in 4 (bare_cut cut.version cut.secret_len cut.bits) ((map skip_line cut.skip ++ map (point_line cut.version)
+    cut.points) ++ tail)
     ≡ lines_in (suc (length (listed_lines cut))) cut tail
 listed-own cut tail valid some =
     let version = and_parts (is_version cut.version) _ valid in
@@ -250,14 +255,16 @@ listed-own cut tail valid some =
     let bits = and_parts (is_word cut.bits) _ short.1 in
     let lists = and_parts (are_regions cut.skip) (are_points_of cut.version cut.points) bits.1 in
     let skips : length (map skip_line cut.skip) ≡ length cut.skip = length-map cut.skip skip_line in
-    let points : length (map (point_line cut.version) cut.points) ≡ length cut.points = length-map cut.points (point_line cut.version) in
+    let points : length (map (point_line cut.version) cut.points) ≡ length cut.points = length-map cut.points
+    (point_line cut.version) in
     let both : length (map skip_line cut.skip ++ map (point_line cut.version) cut.points) ≡ length
     (map skip_line cut.skip) + length (map (point_line cut.version) cut.points) =
     length-append (map skip_line cut.skip) (map (point_line cut.version) cut.points) in
     let count : (4 + length cut.skip) + length cut.points ≡ suc (length (listed_lines cut)) = omega arith in
     ap (lines_in 4 (bare_cut cut.version cut.secret_len cut.bits)) (append_assoc (map skip_line cut.skip)
     (map (point_line cut.version) cut.points) tail)
-    ∙ skips-own cut.skip [] 4 cut.version cut.secret_len cut.bits (map (point_line cut.version) cut.points ++ tail) lists.0 (some-behind
+    ∙ skips-own cut.skip [] 4 cut.version cut.secret_len cut.bits (map (point_line cut.version) cut.points ++ tail)
+    lists.0 (some-behind
     (map (point_line cut.version) cut.points) tail some)
     ∙ points-own cut.points [] (4 + length cut.skip) cut.version cut.secret_len cut.bits cut.skip tail lists.1 some
     ∙ ap (λ (n : ℕ). lines_in n cut tail) count

@@ -1,5 +1,6 @@
 -- Items that follow one another.
-use Rattle.std.proofs.Common.{◌≡◌, ℕ, ◌-◌, ◌<◌, ◌==◌, ◌&&◌, ◌||◌, Bool, true, false, List, [], ◌∷◌, ◌++◌, length, get_or, refl}
+use Rattle.std.proofs.Common.{◌≡◌, ℕ, ◌-◌, ◌<◌, ◌==◌, ◌&&◌, ◌||◌, Bool, true, false, List}
+use Rattle.std.proofs.Common.{[], ◌∷◌, ◌++◌, length, get_or, refl}
 use Rattle.std.proofs.Common.{sym, ap, ◌∙◌, append_assoc, arith}
 use Rattle.std.specs.List.{list_all}
 use Rattle.std.proofs.Common.{nat_lt, nat_le, IsTrue}
@@ -7,7 +8,7 @@ use Rattle.std.proofs.lemmas.Bool.{and_parts, and_from}
 use Rattle.flow_base.specs.Points.{is_slot}
 use Rattle.cut_file.specs.declared.points.CutPoint.{CutPoint}
 use Rattle.cut_file.specs.Cuts.{are_points, are_points_of, are_regions, is_valid, is_cut_point, is_point, is_point_of}
-use Rattle.cut_file.specs.Cuts.{is_region, is_rest, is_single, is_word, neighbours_pass, stands_before}
+use Rattle.cut_file.specs.Cuts.{is_region, is_single, is_word, neighbours_pass, stands_before}
 use Rattle.cut_file.specs.declared.cuts.Cut.{Cut}
 use Rattle.cut_file.specs.Pictures.{picture_of}
 use Rattle.cut_file.specs.Reading.{may_follow}

@@ -66,7 +66,8 @@ mask-rest_at runs index visit rest whole past known =
 
 -- ---- how many masks runs list
 
-pub masks-count : (run : Run) (runs : List Run) → length (listed_masks (run ∷ runs)) ≡ run.count + length (listed_masks runs)
+pub masks-count : (run : Run) (runs : List Run) → length (listed_masks (run ∷ runs)) ≡ run.count + length
+    (listed_masks runs)
 unfolding listed_masks
 masks-count run runs =
     length-append (replicate run.count run.mask) (listed_masks runs)

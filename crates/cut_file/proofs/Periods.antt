@@ -1,21 +1,23 @@
 -- Lists of masks that repeat, and their first round.
-use Rattle.std.proofs.Common.{◌≡◌, ◌⊎◌, ℕ, zero, suc, ◌+◌, ◌-◌, ◌*◌, ◌<◌, ◌≤◌, ◌==◌, ◌&&◌, nat_le, Bool, true, false, inl, inr}
-use Rattle.std.proofs.Common.{List, [], ◌∷◌, ◌++◌, length, drop, take, get_or, refl, sym, ap, subst, ◌∙◌, arith, drop-cons}
+use Rattle.std.proofs.Common.{◌≡◌, ℕ, zero, suc, ◌+◌, ◌-◌, ◌*◌, ◌<◌, ◌≤◌, ◌==◌, nat_le, true, inl, inr}
+use Rattle.std.proofs.Common.{List, [], ◌∷◌, ◌++◌, length, drop, take, get_or, refl, sym}
+use Rattle.std.proofs.Common.{ap, subst, ◌∙◌, arith, drop-cons}
 use Rattle.std.proofs.Common.{add-one, if◌then◌else◌, IsTrue}
 use Rattle.std.specs.Prelude.{◌%◌, bit_and, not, replicate, slice_index_or}
 use Rattle.std.specs.List.{list_all}
 use Rattle.std.proofs.Math.ListN.{drop_of_length-le}
 use Rattle.std.proofs.Math.Nat.{mod-eq_of_lt, mod-lt, add-mod_right}
-use Rattle.std.proofs.lemmas.Bool.{and_parts, and_from, and_left, and_right, cases_Bool, cases_lt, cond-true, cond-false}
+use Rattle.std.proofs.lemmas.Bool.{and_parts, and_from, cases_Bool, cases_lt, cond-true, cond-false}
 use Rattle.std.proofs.lemmas.Bool.{eqb-true, le-leb, leb-true, lt-leb, lt-ltb, ltb-true}
 use Rattle.std.proofs.lemmas.List.{append-nil, get_or-drop, get_or-take, length-drop, length-take-le}
 use Rattle.flow_base.specs.declared.points.Point.{Point}
 use Rattle.flow_base.specs.Points.{width_of}
 use Rattle.cut_file.specs.declared.points.CutPoint.{CutPoint}
 use Rattle.cut_file.specs.declared.points.Run.{Run}
-use Rattle.cut_file.specs.Cuts.{CutPicture, are_points, are_points_of, are_runs, have_other_masks, is_below, is_cut_point, is_rest, is_run, is_word}
+use Rattle.cut_file.specs.Cuts.{CutPicture, are_points, are_points_of, are_runs, have_other_masks, is_below}
+use Rattle.cut_file.specs.Cuts.{is_cut_point, is_rest, is_run, is_word}
 use Rattle.cut_file.specs.Cuts.{neighbours_pass, stands_before}
-use Rattle.cut_file.specs.Folds.{AreFolded, IsFold, IsFolded, IsLeastPeriod, begins_with, first_runs, is_period, listed_at}
+use Rattle.cut_file.specs.Folds.{AreFolded, IsFold, IsFolded, begins_with, first_runs, is_period, listed_at}
 use Rattle.cut_file.specs.Masks.{MaskAt, is_same_point, listed_mask, listed_masks, mask_of, repeated}
 use Rattle.cut_file.proofs.Following.{all-migrated, is_so, is_true}
 use Rattle.cut_file.proofs.MaskLists.{masks-count, masks-none, repeated-here, repeated-behind}

@@ -29,7 +29,8 @@ ended-append (line ∷ first) second =
     ∙ sym (append_assoc line (10 ∷ ended first) (ended second))
 
 -- the line of a point, and what comes behind it, in the pieces that are written
-pub point-pieces : (version : ℕ) (point : CutPoint) → point_line version point ++ codes "\n" ≡ point_pieces version point
+pub point-pieces : (version : ℕ) (point : CutPoint) → point_line version point ++ codes "\n" ≡ point_pieces version
+    point
 point-pieces version point =
     let region = decimal point.point.region in
     let slot = slot_text point.point.slot in

@@ -1,5 +1,6 @@
 -- The line of a point is read as that point, and as no other.
-use Rattle.std.proofs.Common.{◌≡◌, ℕ, ◌<◌, ◌==◌, ◌||◌, length, nat_le, not, Bool, true, false, List, [], ◌∷◌, ◌++◌, codes, if◌then◌else◌}
+use Rattle.std.proofs.Common.{◌≡◌, ℕ, ◌<◌, ◌==◌, ◌||◌, length, nat_le, not, Bool, true, false}
+use Rattle.std.proofs.Common.{List, [], ◌∷◌, ◌++◌, codes, if◌then◌else◌}
 use Rattle.std.proofs.Common.{Option, Some, None, refl, sym, ◌∙◌, ap, subst, append_assoc, arith}
 use Rattle.std.specs.Prelude.{map}
 use Rattle.std.specs.Fmt.{decimal}
@@ -19,8 +20,10 @@ use Rattle.cut_file.specs.Cuts.{are_runs, have_other_masks, is_cut_point, is_poi
 use Rattle.cut_file.specs.Cuts.{is_single, is_word}
 use Rattle.flow_base.specs.HexWords.{hex_word}
 use Rattle.cut_file.specs.Texts.{joined, point_line, point_words, rest_text, run_text, slot_text}
-use Rattle.cut_file.specs.Reading.{◌>>=◌, after_text, divided, first_of, is_empty, may_follow, number_in, others_of, parts}
-use Rattle.cut_file.specs.Reading.{only_mask_in, pattern_in, place_in, point_in, point_in_words, rest_in, run_in, runs_in, single_in}
+use Rattle.cut_file.specs.Reading.{◌>>=◌, after_text, divided, first_of, is_empty, may_follow}
+use Rattle.cut_file.specs.Reading.{number_in, others_of, parts}
+use Rattle.cut_file.specs.Reading.{only_mask_in, pattern_in, place_in, point_in, point_in_words, rest_in}
+use Rattle.cut_file.specs.Reading.{run_in, runs_in, single_in}
 use Rattle.cut_file.specs.Reading.{slot_in, word_in}
 use Rattle.cut_file.proofs.Parts.{clean_words, divided-found, divided-own, has_byte, joined-parts, parts-joined}
 use Rattle.cut_file.proofs.Following.{kept-step, list-push}
@@ -386,7 +389,8 @@ pattern-found (word ∷ words) runs found known e =
       known = inner.known;
     }
 
-pattern-done : (runs : List Run) → is_rest runs ≡ true → (if is_empty runs then None else some_rest runs) ≡ some_rest runs
+pattern-done : (runs : List Run) → is_rest runs ≡ true → (if is_empty runs then None else some_rest runs) ≡ some_rest
+    runs
 pattern-done [] known = absurd cc
 pattern-done (run ∷ runs) known = refl
 
@@ -462,7 +466,8 @@ words-found version words point e =
     let first = place-found words place.value place.is in
     let second = runs-found left [] runs.value.0 runs.value.1 refl runs.is in
     let third = rest-found version runs.value.1 rest.value rest.is in
-    let own : IsPointOf version words (record { point = place.value; runs = runs.value.0; rest = rest.value }) = record {
+    let own : IsPointOf version words (record { point = place.value; runs = runs.value.0; rest = rest.value }) =
+    record {
       text = first.text
           ∙ ap (λ (l : List (List ℕ)). decimal place.value.region ∷ (hex_word place.value.address ∷
           (slot_text place.value.slot ∷ l)))
@@ -541,7 +546,8 @@ pub point-found : (version : ℕ) (line : List ℕ) (point : CutPoint) → point
     IsPointLineOf version line point
 unfolding point_in
 point-found version line point e =
-    let rest = then-found (after_text (codes "point ") line) (λ words. point_in_words version (parts 32 words)) point e in
+    let rest = then-found (after_text (codes "point ") line) (λ words. point_in_words version (parts 32 words)) point
+    e in
     let own = words-found version (parts 32 rest.value) point rest.then_is in
     record {
       text = after-found (codes "point ") line rest.value rest.is
@@ -553,7 +559,8 @@ pub point-own : (version : ℕ) (point : CutPoint) → is_point_of version point
     point_in version (point_line version point) ≡ Some point
 unfolding point_in
 point-own version point known =
-    then-own (after_text (codes "point ") (point_line version point)) (λ words. point_in_words version (parts 32 words)) (joined 32
+    then-own (after_text (codes "point ") (point_line version point)) (λ words. point_in_words version (parts 32
+    words)) (joined 32
     (point_words version point))
     (after-own (codes "point ") (joined 32 (point_words version point)))
     ∙ ap (point_in_words version) (parts-joined 32 _ _ (words-clean 32 version point (omega arith) known))
@@ -572,4 +579,5 @@ pub point_line-clean : (version : ℕ) (point : CutPoint) → is_point_of versio
     has_byte 10 (point_line version point) ≡ false
 point_line-clean version point known =
     clean-append 10 (codes "point ") (joined 32 (point_words version point)) refl
-    (clean-joined 10 (point_words version point) (λ e. omega (arith, e)) (words-clean 10 version point (omega arith) known))
+    (clean-joined 10 (point_words version point) (λ e. omega (arith, e)) (words-clean 10 version point (omega arith)
+    known))

@@ -1,5 +1,6 @@
 -- A cut in version 2: the same cut, and a cut in which lists that repeat are patterns.
-use Rattle.std.specs.Prelude.{◌≡◌, ◌⊎◌, ℕ, ◌-◌, ◌*◌, ◌<◌, ◌≤◌, ◌==◌, ◌&&◌, nat_le, length, Bool, true, false, List, [], ◌∷◌}
+use Rattle.std.specs.Prelude.{◌≡◌, ◌⊎◌, ℕ, ◌-◌, ◌*◌, ◌<◌, ◌≤◌, ◌==◌, ◌&&◌, nat_le, length}
+use Rattle.std.specs.Prelude.{Bool, true, false, List, [], ◌∷◌}
 use Rattle.std.specs.Prelude.{drop, take, if◌then◌else◌}
 use Rattle.flow_base.specs.declared.points.Point.{Point}
 use Rattle.cut_file.specs.declared.points.CutPoint.{CutPoint}
@@ -25,7 +26,8 @@ is_period masks count =
     && begins_with masks (drop count masks))))
 
 abbrev pub IsLeastPeriod : List ℕ → ℕ → Type 0
-IsLeastPeriod masks count = (is_period masks count ≡ true) × ((fewer : ℕ) → fewer < count → is_period masks fewer ≡ false)
+IsLeastPeriod masks count = (is_period masks count ≡ true) × ((fewer : ℕ) → fewer < count → is_period masks fewer ≡
+    false)
 
 abbrev pub HasNoPeriod : List ℕ → Type 0
 HasNoPeriod masks = (count : ℕ) → is_period masks count ≡ false

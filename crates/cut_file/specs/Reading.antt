@@ -289,7 +289,14 @@ whole_cut size cut (byte ∷ bytes) = Err (Trailing (size - length (byte ∷ byt
 
 -- a cut without regions and points
 abbrev pub bare_cut : ℕ → ℕ → ℕ → CutPicture
-bare_cut version secret_len bits = record { version = version; secret_len = secret_len; bits = bits; skip = []; points = [] }
+bare_cut version secret_len bits = record {
+  version = version;
+  secret_len = secret_len;
+  bits = bits;
+  skip = [];
+  points
+      = [];
+}
 
 -- the cut of the first three lines, and the rest of the file
 unfoldable pub head_in : List ℕ → Result (CutPicture × List ℕ) CutFault

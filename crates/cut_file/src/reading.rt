@@ -189,8 +189,9 @@ fn cut_of(alloc: Global, file: &[u8]) -> Result<Cut, CutFault>
 /// The cut whose text the file is. The text has the lines `flowcheck-cut VERSION`, `secret LENGTH` and `bits NUMBER`,
 /// then a line `skip REGION` for each skipped region and a line `point REGION 0xADDRESS SLOT RUNS rest REST` for each
 /// point, both strictly ascending, and `end`. RUNS are none or more words `COUNT*0xMASK`, each with another mask than
-/// the one before. REST is one word `0xMASK` in version 1, and one or more such runs in version 2. Numbers are decimal without leading zeros; addresses and masks have eight hexadecimal digits in
-/// lower case; one space stands between words, and each line ends with a line feed.
+/// the one before. REST is one word `0xMASK` in version 1, and one or more such runs in version 2. Numbers are decimal
+/// without leading zeros; addresses and masks have eight hexadecimal digits in lower case; one space stands between
+/// words, and each line ends with a line feed.
 ///
 /// Every other file answers its first fault, as [`CutFault`] tells them; want of memory answers [`CutFault::Memory`].
 /// It takes time in the length of the file.

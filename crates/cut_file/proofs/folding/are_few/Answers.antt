@@ -1,4 +1,4 @@
-use Rattle.std.proofs.Common.{◌≡◌, ◌+◌, ◌-◌, drop, get_or, length, nat_le, ap, sym, ◌∙◌, arith, ℕ, List}
+use Rattle.std.proofs.Common.{◌+◌, drop, get_or, length, nat_le, ap, sym, ◌∙◌, arith, ℕ, List}
 use Rattle.std.proofs.lemmas.Bool.{le-leb, lt-leb}
 use Rattle.cut_file.specs.declared.points.Run.{Run}
 use Rattle.cut_file.specs.Masks.{listed_masks}

@@ -1,4 +1,4 @@
-use Rattle.std.proofs.Common.{◌≡◌, ◌+◌, ◌++◌, [], drop, get_or, length, ap, sym, ◌∙◌, append_assoc, ℕ, List}
+use Rattle.std.proofs.Common.{◌+◌, ◌++◌, drop, get_or, ap, sym, ◌∙◌, append_assoc, ℕ, List}
 use Rattle.std.specs.Prelude.{replicate}
 use Rattle.std.proofs.lemmas.List.{append-nil}
 use Rattle.cut_file.specs.declared.points.Run.{Run}

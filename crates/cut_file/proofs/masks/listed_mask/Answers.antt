@@ -1,6 +1,5 @@
-use Rattle.std.proofs.Common.{◌≡◌, ◌≤◌, ◌<◌, ◌-◌, ◌+◌, get_or, length, drop, ap, sym, ◌∙◌, arith, ℕ, List}
+use Rattle.std.proofs.Common.{◌≡◌, ◌≤◌, ◌<◌, ◌-◌, ◌+◌, get_or, drop, ap, ◌∙◌, arith, ℕ, List}
 use Rattle.cut_file.specs.declared.points.Run.{Run}
-use Rattle.cut_file.specs.Masks.{listed_masks}
 use Rattle.cut_file.proofs.MaskLists.{mask_in, mask-here_at, mask-later_at, masks-count_at, masks-past}
 use Rattle.cut_file.proofs.masks.listed_mask.Goals as goal
 

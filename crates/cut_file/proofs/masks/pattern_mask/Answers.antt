@@ -1,4 +1,4 @@
-use Rattle.std.proofs.Common.{◌≡◌, ◌≤◌, ◌∙◌, arith, length}
+use Rattle.std.proofs.Common.{◌∙◌, arith}
 use Rattle.cut_file.specs.Masks.{listed_masks}
 use Rattle.cut_file.proofs.MaskLists.{first-round}
 use Rattle.cut_file.proofs.masks.pattern_mask.Goals as goal

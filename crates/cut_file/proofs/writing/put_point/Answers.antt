@@ -14,7 +14,8 @@ returns c =
     let address : c.put-3.new.text.items ≡ c.put-2.new.text.items ++ hex_word point.point.address =
     c.in_ok-put-3.ensures ∙ ap (λ (l : List ℕ). c.put-2.new.text.items ++ l) c.hex_word.ensures in
     let runs : c.put_runs.new.text.items ≡ c.put_slot.new.text.items ++ led (map run_text point.runs) =
-    c.in_ok-put_runs.ensures ∙ ap (λ (l : List Run). c.put_slot.new.text.items ++ led (map run_text l)) c.as_slice.ensures in
+    c.in_ok-put_runs.ensures ∙ ap (λ (l : List Run). c.put_slot.new.text.items ++ led (map run_text l))
+    c.as_slice.ensures in
     let rest : c.put_rest.new.text.items ≡ c.put-5.new.text.items ++ led (map (rest_text c.args.version) point.rest) =
     c.in_ok-put_rest.ensures
     ∙ ap (λ (l : List Run). c.put-5.new.text.items ++ led (map (rest_text c.args.version) l)) c.as_slice-2.ensures in

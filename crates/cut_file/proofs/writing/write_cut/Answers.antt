@@ -16,7 +16,8 @@ returns c =
       text =
           c.from_vec.ensures ∙ c.in_ok-put.ensures
           ∙ ap (λ (l : List ℕ). l ++ codes "end\n") (c.in_ok-put_points.ensures
-          ∙ ap (λ (l : List ℕ). l ++ ended (map (point_line c.args.cut.now.version) c.as_slice-2.result.now)) (c.in_ok-put_regions.ensures
+          ∙ ap (λ (l : List ℕ). l ++ ended (map (point_line c.args.cut.now.version) c.as_slice-2.result.now))
+          (c.in_ok-put_regions.ensures
           ∙ ap (λ (l : List ℕ). l ++ ended (map skip_line c.as_slice.result.now)) c.in_ok-text.ensures))
           ∙ ap (λ (l : List CutPoint). ((start ++ ended (map skip_line c.as_slice.result.now)) ++ ended
           (map (point_line c.args.cut.now.version) l)) ++ codes "end\n") c.as_slice-2.ensures
