@@ -97,6 +97,19 @@ const WITH_R: [&str; 8] = [
     "r",
 ];
 
+/// The same words with options among them, and a limit of two turns.
+const AMONG: [&str; 9] = [
+    "check",
+    "--turns",
+    "2",
+    "prog",
+    "public",
+    "--regions=r",
+    "cut",
+    "0",
+    "s3",
+];
+
 const ACCEPTED: &str =
     "accepted 1 bits 0 crossing - output 0 status 0\nchecked 1 accepted 1 budget 0\n";
 
@@ -110,6 +123,7 @@ fn region_files_are_read(rt: HostRuntime) -> Result<(), Fail> {
     let mut words = WITH_R[..6].to_vec(alloc)?;
     words.extend_from_slice(&["--turns=2", "--regions=r"])?;
     let rejected = "rejected 1 turns 2\nchecked 1 accepted 0 budget 0\n";
+    assert!(rt; answers(alloc, exit.as_slice(), AWAY, &AMONG, (1, rejected, 5))?);
     assert!(rt;
         answers(
             alloc,
@@ -232,12 +246,12 @@ fn region_files_are_loaded_in_order(rt: HostRuntime) -> Result<(), Fail> {
     Ok(())
 }
 
-/// An option that stands twice or among the secrets, or whose value is missing, empty or begins with a dash, is usage.
+/// An option that stands twice, or whose value is missing, empty or begins with a dash, is usage.
 #[test]
 fn words_of_region_files_are_refused(rt: HostRuntime) -> Result<(), Fail> {
     let alloc = rt.alloc();
     let exit = program(alloc, &EXIT)?;
-    let options: [&[&str]; 12] = [
+    let options: [&[&str]; 11] = [
         &["--regions", "r", "--regions", "r"],
         &["--regions", "r", "--regions=r"],
         &["--regions", "r", "--turns", "3", "--regions", "r"],
@@ -248,7 +262,6 @@ fn words_of_region_files_are_refused(rt: HostRuntime) -> Result<(), Fail> {
         &["--turns="],
         &["--regions", "-r"],
         &["--regions", "--turns", "3"],
-        &["--regions", "r", "s3"],
         &["--region", "r"],
     ];
     for option in options {

@@ -158,6 +158,9 @@ const ZERO: [&str; 7] = ["check", "prog", "public", "cut", "0", "s65", "s3"];
 
 const ABSENT: [&str; 6] = ["check", "prog", "public", "cut", "8", "s9"];
 
+/// A name with a line feed, DEL and a letter that is no ASCII.
+const FORGED: [&str; 6] = ["check", "p\nq\u{7f}\u{e9}", "public", "cut", "8", "s3"];
+
 const LARGE: [&str; 6] = ["check", "prog", "large", "cut", "8", "s3"];
 
 const TURNS_0: [&str; 8] = ["check", "prog", "public", "cut", "8", "s3", "--turns", "0"];
@@ -325,6 +328,14 @@ fn commands_are_refused(rt: HostRuntime) -> Result<(), Fail> {
             words: &EIGHT[..6],
             status: 3,
             text: "refused 3 cut truncated\n",
+        },
+        // control bytes of a name are shown by their digits
+        Row {
+            program: low.as_slice(),
+            cut: ALL_BITS,
+            words: &FORGED,
+            status: 5,
+            text: "refused 5 load p\\x0aq\\x7f\u{e9}\n",
         },
         // a limit of no turns
         Row {
