@@ -10,7 +10,6 @@ use Rattle.flow_base.specs.Loads.{Told, after_load, next_answer, held_answer}
 use Rattle.elf32_loader.specs.Pictures.{Picture}
 use Rattle.elf32_loader.specs.Programs.{IsImage}
 use Rattle.enclosure_regions.specs.declared.region_parts.Region.{Region}
-use Rattle.cut_file.specs.Cuts.{CutPicture}
 use Rattle.lockstep_replay.specs.Tasks.{Task, Limits, task_of}
 use Rattle.lockstep_replay.specs.Acceptance.{Accept, IsOutput}
 use Rattle.lockstep_replay.specs.Verdicts.{Judgement, Accepts, Rejects, First}
@@ -18,12 +17,11 @@ use Rattle.lockstep_replay.proofs.Bounds.{done_law, bound_law}
 use Rattle.lockstep_replay.proofs.Accepting.{accepted_law}
 use Rattle.lockstep_replay.proofs.Judging.{rejected_law}
 use Rattle.lockstep_replay.proofs.Causes.{causes_law}
-use Rattle.flowcheck.specs.declared.limits.Limits.{Limits as WordLimits}
 use Rattle.flowcheck.specs.declared.refusals.Refusal.{Refusal}
 use Rattle.flowcheck.specs.declared.statuses.Status.TheVariants.{Done, Rejected}
 use Rattle.flowcheck.specs.Answers.{Answer, told}
 use Rattle.flowcheck.specs.Checks.{AnswersCheck, AnswersCut, AnswersOthers, AnswersProgram, AnswersRegions, AreRegions, check_wants, judgements_of, limits_of, region_wants, secret_wants}
-use Rattle.flowcheck.specs.CommandLines.{Check, Command, Checks, Assembles, Lists, IsCommand}
+use Rattle.flowcheck.specs.CommandLines.{Check, Command, Checks, Assembles, Lists, Verifies, Migrates, IsCommand}
 use Rattle.flowcheck.specs.FileLimits.{limit_of}
 use Rattle.flowcheck.specs.Headline.{AreHeld, IsHeld, Says, AllSay, IsAmong, AreFewOfAll, AreFew, Headline}
 use Rattle.flowcheck.specs.Loading.{Want, AreWithin, IsLoadRefusal, Loads, and_load, loaded_from}
@@ -302,6 +300,10 @@ from-words source words answer check is (inr (Assembles file, named, h)) low =
     absurd (other-row words check (codes "asm") (Assembles file) is named named.row.0 refl)
 from-words source words answer check is (inr (Lists program, named, h)) low =
     absurd (other-row words check (codes "list") (Lists program) is named named.row.0 refl)
+from-words source words answer check is (inr (Verifies certificate, named, h)) low =
+    absurd (other-row words check (codes "verify") (Verifies certificate) is named named.row.0 refl)
+from-words source words answer check is (inr (Migrates cut, named, h)) low =
+    absurd (other-row words check (codes "migrate") (Migrates cut) is named named.row.0 refl)
 
 pub headline_of : (source : Option Told) (words : List (List ℕ)) (status : ℕ) (text : List ℕ) (check : Check) →
     IsCommand words (Checks check) → Replies source words (record { status = status; text = text }) → status ≤ 1 →

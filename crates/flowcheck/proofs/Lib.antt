@@ -12,3 +12,4 @@ pub mod Headlines
 pub mod Files
 pub mod OneLine
 pub mod Told
+pub mod Counted

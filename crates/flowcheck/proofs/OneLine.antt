@@ -1,6 +1,5 @@
 -- No text of a refusal has a line feed within.
-use Rattle.std.proofs.Common.{◌≡◌, ◌==◌, ◌||◌, ◌/◌, ◌%◌, ◌<◌, ◌+◌, ◌∙◌, inl, inr, ℕ, zero, suc, List, [], ◌∷◌, ◌++◌, codes, Bool, true, false, nat_lt, refl, sym, ap, arith, ne_eqb, if◌then◌else◌}
-use Rattle.std.proofs.lemmas.Bool.{cases_Bool}
+use Rattle.std.proofs.Common.{◌≡◌, ◌==◌, ◌||◌, ◌/◌, ◌%◌, ◌∙◌, ℕ, zero, suc, List, [], ◌∷◌, ◌++◌, codes, Bool, true, false, refl, ap, arith, if◌then◌else◌}
 use Rattle.std.proofs.lemmas.Bool.Decides.{nat_tests}
 use Rattle.std.proofs.lemmas.List.Folds.{list_any-append}
 use Rattle.std.specs.Fmt.{decimal, digit_glyph, digits, digits_onto}
@@ -15,6 +14,9 @@ use Rattle.enclosure_regions.specs.Texts.{fault_text}
 use Rattle.rv32im_asm.specs.declared.fault.AsmFault.{AsmFault}
 use Rattle.rv32im_asm.specs.declared.fault.AsmFault.TheVariants as source
 use Rattle.rv32im_asm.specs.Kinds.{number_of}
+use Rattle.flow_certificate.specs.declared.faults.FormFault.{FormFault}
+use Rattle.flow_certificate.specs.declared.faults.FormFault.TheVariants as forms
+use Rattle.flow_certificate.specs.VerdictTexts.{form_fault_text}
 use Rattle.flowcheck.specs.FaultTexts.{cut_fault_text, hex_byte, program_fault_text, source_fault_text}
 use Rattle.flowcheck.specs.Lines.{has_line_feed}
 use Rattle.flowcheck.specs.Names.{escape, is_control, shown}
@@ -119,3 +121,7 @@ source_fault (source.LabelTwice line) = two (codes "label-twice ") line (is refl
 source_fault (source.LabelMissing line) = two (codes "label-missing ") line (is refl)
 source_fault (source.ImmediateRange line) = two (codes "range ") line (is refl)
 source_fault source.Memory = is refl
+
+pub form_fault : (fault : FormFault) → Clean (form_fault_text fault)
+form_fault (forms.Line line) = two (codes "line ") line (is refl)
+form_fault forms.Memory = is refl

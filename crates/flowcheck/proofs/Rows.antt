@@ -1,16 +1,34 @@
 -- The row of a command.
-use Rattle.std.proofs.Common.{◌≡◌, ℕ, List, [], ◌∷◌, codes, Bool, true, false, Option, Some, None, IfSome, ap, sym, ◌∙◌}
+use Rattle.std.proofs.Common.{◌≡◌, ◌≢◌, ℕ, List, ◌∷◌, codes, Option, Some, None, IfSome, ap, sym, ◌∙◌}
 use Rattle.flowcheck.specs.Parts.{Parts, parts_of}
-use Rattle.flowcheck.specs.CommandLines.{Check, Command, Checks, Assembles, Lists, IsCheck, IsOneFile, IsRow, IsCommand}
+use Rattle.flowcheck.specs.CommandLines.{Check, Command, Checks, Assembles, Lists, Verifies, Migrates, IsCheck, IsOneFile, IsRow, IsCommand}
 
--- no row of this name and these parts
-pub no_row : (name : List ℕ) (parts : Parts) → (name ≡ codes "check" → (check : Check) → ¬ IsCheck parts check) →
-    (name ≡ codes "asm" → (file : List ℕ) → ¬ IsOneFile parts file) →
-    (name ≡ codes "list" → (file : List ℕ) → ¬ IsOneFile parts file) →
+-- no row of the name of a check
+pub no_check : (name : List ℕ) (parts : Parts) → name ≡ codes "check" → ((check : Check) → ¬ IsCheck parts check) →
     (command : Command) → ¬ IsRow name parts command
-no_row name parts checks assembles lists (Checks check) = λ row. checks row.0 check row.1
-no_row name parts checks assembles lists (Assembles source) = λ row. assembles row.0 source row.1
-no_row name parts checks assembles lists (Lists program) = λ row. lists row.0 program row.1
+no_check name parts is none (Checks check) = λ row. none check row.1
+no_check name parts is none (Assembles source) = λ row. absurd cc
+no_check name parts is none (Lists program) = λ row. absurd cc
+no_check name parts is none (Verifies certificate) = λ row. absurd cc
+no_check name parts is none (Migrates cut) = λ row. absurd cc
+
+-- no row of another name whose parts name no file
+pub no_file : (name : List ℕ) (parts : Parts) → name ≢ codes "check" → ((file : List ℕ) → ¬ IsOneFile parts file) →
+    (command : Command) → ¬ IsRow name parts command
+no_file name parts apart none (Checks check) = λ row. apart row.0
+no_file name parts apart none (Assembles source) = λ row. none source row.1
+no_file name parts apart none (Lists program) = λ row. none program row.1
+no_file name parts apart none (Verifies certificate) = λ row. none certificate row.1
+no_file name parts apart none (Migrates cut) = λ row. none cut row.1
+
+-- no row of a name that no command has
+pub no_name : (name : List ℕ) (parts : Parts) → name ≢ codes "check" → name ≢ codes "asm" → name ≢ codes "list" →
+    name ≢ codes "verify" → name ≢ codes "migrate" → (command : Command) → ¬ IsRow name parts command
+no_name name parts check asm list verify migrate (Checks c) = λ row. check row.0
+no_name name parts check asm list verify migrate (Assembles source) = λ row. asm row.0
+no_name name parts check asm list verify migrate (Lists program) = λ row. list row.0
+no_name name parts check asm list verify migrate (Verifies certificate) = λ row. verify row.0
+no_name name parts check asm list verify migrate (Migrates cut) = λ row. migrate row.0
 
 tails : (a c : List ℕ) (b d : List (List ℕ)) → a ∷ b ≡ c ∷ d → b ≡ d
 tails a c b d e = cc

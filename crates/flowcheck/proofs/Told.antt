@@ -1,30 +1,33 @@
 -- The statuses of answers.
-use Rattle.std.proofs.Common.{◌≡◌, ◌≢◌, ◌≤◌, ◌==◌, ◌∙◌, ◌+◌, codes, inl, inr, ℕ, List, [], ◌∷◌, length, Bool, true, false, Option, Some, None, Result, Ok, Err, IsTrue, refl, sym, ap, subst, arith, if◌then◌else◌}
+use Rattle.std.proofs.Common.{◌≡◌, ◌≢◌, ◌≤◌, ◌∙◌, ◌+◌, codes, inl, inr, ℕ, List, [], ◌∷◌, Bool, true, false, Option, Some, None, Result, Ok, Err, refl, sym, ap, subst, arith, if◌then◌else◌}
 use Rattle.flow_base.specs.Loads.{Told}
 use Rattle.flow_base.specs.Counts.{Rose}
 use Rattle.elf32_loader.specs.Pictures.{Picture}
 use Rattle.enclosure_regions.specs.declared.region_parts.Region.{Region}
 use Rattle.rv32im_asm.specs.declared.fault.AsmFault.{AsmFault}
 use Rattle.rv32im_asm.specs.Assembling.{assembled}
+use Rattle.flow_certificate.specs.declared.verdicts.CertVerdict.{CertVerdict}
+use Rattle.flow_certificate.specs.declared.verdicts.CertVerdict.TheVariants.{Verified, Rejected as RejectedBy}
 use Rattle.flowcheck.specs.declared.limits.Limits.{Limits}
 use Rattle.flowcheck.specs.declared.refusals.Refusal.{Refusal}
-use Rattle.flowcheck.specs.declared.refusals.Refusal.TheVariants.{Usage, Program, Regions, Cut, Source, Load, TooLarge, Memory}
+use Rattle.flowcheck.specs.declared.refusals.Refusal.TheVariants.{Load}
 use Rattle.flowcheck.specs.declared.replies.Reply.{Reply}
-use Rattle.flowcheck.specs.declared.statuses.Status.{Status}
-use Rattle.flowcheck.specs.declared.statuses.Status.TheVariants.{Done, Rejected, Usage as Usage', Malformed, LoadFailed, TooLarge as TooLarge', PutFailed, NoMemory}
+use Rattle.flowcheck.specs.declared.statuses.Status.TheVariants.{Done, Rejected}
 use Rattle.flowcheck.specs.Answers.{Answer, told}
 use Rattle.flowcheck.specs.Assemblies.{AnswersSource, program_answer}
 use Rattle.flowcheck.specs.Checks.{AnswersCheck, AnswersCut, AnswersOthers, AnswersProgram, AnswersRegions}
-use Rattle.flowcheck.specs.CommandLines.{Check, Command, Checks, Assembles, Lists, IsCommand, IsNoCommand}
+use Rattle.flowcheck.specs.CommandLines.{Check, Command, Checks, Assembles, Lists, Verifies, Migrates, IsNoCommand}
 use Rattle.flowcheck.specs.Listings.{AnswersListed, AnswersListing}
+use Rattle.flowcheck.specs.Migrations.{AnswersMigrated, AnswersMigration}
+use Rattle.flowcheck.specs.Verifications.{AnswersVerification, AnswersVerified, verdict_reply}
 use Rattle.flowcheck.specs.Loading.{Want, IsLoadRefusal, Loads}
-use Rattle.flowcheck.specs.Refusals.{refusal_status, refusal_text}
+use Rattle.flowcheck.specs.Refusals.{refusal_text}
 use Rattle.flowcheck.specs.FileLimits.{limit_of}
-use Rattle.flowcheck.specs.Lines.{has_line_feed, IsOneLine}
-use Rattle.flowcheck.proofs.OneLine.{Clean, literal, joined, cut_fault, region, program, source_fault, name, number}
-use Rattle.flowcheck.specs.Replies.{AnswersFiles, AnswersLoads, AnswersWords, Replies, reply_of, wants_of}
+use Rattle.flowcheck.specs.Lines.{IsOneLine}
+use Rattle.flowcheck.proofs.OneLine.{Clean, literal, joined, cut_fault, region, program, source_fault, form_fault, name, number}
+use Rattle.flowcheck.specs.Replies.{AnswersFiles, AnswersLoads, AnswersWords, reply_of, wants_of}
 use Rattle.flowcheck.specs.SingleLoads.{HasCause}
-use Rattle.flowcheck.specs.Statuses.{is_one_of, number_of}
+use Rattle.flowcheck.specs.Statuses.{number_of}
 use Rattle.flowcheck.specs.Names.{shown}
 
 -- an answer other than usage
@@ -106,10 +109,37 @@ listing-status [] answer h = absurd h
 listing-status (program_file ∷ []) answer h = listed-status program_file answer h
 listing-status (program_file ∷ (other ∷ files)) answer h = absurd h
 
+verdict-status : (verdict : CertVerdict) → NoUsage (Ok (verdict_reply verdict))
+verdict-status (Verified value) = other _ (λ n. omega (arith, n)) (λ n. omega (arith, n)) (omega arith) (omega arith)
+verdict-status (RejectedBy fault) = other _ (λ n. omega (arith, n)) (λ n. omega (arith, n)) (omega arith) (omega arith)
+
+verified-status : (file : List ℕ) (answer : Answer) → AnswersVerified file answer → NoUsage answer
+verified-status file answer (inl (fault, first, room, e)) =
+    by answer _ e (other _ (λ n. omega (arith, n)) (λ n. omega (arith, n)) (omega arith) (joined (codes "refused 3 certificate ") _ (literal (codes "refused 3 certificate ") refl) (form_fault fault)))
+verified-status file answer (inr (graph, solved, verdict, text, is, e)) = by answer _ e (verdict-status verdict)
+
+verification-status : (files : List (List ℕ)) (answer : Answer) → AnswersVerification files answer → NoUsage answer
+verification-status [] answer h = absurd h
+verification-status (file ∷ []) answer h = verified-status file answer h
+verification-status (file ∷ (other ∷ files)) answer h = absurd h
+
+migrated-status : (cut_file : List ℕ) (answer : Answer) → AnswersMigrated cut_file answer → NoUsage answer
+migrated-status cut_file answer (inl (fault, first, room, e)) =
+    by answer _ e (other _ (λ n. omega (arith, n)) (λ n. omega (arith, n)) (omega arith) (joined (codes "refused 3 cut ") _ (literal (codes "refused 3 cut ") refl) (cut_fault fault)))
+migrated-status cut_file answer (inr (cut, text, e)) =
+    by answer _ e (other _ (λ n. omega (arith, n)) (λ n. omega (arith, n)) (omega arith) (omega arith))
+
+migration-status : (files : List (List ℕ)) (answer : Answer) → AnswersMigration files answer → NoUsage answer
+migration-status [] answer h = absurd h
+migration-status (cut_file ∷ []) answer h = migrated-status cut_file answer h
+migration-status (cut_file ∷ (other ∷ files)) answer h = absurd h
+
 files-status : (command : Command) (files : List (List ℕ)) (answer : Answer) → AnswersFiles command files answer → NoUsage answer
 files-status (Checks check) files answer h = check-status check files answer h
 files-status (Assembles source) files answer h = source-status files answer h
 files-status (Lists program) files answer h = listing-status files answer h
+files-status (Verifies certificate) files answer h = verification-status files answer h
+files-status (Migrates cut) files answer h = migration-status files answer h
 
 refusal-status : (wants : List Want) (refusal : Refusal) → IsLoadRefusal wants refusal → NoUsage (Err refusal)
 refusal-status [] refusal is = absurd is

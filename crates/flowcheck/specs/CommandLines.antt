@@ -14,11 +14,14 @@ pub record Check : Type 0 where
   pub secrets : List (List ℕ)
   pub limits : Limits
 
--- a command: a check of secrets, the program file of a source, or the listing of a program
+-- a command: a check of secrets, the program file of a source, the listing of a program, the verdict on a certificate,
+-- or a cut in version 2
 pub data Command : Type 0 where
   Checks : Check → Command
   Assembles : List ℕ → Command
   Lists : List ℕ → Command
+  Verifies : List ℕ → Command
+  Migrates : List ℕ → Command
 
 abbrev pub highest_budget : ℕ
 highest_budget = 1048576
@@ -54,6 +57,8 @@ abbrev pub IsRow : List ℕ → Parts → Command → Type 0
 IsRow name parts (Checks check) = (name ≡ codes "check") × IsCheck parts check
 IsRow name parts (Assembles source) = (name ≡ codes "asm") × IsOneFile parts source
 IsRow name parts (Lists program) = (name ≡ codes "list") × IsOneFile parts program
+IsRow name parts (Verifies certificate) = (name ≡ codes "verify") × IsOneFile parts certificate
+IsRow name parts (Migrates cut) = (name ≡ codes "migrate") × IsOneFile parts cut
 
 -- the words are this command line
 pub record IsCommand (words : List (List ℕ)) (command : Command) : Type 0 where

@@ -2,6 +2,7 @@
 use Rattle.std.specs.Prelude.{ℕ}
 use Rattle.flowcheck.specs.declared.kinds.FileKind.{FileKind}
 use Rattle.flowcheck.specs.declared.kinds.FileKind.TheVariants.{Program, PublicInput, Cut, Regions, Secret, Source}
+use Rattle.flowcheck.specs.declared.kinds.FileKind.TheVariants.{Certificate}
 
 abbrev pub limit_of : FileKind → ℕ
 limit_of Program = 16777216
@@ -10,3 +11,4 @@ limit_of Cut = 67108864
 limit_of Regions = 65536
 limit_of Secret = 65536
 limit_of Source = 1048576
+limit_of Certificate = 67108864

@@ -15,5 +15,7 @@ pub mod Texts
 pub mod Checks
 pub mod Assemblies
 pub mod Listings
+pub mod Verifications
+pub mod Migrations
 pub mod Replies
 pub mod Headline

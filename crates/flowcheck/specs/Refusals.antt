@@ -10,9 +10,12 @@ use Rattle.enclosure_regions.specs.declared.region_faults.RegionFault.TheVariant
 use Rattle.enclosure_regions.specs.Texts.{fault_text as region_fault_text}
 use Rattle.rv32im_asm.specs.declared.fault.AsmFault.{AsmFault}
 use Rattle.rv32im_asm.specs.declared.fault.AsmFault.TheVariants.{Memory as NoRoomForSource}
+use Rattle.flow_certificate.specs.declared.faults.FormFault.{FormFault}
+use Rattle.flow_certificate.specs.declared.faults.FormFault.TheVariants.{Memory as NoRoomForCertificate}
+use Rattle.flow_certificate.specs.VerdictTexts.{form_fault_text}
 use Rattle.flowcheck.specs.declared.refusals.Refusal.{Refusal}
 use Rattle.flowcheck.specs.declared.refusals.Refusal.TheVariants.{Usage, Program, Regions, Cut, Source, Load, TooLarge}
-use Rattle.flowcheck.specs.declared.refusals.Refusal.TheVariants.{Memory}
+use Rattle.flowcheck.specs.declared.refusals.Refusal.TheVariants.{Certificate, Memory}
 use Rattle.flowcheck.specs.declared.statuses.Status.{Status}
 use Rattle.flowcheck.specs.declared.statuses.Status.TheVariants as statuses
 use Rattle.flowcheck.specs.FaultTexts.{cut_fault_text, program_fault_text, source_fault_text}
@@ -23,6 +26,7 @@ refusal_status (Program fault) = statuses.Malformed
 refusal_status (Regions fault) = statuses.Malformed
 refusal_status (Cut fault) = statuses.Malformed
 refusal_status (Source fault) = statuses.Malformed
+refusal_status (Certificate fault) = statuses.Malformed
 refusal_status (Load name) = statuses.LoadFailed
 refusal_status (TooLarge name number) = statuses.TooLarge
 refusal_status Memory = statuses.NoMemory
@@ -33,6 +37,7 @@ refusal_text (Program fault) = codes "refused 3 program " ++ program_fault_text 
 refusal_text (Regions fault) = codes "refused 3 regions " ++ region_fault_text fault
 refusal_text (Cut fault) = codes "refused 3 cut " ++ cut_fault_text fault
 refusal_text (Source fault) = codes "refused 3 source " ++ source_fault_text fault
+refusal_text (Certificate fault) = codes "refused 3 certificate " ++ form_fault_text fault
 refusal_text (Load name) = codes "refused 5 load " ++ name
 refusal_text (TooLarge name number) = codes "refused 6 too-large " ++ (name ++ (codes " " ++ decimal number))
 refusal_text Memory = codes "memory"
@@ -52,3 +57,7 @@ RefusesCut fault refusal = (fault ≡ NoRoomForCut → refusal ≡ Memory) × (f
 abbrev pub RefusesSource : AsmFault → Refusal → Type 0
 RefusesSource fault refusal =
     (fault ≡ NoRoomForSource → refusal ≡ Memory) × (fault ≢ NoRoomForSource → refusal ≡ Source fault)
+
+abbrev pub RefusesCertificate : FormFault → Refusal → Type 0
+RefusesCertificate fault refusal =
+    (fault ≡ NoRoomForCertificate → refusal ≡ Memory) × (fault ≢ NoRoomForCertificate → refusal ≡ Certificate fault)

@@ -1,4 +1,4 @@
-ghost use Rattle.std.specs.Prelude.{◌≡◌, ◌≢◌, ◌≤◌, ◌∷◌, [], ℕ, List as Seq, Err, None, Ok, map, string_bytes};
+ghost use Rattle.std.specs.Prelude.{◌≡◌, ◌≢◌, ◌≤◌, ◌∷◌, [], ℕ, List as Seq, Err, None, Ok, codes, map, string_bytes};
 ghost use Rattle.std.specs.Prelude.{IfNone, IfOk, IfSome};
 ghost use Rattle.flow_base.specs.Counts.{Rose};
 ghost use Rattle.flowcheck.specs.CommandLines.{Command, IsCommand, IsNoCommand, IsOneFile, IsRow};
@@ -15,7 +15,7 @@ use crate::loads::{Want, load_all};
 use crate::parts::{Parts, parts_of};
 use crate::refusals::Refusal;
 use crate::replies::Reply;
-use crate::{asm, list};
+use crate::{asm, list, migrate, verify};
 use flow_base::{Bytes, Files, List, NoMemory};
 use std::alloc::Global;
 
@@ -28,6 +28,10 @@ pub enum CommandWords<'a> {
     Assemble { source: &'a str },
     /// `list PROG`
     List { program: &'a str },
+    /// `verify CERT`
+    Verify { certificate: &'a str },
+    /// `migrate CUT`
+    Migrate { cut: &'a str },
 }
 
 /// The file that the words behind a command of one file name; None exactly where they name none.
@@ -42,6 +46,29 @@ fn file_word<'a>(parts: &Parts<'a>) -> Option<&'a str>
         [file] => Some(*file),
         _ => None,
     }
+}
+
+/// The command of one file that a name and the words behind it name; None exactly where there is none.
+fn file_row<'a>(name: &str, parts: &Parts<'a>) -> Option<CommandWords<'a>>
+    ensures is { IfSome result (λ command. IsRow name.now (parts_in parts.now) (command_of command)) }
+    ensures budget { IfSome result (λ command. HasBudget command) }
+    ensures none { result ≡ None → name.now ≢ codes "check"
+        → (command : Command) → ¬ IsRow name.now (parts_in parts.now) command }
+{
+    let file = file_word(parts)?;
+    if name == "asm" {
+        return Some(CommandWords::Assemble { source: file });
+    }
+    if name == "list" {
+        return Some(CommandWords::List { program: file });
+    }
+    if name == "verify" {
+        return Some(CommandWords::Verify { certificate: file });
+    }
+    if name == "migrate" {
+        return Some(CommandWords::Migrate { cut: file });
+    }
+    None
 }
 
 /// The command of a name and the words behind it; None exactly where there is none.
@@ -61,19 +88,7 @@ fn row_of<'a>(
         };
         return Ok(Some(CommandWords::Check(check)));
     }
-    if name == "asm" {
-        let Some(source) = file_word(parts) else {
-            return Ok(None);
-        };
-        return Ok(Some(CommandWords::Assemble { source }));
-    }
-    if name == "list" {
-        let Some(program) = file_word(parts) else {
-            return Ok(None);
-        };
-        return Ok(Some(CommandWords::List { program }));
-    }
-    Ok(None)
+    Ok(file_row(name, parts))
 }
 
 /// The command that words name; None exactly where they are no command line that is understood.
@@ -112,6 +127,10 @@ fn wants_of<'a>(alloc: Global, command: &CommandWords<'a>) -> Result<List<Want<'
         CommandWords::Check(check) => check::wants(alloc, check),
         CommandWords::Assemble { source } => one_want(alloc, *source, FileKind::Source),
         CommandWords::List { program } => one_want(alloc, *program, FileKind::Program),
+        CommandWords::Verify { certificate } => {
+            one_want(alloc, *certificate, FileKind::Certificate)
+        }
+        CommandWords::Migrate { cut } => one_want(alloc, *cut, FileKind::Cut),
     }
 }
 
@@ -126,6 +145,8 @@ fn answer_files(alloc: Global, command: &CommandWords, files: &[Bytes]) -> Resul
         CommandWords::Check(check) => check::answer(alloc, check, files),
         CommandWords::Assemble { .. } => asm::answer(alloc, files),
         CommandWords::List { .. } => list::answer(alloc, files),
+        CommandWords::Verify { .. } => verify::answer(alloc, files),
+        CommandWords::Migrate { .. } => migrate::answer(alloc, files),
     }
 }
 

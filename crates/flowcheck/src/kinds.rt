@@ -16,6 +16,8 @@ pub enum FileKind {
     Secret,
     /// An assembler source.
     Source,
+    /// A certificate.
+    Certificate,
 }
 
 impl FileKind {
@@ -32,6 +34,7 @@ impl FileKind {
             FileKind::Regions => 65_536,
             FileKind::Secret => 65_536,
             FileKind::Source => 1_048_576,
+            FileKind::Certificate => 67_108_864,
         }
     }
 }

@@ -12,6 +12,7 @@ mod kinds;
 mod limits;
 mod list;
 mod loads;
+mod migrate;
 mod names;
 mod numbers;
 mod parts;
@@ -24,6 +25,7 @@ mod statuses;
 mod tests;
 mod texts;
 mod top;
+mod verify;
 
 use flow_base::{DiskFiles, Sink, StandardOut};
 use std::alloc::Global;
@@ -34,7 +36,9 @@ pub use top::flowcheck;
 
 const HELP: &str = "flowcheck check PROG PUBLIC CUT BUDGET SECRET.. [--turns N] [--regions FILE]\n\
     flowcheck asm SOURCE\n\
-    flowcheck list PROG\n\n\
+    flowcheck list PROG\n\
+    flowcheck verify CERT\n\
+    flowcheck migrate CUT\n\n\
     check judges by lockstep replay whether a run of PROG on each secret gives away\n\
     no bits but those of the cut, at most BUDGET of them. PROG is an ELF32 program\n\
     of RV32IM, PUBLIC its public input, CUT a cut file, and each SECRET a file with\n\
@@ -44,7 +48,10 @@ const HELP: &str = "flowcheck check PROG PUBLIC CUT BUDGET SECRET.. [--turns N] 
     registers and bytes they may write, and a run that breaks this is rejected. The\n\
     replay runs a region, or skips it where the cut names it.\n\
     asm writes the program file of an assembler source.\n\
-    list writes the instructions of a program file.\n";
+    list writes the instructions of a program file.\n\
+    verify says whether a certificate shows a maximum flow of its graph. CERT is a\n\
+    certificate file.\n\
+    migrate writes the cut of a cut file in version 2.\n";
 
 const VERSION: &str = "flowcheck 0.1.0\n";
 

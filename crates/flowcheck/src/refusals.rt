@@ -8,6 +8,7 @@ use cut_file::CutFault;
 use elf32_loader::ElfFault;
 use enclosure_regions::RegionFault;
 use flow_base::NoMemory;
+use flow_certificate::FormFault;
 use rv32im_asm::AsmFault;
 use std::fmt;
 
@@ -24,6 +25,8 @@ pub enum Refusal {
     Cut(CutFault),
     /// The source gives no program.
     Source(AsmFault),
+    /// The certificate file gives no certificate.
+    Certificate(FormFault),
     /// The load of this name failed.
     Load {
         /// The name.
@@ -47,9 +50,11 @@ impl Refusal {
     {
         match self {
             Refusal::Usage => Status::Usage,
-            Refusal::Program(_) | Refusal::Regions(_) | Refusal::Cut(_) | Refusal::Source(_) => {
-                Status::Malformed
-            }
+            Refusal::Program(_)
+            | Refusal::Regions(_)
+            | Refusal::Cut(_)
+            | Refusal::Source(_)
+            | Refusal::Certificate(_) => Status::Malformed,
             Refusal::Load { .. } => Status::LoadFailed,
             Refusal::TooLarge { .. } => Status::TooLarge,
             Refusal::Memory => Status::NoMemory,
@@ -79,6 +84,7 @@ impl fmt::Display for Refusal {
                 let fault = SourceText(fault);
                 write!(f, "refused 3 source {fault}")
             }
+            Refusal::Certificate(fault) => write!(f, "refused 3 certificate {fault}"),
             Refusal::Load { name } => write!(f, "refused 5 load {name}"),
             Refusal::TooLarge { name, number } => {
                 write!(f, "refused 6 too-large {name} {number}")
@@ -148,6 +154,19 @@ impl From<AsmFault> for Refusal {
         match fault {
             AsmFault::Memory => Refusal::Memory,
             fault => Refusal::Source(fault),
+        }
+    }
+}
+
+impl From<FormFault> for Refusal {
+    ghost use Rattle.flowcheck.specs.Refusals.{RefusesCertificate};
+
+    ghost from_gives = { RefusesCertificate };
+
+    fn from(fault: FormFault) -> Refusal {
+        match fault {
+            FormFault::Memory => Refusal::Memory,
+            fault => Refusal::Certificate(fault),
         }
     }
 }

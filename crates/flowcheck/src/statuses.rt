@@ -4,13 +4,13 @@ ghost use Rattle.flowcheck.specs.Statuses.{number_of};
 /// What a command line is answered by, beside its text.
 #[derive(Clone, Copy, Debug, PartialEq, Eq)]
 pub enum Status {
-    /// The command is done; of a check, all secrets are accepted.
+    /// The command is done; of a check, all secrets are accepted; of a certificate, it is verified.
     Done,
-    /// Some secret is rejected.
+    /// Some secret is rejected, or the certificate is.
     Rejected,
     /// The words are no command line.
     Usage,
-    /// A program, a region file, a cut or a source is malformed.
+    /// A program, a region file, a cut, a source or a certificate is malformed.
     Malformed,
     /// A load failed.
     LoadFailed,

@@ -37,10 +37,10 @@ fn reply_to<F: Files>(alloc: Global, files: &mut F, words: &[String]) -> Result<
 /// Answers the words of a command line, which are those after the program's name: files are loaded from `files`, the
 /// whole text is made first, and it is put to `out` by one put.
 ///
-/// The answer is a status: 0 where a command is done, and of a check where all secrets are accepted, 1 where some
-/// secret is rejected, 2 where the words are no command line, 3 where a program, a region file, a cut or a source is
-/// malformed, 5 where a load failed, 6 where a file has more bytes than its limit, 7 where the put failed, and 8 for
-/// want of memory; then nothing is put.
+/// The answer is a status: 0 where a command is done, and of a check where all secrets are accepted, of a certificate
+/// where it is verified, 1 where some secret or the certificate is rejected, 2 where the words are no command line, 3
+/// where a program, a region file, a cut, a source or a certificate is malformed, 5 where a load failed, 6 where a file
+/// has more bytes than its limit, 7 where the put failed, and 8 for want of memory; then nothing is put.
 pub fn flowcheck<F: Files, K: Sink>(
     alloc: Global,
     words: Vec<String>,
