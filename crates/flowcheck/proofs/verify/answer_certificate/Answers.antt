@@ -18,6 +18,11 @@ returns-clause-answers c = λ known.
     let certificate = c.in_ok-certificate.certificate in
     let counts = counted certificate.graph certificate.solved certificate.has_few_points certificate.point_flows
     certificate.link_flows certificate.halves certificate.relay_answers in
-    inr (certificate.graph, certificate.solved, c.verify.result,
-    record { text = rw c.as_slice.ensures at c.in_ok-certificate.ensures.text; counts = counts },
-    c.verify.ensures.verdict, ap (λ r. Ok r) c.in_ok-reply.ensures)
+    inr (
+      certificate.graph,
+      certificate.solved,
+      c.verify.result,
+      record { text = rw c.as_slice.ensures at c.in_ok-certificate.ensures.text; counts = counts },
+      c.verify.ensures.verdict,
+      ap (λ r. Ok r) c.in_ok-reply.ensures,
+    )
