@@ -13,7 +13,7 @@ import sys
 import tempfile
 from concurrent.futures import ThreadPoolExecutor
 
-OPTIONS = {"check": ("--turns", "--regions"), "asm": (), "list": ()}
+OPTIONS = {"check": ("--turns", "--regions"), "asm": (), "list": (), "verify": (), "migrate": ()}
 
 
 def number(word, lowest, highest):
@@ -64,7 +64,7 @@ def option(rng):
 
 def trial(rng):
     """Words that are nearly a command line."""
-    command = rng.choice(["check"] * 6 + ["asm", "list", "help", "measure"])
+    command = rng.choice(["check"] * 6 + ["asm", "list", "verify", "migrate", "help", "measure"])
     if command == "check":
         budget = rng.choice(["0", "8", "1048576"] * 4 + ["1048577", "08", "-8", "", "x", "4294967296"])
         count = rng.choice([1, 1, 2, 3, 64] * 3 + [0, 65])
