@@ -1,6 +1,6 @@
 -- The lines of words, a word at a time.
 use Rattle.std.proofs.Common.{◌≡◌, ◌≤◌, ◌<◌, ◌+◌, ◌*◌, ◌++◌, length, drop, ℕ, List, [], ◌∷◌, ◌-◌, ◌∙◌, refl, sym, ap, take, slice_index, arith}
-use Rattle.rv32im_asm.specs.Listing.{line, lines_from, padding}
+use Rattle.rv32im_asm.specs.Listing.{line, lines_from}
 use Rattle.std.proofs.lemmas.List.{drop_all, length-drop, append_assoc, take_all}
 
 -- fewer than four bytes have no line

@@ -5,7 +5,7 @@ use Rattle.std.specs.Option.{option_and_then}
 use Rattle.elf32_loader.specs.Pictures.{Picture}
 use Rattle.rv32im_asm.specs.Lines.{label_of, lines_of}
 use Rattle.rv32im_asm.specs.Statements.{Meaning, said_by}
-use Rattle.rv32im_asm.specs.Sizes.{place_of, size_of, total_size}
+use Rattle.rv32im_asm.specs.Sizes.{place_of, places_up_to, size_of, total_size}
 use Rattle.rv32im_asm.specs.Encodings.{bytes_with}
 use Rattle.rv32im_asm.specs.declared.fault.AsmFault.{AsmFault}
 use Rattle.rv32im_asm.specs.declared.fault.AsmFault.TheVariants.{Line, LabelTwice, LabelMissing, ImmediateRange}
@@ -38,7 +38,7 @@ placed_bytes (the.Jal rd) here offset = bytes_with (the.Jal rd) (pos offset -ℤ
 placed_bytes (the.Constant rd) here offset = bytes_with (the.Constant rd) (pos (start + offset))
 placed_bytes _ here offset = None
 
--- a label behind a line of no size has no address; that line fails by itself
+-- a label behind a line that fails has no address; that line fails by itself
 abbrev pub unplaced_bytes : Operation → Option (List ℕ)
 unplaced_bytes (the.Branch kind rs1 rs2) = Some []
 unplaced_bytes (the.Jal rd) = Some []
@@ -95,10 +95,27 @@ abbrev pub bytes_before : List (List ℕ) → ℕ → ℕ
 bytes_before lines index = unwrap_or (total_size (take index lines)) 0
 
 -- the bytes of these of the lines, the first of which has this index, or the fault of the first that fails
-abbrev pub readings : List (List ℕ) → ℕ → List (List ℕ) → Result (List ℕ) AsmFault
-readings lines index [] = Ok []
-readings lines index (line ∷ rest) =
-    joined (reading (place_of lines) index (bytes_before lines index) line) (readings lines (index + 1) rest)
+abbrev pub readings : (List ℕ → Option Place) → List (List ℕ) → ℕ → List (List ℕ) → Result (List ℕ) AsmFault
+readings places lines index [] = Ok []
+readings places lines index (line ∷ rest) =
+    joined (reading places index (bytes_before lines index) line) (readings places lines (index + 1) rest)
+
+-- the index of a line that fails, or what comes behind it
+abbrev pub reached : Result (List ℕ) AsmFault → ℕ → ℕ → ℕ
+reached (Err fault) index behind = index
+reached (Ok bytes) index behind = behind
+
+-- the first of these of the lines that fails with the addresses of the labels up to it; where none does, the number of
+-- all lines
+abbrev pub first_failing : (List ℕ → Option Place) → List (List ℕ) → ℕ → List (List ℕ) → ℕ
+first_failing places lines index [] = index
+first_failing places lines index (line ∷ rest) =
+    reached (reading (places_up_to index places) index (bytes_before lines index) line) index
+    (first_failing places lines (index + 1) rest)
+
+-- the places of labels; behind the first line that fails so they have no address
+abbrev pub known_places : List (List ℕ) → List ℕ → Option Place
+known_places lines = places_up_to (first_failing (place_of lines) lines 0 lines) (place_of lines)
 
 -- one segment at the start, which is the entry and a multiple of 4,096
 abbrev pub one_segment : List ℕ → Picture
@@ -112,4 +129,4 @@ program_of (Ok []) = Err (Line 0 Empty)
 program_of (Ok (byte ∷ bytes)) = Ok (one_segment (byte ∷ bytes))
 
 abbrev pub assembled : List ℕ → Result Picture AsmFault
-assembled source = program_of (readings (lines_of source) 0 (lines_of source))
+assembled source = program_of (readings (known_places (lines_of source)) (lines_of source) 0 (lines_of source))

@@ -1,6 +1,6 @@
 -- The sizes of lines in bytes, and the places of labels.
-use Rattle.std.specs.Prelude.{ℕ, ℤ, pos, nat_abs, int_le, ◌+◌, ◌&&◌, Bool, false, List, [], ◌∷◌, take, Option, Some}
-use Rattle.std.specs.Prelude.{None, option_map, if◌then◌else◌}
+use Rattle.std.specs.Prelude.{ℕ, ℤ, pos, nat_abs, int_le, nat_le, ◌+◌, ◌&&◌, Bool, false, List, [], ◌∷◌, take}
+use Rattle.std.specs.Prelude.{Option, Some, None, option_map, if◌then◌else◌}
 use Rattle.std.specs.Option.{option_and_then}
 use Rattle.std.specs.List.{position_from}
 use Rattle.std.specs.Str.{bytes_eq}
@@ -44,3 +44,10 @@ abbrev pub place_of : List (List ℕ) → List ℕ → Option Place
 place_of lines name =
     option_map (λ index. record { index = index; offset = total_size (take index lines) })
     (position_from (λ line. is_label name (label_of line)) 0 lines)
+
+-- a label as it is known up to the line of an index: behind that line it has no address
+abbrev pub up_to : ℕ → Place → Place
+up_to reach place = if nat_le place.index reach then place else record { index = place.index; offset = None }
+
+abbrev pub places_up_to : ℕ → (List ℕ → Option Place) → List ℕ → Option Place
+places_up_to reach places name = option_map (up_to reach) (places name)

@@ -9,13 +9,13 @@ ghost use Rattle.rv32im_asm.specs.Assembling.{placed_bytes};
 ghost use Rattle.rv32im_asm.specs.Assembling.{unplaced_bytes};
 ghost use Rattle.rv32im_asm.specs.Assembling.{is_taken as is_taken_by, or_range as or_range_fault};
 ghost use Rattle.rv32im_asm.specs.Assembling.{reading as read_as, reading_with};
-ghost use Rattle.rv32im_asm.specs.Assembling.{readings};
+ghost use Rattle.rv32im_asm.specs.Assembling.{first_failing as first_to_fail, known_places, readings};
 ghost use Rattle.rv32im_asm.specs.Encodings.{bytes_with};
 ghost use Rattle.rv32im_asm.specs.Labels.{IsNear, IsNearBy, places_in};
 ghost use Rattle.rv32im_asm.specs.Lines.{lines_of};
 ghost use Rattle.rv32im_asm.specs.Operands.{both};
 ghost use Rattle.rv32im_asm.specs.Pieces.{IsSized, bytes_in, piece_bytes, reading_bytes};
-ghost use Rattle.rv32im_asm.specs.Sizes.{line_size as size_of_line, place_of, size_of, size_with};
+ghost use Rattle.rv32im_asm.specs.Sizes.{line_size as size_of_line, place_of, places_up_to, size_of, size_with};
 ghost use Rattle.rv32im_asm.specs.Statements.{HasRegisters, meaning_of};
 ghost use Rattle.rv32im_asm.specs.declared.fault.AsmFault.TheVariants.{Line};
 
@@ -80,7 +80,7 @@ fn placed(line: u32, operation: Operation, here: u64, offset: u64) -> Result<Pie
     }
 }
 
-/// The same where the label has no address, since a line before it has no size.
+/// The same where the label has no address, since a line before it fails.
 fn unplaced(line: u32, operation: Operation) -> Result<Piece, AsmFault>
     ensures exact { piece_bytes result ≡ or_range_fault line (unplaced_bytes operation) }
     ensures sized { IfOk result (λ piece. (number : ℤ)
@@ -95,12 +95,18 @@ fn unplaced(line: u32, operation: Operation) -> Result<Piece, AsmFault>
 }
 
 /// The bytes of a statement at its place.
-fn located(labels: &Labels, line: u32, here: u64, statement: Statement) -> Result<Piece, AsmFault>
+fn located(
+    labels: &Labels,
+    reach: u64,
+    line: u32,
+    here: u64,
+    statement: Statement,
+) -> Result<Piece, AsmFault>
     requires registers { HasRegisters statement.operation }
     requires here { here ≤ 1048576 }
     requires near { (name : Seq ℕ) → IsNear (places_in labels.now name) }
-    ensures exact { piece_bytes result ≡ bytes_for (places_in labels.now) line statement.entry.operation here
-        statement.entry.value.number (option_copied statement.entry.value.label) }
+    ensures exact { piece_bytes result ≡ bytes_for (places_up_to reach (places_in labels.now)) line
+        statement.entry.operation here statement.entry.value.number (option_copied statement.entry.value.label) }
     ensures sized { IfOk result (λ piece. IsSized (size_with statement.entry.operation statement.entry.value.number)
         (length (bytes_in piece))) }
 {
@@ -108,7 +114,7 @@ fn located(labels: &Labels, line: u32, here: u64, statement: Statement) -> Resul
     let Some(name) = statement.value.label else {
         return or_range(line, operation, statement.value.number);
     };
-    let Some(place) = labels.place(name) else {
+    let Some(place) = labels.place_up_to(reach, name) else {
         return Err(AsmFault::LabelMissing { number: line });
     };
     match place.offset {
@@ -118,12 +124,12 @@ fn located(labels: &Labels, line: u32, here: u64, statement: Statement) -> Resul
 }
 
 /// Whether an earlier line than the one of this index begins with its label.
-fn is_taken(labels: &Labels, index: u64, own: Option<&[u8]>) -> bool
-    ensures { result
-        ≡ is_taken_by index (option_and_then (places_in labels.now) (option_map (λ name. name.now) own.entry)) }
+fn is_taken(labels: &Labels, reach: u64, index: u64, own: Option<&[u8]>) -> bool
+    ensures { result ≡ is_taken_by index (option_and_then (places_up_to reach (places_in labels.now))
+        (option_map (λ name. name.now) own.entry)) }
 {
     let Some(own) = own else { return false };
-    match labels.place(own) {
+    match labels.place_up_to(reach, own) {
         Some(place) => place.index < index,
         None => false,
     }
@@ -138,6 +144,7 @@ fn line_fault(number: u32, kind: LineKind) -> AsmFault
 /// The bytes and the size of a statement at its place, or the fault of its line.
 fn checked(
     labels: &Labels,
+    reach: u64,
     line: u32,
     here: u64,
     taken: bool,
@@ -147,7 +154,7 @@ fn checked(
     requires here { here ≤ 1048576 }
     requires near { (name : Seq ℕ) → IsNear (places_in labels.now name) }
     ensures exact { reading_bytes result
-        ≡ reading_with (places_in labels.now) line here taken (meaning_of statement.entry) }
+        ≡ reading_with (places_up_to reach (places_in labels.now)) line here taken (meaning_of statement.entry) }
     ensures sized { IfOk result (λ found. size_of (meaning_of statement.entry) ≡ Some found.1) }
     ensures shorter { IfOk result (λ found. length (bytes_in found.0) ≤ found.1) }
     ensures fits { IfOk result (λ found. here + found.1 ≤ 1048576) }
@@ -162,16 +169,22 @@ fn checked(
     if taken {
         return Err(AsmFault::LabelTwice { number: line });
     }
-    let piece = located(labels, line, here, statement)?;
+    let piece = located(labels, reach, line, here, statement)?;
     Ok((piece, size))
 }
 
-/// The bytes and the size of a line, or its fault.
-fn reading(labels: &Labels, index: u64, here: u64, line: &[u8]) -> Result<(Piece, u64), AsmFault>
+/// The bytes and the size of a line, or its fault, with the addresses of the labels up to an index.
+fn reading(
+    labels: &Labels,
+    reach: u64,
+    index: u64,
+    here: u64,
+    line: &[u8],
+) -> Result<(Piece, u64), AsmFault>
     requires index { index + 1 < 2 ^ 32 }
     requires here { here ≤ 1048576 }
     requires near { (name : Seq ℕ) → IsNear (places_in labels.now name) }
-    ensures exact { reading_bytes result ≡ read_as (places_in labels.now) index here line.now }
+    ensures exact { reading_bytes result ≡ read_as (places_up_to reach (places_in labels.now)) index here line.now }
     ensures sized { IfOk result (λ found. size_of_line line.now ≡ Some found.1) }
     ensures shorter { IfOk result (λ found. length (bytes_in found.0) ≤ found.1) }
     ensures fits { IfOk result (λ found. here + found.1 ≤ 1048576) }
@@ -180,8 +193,31 @@ fn reading(labels: &Labels, index: u64, here: u64, line: &[u8]) -> Result<(Piece
     let Some(statement) = statement_in(line) else {
         return Err(line_fault(number, LineKind::Malformed));
     };
-    let taken = is_taken(labels, index, label(line));
-    checked(labels, number, here, taken, statement)
+    let taken = is_taken(labels, reach, index, label(line));
+    checked(labels, reach, number, here, taken, statement)
+}
+
+/// The index of the first line that fails with the addresses of the labels up to it; where none does, the number of
+/// lines.
+fn first_failing(labels: &Labels, source: &[u8]) -> u64
+    requires source { length source.now < 2 ^ 32 }
+    requires near { (name : Seq ℕ) → IsNear (places_in labels.now name) }
+    ensures { result ≡ first_to_fail (places_in labels.now) (lines_of source.now) 0 (lines_of source.now) }
+{
+    let mut index: u64 = 0;
+    let mut here: u64 = 0;
+    let mut rest = source;
+    while !rest.is_empty() {
+        let (line, more) = first_line(rest);
+        let size = match reading(labels, index, index, here, line) {
+            Ok((_, size)) => size,
+            Err(_) => return index,
+        };
+        here += size;
+        index += 1;
+        rest = more;
+    }
+    index
 }
 
 /// Puts bytes at the end of a program.
@@ -222,17 +258,19 @@ fn put_zeros(program: &mut Vec<u8>, count: u32) -> Result<(), NoMemory>
 /// The bytes of a source.
 fn program(alloc: Global, source: &[u8]) -> Result<Bytes, AsmFault>
     requires { length source.now < 2 ^ 32 }
-    ensures exact { result ≢ Err AsmFault.Memory → result ≡ readings (lines_of source.now) 0 (lines_of source.now) }
+    ensures exact { result ≢ Err AsmFault.Memory
+        → result ≡ readings (known_places (lines_of source.now)) (lines_of source.now) 0 (lines_of source.now) }
     ensures small { IfOk result (λ program. length program ≤ 1048576) }
 {
     let labels = place_labels(alloc, source)?;
+    let reach = first_failing(&labels, source);
     let mut program: Vec<u8> = Vec::new(alloc);
     let mut index: u64 = 0;
     let mut here: u64 = 0;
     let mut rest = source;
     while !rest.is_empty() {
         let (line, more) = first_line(rest);
-        let (piece, size) = reading(&labels, index, here, line)?;
+        let (piece, size) = reading(&labels, reach, index, here, line)?;
         put(&mut program, piece)?;
         here += size;
         index += 1;
@@ -271,8 +309,9 @@ fn image(alloc: Global, program: Bytes) -> Result<Image, NoMemory>
 /// [`AsmFault::Line`] where the line is not of a form, where an instruction or a word does not stand at a multiple of 4
 /// bytes, or where the program exceeds 1,048,576 bytes with the line; [`AsmFault::LabelTwice`] where an earlier line
 /// begins with the same label; [`AsmFault::LabelMissing`] where no line begins with the label that is named;
-/// [`AsmFault::ImmediateRange`] where a number or an offset does not fit its field, or an offset is odd. Where no line
-/// fails and the program has no byte it is [`AsmFault::Line`] with number 0, and want of memory answers
+/// [`AsmFault::ImmediateRange`] where a number or an offset does not fit its field, or an offset is odd. A label behind
+/// the first line that fails with the addresses of the labels up to it has none, and no line fails for that. Where no
+/// line fails and the program has no byte it is [`AsmFault::Line`] with number 0, and want of memory answers
 /// [`AsmFault::Memory`].
 pub fn assemble(alloc: Global, source: &[u8]) -> Result<Image, AsmFault>
     requires { length source.now < 2 ^ 32 }

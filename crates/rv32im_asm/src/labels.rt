@@ -1,10 +1,26 @@
 ghost use Rattle.std.specs.Prelude.{◌≡◌, ℕ, List as Seq, None, Some, OnOk, option_map};
-ghost use Rattle.rv32im_asm.specs.Labels.{noted, places_in};
+ghost use Rattle.rv32im_asm.specs.Labels.{IsNear, IsNearBy, noted, places_in};
+ghost use Rattle.rv32im_asm.specs.Sizes.{places_up_to, up_to as known_up_to};
 
 use crate::places::Place;
 use flow_base::NoMemory;
 use std::alloc::Global;
 use std::collections::BTreeMap;
+
+/// A label as it is known up to the line of an index: behind that line it has no address.
+fn up_to(reach: u64, place: Place) -> Place
+    ensures exact { result ≡ known_up_to reach place }
+    ensures near { IsNearBy place.offset → IsNearBy result.offset }
+{
+    if place.index <= reach {
+        place
+    } else {
+        Place {
+            index: place.index,
+            offset: None,
+        }
+    }
+}
 
 /// The place of each label.
 #[derive(Drop)]
@@ -27,6 +43,15 @@ impl<'a> Labels<'a> {
         ensures { result ≡ places_in self.now label.now }
     {
         self.places.get(label).copied()
+    }
+
+    /// The same as it is known up to the line of an index.
+    pub fn place_up_to(&self, reach: u64, label: &[u8]) -> Option<Place>
+        ensures exact { result ≡ places_up_to reach (places_in self.now) label.now }
+        ensures near { IsNear (places_in self.now label.now) → IsNear result }
+    {
+        let place = self.place(label)?;
+        Some(up_to(reach, place))
     }
 
     /// Notes the place of a label, where a line begins with one that has none yet.

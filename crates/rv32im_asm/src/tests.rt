@@ -96,6 +96,8 @@ fn refuses_programs(rt: HostRuntime) -> Result<(), Fail> {
         ("beq x0,x0,far\n.zero 8000\nfar: nop", "range 1"),
         ("beq x0,x0,odd\n.byte 1\nodd:", "range 1"),
         ("a:\n.byte 1\na: nop", "line 3 kind 2"),
+        ("beq a0, a1, b\n.zero 1\nj a\n\nb:", "line 3 kind 2"),
+        ("b: beq x0,x0,far\n.zero 8000\nbeq x0,x0,b\nfar:", "range 3"),
     ] {
         assert_eq!(rt; answer(rt.alloc(), source)?.as_str(), want, "{source}");
     }

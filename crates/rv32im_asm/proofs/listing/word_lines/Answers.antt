@@ -1,6 +1,5 @@
-use Rattle.std.proofs.Common.{rules, ◌≡◌, ◌≤◌, ◌<◌, ◌+◌, ◌*◌, ◌++◌, length, ℕ, List, [], sym, ap, ◌∙◌, arith}
+use Rattle.std.proofs.Common.{rules, ◌++◌, ℕ, List, sym, ap, ◌∙◌, arith}
 use Rattle.std.proofs.lemmas.List.{append-nil}
-use Rattle.rv32im_asm.specs.Listing.{line as line_of, lines_from}
 use Rattle.rv32im_asm.proofs.Listings.{lines_short, lines_after}
 use Rattle.rv32im_asm.proofs.listing.word_lines.Goals as goal
 
