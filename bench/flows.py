@@ -18,8 +18,9 @@ import time
 
 
 def link_words(pairs, sources, sinks):
-    words = [f"s-p{p}" for p in sources] + [f"p{a}-p{b}" for a, b in pairs] + [f"p{p}-t" for p in sinks]
-    return words
+    """The links as words, ascending: those of the source, and of each point those to points and then that to the sink."""
+    leads = sorted([(a, 0, b) for a, b in pairs] + [(p, 1, 0) for p in sinks])
+    return [f"s-p{p}" for p in sources] + [f"p{a}-t" if last else f"p{a}-p{b}" for a, last, b in leads]
 
 
 def random_graph(points, links, chance):
