@@ -1,5 +1,5 @@
 -- What reading answers, as the text and its faults tell it.
-use Rattle.std.proofs.Common.{◌≡◌, ◌≢◌, List, ℕ, Result, Ok, Err, sym, ◌∙◌, ap}
+use Rattle.std.proofs.Common.{◌≡◌, ◌≢◌, List, ℕ, Result, Ok, Err, sym, ◌∙◌, ap, subst}
 use Rattle.std.specs.Prelude.{IfOk, IfErr}
 use Rattle.cut_file.specs.declared.cuts.Cut.{Cut}
 use Rattle.cut_file.specs.declared.faults.CutFault.{CutFault}
@@ -9,9 +9,8 @@ use Rattle.cut_file.specs.Texts.{CutText}
 use Rattle.cut_file.specs.Faults.{FirstCutFault}
 use Rattle.cut_file.specs.Pictures.{picture_of}
 use Rattle.cut_file.specs.Reading.{cut_in}
-use Rattle.cut_file.proofs.FileFaults.{fault-found}
-use Rattle.cut_file.proofs.FileReads.{cut-found, faulty, faulty-same, fine}
-use Rattle.cut_file.proofs.FileTexts.{cut-own, fault-own}
+use Rattle.cut_file.proofs.FileReads.{CutAnswer, cut-answer}
+use Rattle.cut_file.proofs.FileTexts.{cut-own, fault-own, faulty, faulty-same, fine}
 
 abbrev pub ReadsFile : List ℕ → Result Cut CutFault → Type 0
 ReadsFile file answer = IfOk answer (λ cut. cut_in file ≡ Ok (picture_of cut))
@@ -21,16 +20,16 @@ RefusesFile file answer = IfErr answer (λ fault. fault ≢ Memory → cut_in fi
 
 pub answers-text : (file : List ℕ) (answer : Result Cut CutFault) → ReadsFile file answer →
     IfOk answer (λ cut. CutText file (picture_of cut))
-answers-text file (Ok cut) ok = cut-found file (picture_of cut) ok
+answers-text file (Ok cut) ok = subst (CutAnswer file) ok (cut-answer file)
 answers-text file (Err fault) ok = tt
 
 fault-first : (fault : CutFault) (file : List ℕ) → (fault ≢ Memory → cut_in file ≡ Err fault) →
     FirstCutFault file fault
-fault-first Version file err = fault-found file Version (err (λ e. cc))
-fault-first (Line number) file err = fault-found file (Line number) (err (λ e. cc))
-fault-first (Order number) file err = fault-found file (Order number) (err (λ e. cc))
-fault-first Truncated file err = fault-found file Truncated (err (λ e. cc))
-fault-first (Trailing offset) file err = fault-found file (Trailing offset) (err (λ e. cc))
+fault-first Version file err = subst (CutAnswer file) (err (λ e. cc)) (cut-answer file)
+fault-first (Line number) file err = subst (CutAnswer file) (err (λ e. cc)) (cut-answer file)
+fault-first (Order number) file err = subst (CutAnswer file) (err (λ e. cc)) (cut-answer file)
+fault-first Truncated file err = subst (CutAnswer file) (err (λ e. cc)) (cut-answer file)
+fault-first (Trailing offset) file err = subst (CutAnswer file) (err (λ e. cc)) (cut-answer file)
 fault-first Memory file err = tt
 
 pub answers-fault : (file : List ℕ) (answer : Result Cut CutFault) → RefusesFile file answer →

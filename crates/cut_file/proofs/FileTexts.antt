@@ -1,316 +1,330 @@
 -- The text of a cut is read as that cut, and a file with a fault answers that fault.
-use Rattle.std.proofs.Common.{◌≡◌, ℕ, suc, ◌+◌, ◌-◌, ◌<◌, ◌≤◌, ◌&&◌, nat_le, nat_lt, not, Bool, true, false, List, []}
-use Rattle.std.proofs.Common.{◌∷◌, ◌++◌, codes, length, Option, Some, None, Result, if◌then◌else◌, inl, inr, refl}
+use Rattle.std.proofs.Common.{◌≡◌, ℕ, suc, ◌+◌, ◌-◌, ◌≤◌, ◌==◌, nat_lt, Bool, true, false, List, []}
+use Rattle.std.proofs.Common.{◌∷◌, ◌++◌, length, Option, Some, Result, Ok, Err, if◌then◌else◌, inl, inr, refl}
 use Rattle.std.proofs.Common.{sym, ◌∙◌, ap, append_assoc, arith, length-append}
 use Rattle.std.specs.Prelude.{map}
-use Rattle.std.specs.Fmt.{decimal}
 use Rattle.std.specs.List.{list_all}
-use Rattle.std.specs.Str.{bytes_eq}
-use Rattle.std.proofs.lemmas.Slice.Eq.{bytes_eq-Decides}
-use Rattle.std.proofs.lemmas.Bool.{and_parts, and_from, cond-false, cond-true, not_from_false, not-true}
-use Rattle.std.proofs.lemmas.Bool.{false_from_ne_true, both_ways}
+use Rattle.std.proofs.lemmas.Bool.{and_parts, and_from, cond-false}
 use Rattle.std.proofs.lemmas.List.{append-nil, length-map}
-use Rattle.cut_file.specs.declared.points.CutPoint.{CutPoint}
 use Rattle.cut_file.specs.declared.faults.CutFault.{CutFault}
-use Rattle.cut_file.specs.declared.faults.CutFault.TheVariants.{Version, Line, Order, Truncated, Trailing, Memory}
-use Rattle.cut_file.specs.Cuts.{CutPicture, are_points_of, are_regions, is_point_of, is_region, is_valid, is_version}
-use Rattle.cut_file.specs.Cuts.{is_word, neighbours_pass, stands_before}
-use Rattle.cut_file.specs.Texts.{CutText, bits_line, cut_text, end_line, ended, joined, listed_lines, point_line}
-use Rattle.cut_file.specs.Texts.{secret_line, skip_line, version_line}
-use Rattle.cut_file.specs.Faults.{FirstCutFault, Front, HasLine, IsOutOfOrder, MayStand, is_front, lines_before}
-use Rattle.cut_file.specs.Faults.Front.{Nothing, Versioned, Sized, Listed}
-use Rattle.cut_file.specs.Reading.{◌>>◌, bare_cut, bits_in, cut_in, divided, head_in, is_empty, lines_in, may_follow}
-use Rattle.cut_file.specs.Reading.{or_fault, parts, point_in, secret_in, skip_in, version_in, whole_cut, with_either}
-use Rattle.cut_file.specs.Reading.{with_line}
-use Rattle.cut_file.proofs.Parts.{clean_words, divided-own, has_byte, joined-parts, none-divided, parts-front}
-use Rattle.cut_file.proofs.Parts.{parts-last}
-use Rattle.cut_file.proofs.Following.{kept-step, neighbours-push}
-use Rattle.cut_file.proofs.Numbers.{clean-append, decimal-clean}
-use Rattle.cut_file.proofs.Lines.{bits-found, bits-own, region-word, secret-found, secret-own, short-word, skip-found}
-use Rattle.cut_file.proofs.Lines.{skip-own, version-found, version-own, version-word, word-below}
-use Rattle.cut_file.proofs.PointLines.{point-found, point-own, point_line-clean}
-use Rattle.cut_file.proofs.LineSteps.{cons-end, cons-fault, cons-next, more_err, more_ok, parts-some, read_err}
-use Rattle.cut_file.proofs.Pieces.{ended-append}
-use Rattle.cut_file.proofs.FileReads.{Head, faulty, faulty-same, feed-byte, fine, fine-same, head_bits, head_first}
-use Rattle.cut_file.proofs.FileReads.{head_second, head_secret, head_third, ended-three, listed}
+use Rattle.cut_file.specs.declared.faults.CutFault.TheVariants as faults
+use Rattle.cut_file.specs.declared.lines.Line.{Line}
+use Rattle.cut_file.specs.declared.lines.Line.TheVariants.{Version, Secret, Bits, Skip, Point, End}
+use Rattle.cut_file.specs.declared.points.CutPoint.{CutPoint}
+use Rattle.cut_file.specs.Cuts.{CutPicture, are_points_of, are_regions, is_empty, is_point_of, is_region, is_valid}
+use Rattle.cut_file.specs.Cuts.{is_version, is_word, stands_before}
+use Rattle.cut_file.specs.Faults.{FirstCutFault, HasLine, IsOpen, MayStand, Stands}
+use Rattle.cut_file.specs.Fronts.{Front, followed, front_text, is_front, is_whole, lines_before, version_of}
+use Rattle.cut_file.specs.Fronts.Front.{Nothing, Versioned, Sized, Listed, Whole}
+use Rattle.cut_file.specs.Reading.{◌>>◌, Read, cut_in, is_in_order, lines_in, or_fault, parts, unfit}
+use Rattle.cut_file.specs.Reading.{unless_whole, whole_cut, with_line, with_text}
+use Rattle.cut_file.specs.Texts.{CutText, cut_text, is_line, joined, line_text, lines_text, open_lines}
+use Rattle.cut_file.proofs.FileReads.{TextAnswer, feed-byte, text-answer}
+use Rattle.cut_file.proofs.Following.{is_kept, kept-step}
+use Rattle.cut_file.proofs.Fronts.{next-ordered}
+use Rattle.cut_file.proofs.LineTexts.{line-clean, line-own}
+use Rattle.cut_file.proofs.Parts.{joined-parts, parts-front, parts-last, parts-some, has_byte}
+use Rattle.cut_file.proofs.Pieces.{lines-append}
 
--- ---- lines without line feeds
+abbrev pub fine : {A : Type 0} → A → Result A CutFault
+fine value = Ok value
 
-pub clean-lines : (first second : List (List ℕ)) → clean_words 10 first ≡ true → clean_words 10 second ≡ true →
-    clean_words 10 (first ++ second) ≡ true
-clean-lines [] second e f = f
-clean-lines (line ∷ first) second e f =
-    let both = and_parts (not (has_byte 10 line)) (clean_words 10 first) e in
-    and_from _ _ both.0 (clean-lines first second both.1 f)
+abbrev pub faulty : {A : Type 0} → CutFault → Result A CutFault
+faulty fault = Err fault
 
-behind-clean : (wanted : List ℕ) (number : ℕ) → has_byte 10 wanted ≡ false → number < 4294967296 →
-    has_byte 10 (wanted ++ decimal number) ≡ false
-behind-clean wanted number clean small = clean-append 10 wanted (decimal number) clean (decimal-clean 10 number
-    (omega arith) small)
+-- ---- one line
 
-skips-clean : (skip : List ℕ) → list_all is_region skip ≡ true → clean_words 10 (map skip_line skip) ≡ true
-skips-clean [] all = refl
-skips-clean (region ∷ skip) all =
-    let both = and_parts (is_region region) (list_all is_region skip) all in
-    and_from _ _ (not_from_false _ (behind-clean (codes "skip ") region refl (region-word region both.0)))
-    (skips-clean skip both.1)
+-- what a line answers whose form may stand there
+known-text : (number : ℕ) (front next : Front) (line : Line) → is_front front ≡ true →
+    is_line (version_of front) line ≡ true → followed front line ≡ Some next →
+    with_text number front (line_text (version_of front) line) ≡ (if is_front next then fine next else faulty
+    (faults.Order number))
+unfolding with_text with_line
+known-text number front next line ordered known follows =
+    ap (λ (o : Option Line). or_fault o (unfit number) >> λ line. with_line number front line)
+    (line-own (version_of front) line known)
+    ∙ ap (λ (o : Option Front). or_fault o (unfit number) >> λ longer. if is_in_order front line then fine longer else
+    faulty (faults.Order number)) follows
+    ∙ ap (λ (b : Bool). if b then fine next else faulty (faults.Order number))
+    (sym (next-ordered front line next ordered known follows))
 
-points-clean : (version : ℕ) (points : List CutPoint) → list_all (is_point_of version) points ≡ true →
-    clean_words 10 (map (point_line version) points) ≡ true
-points-clean version [] all = refl
-points-clean version (point ∷ points) all =
-    let both = and_parts (is_point_of version point) (list_all (is_point_of version) points) all in
-    and_from _ _ (not_from_false _ (point_line-clean version point both.0)) (points-clean version points both.1)
+stands-text : (number : ℕ) (front next : Front) (text : List ℕ) (test : Bool) → is_front front ≡ true →
+    Stands front text next → is_front next ≡ test →
+    with_text number front text ≡ (if test then fine next else faulty (faults.Order number))
+stands-text number front next text test ordered stands is =
+    ap (with_text number front) stands.is
+    ∙ known-text number front next stands.line ordered stands.known stands.follows
+    ∙ ap (λ (b : Bool). if b then fine next else faulty (faults.Order number)) is
 
--- whole lines are the first parts
-pub parts-ended : (lines : List (List ℕ)) (rest : List ℕ) → clean_words 10 lines ≡ true →
-    parts 10 (ended lines ++ rest) ≡ lines ++ parts 10 rest
-parts-ended [] rest clean = refl
-parts-ended (line ∷ lines) rest clean =
-    let both = and_parts (not (has_byte 10 line)) (clean_words 10 lines) clean in
-    ap (parts 10) (append_assoc line (10 ∷ ended lines) rest)
-    ∙ parts-front 10 line (ended lines ++ rest) (not-true _ both.0)
-    ∙ ap (λ (l : List (List ℕ)). line ∷ l) (parts-ended lines rest both.1)
+unfit-answer : (number : ℕ) (front : Front) (text : List ℕ) (answer : Result Front CutFault) →
+    TextAnswer number front text answer → (MayStand front text → ⊥) → answer ≡ faulty (unfit number)
+unfit-answer number front text (Ok next) told unfits = absurd (unfits (next, told.0))
+unfit-answer number front text (Err fault) told unfits = elim told [
+  | inl late ↦ absurd (unfits (late.1.0, late.1.1))
+  | inr other ↦ ap (λ (f : CutFault). faulty f) other.0
+]
 
--- ---- what a line adds
+lines-cons : (number : ℕ) (front : Front) (text : List ℕ) (texts : List (List ℕ)) → is_empty texts ≡ false →
+    lines_in number front (text ∷ texts)
+    ≡ (with_text number front text >> λ longer. unless_whole longer texts (lines_in (number + 1) longer texts))
+unfolding lines_in
+lines-cons number front text [] some = absurd cc
+lines-cons number front text (next ∷ texts) some = refl
+
+pub unless-open : (front : Front) (texts : List (List ℕ)) (read : Read) → is_whole front ≡ false →
+    unless_whole front texts read ≡ read
+unless-open Nothing texts read goes_on = refl
+unless-open (Versioned version) texts read goes_on = refl
+unless-open (Sized version secret_len) texts read goes_on = refl
+unless-open (Listed cut) texts read goes_on = refl
+unless-open (Whole cut) texts read is_open = absurd cc
+
+abbrev pub going : ℕ → List (List ℕ) → Result Front CutFault → Read
+going number texts answer = answer >> λ longer. unless_whole longer texts (lines_in (number + 1) longer texts)
+
+pub lines-go : (number : ℕ) (front next : Front) (text : List ℕ) (texts : List (List ℕ)) → is_empty texts ≡ false →
+    with_text number front text ≡ fine next → is_whole next ≡ false →
+    lines_in number front (text ∷ texts) ≡ lines_in (number + 1) next texts
+lines-go number front next text texts some is is_open =
+    lines-cons number front text texts some ∙ ap (going number texts) is
+    ∙ unless-open next texts (lines_in (number + 1) next texts) is_open
+
+pub lines-end : (number : ℕ) (front : Front) (cut : CutPicture) (text : List ℕ) (texts : List (List ℕ)) →
+    is_empty texts ≡ false → with_text number front text ≡ fine (Whole cut) →
+    lines_in number front (text ∷ texts) ≡ fine (cut, texts)
+lines-end number front cut text texts some is =
+    lines-cons number front text texts some ∙ ap (going number texts) is
+
+pub lines-fail : (number : ℕ) (front : Front) (text : List ℕ) (texts : List (List ℕ)) (fault : CutFault) →
+    is_empty texts ≡ false → with_text number front text ≡ faulty fault →
+    lines_in number front (text ∷ texts) ≡ faulty fault
+lines-fail number front text texts fault some is =
+    lines-cons number front text texts some ∙ ap (going number texts) is
+
+-- ---- lines in order
+
+over : (number : ℕ) (front next : Front) (line : Line) (tail : List (List ℕ)) → is_front front ≡ true →
+    is_line (version_of front) line ≡ true → followed front line ≡ Some next → IsOpen next →
+    is_empty tail ≡ false →
+    lines_in number front (line_text (version_of front) line ∷ tail) ≡ lines_in (number + 1) next tail
+over number front next line tail ordered known follows is_open some =
+    lines-go number front next (line_text (version_of front) line) tail some
+    (known-text number front next line ordered known follows
+    ∙ ap (λ (b : Bool). if b then fine next else faulty (faults.Order number)) is_open.ordered) is_open.goes_on
+
+-- items of one kind, each with a line behind those of the items before it
+record IsKind {A : Type 0} (version : ℕ) (form : A → Line) (front : List A → Front) (each : A → Bool)
+    (test : A → A → Bool) : Type 0 where
+  pub known : (item : A) → each item ≡ true → is_line version (form item) ≡ true
+  pub same : (items : List A) → version_of (front items) ≡ version
+  pub follows : (items : List A) (item : A) →
+      followed (front items) (form item) ≡ Some (front (items ++ (item ∷ [])))
+  pub is_open : (items : List A) → is_kept each test items ≡ true → IsOpen (front items)
 
 some-behind : (first second : List (List ℕ)) → is_empty second ≡ false → is_empty (first ++ second) ≡ false
 some-behind [] second some = some
 some-behind (line ∷ first) second some = refl
 
-abbrev pub of_lists : ℕ → ℕ → ℕ → List ℕ → List CutPoint → CutPicture
-of_lists version secret_len bits skip points = record {
-  version = version;
-  secret_len = secret_len;
-  bits = bits;
-  skip = skip;
-  points =
-      points;
+items-own : {A : Type 0} (version : ℕ) (form : A → Line) (front : List A → Front) (each : A → Bool)
+    (test : A → A → Bool) → IsKind version form front each test → (more done : List A) (number : ℕ)
+    (tail : List (List ℕ)) → is_kept each test done ≡ true → is_kept each test (done ++ more) ≡ true →
+    is_empty tail ≡ false →
+    lines_in number (front done) (map (line_text version) (map form more) ++ tail)
+    ≡ lines_in (number + length more) (front (done ++ more)) tail
+items-own version form front each test kind [] done number tail before kept some =
+    let same : number ≡ number + 0 = omega arith in
+    ap (λ (n : ℕ). lines_in n (front done) tail) same
+    ∙ ap (λ l. lines_in (number + 0) (front l) tail) (sym (append-nil done))
+items-own version form front each test kind (item ∷ more) done number tail before kept some =
+    let step = kept-step each test done item more kept in
+    let same : done ++ (item ∷ more) ≡ (done ++ (item ∷ [])) ++ more = sym (append_assoc done (item ∷ []) more) in
+    let count : (number + 1) + length more ≡ number + length (item ∷ more) = omega arith in
+    let here = kind.is_open done before in
+    let next = kind.is_open (done ++ (item ∷ [])) step.kept in
+    let is = kind.same done in
+    let known = ap (λ (v : ℕ). is_line v (form item)) is ∙ kind.known item step.own in
+    let texts : List (List ℕ) = map (line_text version) (map form more) ++ tail in
+    ap (λ (v : ℕ). lines_in number (front done) (line_text v (form item) ∷ texts)) (sym is)
+    ∙ over number (front done) (front (done ++ (item ∷ []))) (form item) texts here.ordered known
+    (kind.follows done item) next (some-behind (map (line_text version) (map form more)) tail some)
+    ∙ items-own version form front each test kind more (done ++ (item ∷ [])) (number + 1) tail step.kept
+    (ap (is_kept each test) (sym same) ∙ kept) some
+    ∙ ap (λ (n : ℕ). lines_in n (front ((done ++ (item ∷ [])) ++ more)) tail) count
+    ∙ ap (λ l. lines_in (number + length (item ∷ more)) (front l) tail) (sym same)
+
+record IsHead (version secret_len bits : ℕ) : Type 0 where
+  pub known : is_version version ≡ true
+  pub short : is_line version (Secret secret_len) ≡ true
+  pub word : is_word bits ≡ true
+
+abbrev of_lists : CutPicture → List ℕ → List CutPoint → Front
+of_lists cut skip points = Listed (record cut { skip = skip; points = points })
+
+skip-kind : (cut : CutPicture) → IsHead cut.version cut.secret_len cut.bits →
+    IsKind cut.version (λ r. Skip r) (λ l. of_lists cut l []) is_region nat_lt
+skip-kind cut head = record {
+  known = λ region own. own;
+  same = λ skip. refl;
+  follows = λ skip region. refl;
+  is_open = λ skip kept. record {
+    ordered = and_from _ _ head.known (and_from _ _ head.short (and_from _ _ head.word (and_from _ _ kept refl)));
+    goes_on = refl;
+  };
 }
 
-with-skip : (number version secret_len bits : ℕ) (skip : List ℕ) (region : ℕ) → is_region region ≡ true →
-    may_follow nat_lt skip region ≡ true →
-    with_line number (of_lists version secret_len bits skip []) (skip_line region) ≡ more_ok (of_lists version
-    secret_len bits
-    (skip ++ (region ∷ [])) [])
-unfolding with_line
-with-skip number version secret_len bits skip region own follows =
-    ap (λ (o : Option ℕ). with_either number (of_lists version secret_len bits skip []) o (point_in version (skip_line
-    region)))
-    (skip-own region own)
-    ∙ cond-true (may_follow nat_lt skip region) (more_ok (of_lists version secret_len bits (skip ++ (region ∷ [])) []))
-    (more_err (Order number)) follows
+point-kind : (cut : CutPicture) → IsHead cut.version cut.secret_len cut.bits → are_regions cut.skip ≡ true →
+    IsKind cut.version (λ p. Point p) (λ l. of_lists cut cut.skip l) (is_point_of cut.version) stands_before
+point-kind cut head skip = record {
+  known = λ point own. own;
+  same = λ points. refl;
+  follows = λ points point. refl;
+  is_open = λ points kept. record {
+    ordered = and_from _ _ head.known (and_from _ _ head.short (and_from _ _ head.word (and_from _ _ skip kept)));
+    goes_on = refl;
+  };
+}
 
-pub point-no_skip : (version : ℕ) (point : CutPoint) → skip_in (point_line version point) ≡ None
-unfolding skip_in
-point-no_skip version point = refl
+map-append : {A B : Type 0} (f : A → B) (first second : List A) → map f (first ++ second) ≡ map f first ++ map f second
+map-append f [] second = refl
+map-append f (item ∷ first) second = ap (λ l. f item ∷ l) (map-append f first second)
 
-point-either : (number : ℕ) (cut : CutPicture) (point : CutPoint) → is_point_of cut.version point ≡ true →
-    with_line number cut (point_line cut.version point) ≡ with_either number cut None (Some point)
-unfolding with_line
-point-either number cut point own =
-    ap (λ (o : Option ℕ). with_either number cut o (point_in cut.version (point_line cut.version point)))
-    (point-no_skip cut.version point)
-    ∙ ap (with_either number cut None) (point-own cut.version point own)
+-- the regions and points behind the first three lines
+lists-own : (cut : CutPicture) (tail : List (List ℕ)) → IsHead cut.version cut.secret_len cut.bits →
+    are_regions cut.skip ≡ true → are_points_of cut.version cut.points ≡ true → is_empty tail ≡ false →
+    lines_in 4 (of_lists cut [] []) (map (line_text cut.version) (map Skip cut.skip ++ map Point cut.points) ++ tail)
+    ≡ lines_in (suc (length (open_lines cut))) (Listed cut) tail
+lists-own cut tail head skip points some =
+    let skips : List (List ℕ) = map (line_text cut.version) (map Skip cut.skip) in
+    let others : List (List ℕ) = map (line_text cut.version) (map Point cut.points) in
+    let lines = length-append (map Skip cut.skip) (map Point cut.points) in
+    let first = length-map cut.skip Skip in
+    let second = length-map cut.points Point in
+    let count : (4 + length cut.skip) + length cut.points ≡ suc (length (open_lines cut)) = omega
+    (arith, lines, first, second) in
+    ap (λ (l : List (List ℕ)). lines_in 4 (of_lists cut [] []) (l ++ tail)) (map-append (line_text cut.version)
+    (map Skip cut.skip) (map Point cut.points))
+    ∙ ap (lines_in 4 (of_lists cut [] [])) (append_assoc skips others tail)
+    ∙ items-own cut.version (λ r. Skip r) (λ l. of_lists cut l []) is_region nat_lt (skip-kind cut head) cut.skip [] 4
+    (others ++ tail) refl skip (some-behind others tail some)
+    ∙ items-own cut.version (λ p. Point p) (λ l. of_lists cut cut.skip l) (is_point_of cut.version) stands_before
+    (point-kind cut head skip) cut.points [] (4 + length cut.skip) tail refl points some
+    ∙ ap (λ (n : ℕ). lines_in n (Listed cut) tail) count
 
-with-point : (number : ℕ) (cut : CutPicture) (point : CutPoint) → is_point_of cut.version point ≡ true →
-    may_follow stands_before cut.points point ≡ true →
-    with_line number cut (point_line cut.version point) ≡ more_ok (record cut { points = cut.points ++ (point ∷ []) })
-with-point number cut point own follows =
-    point-either number cut point own
-    ∙ cond-true (may_follow stands_before cut.points point) (more_ok (record cut {
-      points = cut.points ++
-          (point ∷ []);
-    })) (more_err (Order number)) follows
+abbrev texts_of : Front → List (List ℕ)
+texts_of front = map (line_text (version_of front)) (lines_before front)
 
-skips-own : (more done : List ℕ) (number version secret_len bits : ℕ) (tail : List (List ℕ)) →
-    are_regions (done ++ more) ≡ true → is_empty tail ≡ false →
-    lines_in number (of_lists version secret_len bits done []) (map skip_line more ++ tail)
-    ≡ lines_in (number + length more) (of_lists version secret_len bits (done ++ more) []) tail
-skips-own [] done number version secret_len bits tail known some =
-    let same : number ≡ number + length {A = ℕ} [] = omega arith in
-    ap (λ (n : ℕ). lines_in n (of_lists version secret_len bits done []) tail) same
-    ∙ ap (λ (l : List ℕ). lines_in (number + length {A = ℕ} []) (of_lists version secret_len bits l []) tail) (sym
-    (append-nil done))
-skips-own (region ∷ more) done number version secret_len bits tail known some =
-    let step = kept-step is_region nat_lt done region more known in
-    let same : done ++ (region ∷ more) ≡ (done ++ (region ∷ [])) ++ more = sym (append_assoc done
-    (region ∷ []) more) in
-    let count : (number + 1) + length more ≡ number + length (region ∷ more) = omega arith in
-    cons-next number (of_lists version secret_len bits done []) (of_lists version secret_len bits (done ++ (region ∷
-    [])) [])
-    (skip_line region)
-    (map skip_line more ++ tail) (some-behind (map skip_line more) tail some) refl
-    (with-skip number version secret_len bits done region step.own step.follows)
-    ∙ skips-own more (done ++ (region ∷ [])) (number + 1) version secret_len bits tail (ap are_regions (sym same)
-    ∙ known) some
-    ∙ ap (λ (n : ℕ). lines_in n (of_lists version secret_len bits ((done ++ (region ∷ [])) ++ more) []) tail) count
-    ∙ ap (λ (l : List ℕ). lines_in (number + length (region ∷ more)) (of_lists version secret_len bits l []) tail)
-    (sym same)
-
-points-own : (more done : List CutPoint) (number version secret_len bits : ℕ) (skip : List ℕ) (tail : List (List ℕ)) →
-    are_points_of version (done ++ more) ≡ true →
-    is_empty tail ≡ false →
-    lines_in number (of_lists version secret_len bits skip done) (map (point_line version) more ++ tail)
-    ≡ lines_in (number + length more) (of_lists version secret_len bits skip (done ++ more)) tail
-points-own [] done number version secret_len bits skip tail known some =
-    let same : number ≡ number + length {A = CutPoint} [] = omega arith in
-    ap (λ (n : ℕ). lines_in n (of_lists version secret_len bits skip done) tail) same
-    ∙ ap (λ (l : List CutPoint). lines_in (number + length {A = CutPoint} [])
-    (of_lists version secret_len bits skip l) tail) (sym (append-nil done))
-points-own (point ∷ more) done number version secret_len bits skip tail known some =
-    let step = kept-step (is_point_of version) stands_before done point more known in
-    let same : done ++ (point ∷ more) ≡ (done ++ (point ∷ [])) ++ more = sym (append_assoc done (point ∷ []) more) in
-    let count : (number + 1) + length more ≡ number + length (point ∷ more) = omega arith in
-    cons-next number (of_lists version secret_len bits skip done) (of_lists version secret_len bits skip (done ++
-    (point ∷ []))) (point_line version point)
-    (map (point_line version) more ++ tail) (some-behind (map (point_line version) more) tail some) refl
-    (with-point number (of_lists version secret_len bits skip done) point step.own step.follows)
-    ∙ points-own more (done ++ (point ∷ [])) (number + 1) version secret_len bits skip tail (ap (are_points_of
-    version) (sym same)
-    ∙ known) some
-    ∙ ap (λ (n : ℕ). lines_in n (of_lists version secret_len bits skip ((done ++ (point ∷ [])) ++ more)) tail) count
-    ∙ ap (λ (l : List CutPoint). lines_in (number + length (point ∷ more))
-    (of_lists version secret_len bits skip l) tail) (sym same)
-
--- ---- the first three lines
-
-version-clean : (version : ℕ) → is_version version ≡ true → has_byte 10 (version_line version) ≡ false
-version-clean version known = behind-clean (codes "flowcheck-cut ") version refl (version-word version known)
-
-secret-clean : (secret_len : ℕ) → nat_le secret_len 65536 ≡ true →
-    has_byte 10 (secret_line secret_len) ≡ false
-secret-clean secret_len short = behind-clean (codes "secret ") secret_len refl (short-word secret_len short)
-
-bits-clean : (bits : ℕ) → is_word bits ≡ true → has_byte 10 (bits_line bits) ≡ false
-bits-clean bits word = behind-clean (codes "bits ") bits refl (word-below bits word)
-
-versioned-own : (file rest : List ℕ) (version : ℕ) → is_version version ≡ true →
-    file ≡ ended (lines_before (Versioned version)) ++ rest →
-    head_in file ≡ head_second (version_line version, rest) version
-unfolding head_in
-versioned-own file rest version known text =
-    let split : divided 10 (version_line version ++ (10 ∷ rest)) ≡ Some
-    (version_line version, rest) = divided-own 10 (version_line version) rest (version-clean version known) in
-    ap (λ (l : List ℕ). or_fault (divided 10 l) Truncated >> head_first) (text
-    ∙ append_assoc (version_line version) (10 ∷ []) rest)
-    ∙ ap (λ (o : Option (List ℕ × List ℕ)). or_fault o Truncated >> head_first) split
-    ∙ ap (λ (o : Option ℕ). or_fault o Version >> head_second (version_line version, rest))
-    (version-own version known)
-
-over : (first second rest : List ℕ) → (first ++ (10 ∷ (second ++ (10 ∷ [])))) ++ rest ≡ (first ++ (10 ∷ [])) ++
-    (second ++ (10 ∷ rest))
-over first second rest =
-    append_assoc first (10 ∷ (second ++ (10 ∷ []))) rest
-    ∙ ap (λ (l : List ℕ). first ++ (10 ∷ l)) (append_assoc second (10 ∷ []) rest)
-    ∙ sym (append_assoc first (10 ∷ []) (second ++ (10 ∷ rest)))
-
-over-two : (first second rest : List ℕ) →
-    ended (first ∷ (second ∷ [])) ++ rest ≡ first ++ (10 ∷ (second ++ (10 ∷ rest)))
-over-two first second rest = over first second rest ∙ append_assoc first (10 ∷ []) (second ++ (10 ∷ rest))
-
-sized-own : (file rest : List ℕ) (version secret_len : ℕ) → is_front (Sized version secret_len) ≡ true →
-    file ≡ ended (lines_before (Sized version secret_len)) ++ rest →
-    head_in file ≡ head_third version (secret_line secret_len, rest) secret_len
-sized-own file rest version secret_len known text =
-    let both = and_parts (is_version version) (nat_le secret_len 65536) known in
-    versioned-own file (secret_line secret_len ++ (10 ∷ rest)) version both.0 (text
-    ∙ over (version_line version) (secret_line secret_len) rest)
-    ∙ ap (λ (o : Option (List ℕ × List ℕ)). or_fault o Truncated >> head_secret version) (divided-own 10
-    (secret_line secret_len) rest (secret-clean secret_len both.1))
-    ∙ ap (λ (o : Option ℕ). or_fault o (Line 2) >> head_third version (secret_line secret_len, rest))
-    (secret-own secret_len both.1)
-
-bits-read : (version secret_len bits : ℕ) (rest : List ℕ) → is_word bits ≡ true →
-    head_third version (secret_line secret_len, bits_line bits ++ (10 ∷ rest)) secret_len ≡ fine
-    (bare_cut version secret_len bits, rest)
-bits-read version secret_len bits rest word =
-    ap (λ (o : Option (List ℕ × List ℕ)). or_fault o Truncated >> head_bits version secret_len) (divided-own 10
-    (bits_line bits) rest (bits-clean bits word))
-    ∙ ap (λ (o : Option ℕ). or_fault o (Line 3) >> λ (b : ℕ). fine {A = Head} (bare_cut version secret_len b, rest))
-    (bits-own bits word)
-
-abbrev head_three : ℕ → ℕ → ℕ → List (List ℕ)
-head_three version secret_len bits = version_line version ∷ (secret_line secret_len ∷ (bits_line bits ∷ []))
-
-head-own : (file rest : List ℕ) (version secret_len bits : ℕ) → is_version version ≡ true →
-    nat_le secret_len 65536 ≡ true → is_word bits ≡ true →
-    file ≡ ended (head_three version secret_len bits) ++ rest →
-    head_in file ≡ fine (bare_cut version secret_len bits, rest)
-head-own file rest version secret_len bits known short word text =
-    sized-own file (bits_line bits ++ (10 ∷ rest)) version secret_len (and_from _ _ known short)
-    (text ∙ ended-three (version_line version) (secret_line secret_len) (bits_line bits) rest
-    ∙ sym (over-two (version_line version) (secret_line secret_len) (bits_line bits ++ (10 ∷ rest))))
-    ∙ bits-read version secret_len bits rest word
-
--- ---- the lines of a cut
-
-listed-own : (cut : CutPicture) (tail : List (List ℕ)) → is_valid cut ≡ true → is_empty tail ≡ false →
-    lines_in 4 (bare_cut cut.version cut.secret_len cut.bits) ((map skip_line cut.skip ++ map (point_line cut.version)
-    cut.points) ++ tail)
-    ≡ lines_in (suc (length (listed_lines cut))) cut tail
-listed-own cut tail valid some =
-    let version = and_parts (is_version cut.version) _ valid in
-    let short = and_parts (nat_le cut.secret_len 65536) _ version.1 in
+front-own : (front : Front) (tail : List (List ℕ)) → IsOpen front → is_empty tail ≡ false →
+    lines_in 1 Nothing (texts_of front ++ tail) ≡ lines_in (suc (length (lines_before front))) front tail
+front-own Nothing tail is_open some = refl
+front-own (Versioned version) tail is_open some =
+    over 1 Nothing (Versioned version) (Version version) tail refl is_open.ordered refl is_open some
+front-own (Sized version secret_len) tail is_open some =
+    let both = and_parts (is_version version) _ is_open.ordered in
+    let first : IsOpen (Versioned version) = record { ordered = both.0; goes_on = refl } in
+    over 1 Nothing (Versioned version) (Version version) (line_text version (Secret secret_len) ∷ tail) refl both.0 refl
+    first refl
+    ∙ over 2 (Versioned version) (Sized version secret_len) (Secret secret_len) tail both.0 both.1 refl is_open some
+front-own (Listed cut) tail is_open some =
+    let known = and_parts (is_version cut.version) _ is_open.ordered in
+    let short = and_parts (is_line cut.version (Secret cut.secret_len)) _ known.1 in
     let bits = and_parts (is_word cut.bits) _ short.1 in
     let lists = and_parts (are_regions cut.skip) (are_points_of cut.version cut.points) bits.1 in
-    let skips : length (map skip_line cut.skip) ≡ length cut.skip = length-map cut.skip skip_line in
-    let points : length (map (point_line cut.version) cut.points) ≡ length cut.points = length-map cut.points
-    (point_line cut.version) in
-    let both : length (map skip_line cut.skip ++ map (point_line cut.version) cut.points) ≡ length
-    (map skip_line cut.skip) + length (map (point_line cut.version) cut.points) =
-    length-append (map skip_line cut.skip) (map (point_line cut.version) cut.points) in
-    let count : (4 + length cut.skip) + length cut.points ≡ suc (length (listed_lines cut)) = omega arith in
-    ap (lines_in 4 (bare_cut cut.version cut.secret_len cut.bits)) (append_assoc (map skip_line cut.skip)
-    (map (point_line cut.version) cut.points) tail)
-    ∙ skips-own cut.skip [] 4 cut.version cut.secret_len cut.bits (map (point_line cut.version) cut.points ++ tail)
-    lists.0 (some-behind
-    (map (point_line cut.version) cut.points) tail some)
-    ∙ points-own cut.points [] (4 + length cut.skip) cut.version cut.secret_len cut.bits cut.skip tail lists.1 some
-    ∙ ap (λ (n : ℕ). lines_in n cut tail) count
+    let head : IsHead cut.version cut.secret_len cut.bits =
+    record { known = known.0; short = short.0; word = bits.0 } in
+    let first : IsOpen (Versioned cut.version) = record { ordered = known.0; goes_on = refl } in
+    let second : IsOpen (Sized cut.version cut.secret_len) =
+    record { ordered = and_from _ _ known.0 short.0; goes_on = refl } in
+    let third : IsOpen (of_lists cut [] []) = record {
+      ordered = and_from _ _ known.0 (and_from _ _ short.0 (and_from _ _ bits.0 refl));
+      goes_on = refl;
+    } in
+    let last : List (List ℕ) = map (line_text cut.version) (map Skip cut.skip ++ map Point cut.points) ++ tail in
+    over 1 Nothing (Versioned cut.version) (Version cut.version) (line_text cut.version (Secret cut.secret_len) ∷
+    (line_text cut.version (Bits cut.bits) ∷ last)) refl known.0 refl first refl
+    ∙ over 2 (Versioned cut.version) (Sized cut.version cut.secret_len) (Secret cut.secret_len)
+    (line_text cut.version (Bits cut.bits) ∷ last) known.0 short.0 refl second refl
+    ∙ over 3 (Sized cut.version cut.secret_len) (of_lists cut [] []) (Bits cut.bits) last second.ordered bits.0 refl
+    third (some-behind (map (line_text cut.version) (map Skip cut.skip ++ map Point cut.points)) tail some)
+    ∙ lists-own cut tail head lists.0 lists.1 some
+front-own (Whole cut) tail is_open some = let closed = is_open.goes_on in absurd cc
 
--- a file that begins with the lines of a cut
-pub front-own : (file : List ℕ) (cut : CutPicture) (rest : List ℕ) → is_valid cut ≡ true →
-    file ≡ ended (listed_lines cut) ++ rest →
-    cut_in file ≡ (lines_in (suc (length (listed_lines cut))) cut (parts 10 rest) >> λ whole. whole_cut
-    (length file) whole.0 (joined 10 whole.1))
-unfolding cut_in
-front-own file cut rest valid text =
-    let version = and_parts (is_version cut.version) _ valid in
-    let short = and_parts (nat_le cut.secret_len 65536) _ version.1 in
+-- ---- the text of lines
+
+all-append : {A : Type 0} (test : A → Bool) (first second : List A) → list_all test first ≡ true →
+    list_all test second ≡ true → list_all test (first ++ second) ≡ true
+all-append test [] second e f = f
+all-append test (item ∷ first) second e f =
+    let both = and_parts (test item) (list_all test first) e in
+    and_from _ _ both.0 (all-append test first second both.1 f)
+
+all-map : {A B : Type 0} (form : A → B) (each : A → Bool) (test : B → Bool) (items : List A) →
+    ((item : A) → each item ≡ true → test (form item) ≡ true) → list_all each items ≡ true →
+    list_all test (map form items) ≡ true
+all-map form each test [] known all = refl
+all-map form each test (item ∷ items) known all =
+    let both = and_parts (each item) (list_all each items) all in
+    and_from _ _ (known item both.0) (all-map form each test items known both.1)
+
+lines-known : (front : Front) → IsOpen front → list_all (is_line (version_of front)) (lines_before front) ≡ true
+lines-known Nothing goes_on = refl
+lines-known (Versioned version) is_open = and_from _ _ is_open.ordered refl
+lines-known (Sized version secret_len) is_open =
+    let both = and_parts (is_version version) _ is_open.ordered in
+    and_from _ _ both.0 (and_from _ _ both.1 refl)
+lines-known (Listed cut) is_open =
+    let known = and_parts (is_version cut.version) _ is_open.ordered in
+    let short = and_parts (is_line cut.version (Secret cut.secret_len)) _ known.1 in
     let bits = and_parts (is_word cut.bits) _ short.1 in
     let lists = and_parts (are_regions cut.skip) (are_points_of cut.version cut.points) bits.1 in
-    let lines : List (List ℕ) = map skip_line cut.skip ++ map (point_line cut.version) cut.points in
     let skips = and_parts (list_all is_region cut.skip) _ lists.0 in
     let points = and_parts (list_all (is_point_of cut.version) cut.points) _ lists.1 in
-    let clean : clean_words 10 lines ≡ true =
-    clean-lines (map skip_line cut.skip) (map (point_line cut.version) cut.points) (skips-clean cut.skip skips.0)
-    (points-clean cut.version cut.points points.0) in
-    let head = head-own file (ended lines ++ rest) cut.version cut.secret_len cut.bits version.0 short.0 bits.0
-    (text ∙ ap (λ (l : List ℕ). l ++ rest) (ended-append (head_three cut.version cut.secret_len cut.bits) lines)
-    ∙ append_assoc (ended (head_three cut.version cut.secret_len cut.bits)) (ended lines) rest) in
-    ap (λ (r : Result Head CutFault). r >> listed file) head
-    ∙ ap (λ (l : List (List ℕ)). lines_in 4 (bare_cut cut.version cut.secret_len cut.bits) l >> λ whole. whole_cut
-    (length file) whole.0 (joined 10 whole.1))
-    (parts-ended lines rest clean)
-    ∙ ap (λ (r : Result (CutPicture × List (List ℕ)) CutFault). r >> λ whole. whole_cut (length file) whole.0
-    (joined 10 whole.1))
-    (listed-own cut (parts 10 rest) valid (parts-some 10 rest))
+    and_from _ _ known.0 (and_from _ _ short.0 (and_from _ _ bits.0
+    (all-append (is_line cut.version) (map Skip cut.skip) (map Point cut.points)
+    (all-map (λ r. Skip r) is_region (is_line cut.version) cut.skip (λ region own. own) skips.0)
+    (all-map (λ p. Point p) (is_point_of cut.version) (is_line cut.version) cut.points (λ point own. own) points.0))))
+lines-known (Whole cut) is_open = let closed = is_open.goes_on in absurd cc
 
-text-split : (file : List ℕ) (cut : CutPicture) (rest : List ℕ) → file ≡ cut_text cut ++ rest →
-    file ≡ ended (listed_lines cut) ++ (end_line ++ (10 ∷ rest))
-text-split file cut rest text =
-    text ∙ ap (λ (l : List ℕ). l ++ rest) (ended-append (listed_lines cut) (end_line ∷ []))
-    ∙ append_assoc (ended (listed_lines cut)) (end_line ++ (10 ∷ [])) rest
+parts-lines : (version : ℕ) (lines : List Line) (rest : List ℕ) → list_all (is_line version) lines ≡ true →
+    parts 10 (lines_text version lines ++ rest) ≡ map (line_text version) lines ++ parts 10 rest
+parts-lines version [] rest known = refl
+parts-lines version (line ∷ lines) rest known =
+    let both = and_parts (is_line version line) (list_all (is_line version) lines) known in
+    ap (parts 10) (append_assoc (line_text version line) (10 ∷ lines_text version lines) rest)
+    ∙ parts-front 10 (line_text version line) (lines_text version lines ++ rest) (line-clean version line both.0)
+    ∙ ap (λ (l : List (List ℕ)). line_text version line ∷ l) (parts-lines version lines rest both.1)
+
+-- what is read of a file that begins with lines in order
+file-front : (file : List ℕ) (front : Front) (rest : List ℕ) → IsOpen front → file ≡ front_text front ++ rest →
+    lines_in 1 Nothing (parts 10 file) ≡ lines_in (suc (length (lines_before front))) front (parts 10 rest)
+file-front file front rest is_open is =
+    ap (λ (l : List ℕ). lines_in 1 Nothing (parts 10 l)) is
+    ∙ ap (lines_in 1 Nothing) (parts-lines (version_of front) (lines_before front) rest (lines-known front is_open))
+    ∙ front-own front (parts 10 rest) is_open (parts-some 10 rest)
+
+-- ---- the whole file
+
+abbrev pub finish : List ℕ → Read → Result CutPicture CutFault
+finish file read = read >> λ whole. whole_cut (length file) whole.0 (joined 10 whole.1)
+
+pub file-finish : (file : List ℕ) (read : Read) → lines_in 1 Nothing (parts 10 file) ≡ read → cut_in file ≡ finish file read
+unfolding cut_in
+file-finish file read is = ap (finish file) is
 
 ended-own : (file : List ℕ) (cut : CutPicture) (rest : List ℕ) → is_valid cut ≡ true → file ≡ cut_text cut ++ rest →
     cut_in file ≡ whole_cut (length file) cut rest
-ended-own file cut rest valid text =
-    front-own file cut (end_line ++ (10 ∷ rest)) valid (text-split file cut rest text)
-    ∙ ap (λ (r : Result (CutPicture × List (List ℕ)) CutFault). r >> λ whole. whole_cut (length file) whole.0
-    (joined 10 whole.1))
-    (ap (lines_in (suc (length (listed_lines cut))) cut) (parts-front 10 end_line rest refl)
-    ∙ cons-end (suc (length (listed_lines cut))) cut end_line (parts 10 rest) (parts-some 10 rest) refl)
+ended-own file cut rest valid is =
+    let number : ℕ = suc (length (open_lines cut)) in
+    let is_open : IsOpen (Listed cut) = record { ordered = valid; goes_on = refl } in
+    let last = line_text cut.version End in
+    let split : file ≡ front_text (Listed cut) ++ (last ++ (10 ∷ rest)) =
+    is ∙ ap (λ (l : List ℕ). l ++ rest) (lines-append cut.version (open_lines cut) (End ∷ []))
+    ∙ append_assoc (front_text (Listed cut)) (last ++ (10 ∷ [])) rest in
+    let answer : with_text number (Listed cut) last ≡ fine (Whole cut) =
+    known-text number (Listed cut) (Whole cut) End valid refl refl
+    ∙ ap (λ (b : Bool). if b then fine (Whole cut) else faulty (faults.Order number)) valid in
+    file-finish file (fine (cut, parts 10 rest)) (file-front file (Listed cut) (last ++ (10 ∷ rest)) is_open split
+    ∙ ap (lines_in number (Listed cut)) (parts-front 10 last rest refl)
+    ∙ lines-end number (Listed cut) cut last (parts 10 rest) (parts-some 10 rest) answer)
     ∙ ap (whole_cut (length file) cut) (joined-parts 10 rest)
 
 pub cut-own : (file : List ℕ) (cut : CutPicture) → CutText file cut → cut_in file ≡ fine cut
@@ -318,206 +332,88 @@ cut-own file cut known = ended-own file cut [] known.valid (known.text ∙ sym (
 
 -- ---- a file with a fault answers it
 
-head-faulty : (file : List ℕ) (fault : CutFault) → head_in file ≡ faulty fault → cut_in file ≡ faulty fault
-unfolding cut_in
-head-faulty file fault e = ap (λ (r : Result Head CutFault). r >> listed file) e
+line-fails : (file : List ℕ) (front : Front) (text : List ℕ) (fault : CutFault) → HasLine file front text →
+    with_text (suc (length (lines_before front))) front text ≡ faulty fault → cut_in file ≡ faulty fault
+line-fails file front text fault here answer =
+    let number : ℕ = suc (length (lines_before front)) in
+    file-finish file (faulty fault) (file-front file front (text ++ (10 ∷ here.more)) here.before here.is
+    ∙ ap (lines_in number front) (parts-front 10 text here.more (sym (feed-byte text) ∙ here.whole))
+    ∙ lines-fail number front text (parts 10 here.more) fault (parts-some 10 here.more) answer)
 
-lines-faulty : (file : List ℕ) (cut : CutPicture) (rest : List ℕ) (fault : CutFault) → is_valid cut ≡ true →
-    file ≡ ended (listed_lines cut) ++ rest →
-    lines_in (suc (length (listed_lines cut))) cut (parts 10 rest) ≡ read_err fault → cut_in file ≡ faulty fault
-lines-faulty file cut rest fault valid text e =
-    front-own file cut rest valid text
-    ∙ ap (λ (r : Result (CutPicture × List (List ℕ)) CutFault). r >> λ whole. whole_cut (length file) whole.0
-    (joined 10 whole.1)) e
+unfit-own : (file : List ℕ) (front : Front) (text : List ℕ) → HasLine file front text → (MayStand front text → ⊥) →
+    cut_in file ≡ faulty (unfit (suc (length (lines_before front))))
+unfit-own file front text here unfits =
+    let number : ℕ = suc (length (lines_before front)) in
+    line-fails file front text (unfit number) here (unfit-answer number front text (with_text number front text)
+    (text-answer number front text here.before.ordered) unfits)
 
-nothing-from : {A : Type 0} (o : Option A) → ((value : A) → o ≡ Some value → ⊥) → o ≡ None
-nothing-from None unfit = refl
-nothing-from (Some value) unfit = absurd (unfit value refl)
+late-own : (file : List ℕ) (front next : Front) (text : List ℕ) → HasLine file front text → Stands front text next →
+    is_front next ≡ false → cut_in file ≡ faulty (faults.Order (suc (length (lines_before front))))
+late-own file front next text here stands late =
+    let number : ℕ = suc (length (lines_before front)) in
+    line-fails file front text (faults.Order number) here
+    (stands-text number front next text false here.before.ordered stands late)
 
-other-text : (line wanted : List ℕ) → (line ≡ wanted → ⊥) → bytes_eq line wanted ≡ false
-other-text line wanted unfit = false_from_ne_true _ (λ is. unfit ((bytes_eq-Decides line wanted).0 is))
-
-here-clean : (file : List ℕ) (front : Front) (line : List ℕ) → HasLine file front line → has_byte 10 line ≡ false
-here-clean file front line here = sym (feed-byte line) ∙ here.whole
-
-is-nothing : {A : Type 0} (items : List A) → is_empty items ≡ true → items ≡ []
-is-nothing [] e = refl
-is-nothing (first ∷ others) e = absurd cc
-
-skip-late : (number : ℕ) (cut : CutPicture) (region : ℕ) → is_region region ≡ true → cut.points ≡ [] →
-    may_follow nat_lt cut.skip region ≡ false →
-    with_line number cut (skip_line region) ≡ more_err (Order number)
-unfolding with_line
-skip-late number cut region own none late =
-    let longer : CutPicture = record cut { skip = cut.skip ++ (region ∷ []) } in
-    ap (λ (o : Option ℕ). with_either number cut o (point_in cut.version (skip_line region))) (skip-own region own)
-    ∙ cond-true (is_empty cut.points) (if may_follow nat_lt cut.skip region then more_ok longer else more_err
-    (Order number)) (more_err (Line number)) (ap is_empty none)
-    ∙ cond-false (may_follow nat_lt cut.skip region) (more_ok longer) (more_err (Order number)) late
-
-nothing-read : (file line : List ℕ) → has_byte 10 line ≡ false → file ≡ line → head_in file ≡ faulty Truncated
-unfolding head_in
-nothing-read file line clean text =
-    ap (λ (l : List ℕ). or_fault (divided 10 l) Truncated >> head_first) text
-    ∙ ap (λ (o : Option (List ℕ × List ℕ)). or_fault o Truncated >> head_first) (none-divided 10 line clean)
-
-last-line : (number : ℕ) (cut : CutPicture) (line : List ℕ) → has_byte 10 line ≡ false →
-    lines_in number cut (parts 10 line) ≡ read_err Truncated
+last-line : (number : ℕ) (front : Front) (text : List ℕ) → has_byte 10 text ≡ false →
+    lines_in number front (parts 10 text) ≡ faulty faults.Truncated
 unfolding lines_in
-last-line number cut line clean = ap (lines_in number cut) (parts-last 10 line clean)
+last-line number front text clean = ap (lines_in number front) (parts-last 10 text clean)
 
--- the fault of a line of unfit form
-line-err : (number : ℕ) (cut : CutPicture) (line : List ℕ) (region : Option ℕ) (point : Option CutPoint) →
-    skip_in line ≡ region → point_in cut.version line ≡ point →
-    (MayStand (Listed cut) line → ⊥) → with_either number cut region point ≡ more_err (Line number)
-line-err number cut line (Some region) point is other unfit =
-    let own = skip-found line region is in
-    let some : is_empty cut.points ≡ false = false_from_ne_true _ (λ none. unfit (inr (inl
-    ((region, own.known, own.text), is-nothing cut.points none)))) in
-    cond-false (is_empty cut.points)
-    (if may_follow nat_lt cut.skip region then more_ok (record cut {
-      skip = cut.skip ++
-          (region ∷ []);
-    }) else more_err (Order number)) (more_err (Line number)) some
-line-err number cut line None (Some point) is other unfit =
-    let own = point-found cut.version line point other in
-    absurd (unfit (inr (inr (point, own.known, own.text))))
-line-err number cut line None None is other unfit = refl
+later-line : (number : ℕ) → 2 ≤ number → unfit number ≡ faults.Line number
+later-line number late =
+    let other : (number == 1) ≡ false = grind arith in
+    cond-false (number == 1) faults.Version (faults.Line number) other
 
-with-err : (number : ℕ) (cut : CutPicture) (line : List ℕ) → (MayStand (Listed cut) line → ⊥) →
-    with_line number cut line ≡ more_err (Line number)
-unfolding with_line
-with-err number cut line unfit = line-err number cut line (skip_in line) (point_in cut.version line) refl refl unfit
-
-listed-line : (file : List ℕ) (cut : CutPicture) (line : List ℕ) (fault : CutFault) →
-    HasLine file (Listed cut) line → bytes_eq line (codes "end") ≡ false →
-    with_line (suc (length (listed_lines cut))) cut line ≡ more_err fault → cut_in file ≡ faulty fault
-listed-line file cut line fault here other e =
-    lines-faulty file cut (line ++ (10 ∷ here.more)) fault here.ordered here.text
-    (ap (lines_in (suc (length (listed_lines cut))) cut) (parts-front 10 line here.more (here-clean file
-    (Listed cut) line here))
-    ∙ cons-fault (suc (length (listed_lines cut))) cut fault line (parts 10 here.more)
-    (parts-some 10 here.more) other e)
-
-line-own : (front : Front) (file : List ℕ) (number : ℕ) (line : List ℕ) → HasLine file front line →
-    (MayStand front line → ⊥) →
-    number ≡ suc (length (lines_before front)) → 2 ≤ number → cut_in file ≡ faulty (Line number)
-line-own Nothing file number line here unfit count later = absurd (omega (arith, count))
-line-own (Versioned version) file number line here unfit count later =
-    let none = nothing-from (secret_in line) (λ (n : ℕ) e. let own = secret-found line n e in unfit
-    (n, own.known, own.text)) in
-    head-faulty file (Line number)
-    (versioned-own file (line ++ (10 ∷ here.more)) version here.ordered here.text
-    ∙ ap (λ (o : Option (List ℕ × List ℕ)). or_fault o Truncated >> head_secret version) (divided-own 10 line here.more
-    (here-clean file (Versioned version) line here))
-    ∙ ap (λ (o : Option ℕ). or_fault o (Line 2) >> head_third version (line, here.more)) none
-    ∙ ap (λ (n : ℕ). faulty {A = Head} (Line n)) (sym count))
-line-own (Sized version secret_len) file number line here unfit count later =
-    let none = nothing-from (bits_in line) (λ (n : ℕ) e. let own = bits-found line n e in unfit
-    (n, own.known, own.text)) in
-    head-faulty file (Line number)
-    (sized-own file (line ++ (10 ∷ here.more)) version secret_len here.ordered here.text
-    ∙ ap (λ (o : Option (List ℕ × List ℕ)). or_fault o Truncated >> head_bits version secret_len)
-    (divided-own 10 line here.more (here-clean file (Sized version secret_len) line here))
-    ∙ ap (λ (o : Option ℕ). or_fault o (Line 3) >> λ (b : ℕ). fine {A = Head}
-    (bare_cut version secret_len b, here.more)) none
-    ∙ ap (λ (n : ℕ). faulty {A = Head} (Line n)) (sym count))
-line-own (Listed cut) file number line here unfit count later =
-    listed-line file cut line (Line number) here (other-text line end_line (λ is. unfit (inl is)))
-    (with-err (suc (length (listed_lines cut))) cut line unfit ∙ ap (λ (n : ℕ). more_err (Line n)) (sym count))
-
-follows-not : {A : Type 0} (each : A → Bool) (test : A → A → Bool) (items : List A) (item : A) →
-    (list_all each items && neighbours_pass test items) ≡ true →
-    neighbours_pass test (items ++ (item ∷ [])) ≡ false → may_follow test items item ≡ false
-follows-not each test items item known other =
-    let own = and_parts (list_all each items) (neighbours_pass test items) known in
-    false_from_ne_true _ (λ follows. both_ways _ other (neighbours-push test items item ∙ and_from _ _ own.1 follows))
-
-order-own : (front : Front) (file : List ℕ) (number : ℕ) (line : List ℕ) → HasLine file front line →
-    IsOutOfOrder front line →
-    number ≡ suc (length (lines_before front)) → cut_in file ≡ faulty (Order number)
-order-own Nothing file number line here out count = absurd out
-order-own (Versioned version) file number line here out count = absurd out
-order-own (Sized version secret_len) file number line here out count = absurd out
-order-own (Listed cut) file number line here out count =
-    let version = and_parts (is_version cut.version) _ here.ordered in
-    let short = and_parts (nat_le cut.secret_len 65536) _ version.1 in
-    let bits = and_parts (is_word cut.bits) _ short.1 in
-    let lists = and_parts (are_regions cut.skip) (are_points_of cut.version cut.points) bits.1 in
-    elim out [
-      | inl skip ↦
-          listed-line file cut line (Order number) here (ap (λ (l : List ℕ). bytes_eq l (codes "end")) skip.2)
-          (ap (with_line (suc (length (listed_lines cut))) cut) skip.2
-          ∙ skip-late (suc (length (listed_lines cut))) cut skip.0 skip.1 skip.3
-          (follows-not is_region nat_lt cut.skip skip.0 lists.0 skip.4)
-          ∙ ap (λ (n : ℕ). more_err (Order n)) (sym count))
-      | inr point ↦
-          listed-line file cut line (Order number) here (ap (λ (l : List ℕ). bytes_eq l (codes "end")) point.2)
-          (ap (with_line (suc (length (listed_lines cut))) cut) point.2
-          ∙ point-either (suc (length (listed_lines cut))) cut point.0 point.1
-          ∙ cond-false (may_follow stands_before cut.points point.0) (more_ok (record cut {
-            points = cut.points ++
-                (point.0 ∷ []);
-          }))
-          (more_err (Order (suc (length (listed_lines cut)))))
-          (follows-not (is_point_of cut.version) stands_before cut.points point.0 lists.1 point.3)
-          ∙ ap (λ (n : ℕ). more_err (Order n)) (sym count))
-    ]
-
-truncated-own : (front : Front) (file line : List ℕ) → is_front front ≡ true → has_byte 10 line ≡ false →
-    file ≡ ended (lines_before front) ++ line →
-    cut_in file ≡ faulty Truncated
-truncated-own Nothing file line ordered clean text = head-faulty file Truncated (nothing-read file line clean text)
-truncated-own (Versioned version) file line ordered clean text =
-    head-faulty file Truncated (versioned-own file line version ordered text
-    ∙ ap (λ (o : Option (List ℕ × List ℕ)). or_fault o Truncated >> head_secret version) (none-divided 10 line clean))
-truncated-own (Sized version secret_len) file line ordered clean text =
-    head-faulty file Truncated (sized-own file line version secret_len ordered text
-    ∙ ap (λ (o : Option (List ℕ × List ℕ)). or_fault o Truncated >> head_bits version secret_len)
-    (none-divided 10 line clean))
-truncated-own (Listed cut) file line ordered clean text =
-    lines-faulty file cut line Truncated ordered text (last-line (suc (length (listed_lines cut))) cut line clean)
-
-version-err : (file line more : List ℕ) → file ≡ line ++ (10 ∷ more) → has_byte 10 line ≡ false →
-    version_in line ≡ None → head_in file ≡ faulty Version
-unfolding head_in
-version-err file line more text clean none =
-    ap (λ (l : List ℕ). or_fault (divided 10 l) Truncated >> head_first) text
-    ∙ ap (λ (o : Option (List ℕ × List ℕ)). or_fault o Truncated >> head_first) (divided-own 10 line more clean)
-    ∙ ap (λ (o : Option ℕ). or_fault o Version >> head_second (line, more)) none
-
-pub fault-own : (fault : CutFault) (file : List ℕ) → (fault ≡ Memory → ⊥) → FirstCutFault file fault →
+pub fault-own : (fault : CutFault) (file : List ℕ) → (fault ≡ faults.Memory → ⊥) → FirstCutFault file fault →
     cut_in file ≡ faulty fault
-fault-own Version file free known =
-    head-faulty file Version (version-err file known.0 known.1.more known.1.text
-    (here-clean file Nothing known.0 known.1)
-    (nothing-from (version_in known.0) (λ (n : ℕ) e. let own = version-found known.0 n e in
-    known.2 (n, own.known, own.text))))
-fault-own (Line number) file free known = line-own known.0 file number known.1 known.2 known.3 known.4 known.5
-fault-own (Order number) file free known = order-own known.0 file number known.1 known.2 known.3 known.4
-fault-own Truncated file free known = truncated-own known.0 file known.1 known.2 (sym (feed-byte known.1)
-    ∙ known.3) known.4
-fault-own (Trailing offset) file free known =
+fault-own faults.Version file free known = unfit-own file Nothing known.0 known.1 known.2
+fault-own (faults.Line number) file free known =
+    unfit-own file known.0 known.1 known.2 known.3
+    ∙ ap (λ (n : ℕ). faulty (unfit n)) (sym known.4)
+    ∙ ap (λ (f : CutFault). faulty f) (later-line number known.5)
+fault-own (faults.Order number) file free known =
+    late-own file known.0 known.3.0 known.1 known.2 known.3.1 known.3.2
+    ∙ ap (λ (n : ℕ). faulty (faults.Order n)) (sym known.4)
+fault-own faults.Truncated file free known =
+    let number : ℕ = suc (length (lines_before known.0)) in
+    file-finish file (faulty faults.Truncated) (file-front file known.0 known.1 known.2 known.4
+    ∙ last-line number known.0 known.1 (sym (feed-byte known.1) ∙ known.3))
+fault-own (faults.Trailing offset) file free known =
     let rest : List ℕ = known.1 ∷ known.2 in
     let size : length file ≡ length (cut_text known.0) + length rest = ap length known.4
     ∙ length-append (cut_text known.0) rest in
     let place : length file - length rest ≡ offset = omega (arith, size, known.5) in
-    ended-own file known.0 rest known.3 known.4 ∙ ap (λ (n : ℕ). faulty {A = CutPicture} (Trailing n)) place
-fault-own Memory file free known = absurd (free refl)
+    ended-own file known.0 rest known.3 known.4 ∙ ap (λ (n : ℕ). faulty {A = CutPicture} (faults.Trailing n)) place
+fault-own faults.Memory file free known = absurd (free refl)
 
 -- ---- one answer
+
+value_or : {A : Type 0} → A → Result A CutFault → A
+value_or other (Ok value) = value
+value_or other (Err fault) = other
+
+fault_or : {A : Type 0} → CutFault → Result A CutFault → CutFault
+fault_or other (Ok value) = other
+fault_or other (Err fault) = fault
+
+pub fine-same : {A : Type 0} (a b : A) → fine a ≡ fine b → a ≡ b
+unfolding value_or
+fine-same a b e = ap (value_or a) e
+
+pub faulty-same : {A : Type 0} (a b : CutFault) → faulty {A = A} a ≡ faulty {A = A} b → a ≡ b
+unfolding fault_or
+faulty-same a b e = ap (fault_or a) e
 
 pub one-cut : (file : List ℕ) (first second : CutPicture) → CutText file first → CutText file second → first ≡ second
 one-cut file first second a b = fine-same first second (sym (cut-own file first a) ∙ cut-own file second b)
 
-pub one-fault : (file : List ℕ) (first second : CutFault) → (first ≡ Memory → ⊥) → (second ≡ Memory → ⊥) →
-    FirstCutFault file first →
-    FirstCutFault file second → first ≡ second
+pub one-fault : (file : List ℕ) (first second : CutFault) → (first ≡ faults.Memory → ⊥) →
+    (second ≡ faults.Memory → ⊥) → FirstCutFault file first → FirstCutFault file second → first ≡ second
 one-fault file first second a b known other = faulty-same {A = CutPicture} first second (sym
     (fault-own first file a known) ∙ fault-own second file b other)
 
-pub cut-no_fault : (file : List ℕ) (cut : CutPicture) (fault : CutFault) → CutText file cut → (fault ≡ Memory → ⊥) →
-    FirstCutFault file fault → ⊥
+pub cut-no_fault : (file : List ℕ) (cut : CutPicture) (fault : CutFault) → CutText file cut →
+    (fault ≡ faults.Memory → ⊥) → FirstCutFault file fault → ⊥
 cut-no_fault file cut fault text free known =
     let e : fine cut ≡ faulty fault = sym (cut-own file cut text) ∙ fault-own fault file free known in
     absurd cc

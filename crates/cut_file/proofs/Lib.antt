@@ -7,11 +7,12 @@ pub mod Pieces
 pub mod Numbers
 pub mod Hexadecimal
 pub mod Slots
-pub mod Lines
+pub mod Steps
 pub mod PointLines
-pub mod LineSteps
+pub mod LineTexts
+pub mod Fronts
 pub mod FileReads
-pub mod FileFaults
 pub mod FileTexts
+pub mod LineDrafts
 pub mod Answering
 pub mod CutMasks

@@ -5,6 +5,7 @@ use Rattle.std.proofs.Common.{◌&&◌, not, inl, inr, eq-eqb}
 use Rattle.std.proofs.lemmas.Bool.{and_parts, cases_Bool, cond-false, cond-true, eqb-true, not-true, or_from}
 use Rattle.std.proofs.lemmas.Bool.{or_parts}
 use Rattle.cut_file.specs.Texts.{joined}
+use Rattle.cut_file.specs.Cuts.{is_empty}
 use Rattle.cut_file.specs.Reading.{divided, with_byte, onto_first, parts}
 
 -- the halves behind bytes without a separator
@@ -114,6 +115,20 @@ joined-parts separator (byte ∷ bytes) =
       | inr other ↦ rw other (joined-onto separator byte (parts separator bytes)
           ∙ ap (λ (l : List ℕ). byte ∷ l) (joined-parts separator bytes))
     ]
+
+-- there is a part
+onto-some : (byte : ℕ) (others : List (List ℕ)) → is_empty (onto_first byte others) ≡ false
+onto-some byte [] = refl
+onto-some byte (part ∷ others) = refl
+
+some-either : (test : Bool) (byte : ℕ) (others : List (List ℕ)) →
+    is_empty (if test then [] ∷ others else onto_first byte others) ≡ false
+some-either true byte others = refl
+some-either false byte others = onto-some byte others
+
+pub parts-some : (separator : ℕ) (bytes : List ℕ) → is_empty (parts separator bytes) ≡ false
+parts-some separator [] = refl
+parts-some separator (byte ∷ bytes) = some-either (byte == separator) byte (parts separator bytes)
 
 -- a clean part in front of a separator is the first part
 pub parts-front : (separator : ℕ) (part rest : List ℕ) → has_byte separator part ≡ false →

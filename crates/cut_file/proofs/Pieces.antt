@@ -8,8 +8,9 @@ use Rattle.cut_file.specs.declared.points.CutPoint.{CutPoint}
 use Rattle.cut_file.specs.declared.points.Run.{Run}
 use Rattle.cut_file.specs.Cuts.{CutPicture}
 use Rattle.flow_base.specs.HexWords.{hex_word}
-use Rattle.cut_file.specs.Texts.{bits_line, cut_text, end_line, ended, joined, point_line, rest_text, run_text}
-use Rattle.cut_file.specs.Texts.{secret_line, skip_line, slot_text, version_line}
+use Rattle.cut_file.specs.declared.lines.Line.{Line}
+use Rattle.cut_file.specs.declared.lines.Line.TheVariants.{Version, Secret, Bits, Skip, Point, End}
+use Rattle.cut_file.specs.Texts.{cut_text, joined, line_text, lines_text, rest_text, run_text, slot_text}
 use Rattle.cut_file.specs.Writing.{led, point_pieces}
 
 pub joined-led : (word : List ℕ) (words : List (List ℕ)) → joined 32 (word ∷ words) ≡ word ++ led words
@@ -22,15 +23,16 @@ led-append (word ∷ first) second =
     ap (λ (l : List ℕ). 32 ∷ (word ++ l)) (led-append first second)
     ∙ sym (append_assoc (32 ∷ word) (led first) (led second))
 
-pub ended-append : (first second : List (List ℕ)) → ended (first ++ second) ≡ ended first ++ ended second
-ended-append [] second = refl
-ended-append (line ∷ first) second =
-    ap (λ (l : List ℕ). line ++ (10 ∷ l)) (ended-append first second)
-    ∙ sym (append_assoc line (10 ∷ ended first) (ended second))
+pub lines-append : (version : ℕ) (first second : List Line) →
+    lines_text version (first ++ second) ≡ lines_text version first ++ lines_text version second
+lines-append version [] second = refl
+lines-append version (line ∷ first) second =
+    ap (λ (l : List ℕ). line_text version line ++ (10 ∷ l)) (lines-append version first second)
+    ∙ sym (append_assoc (line_text version line) (10 ∷ lines_text version first) (lines_text version second))
 
 -- the line of a point, and what comes behind it, in the pieces that are written
-pub point-pieces : (version : ℕ) (point : CutPoint) → point_line version point ++ codes "\n" ≡ point_pieces version
-    point
+pub point-pieces : (version : ℕ) (point : CutPoint) →
+    line_text version (Point point) ++ codes "\n" ≡ point_pieces version point
 point-pieces version point =
     let region = decimal point.point.region in
     let slot = slot_text point.point.slot in
@@ -50,7 +52,7 @@ point-pieces version point =
     ∙ ap (λ (l : List ℕ). codes "point " ++ (region ++ (codes " " ++ (hex_word point.point.address ++ (codes " " ++
     (slot ++ l)))))) (append_assoc (led runs) last (codes "\n"))
 
--- one more piece of runs, points
+-- one more piece of runs
 pub runs-step : (piece : Run → List ℕ) (runs : List Run) (index : ℕ) (other : Run) (text whole : List ℕ) →
     index < length runs → text ++ led (map piece (drop index runs)) ≡ whole →
     (text ++ (32 ∷ piece (get_or runs index other))) ++ led (map piece (drop (index + 1) runs)) ≡ whole
@@ -60,33 +62,36 @@ runs-step piece runs index other text whole inside known =
     rw add-one (append_assoc text (32 ∷ piece (get_or runs index other)) (led (map piece (drop (suc index) runs)))
     ∙ ap (λ (l : List Run). text ++ led (map piece l)) (sym tail) ∙ known)
 
-pub points-step : (version : ℕ) (points : List CutPoint) (index : ℕ) (other : CutPoint) (text whole : List ℕ) →
-    index < length points →
-    text ++ ended (map (point_line version) (drop index points)) ≡ whole →
-    (text ++ point_pieces version (get_or points index other))
-    ++ ended (map (point_line version) (drop (index + 1) points)) ≡ whole
-points-step version points index other text whole inside known =
-    let here = get_or points index other in
-    let tail : drop index points ≡ here ∷ drop (suc index) points = drop-cons points index other inside in
-    let more = ended (map (point_line version) (drop (suc index) points)) in
-    rw add-one (append_assoc text (point_pieces version here) more
-    ∙ ap (λ (l : List ℕ). text ++ (l ++ more)) (sym (point-pieces version here))
-    ∙ ap (λ (l : List ℕ). text ++ l) (append_assoc (point_line version here) (codes "\n") more)
-    ∙ ap (λ (l : List CutPoint). text ++ ended (map (point_line version) l)) (sym tail) ∙ known)
+-- one more line of items
+pub lines-step : {A : Type 0} (version : ℕ) (form : A → Line) (items : List A) (index : ℕ) (other : A)
+    (text piece whole : List ℕ) → index < length items →
+    line_text version (form (get_or items index other)) ++ (10 ∷ []) ≡ piece →
+    text ++ lines_text version (map form (drop index items)) ≡ whole →
+    (text ++ piece) ++ lines_text version (map form (drop (index + 1) items)) ≡ whole
+lines-step version form items index other text piece whole inside is known =
+    let here = line_text version (form (get_or items index other)) in
+    let tail : drop index items ≡ get_or items index other ∷ drop (suc index) items =
+    drop-cons items index other inside in
+    let more = lines_text version (map form (drop (suc index) items)) in
+    rw add-one (append_assoc text piece more
+    ∙ ap (λ (l : List ℕ). text ++ (l ++ more)) (sym is)
+    ∙ ap (λ (l : List ℕ). text ++ l) (append_assoc here (10 ∷ []) more)
+    ∙ ap (λ l. text ++ lines_text version (map form l)) (sym tail) ∙ known)
 
 -- the text of a cut in the pieces that are written
 pub cut-pieces : (cut : CutPicture) →
-    ((ended (version_line cut.version ∷ (secret_line cut.secret_len ∷ (bits_line cut.bits ∷ []))) ++ ended
-    (map skip_line cut.skip))
-    ++ ended (map (point_line cut.version) cut.points)) ++ codes "end\n" ≡ cut_text cut
+    ((lines_text cut.version (Version cut.version ∷ (Secret cut.secret_len ∷ (Bits cut.bits ∷ [])))
+    ++ lines_text cut.version (map Skip cut.skip)) ++ lines_text cut.version (map Point cut.points)) ++ codes "end\n"
+    ≡ cut_text cut
 cut-pieces cut =
-    let head : List (List ℕ) = version_line cut.version ∷ (secret_line cut.secret_len ∷ (bits_line cut.bits ∷ [])) in
-    let skips : List (List ℕ) = map skip_line cut.skip in
-    let points : List (List ℕ) = map (point_line cut.version) cut.points in
-    sym (ended-append (head ++ (skips ++ points)) (end_line ∷ [])
-    ∙ ap (λ (l : List ℕ). l ++ codes "end\n") (ended-append head (skips ++ points)
-    ∙ ap (λ (l : List ℕ). ended head ++ l) (ended-append skips points)
-    ∙ sym (append_assoc (ended head) (ended skips) (ended points))))
+    let head : List Line = Version cut.version ∷ (Secret cut.secret_len ∷ (Bits cut.bits ∷ [])) in
+    let text : List Line → List ℕ = lines_text cut.version in
+    let skips : List Line = map Skip cut.skip in
+    let points : List Line = map Point cut.points in
+    sym (lines-append cut.version (head ++ (skips ++ points)) (End ∷ [])
+    ∙ ap (λ (l : List ℕ). l ++ codes "end\n") (lines-append cut.version head (skips ++ points)
+    ∙ ap (λ (l : List ℕ). text head ++ l) (lines-append cut.version skips points)
+    ∙ sym (append_assoc (text head) (text skips) (text points))))
 
 -- two pieces are one
 pub joins : (before first middle second after : List ℕ) → middle ≡ before ++ first → after ≡ middle ++ second →

@@ -17,10 +17,11 @@ use Rattle.flow_base.specs.Points.{is_slot}
 use Rattle.cut_file.specs.declared.points.CutPoint.{CutPoint}
 use Rattle.cut_file.specs.declared.points.Run.{Run}
 use Rattle.cut_file.specs.Cuts.{are_runs, have_other_masks, is_cut_point, is_point, is_point_of, is_rest, is_run}
-use Rattle.cut_file.specs.Cuts.{is_single, is_word}
+use Rattle.cut_file.specs.Cuts.{is_empty, is_single, is_word}
 use Rattle.flow_base.specs.HexWords.{hex_word}
-use Rattle.cut_file.specs.Texts.{joined, point_line, point_words, rest_text, run_text, slot_text}
-use Rattle.cut_file.specs.Reading.{◌>>=◌, after_text, divided, first_of, is_empty, may_follow}
+use Rattle.cut_file.specs.declared.lines.Line.TheVariants as forms
+use Rattle.cut_file.specs.Texts.{joined, line_text, point_words, rest_text, run_text, slot_text}
+use Rattle.cut_file.specs.Reading.{◌>>=◌, after_text, divided, first_of, may_follow}
 use Rattle.cut_file.specs.Reading.{number_in, others_of, parts}
 use Rattle.cut_file.specs.Reading.{only_mask_in, pattern_in, place_in, point_in, point_in_words, rest_in}
 use Rattle.cut_file.specs.Reading.{run_in, runs_in, single_in}
@@ -30,8 +31,8 @@ use Rattle.cut_file.proofs.Following.{kept-step, list-push}
 use Rattle.cut_file.proofs.Numbers.{clean-append, clean-cons, decimal-clean, number-found, number-own}
 use Rattle.cut_file.proofs.Hexadecimal.{hex_word-clean, word-found, word-own}
 use Rattle.cut_file.proofs.Slots.{slot-clean, slot-found, slot-own}
-use Rattle.cut_file.proofs.Lines.{after-found, after-own, below-word, kept-found, the-same, then-found, then-own}
-use Rattle.cut_file.proofs.Lines.{word-below}
+use Rattle.cut_file.proofs.Steps.{after-found, after-own, below-word, kept-found, the-same, then-found, then-own}
+use Rattle.cut_file.proofs.Steps.{word-below}
 
 -- ---- runs
 
@@ -539,7 +540,7 @@ words-clean separator version point low known =
     (and_from _ _ (not_from_false _ rest) (rest-clean separator version point.rest low masks.0)))))
 
 pub record IsPointLineOf (version : ℕ) (line : List ℕ) (point : CutPoint) : Type 0 where
-  pub text : line ≡ point_line version point
+  pub text : line ≡ line_text version (forms.Point point)
   pub known : is_point_of version point ≡ true
 
 pub point-found : (version : ℕ) (line : List ℕ) (point : CutPoint) → point_in version line ≡ Some point →
@@ -556,10 +557,10 @@ point-found version line point e =
     }
 
 pub point-own : (version : ℕ) (point : CutPoint) → is_point_of version point ≡ true →
-    point_in version (point_line version point) ≡ Some point
+    point_in version (line_text version (forms.Point point)) ≡ Some point
 unfolding point_in
 point-own version point known =
-    then-own (after_text (codes "point ") (point_line version point)) (λ words. point_in_words version (parts 32
+    then-own (after_text (codes "point ") (line_text version (forms.Point point))) (λ words. point_in_words version (parts 32
     words)) (joined 32
     (point_words version point))
     (after-own (codes "point ") (joined 32 (point_words version point)))
@@ -576,7 +577,7 @@ clean-joined separator (word ∷ (next ∷ words)) other clean =
     (clean-cons separator 32 (joined 32 (next ∷ words)) other (clean-joined separator (next ∷ words) other both.1))
 
 pub point_line-clean : (version : ℕ) (point : CutPoint) → is_point_of version point ≡ true →
-    has_byte 10 (point_line version point) ≡ false
+    has_byte 10 (line_text version (forms.Point point)) ≡ false
 point_line-clean version point known =
     clean-append 10 (codes "point ") (joined 32 (point_words version point)) refl
     (clean-joined 10 (point_words version point) (λ e. omega (arith, e)) (words-clean 10 version point (omega arith)

@@ -18,6 +18,10 @@ pub record CutPicture : Type 0 where
 abbrev pub is_version : ℕ → Bool
 is_version version = (version == 1) || (version == 2)
 
+abbrev pub is_empty : {A : Type 0} → List A → Bool
+is_empty [] = true
+is_empty (first ∷ others) = false
+
 -- each two neighbours pass a test
 abbrev pub neighbours_pass : {A : Type 0} → (A → A → Bool) → List A → Bool
 neighbours_pass test [] = true

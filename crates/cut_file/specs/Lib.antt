@@ -1,5 +1,6 @@
 pub mod Cuts
 pub mod Texts
+pub mod Fronts
 pub mod Faults
 pub mod Masks
 pub mod Folds

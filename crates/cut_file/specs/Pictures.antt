@@ -1,6 +1,10 @@
--- The picture of a cut, and what reading gives.
+-- The picture of a cut, and of the lines that have been read.
 use Rattle.cut_file.specs.declared.cuts.Cut.{Cut}
+use Rattle.cut_file.specs.declared.drafts.Draft.{Draft}
+use Rattle.cut_file.specs.declared.drafts.Draft.TheVariants as drafts
 use Rattle.cut_file.specs.Cuts.{CutPicture}
+use Rattle.cut_file.specs.Fronts.{Front}
+use Rattle.cut_file.specs.Fronts.Front.{Nothing, Versioned, Sized, Listed, Whole}
 
 abbrev pub picture_of : Cut → CutPicture
 picture_of cut = record {
@@ -8,6 +12,12 @@ picture_of cut = record {
   secret_len = cut.secret_len;
   bits = cut.bits;
   skip = cut.skip;
-  points
-      = cut.points;
+  points = cut.points;
 }
+
+abbrev pub front_of : Draft → Front
+front_of drafts.Nothing = Nothing
+front_of (drafts.Versioned version) = Versioned version
+front_of (drafts.Sized version secret_len) = Sized version secret_len
+front_of (drafts.Listed cut) = Listed (picture_of cut)
+front_of (drafts.Whole cut) = Whole (picture_of cut)

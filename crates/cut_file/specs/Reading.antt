@@ -1,6 +1,7 @@
 -- How the text of a cut is read, line by line and word by word.
 use Rattle.std.specs.Prelude.{ℕ, ◌+◌, ◌-◌, ◌*◌, ◌%◌, ◌==◌, ◌&&◌, nat_le, nat_lt, List, [], ◌∷◌, ◌++◌, codes, length}
-use Rattle.std.specs.Prelude.{slice_index, Bool, true, false, Option, Some, None, option_and_then, Result, Ok, Err}
+use Rattle.std.specs.Prelude.{slice_index, Bool, true, false, Option, Some, None, option_and_then, option_map}
+use Rattle.std.specs.Prelude.{Result, Ok, Err}
 use Rattle.std.specs.Prelude.{if◌then◌else◌}
 use Rattle.std.specs.Borrow.{Bor}
 use Rattle.std.specs.Str.{bytes_eq}
@@ -10,8 +11,12 @@ use Rattle.flow_base.specs.declared.points.Slot.TheVariants as slots
 use Rattle.cut_file.specs.declared.points.CutPoint.{CutPoint}
 use Rattle.cut_file.specs.declared.points.Run.{Run}
 use Rattle.cut_file.specs.declared.faults.CutFault.{CutFault}
-use Rattle.cut_file.specs.declared.faults.CutFault.TheVariants.{Version, Line, Order, Truncated, Trailing}
-use Rattle.cut_file.specs.Cuts.{CutPicture, have_other_masks, is_version, stands_before}
+use Rattle.cut_file.specs.declared.faults.CutFault.TheVariants as faults
+use Rattle.cut_file.specs.declared.lines.Line.{Line}
+use Rattle.cut_file.specs.declared.lines.Line.TheVariants as forms
+use Rattle.cut_file.specs.Cuts.{CutPicture, have_other_masks, is_empty, is_region, is_version, is_word, stands_before}
+use Rattle.cut_file.specs.Fronts.{Front, followed, version_of}
+use Rattle.cut_file.specs.Fronts.Front.{Nothing, Versioned, Sized, Listed, Whole}
 use Rattle.flow_base.specs.HexWords.{hex_word}
 use Rattle.cut_file.specs.Texts.{joined}
 
@@ -47,10 +52,6 @@ after_text (first ∷ wanted) (byte ∷ bytes) = if first == byte then after_tex
 abbrev pub first_of : List (List ℕ) → Option (List ℕ)
 first_of [] = None
 first_of (first ∷ others) = Some first
-
-abbrev pub is_empty : {A : Type 0} → List A → Bool
-is_empty [] = true
-is_empty (first ∷ others) = false
 
 abbrev pub others_of : List (List ℕ) → List (List ℕ)
 others_of [] = []
@@ -133,9 +134,9 @@ numbered_slot [] = None
 numbered_slot (letter ∷ digits) = option_and_then (λ number. slot_of letter number) (number_in digits)
 
 -- the first that there is
-abbrev pub or_else : Option Slot → Option Slot → Option Slot
+abbrev pub or_else : {A : Type 0} → Option A → Option A → Option A
 or_else None other = other
-or_else (Some slot) other = Some slot
+or_else (Some value) other = Some value
 
 unfoldable pub slot_in : List ℕ → Option Slot
 slot_in bytes = or_else (named_slot bytes) (numbered_slot bytes)
@@ -155,30 +156,16 @@ run_in bytes = do
 
 -- ---- lines
 
--- the version in a line of that form
-unfoldable pub version_in : List ℕ → Option ℕ
-version_in line = do
-  digits ← after_text (codes "flowcheck-cut ") line
-  number ← number_in digits
-  if is_version number then Some number else None
+-- the number of a word behind a wanted text
+abbrev pub number_behind : List ℕ → List ℕ → Option ℕ
+number_behind wanted text = after_text wanted text >>= λ digits. number_in digits
 
--- the secret's length in a line of that form
-unfoldable pub secret_in : List ℕ → Option ℕ
-secret_in line = do
-  digits ← after_text (codes "secret ") line
-  number ← number_in digits
-  if nat_le number 65536 then Some number else None
+-- such a number that passes a test
+abbrev pub tested_number : List ℕ → (ℕ → Bool) → List ℕ → Option ℕ
+tested_number wanted test text = number_behind wanted text >>= λ number. if test number then Some number else None
 
-unfoldable pub bits_in : List ℕ → Option ℕ
-bits_in line = do
-  digits ← after_text (codes "bits ") line
-  number_in digits
-
-unfoldable pub skip_in : List ℕ → Option ℕ
-skip_in line = do
-  digits ← after_text (codes "skip ") line
-  number ← number_in digits
-  if nat_le 1 number && nat_le number 65535 then Some number else None
+abbrev pub is_short : ℕ → Bool
+is_short length = nat_le length 65536
 
 -- the point of the first three words
 unfoldable pub place_in : List (List ℕ) → Option Point
@@ -240,6 +227,22 @@ point_in version line = do
   words ← after_text (codes "point ") line
   point_in_words version (parts 32 words)
 
+-- the line of a number that has this text
+unfoldable pub number_line_in : List ℕ → Option Line
+number_line_in text =
+    or_else (option_map forms.Version (tested_number (codes "flowcheck-cut ") is_version text))
+    (or_else (option_map forms.Secret (tested_number (codes "secret ") is_short text))
+    (or_else (option_map forms.Bits (tested_number (codes "bits ") is_word text))
+    (option_map forms.Skip (tested_number (codes "skip ") is_region text))))
+
+abbrev pub end_in : List ℕ → Option Line
+end_in text = if bytes_eq text (codes "end") then Some forms.End else None
+
+-- the line that has this text, in a cut of that version
+unfoldable pub line_in : ℕ → List ℕ → Option Line
+line_in version text =
+    or_else (number_line_in text) (or_else (option_map forms.Point (point_in version text)) (end_in text))
+
 -- ---- the file
 
 infixl 10 ◌>>◌
@@ -251,67 +254,55 @@ abbrev pub or_fault : {A : Type 0} → Option A → CutFault → Result A CutFau
 or_fault None fault = Err fault
 or_fault (Some x) fault = Ok x
 
--- a cut with a region behind its own, by the line of that number
-abbrev pub with_region : ℕ → CutPicture → ℕ → Result CutPicture CutFault
-with_region number cut region =
-    if is_empty cut.points
-    then (if may_follow nat_lt cut.skip region
-    then Ok (record cut { skip = cut.skip ++ (region ∷ []) }) else Err (Order number))
-    else Err (Line number)
+-- the fault of the line of that number where its form may not stand there
+abbrev pub unfit : ℕ → CutFault
+unfit number = if number == 1 then faults.Version else faults.Line number
 
--- a cut with a point behind its own, by the line of that number
-abbrev pub with_point : ℕ → CutPicture → CutPoint → Result CutPicture CutFault
-with_point number cut point =
-    if may_follow stands_before cut.points point
-    then Ok (record cut { points = cut.points ++ (point ∷ []) }) else Err (Order number)
+-- the line exceeds the line of its kind before it
+abbrev pub is_in_order : Front → Line → Bool
+is_in_order (Listed cut) (forms.Skip region) = may_follow nat_lt cut.skip region
+is_in_order (Listed cut) (forms.Point point) = may_follow stands_before cut.points point
+is_in_order _ _ = true
 
-abbrev pub with_either : ℕ → CutPicture → Option ℕ → Option CutPoint → Result CutPicture CutFault
-with_either number cut (Some region) point = with_region number cut region
-with_either number cut None (Some point) = with_point number cut point
-with_either number cut None None = Err (Line number)
+-- the lines with one more, of that number
+unfoldable pub with_line : ℕ → Front → Line → Result Front CutFault
+with_line number front line =
+    or_fault (followed front line) (unfit number) >> λ next.
+    if is_in_order front line then Ok next else Err (faults.Order number)
 
--- a cut with what a line adds
-unfoldable pub with_line : ℕ → CutPicture → List ℕ → Result CutPicture CutFault
-with_line number cut line = with_either number cut (skip_in line) (point_in cut.version line)
+-- the lines with the line of that number and text
+unfoldable pub with_text : ℕ → Front → List ℕ → Result Front CutFault
+with_text number front text =
+    or_fault (line_in (version_of front) text) (unfit number) >> λ line.
+    with_line number front line
 
--- a cut with what the lines up to `end` add, and the parts of the file behind them
-unfoldable pub lines_in : ℕ → CutPicture → List (List ℕ) → Result (CutPicture × List (List ℕ)) CutFault
-lines_in number cut [] = Err Truncated
-lines_in number cut (line ∷ []) = Err Truncated
-lines_in number cut (line ∷ (next ∷ lines)) =
-    if bytes_eq line (codes "end") then Ok (cut, next ∷ lines)
-    else with_line number cut line >> λ longer. lines_in (number + 1) longer (next ∷ lines)
+-- the cut, and the parts of the file behind its last line
+abbrev pub Read : Type 0
+Read = Result (CutPicture × List (List ℕ)) CutFault
+
+-- what is read where these lines are whole, and else what is read of those behind them
+abbrev pub unless_whole : Front → List (List ℕ) → Read → Read
+unless_whole Nothing texts read = read
+unless_whole (Versioned version) texts read = read
+unless_whole (Sized version secret_len) texts read = read
+unless_whole (Listed cut) texts read = read
+unless_whole (Whole cut) texts read = Ok (cut, texts)
+
+-- the cut of these lines and of those with these texts, the first of which has that number
+unfoldable pub lines_in : ℕ → Front → List (List ℕ) → Read
+lines_in number front [] = Err faults.Truncated
+lines_in number front (text ∷ []) = Err faults.Truncated
+lines_in number front (text ∷ (next ∷ texts)) =
+    with_text number front text >> λ longer.
+    unless_whole longer (next ∷ texts) (lines_in (number + 1) longer (next ∷ texts))
 
 -- the cut, where nothing is left of the file
 abbrev pub whole_cut : ℕ → CutPicture → List ℕ → Result CutPicture CutFault
 whole_cut size cut [] = Ok cut
-whole_cut size cut (byte ∷ bytes) = Err (Trailing (size - length (byte ∷ bytes)))
-
--- a cut without regions and points
-abbrev pub bare_cut : ℕ → ℕ → ℕ → CutPicture
-bare_cut version secret_len bits = record {
-  version = version;
-  secret_len = secret_len;
-  bits = bits;
-  skip = [];
-  points
-      = [];
-}
-
--- the cut of the first three lines, and the rest of the file
-unfoldable pub head_in : List ℕ → Result (CutPicture × List ℕ) CutFault
-head_in file =
-    or_fault (divided 10 file) Truncated >> λ first.
-    or_fault (version_in first.0) Version >> λ version.
-    or_fault (divided 10 first.1) Truncated >> λ second.
-    or_fault (secret_in second.0) (Line 2) >> λ secret_len.
-    or_fault (divided 10 second.1) Truncated >> λ third.
-    or_fault (bits_in third.0) (Line 3) >> λ bits.
-    Ok (bare_cut version secret_len bits, third.1)
+whole_cut size cut (byte ∷ bytes) = Err (faults.Trailing (size - length (byte ∷ bytes)))
 
 -- the cut of a file, or its first fault
 unfoldable pub cut_in : List ℕ → Result CutPicture CutFault
 cut_in file =
-    head_in file >> λ head.
-    lines_in 4 head.0 (parts 10 head.1) >> λ whole.
+    lines_in 1 Nothing (parts 10 file) >> λ whole.
     whole_cut (length file) whole.0 (joined 10 whole.1)

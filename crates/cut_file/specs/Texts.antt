@@ -1,5 +1,5 @@
 -- The one text of a cut: its lines, each of words with one space between them.
-use Rattle.std.specs.Prelude.{◌≡◌, ℕ, ◌==◌, if◌then◌else◌, true, List, [], ◌∷◌, ◌++◌, codes, map}
+use Rattle.std.specs.Prelude.{◌≡◌, ℕ, ◌==◌, nat_le, if◌then◌else◌, Bool, true, List, [], ◌∷◌, ◌++◌, codes, map}
 use Rattle.std.specs.Fmt.{decimal}
 use Rattle.flow_base.specs.HexWords.{hex_word}
 use Rattle.flow_base.specs.declared.points.Slot.{Slot}
@@ -7,7 +7,9 @@ use Rattle.flow_base.specs.declared.points.Slot.TheVariants.{First, Second, Addr
 use Rattle.flow_base.specs.declared.points.Slot.TheVariants.{Arg1, Arg2, SecretIn, ByteOut, Status, OutReg, OutRange}
 use Rattle.cut_file.specs.declared.points.CutPoint.{CutPoint}
 use Rattle.cut_file.specs.declared.points.Run.{Run}
-use Rattle.cut_file.specs.Cuts.{CutPicture, is_valid}
+use Rattle.cut_file.specs.declared.lines.Line.{Line}
+use Rattle.cut_file.specs.declared.lines.Line.TheVariants.{Version, Secret, Bits, Skip, Point, End}
+use Rattle.cut_file.specs.Cuts.{CutPicture, is_point_of, is_region, is_valid, is_version, is_word}
 
 -- parts with a separator between them
 abbrev pub joined : ℕ → List (List ℕ) → List ℕ
@@ -18,11 +20,6 @@ joined separator (part ∷ (next ∷ parts)) = part ++ (separator ∷ joined sep
 -- words with one space between them
 abbrev pub spaced : List (List ℕ) → List ℕ
 spaced words = joined 32 words
-
--- lines, each with its line feed
-abbrev pub ended : List (List ℕ) → List ℕ
-ended [] = []
-ended (line ∷ lines) = line ++ (10 ∷ ended lines)
 
 abbrev pub slot_text : Slot → List ℕ
 slot_text First = codes "u1"
@@ -48,41 +45,48 @@ run_text run = decimal run.count ++ (42 ∷ hex_word run.mask)
 abbrev pub rest_text : ℕ → Run → List ℕ
 rest_text version run = if version == 2 then run_text run else hex_word run.mask
 
--- ---- the lines
-
-abbrev pub version_line : ℕ → List ℕ
-version_line version = codes "flowcheck-cut " ++ decimal version
-
-abbrev pub secret_line : ℕ → List ℕ
-secret_line length = codes "secret " ++ decimal length
-
-abbrev pub bits_line : ℕ → List ℕ
-bits_line bits = codes "bits " ++ decimal bits
-
-abbrev pub skip_line : ℕ → List ℕ
-skip_line region = codes "skip " ++ decimal region
-
 -- the words of a point behind the first
 abbrev pub point_words : ℕ → CutPoint → List (List ℕ)
 point_words version cut_point =
     decimal cut_point.point.region ∷ (hex_word cut_point.point.address ∷ (slot_text cut_point.point.slot
     ∷ (map run_text cut_point.runs ++ (codes "rest" ∷ map (rest_text version) cut_point.rest))))
 
-abbrev pub point_line : ℕ → CutPoint → List ℕ
-point_line version cut_point = codes "point " ++ spaced (point_words version cut_point)
+-- ---- the lines
 
-abbrev pub end_line : List ℕ
-end_line = codes "end"
+-- the text of a line without its line feed, in a cut of that version
+abbrev pub line_text : ℕ → Line → List ℕ
+line_text version (Version number) = codes "flowcheck-cut " ++ decimal number
+line_text version (Secret length) = codes "secret " ++ decimal length
+line_text version (Bits bits) = codes "bits " ++ decimal bits
+line_text version (Skip region) = codes "skip " ++ decimal region
+line_text version (Point cut_point) = codes "point " ++ spaced (point_words version cut_point)
+line_text version End = codes "end"
+
+-- what it says is in its range
+abbrev pub is_line : ℕ → Line → Bool
+is_line version (Version number) = is_version number
+is_line version (Secret length) = nat_le length 65536
+is_line version (Bits bits) = is_word bits
+is_line version (Skip region) = is_region region
+is_line version (Point cut_point) = is_point_of version cut_point
+is_line version End = true
+
+-- the text of lines, each with its line feed
+abbrev pub lines_text : ℕ → List Line → List ℕ
+lines_text version [] = []
+lines_text version (line ∷ lines) = line_text version line ++ (10 ∷ lines_text version lines)
 
 -- the lines of a cut before the last
-abbrev pub listed_lines : CutPicture → List (List ℕ)
-listed_lines cut =
-    version_line cut.version ∷ (secret_line cut.secret_len ∷ (bits_line cut.bits
-    ∷ (map skip_line cut.skip ++ map (point_line cut.version) cut.points)))
+abbrev pub open_lines : CutPicture → List Line
+open_lines cut =
+    Version cut.version ∷ (Secret cut.secret_len ∷ (Bits cut.bits ∷ (map Skip cut.skip ++ map Point cut.points)))
+
+abbrev pub cut_lines : CutPicture → List Line
+cut_lines cut = open_lines cut ++ (End ∷ [])
 
 -- the one text of a cut
 abbrev pub cut_text : CutPicture → List ℕ
-cut_text cut = ended (listed_lines cut ++ (end_line ∷ []))
+cut_text cut = lines_text cut.version (cut_lines cut)
 
 -- the file is the text of this cut
 pub record CutText (file : List ℕ) (cut : CutPicture) : Type 0 where

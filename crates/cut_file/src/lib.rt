@@ -3,11 +3,13 @@
 
 mod copies;
 mod cuts;
+mod drafts;
 mod faults;
 mod folding;
 mod laws;
 mod line_forms;
 mod line_words;
+mod lines;
 mod masks;
 mod migrating;
 mod points;

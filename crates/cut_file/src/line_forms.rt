@@ -1,9 +1,11 @@
-ghost use Rattle.std.specs.Prelude.{◌≡◌, ◌<◌, ◌≤◌, [], length, option_map, IfOk, IfSome, IsTrue, OnSome};
-ghost use Rattle.cut_file.specs.Cuts.{have_other_masks, is_region, is_version};
-ghost use Rattle.cut_file.specs.Reading.{bits_in, may_follow, only_mask_in, others_of, pattern_in, place_in, point_in};
-ghost use Rattle.cut_file.specs.Reading.{point_in_words, rest_in, runs_in, secret_in, single_in, skip_in, version_in};
+ghost use Rattle.std.specs.Prelude.{◌≡◌, [], codes, option_map, IfOk, OnSome};
+ghost use Rattle.cut_file.specs.Cuts.{have_other_masks, is_region, is_version, is_word};
+ghost use Rattle.cut_file.specs.Reading.{is_short, line_in, may_follow, number_behind as number_behind_text};
+ghost use Rattle.cut_file.specs.Reading.{number_line_in, only_mask_in, others_of, pattern_in, place_in, point_in};
+ghost use Rattle.cut_file.specs.Reading.{point_in_words, rest_in, runs_in, single_in, tested_number};
 
 use crate::line_words::LineWords;
+use crate::lines::Line;
 use crate::points::{CutPoint, Run};
 use crate::words::{after, number, run, slot, word};
 use flow_base::{List, NoMemory, Point};
@@ -15,14 +17,18 @@ const LONGEST_SECRET: u32 = 65_536;
 /// The highest number of a region.
 const HIGHEST_REGION: u32 = 65_535;
 
-/// The version of a cut in a line of that form.
-#[tactic(auto, unfolding(crate::specs::Reading::version_in))]
-pub(crate) fn version(line: &[u8]) -> Option<u8>
-    ensures number { result ≡ version_in line.now }
-    ensures known { IfSome result (λ version. IsTrue (is_version version)) }
-    ensures long { IfSome result (λ _. 1 ≤ length line.now) }
+// The number of a word behind a wanted text.
+fn number_behind(wanted: &[u8], text: &[u8]) -> Option<u32>
+    ensures { result ≡ number_behind_text wanted.now text.now }
 {
-    let version = number(after(b"flowcheck-cut ", line)?)?;
+    number(after(wanted, text)?)
+}
+
+// The version in a line of that form.
+fn version(text: &[u8]) -> Option<u8>
+    ensures { result ≡ tested_number (codes "flowcheck-cut ") is_version text.now }
+{
+    let version = number_behind(b"flowcheck-cut ", text)?;
     if version == 1 || version == 2 {
         Some(version as u8)
     } else {
@@ -30,13 +36,11 @@ pub(crate) fn version(line: &[u8]) -> Option<u8>
     }
 }
 
-/// The secret's length in a line of that form.
-#[tactic(auto, unfolding(crate::specs::Reading::secret_in))]
-pub(crate) fn secret_len(line: &[u8]) -> Option<u32>
-    ensures number { result ≡ secret_in line.now }
-    ensures short { IfSome result (λ length. length ≤ 65536) }
+// The secret's length in a line of that form.
+fn secret_len(text: &[u8]) -> Option<u32>
+    ensures { result ≡ tested_number (codes "secret ") is_short text.now }
 {
-    let length = number(after(b"secret ", line)?)?;
+    let length = number_behind(b"secret ", text)?;
     if length <= LONGEST_SECRET {
         Some(length)
     } else {
@@ -44,22 +48,19 @@ pub(crate) fn secret_len(line: &[u8]) -> Option<u32>
     }
 }
 
-/// The number of bits in a line of that form.
-#[tactic(auto, unfolding(crate::specs::Reading::bits_in))]
-pub(crate) fn bits(line: &[u8]) -> Option<u32>
-    ensures number { result ≡ bits_in line.now }
-    ensures word { IfSome result (λ bits. bits < 4294967296) }
+// The number of bits in a line of that form.
+fn bits(text: &[u8]) -> Option<u32>
+    ensures { result ≡ tested_number (codes "bits ") is_word text.now }
 {
-    number(after(b"bits ", line)?)
+    let bits = number_behind(b"bits ", text)?;
+    Some(bits)
 }
 
-/// The skipped region in a line of that form.
-#[tactic(auto, unfolding(crate::specs::Reading::skip_in))]
-pub(crate) fn skipped_region(line: &[u8]) -> Option<u16>
-    ensures number { result ≡ skip_in line.now }
-    ensures region { IfSome result (λ region. IsTrue (is_region region)) }
+// The skipped region in a line of that form.
+fn skipped_region(text: &[u8]) -> Option<u16>
+    ensures { result ≡ tested_number (codes "skip ") is_region text.now }
 {
-    let region = number(after(b"skip ", line)?)?;
+    let region = number_behind(b"skip ", text)?;
     if 1 <= region && region <= HIGHEST_REGION {
         Some(region as u16)
     } else {
@@ -198,13 +199,9 @@ fn point_of_words(
     Ok(Some(CutPoint { point, runs, rest }))
 }
 
-/// The point in a line of that form, in a text of that version.
+// The point in a line of that form, in a text of that version.
 #[tactic(auto, unfolding(crate::specs::Reading::point_in))]
-pub(crate) fn cut_point(
-    alloc: Global,
-    version: u8,
-    line: &[u8],
-) -> Result<Option<CutPoint>, NoMemory>
+fn cut_point(alloc: Global, version: u8, line: &[u8]) -> Result<Option<CutPoint>, NoMemory>
     ensures { IfOk result (λ found. found ≡ point_in version line.now) }
 {
     let Some(words) = after(b"point ", line) else {
@@ -212,4 +209,40 @@ pub(crate) fn cut_point(
     };
     let mut words = LineWords::of(words);
     point_of_words(alloc, version, &mut words)
+}
+
+// The line of a number that has this text.
+#[tactic(auto, unfolding(crate::specs::Reading::number_line_in))]
+fn number_line(text: &[u8]) -> Option<Line>
+    ensures { result ≡ number_line_in text.now }
+{
+    if let Some(version) = version(text) {
+        return Some(Line::Version(version));
+    }
+    if let Some(length) = secret_len(text) {
+        return Some(Line::Secret(length));
+    }
+    if let Some(bits) = bits(text) {
+        return Some(Line::Bits(bits));
+    }
+    let region = skipped_region(text)?;
+    Some(Line::Skip(region))
+}
+
+/// The line that has this text, in a cut of that version.
+#[tactic(auto, unfolding(crate::specs::Reading::line_in))]
+pub(crate) fn line(alloc: Global, version: u8, text: &[u8]) -> Result<Option<Line>, NoMemory>
+    ensures { IfOk result (λ found. found ≡ line_in version text.now) }
+{
+    if let Some(line) = number_line(text) {
+        return Ok(Some(line));
+    }
+    if let Some(point) = cut_point(alloc, version, text)? {
+        return Ok(Some(Line::Point(point)));
+    }
+    if text == b"end".as_slice() {
+        Ok(Some(Line::End))
+    } else {
+        Ok(None)
+    }
 }

@@ -1,20 +1,36 @@
-ghost use Rattle.std.specs.Prelude.{◌≡◌, ◌≢◌, ◌<◌, ◌≤◌, ◌+◌, ◌^◌, length, nat_lt, Err, IfErr, IfOk, IsTrue};
+ghost use Rattle.std.specs.Prelude.{◌≡◌, ◌≢◌, ◌<◌, ◌≤◌, ◌^◌, length, nat_lt, Err, IfErr, IfOk, IsTrue};
 ghost use Rattle.flow_base.specs.Points.{is_slot};
+ghost use Rattle.cut_file.specs.declared.lines.Line.TheVariants as forms;
 ghost use Rattle.cut_file.specs.Cuts.{CutPicture, are_points, is_below as is_point_below, is_cut_point};
-ghost use Rattle.cut_file.specs.Cuts.{is_point_of, is_region, stands_before};
+ghost use Rattle.cut_file.specs.Cuts.{is_point_of, is_region, is_version, stands_before};
 ghost use Rattle.cut_file.specs.Faults.{FirstCutFault};
-ghost use Rattle.cut_file.specs.Pictures.{picture_of};
-ghost use Rattle.cut_file.specs.Reading.{cut_in, head_in, lines_in, may_follow, parts, with_line as lined};
-ghost use Rattle.cut_file.specs.Reading.{with_point as pointed, with_region as regioned};
-ghost use Rattle.cut_file.specs.Texts.{CutText};
+ghost use Rattle.cut_file.specs.Fronts.{bare_cut as bare, is_front, version_of};
+ghost use Rattle.cut_file.specs.Fronts.Front.{Listed, Nothing};
+ghost use Rattle.cut_file.specs.Pictures.{front_of, picture_of};
+ghost use Rattle.cut_file.specs.Reading.{cut_in, is_short, lines_in, may_follow, parts, unfit as unfit_line};
+ghost use Rattle.cut_file.specs.Reading.{with_line as lined, with_text as texted};
+ghost use Rattle.cut_file.specs.Texts.{CutText, is_line};
 
 use crate::cuts::Cut;
+use crate::drafts::Draft;
 use crate::faults::CutFault;
-use crate::line_forms::{bits, cut_point, secret_len, skipped_region, version};
+use crate::line_forms::line;
+use crate::lines::Line;
 use crate::points::CutPoint;
 use crate::words::divide;
 use flow_base::{List, Point, slot_number};
 use std::alloc::Global;
+
+// The fault of the line of that number where its form may not stand there.
+fn unfit(number: u32) -> CutFault
+    ensures { result ≡ unfit_line number }
+{
+    if number == 1 {
+        CutFault::Version
+    } else {
+        CutFault::Line { number }
+    }
+}
 
 // Whether a region may stand behind regions.
 fn may_follow_regions(regions: &[u16], region: u16) -> bool
@@ -52,11 +68,13 @@ fn may_follow_points(points: &[CutPoint], point: &CutPoint) -> bool
 }
 
 // The cut with a region behind its own, by the line of that number.
+#[tactic(auto, unfolding(crate::specs::Reading::with_line))]
 fn with_region(cut: Cut, number: u32, region: u16) -> Result<Cut, CutFault>
     requires { IsTrue (is_region region) }
-    ensures ok { IfOk result (λ longer. regioned number (picture_of cut) region ≡ Ok (picture_of longer)) }
+    ensures ok { IfOk result (λ longer. lined number (Listed (picture_of cut)) (forms.Skip region)
+        ≡ Ok (Listed (picture_of longer))) }
     ensures err { IfErr result (λ fault. fault ≢ CutFault.Memory
-        → regioned number (picture_of cut) region ≡ Err fault) }
+        → lined number (Listed (picture_of cut)) (forms.Skip region) ≡ Err fault) }
 {
     let Cut {
         version,
@@ -66,7 +84,7 @@ fn with_region(cut: Cut, number: u32, region: u16) -> Result<Cut, CutFault>
         points,
     } = cut;
     if points.len() != 0 {
-        return Err(CutFault::Line { number });
+        return Err(unfit(number));
     }
     if !may_follow_regions(skip.as_slice(), region) {
         return Err(CutFault::Order { number });
@@ -82,10 +100,13 @@ fn with_region(cut: Cut, number: u32, region: u16) -> Result<Cut, CutFault>
 }
 
 // The cut with a point behind its own, by the line of that number.
+#[tactic(auto, unfolding(crate::specs::Reading::with_line))]
 fn with_point(cut: Cut, number: u32, point: CutPoint) -> Result<Cut, CutFault>
     requires { IsTrue (is_point_of cut.version point) }
-    ensures ok { IfOk result (λ longer. pointed number (picture_of cut) point ≡ Ok (picture_of longer)) }
-    ensures err { IfErr result (λ fault. fault ≢ CutFault.Memory → pointed number (picture_of cut) point ≡ Err fault) }
+    ensures ok { IfOk result (λ longer. lined number (Listed (picture_of cut)) (forms.Point point)
+        ≡ Ok (Listed (picture_of longer))) }
+    ensures err { IfErr result (λ fault. fault ≢ CutFault.Memory
+        → lined number (Listed (picture_of cut)) (forms.Point point) ≡ Err fault) }
 {
     let Cut {
         version,
@@ -107,65 +128,92 @@ fn with_point(cut: Cut, number: u32, point: CutPoint) -> Result<Cut, CutFault>
     })
 }
 
-// The cut with what a line of that number adds.
-#[tactic(auto, unfolding(crate::specs::Reading::with_line))]
-fn with_line(alloc: Global, cut: Cut, number: u32, line: &[u8]) -> Result<Cut, CutFault>
-    ensures ok { IfOk result (λ longer. lined number (picture_of cut) line.now ≡ Ok (picture_of longer)) }
-    ensures err { IfErr result (λ fault. fault ≢ CutFault.Memory → lined number (picture_of cut) line.now ≡ Err fault) }
+// The cut of three numbers, without regions and points.
+fn bare_cut(alloc: Global, version: u8, secret_len: u32, bits: u32) -> Cut
+    requires version { IsTrue (is_version version) }
+    requires short { IsTrue (is_short secret_len) }
+    ensures { picture_of result ≡ bare version secret_len bits }
 {
-    if let Some(region) = skipped_region(line) {
-        return with_region(cut, number, region);
-    }
-    match cut_point(alloc, cut.version, line)? {
-        Some(point) => with_point(cut, number, point),
-        None => Err(CutFault::Line { number }),
-    }
-}
-
-// The cut with what the lines up to `end` add, and the rest of the file behind that line.
-fn with_lines(alloc: Global, cut: Cut, lines: &[u8]) -> Result<(Cut, &[u8]), CutFault>
-    requires { length lines.now + 4 < 2 ^ 32 }
-    ensures ok { IfOk result (λ p. lines_in 4 (picture_of cut) (parts 10 lines.now)
-        ≡ Ok (picture_of p.0, parts 10 p.1.now)) }
-    ensures err { IfErr result (λ fault. fault ≢ CutFault.Memory
-        → lines_in 4 (picture_of cut) (parts 10 lines.now) ≡ Err fault) }
-    ensures shorter { IfOk result (λ p. length p.1.now ≤ length lines.now) }
-{
-    let mut cut = cut;
-    let mut number: u32 = 4;
-    let mut rest = lines;
-    while let Some((line, more)) = divide(b'\n', rest) {
-        if line == b"end".as_slice() {
-            return Ok((cut, more));
-        }
-        cut = with_line(alloc, cut, number, line)?;
-        number += 1;
-        rest = more;
-    }
-    Err(CutFault::Truncated)
-}
-
-// The cut of the first three lines, and the rest of the file.
-#[tactic(auto, unfolding(crate::specs::Reading::head_in))]
-fn head(alloc: Global, file: &[u8]) -> Result<(Cut, &[u8]), CutFault>
-    ensures ok { IfOk result (λ p. head_in file.now ≡ Ok (picture_of p.0, p.1.now)) }
-    ensures err { IfErr result (λ fault. fault ≢ CutFault.Memory → head_in file.now ≡ Err fault) }
-    ensures shorter { IfOk result (λ p. length p.1.now + 4 ≤ length file.now) }
-{
-    let (first, rest) = divide(b'\n', file).ok_or(CutFault::Truncated)?;
-    let version = version(first).ok_or(CutFault::Version)?;
-    let (secret, rest) = divide(b'\n', rest).ok_or(CutFault::Truncated)?;
-    let secret_len = secret_len(secret).ok_or(CutFault::Line { number: 2 })?;
-    let (budget, rest) = divide(b'\n', rest).ok_or(CutFault::Truncated)?;
-    let bits = bits(budget).ok_or(CutFault::Line { number: 3 })?;
-    let cut = Cut {
+    Cut {
         version,
         secret_len,
         bits,
         skip: List::new(alloc),
         points: List::new(alloc),
+    }
+}
+
+// The draft with one more line, of that number.
+#[tactic(auto, unfolding(crate::specs::Reading::with_line))]
+fn with_line(alloc: Global, draft: Draft, number: u32, line: Line) -> Result<Draft, CutFault>
+    requires draft { IsTrue (is_front (front_of draft)) }
+    requires line { IsTrue (is_line (version_of (front_of draft)) line) }
+    ensures ok { IfOk result (λ longer. lined number (front_of draft) line ≡ Ok (front_of longer)) }
+    ensures err { IfErr result (λ fault. fault ≢ CutFault.Memory → lined number (front_of draft) line ≡ Err fault) }
+{
+    match (draft, line) {
+        (Draft::Nothing, Line::Version(version)) => Ok(Draft::Versioned(version)),
+        (Draft::Versioned(version), Line::Secret(length)) => Ok(Draft::Sized(version, length)),
+        (Draft::Sized(version, length), Line::Bits(bits)) => {
+            Ok(Draft::Listed(bare_cut(alloc, version, length, bits)))
+        }
+        (Draft::Listed(cut), Line::Skip(region)) => {
+            Ok(Draft::Listed(with_region(cut, number, region)?))
+        }
+        (Draft::Listed(cut), Line::Point(point)) => {
+            Ok(Draft::Listed(with_point(cut, number, point)?))
+        }
+        (Draft::Listed(cut), Line::End) => Ok(Draft::Whole(cut)),
+        _ => Err(unfit(number)),
+    }
+}
+
+// The version of a draft; before its line, any.
+fn version(draft: &Draft) -> u8
+    ensures { result ≡ version_of (front_of draft.now) }
+{
+    match draft {
+        Draft::Nothing => 1,
+        Draft::Versioned(version) | Draft::Sized(version, _) => *version,
+        Draft::Listed(cut) | Draft::Whole(cut) => cut.version,
+    }
+}
+
+// The draft with the line of that number and text.
+#[tactic(auto, unfolding(crate::specs::Reading::with_text))]
+fn with_text(alloc: Global, draft: Draft, number: u32, text: &[u8]) -> Result<Draft, CutFault>
+    requires { IsTrue (is_front (front_of draft)) }
+    ensures ok { IfOk result (λ longer. texted number (front_of draft) text.now ≡ Ok (front_of longer)) }
+    ensures err { IfErr result (λ fault. fault ≢ CutFault.Memory
+        → texted number (front_of draft) text.now ≡ Err fault) }
+    ensures long { IfOk result (λ _. 1 ≤ length text.now) }
+    ensures front { IfOk result (λ longer. IsTrue (is_front (front_of longer))) }
+{
+    let Some(line) = line(alloc, version(&draft), text)? else {
+        return Err(unfit(number));
     };
-    Ok((cut, rest))
+    with_line(alloc, draft, number, line)
+}
+
+// The cut of the lines up to `end`, and the rest of the file behind that line.
+fn lines(alloc: Global, file: &[u8]) -> Result<(Cut, &[u8]), CutFault>
+    requires { length file.now < 2 ^ 32 }
+    ensures ok { IfOk result (λ p. lines_in 1 Nothing (parts 10 file.now) ≡ Ok (picture_of p.0, parts 10 p.1.now)) }
+    ensures err { IfErr result (λ fault. fault ≢ CutFault.Memory → lines_in 1 Nothing (parts 10 file.now) ≡ Err fault) }
+    ensures shorter { IfOk result (λ p. length p.1.now ≤ length file.now) }
+{
+    let mut draft = Draft::Nothing;
+    let mut number: u32 = 1;
+    let mut rest = file;
+    while let Some((text, more)) = divide(b'\n', rest) {
+        match with_text(alloc, draft, number, text)? {
+            Draft::Whole(cut) => return Ok((cut, more)),
+            longer => draft = longer,
+        }
+        number += 1;
+        rest = more;
+    }
+    Err(CutFault::Truncated)
 }
 
 // The cut of a file, or its first fault.
@@ -175,8 +223,7 @@ fn cut_of(alloc: Global, file: &[u8]) -> Result<Cut, CutFault>
     ensures ok { IfOk result (λ cut. cut_in file.now ≡ Ok (picture_of cut)) }
     ensures err { IfErr result (λ fault. fault ≢ CutFault.Memory → cut_in file.now ≡ Err fault) }
 {
-    let (cut, rest) = head(alloc, file)?;
-    let (cut, rest) = with_lines(alloc, cut, rest)?;
+    let (cut, rest) = lines(alloc, file)?;
     if rest.is_empty() {
         Ok(cut)
     } else {

@@ -1,9 +1,9 @@
-ghost use Rattle.std.specs.Prelude.{◌≡◌, ◌++◌, ◌∷◌, IfOk, OnOk, map, codes, []};
+ghost use Rattle.std.specs.Prelude.{◌≡◌, ◌++◌, ◌∷◌, ℕ, IfOk, OnOk, map, codes, []};
 ghost use Rattle.std.specs.Fmt.{decimal};
 ghost use Rattle.cut_file.specs.Pictures.{picture_of};
 ghost use Rattle.cut_file.specs.Writing.{led, point_pieces};
-ghost use Rattle.cut_file.specs.Texts.{CutText, bits_line, ended, point_line, rest_text, run_text, secret_line};
-ghost use Rattle.cut_file.specs.Texts.{skip_line, slot_text, version_line};
+ghost use Rattle.cut_file.specs.Texts.{CutText, lines_text, rest_text, run_text, slot_text};
+ghost use Rattle.cut_file.specs.declared.lines.Line.TheVariants.{Bits, Point, Secret, Skip, Version};
 
 use crate::cuts::Cut;
 use crate::points::{CutPoint, Run};
@@ -128,7 +128,7 @@ fn put_points(
     version: u8,
     points: &[CutPoint],
 ) -> Result<(), NoMemory>
-    ensures { OnOk result (text.new.items ≡ text.old.items ++ ended (map (point_line version) points.now)) }
+    ensures { OnOk result (text.new.items ≡ text.old.items ++ lines_text version (map Point points.now)) }
 {
     for point in points {
         put_point(alloc, text, version, point)?;
@@ -138,7 +138,8 @@ fn put_points(
 
 // Puts the lines of skipped regions at the end of a text.
 fn put_regions(alloc: Global, text: &mut Vec<u8>, regions: &[u16]) -> Result<(), NoMemory>
-    ensures { OnOk result (text.new.items ≡ text.old.items ++ ended (map skip_line regions.now)) }
+    ensures { OnOk result ((version : ℕ)
+        → text.new.items ≡ text.old.items ++ lines_text version (map Skip regions.now)) }
 {
     for region in regions {
         put(text, b"skip ")?;
@@ -151,7 +152,7 @@ fn put_regions(alloc: Global, text: &mut Vec<u8>, regions: &[u16]) -> Result<(),
 // The first three lines of a cut.
 fn head(alloc: Global, version: u8, secret_len: u32, bits: u32) -> Result<Vec<u8>, NoMemory>
     ensures { IfOk result (λ text. text.items
-        ≡ ended (version_line version ∷ (secret_line secret_len ∷ (bits_line bits ∷ [])))) }
+        ≡ lines_text version (Version version ∷ (Secret secret_len ∷ (Bits bits ∷ [])))) }
 {
     let mut text = Vec::new(alloc);
     put(&mut text, b"flowcheck-cut ")?;

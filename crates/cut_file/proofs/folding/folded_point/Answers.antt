@@ -7,7 +7,7 @@ use Rattle.cut_file.specs.Folds.{IsLeastPeriod, first_runs}
 use Rattle.cut_file.specs.Masks.{listed_masks}
 use Rattle.cut_file.proofs.Following.{is_so, is_true}
 use Rattle.cut_file.proofs.Periods.{period-rest}
-use Rattle.cut_file.proofs.Lines.{the-same}
+use Rattle.cut_file.proofs.Steps.{the-same}
 use Rattle.cut_file.proofs.folding.folded_point.Goals as goal
 
 -- what the first round of the runs is, where the number that is found is a least one

@@ -1,0 +1,108 @@
+-- What the code has read, by the lines that it stands for.
+use Rattle.std.proofs.Common.{◌≡◌, ℕ, ◌+◌, ◌-◌, ◌==◌, length, Bool, true, false, List, [], ◌∷◌, IsTrue, Option, Some, None}
+use Rattle.std.proofs.Common.{Result, Ok, Err, if◌then◌else◌, refl, sym, ◌∙◌, ap}
+use Rattle.std.specs.Prelude.{IfOk}
+use Rattle.cut_file.specs.declared.cuts.Cut.{Cut}
+use Rattle.cut_file.specs.declared.drafts.Draft.{Draft}
+use Rattle.cut_file.specs.declared.drafts.Draft.TheVariants as drafts
+use Rattle.cut_file.specs.declared.faults.CutFault.{CutFault}
+use Rattle.cut_file.specs.declared.faults.CutFault.TheVariants as faults
+use Rattle.cut_file.specs.declared.lines.Line.{Line}
+use Rattle.cut_file.specs.Cuts.{CutPicture, is_empty}
+use Rattle.cut_file.specs.Fronts.{Front, followed, is_front, is_whole, version_of}
+use Rattle.cut_file.specs.Fronts.Front.{Nothing, Whole}
+use Rattle.cut_file.specs.Pictures.{front_of}
+use Rattle.cut_file.specs.Reading.{◌>>◌, cut_in, divided, is_in_order, lines_in, or_fault, parts, unfit}
+use Rattle.cut_file.specs.Reading.{whole_cut, with_line, with_text}
+use Rattle.cut_file.specs.Texts.{is_line}
+use Rattle.cut_file.proofs.FileTexts.{file-finish, fine, fine-same, faulty, lines-end, lines-fail, lines-go}
+use Rattle.cut_file.proofs.Following.{is_true}
+use Rattle.cut_file.proofs.Fronts.{next-ordered}
+use Rattle.cut_file.proofs.Parts.{joined-parts, parts-alone, parts-divided, parts-some}
+
+pub always-ok : (answer : Result Draft CutFault) (P : Type 0) → P → IfOk answer (λ _. P)
+always-ok (Ok draft) P known = known
+always-ok (Err fault) P known = tt
+
+chosen : (test : Bool) (longer next : Front) (number : ℕ) →
+    (if test then fine longer else faulty (faults.Order number)) ≡ fine next → is_front longer ≡ test →
+    is_front next ≡ true
+chosen true longer next number e ordered = ap is_front (sym (fine-same longer next e)) ∙ ordered
+chosen false longer next number e ordered = absurd cc
+
+next-from : (number : ℕ) (front : Front) (line : Line) (found : Option Front) (next : Front) →
+    is_front front ≡ true → is_line (version_of front) line ≡ true → followed front line ≡ found →
+    (or_fault found (unfit number) >> λ longer.
+    if is_in_order front line then fine longer else faulty (faults.Order number)) ≡ fine next → is_front next ≡ true
+next-from number front line None next ordered known follows e = absurd cc
+next-from number front line (Some longer) next ordered known follows e =
+    chosen (is_in_order front line) longer next number e (next-ordered front line longer ordered known follows)
+
+next-known : (number : ℕ) (front : Front) (line : Line) (next : Front) → is_front front ≡ true →
+    is_line (version_of front) line ≡ true → with_line number front line ≡ fine next → is_front next ≡ true
+unfolding with_line
+next-known number front line next ordered known e =
+    next-from number front line (followed front line) next ordered known refl e
+
+-- a line more leaves the lines in order
+pub next-ok : (number : ℕ) (front : Front) (line : Line) (answer : Result Draft CutFault) → is_front front ≡ true →
+    is_line (version_of front) line ≡ true →
+    IfOk answer (λ longer. with_line number front line ≡ Ok (front_of longer)) →
+    IfOk answer (λ longer. IsTrue (is_front (front_of longer)))
+next-ok number front line (Ok draft) ordered known ok =
+    is_true _ (next-known number front line (front_of draft) ordered known ok)
+next-ok number front line (Err fault) ordered known ok = tt
+
+-- ---- as the file is divided
+
+pub goes-on : (number : ℕ) (front next : Front) (bytes text more : List ℕ) → divided 10 bytes ≡ Some (text, more) →
+    with_text number front text ≡ fine next → is_whole next ≡ false →
+    lines_in number front (parts 10 bytes) ≡ lines_in (number + 1) next (parts 10 more)
+goes-on number front next bytes text more split is goes_on =
+    ap (lines_in number front) (parts-divided 10 bytes text more split)
+    ∙ lines-go number front next text (parts 10 more) (parts-some 10 more) is goes_on
+
+pub ends-here : (number : ℕ) (front : Front) (cut : CutPicture) (bytes text more : List ℕ) →
+    divided 10 bytes ≡ Some (text, more) → with_text number front text ≡ fine (Whole cut) →
+    lines_in number front (parts 10 bytes) ≡ fine (cut, parts 10 more)
+ends-here number front cut bytes text more split is =
+    ap (lines_in number front) (parts-divided 10 bytes text more split)
+    ∙ lines-end number front cut text (parts 10 more) (parts-some 10 more) is
+
+pub fails-here : (number : ℕ) (front : Front) (fault : CutFault) (bytes text more : List ℕ) →
+    divided 10 bytes ≡ Some (text, more) → with_text number front text ≡ faulty fault →
+    lines_in number front (parts 10 bytes) ≡ faulty fault
+fails-here number front fault bytes text more split is =
+    ap (lines_in number front) (parts-divided 10 bytes text more split)
+    ∙ lines-fail number front text (parts 10 more) fault (parts-some 10 more) is
+
+pub cut-off : (number : ℕ) (front : Front) (bytes : List ℕ) → divided 10 bytes ≡ None →
+    lines_in number front (parts 10 bytes) ≡ faulty faults.Truncated
+unfolding lines_in
+cut-off number front bytes none = ap (lines_in number front) (parts-alone 10 bytes none)
+
+pub not-whole : (draft : Draft) → ((cut : Cut) → draft ≡ drafts.Whole cut → ⊥) → is_whole (front_of draft) ≡ false
+not-whole drafts.Nothing other = refl
+not-whole (drafts.Versioned version) other = refl
+not-whole (drafts.Sized version secret_len) other = refl
+not-whole (drafts.Listed cut) other = refl
+not-whole (drafts.Whole cut) other = absurd (other cut refl)
+
+-- ---- bytes behind the last line
+
+rest-read : (size : ℕ) (cut : CutPicture) (rest : List ℕ) → is_empty rest ≡ false →
+    whole_cut size cut rest ≡ faulty (faults.Trailing (size - length rest))
+rest-read size cut [] some = absurd cc
+rest-read size cut (byte ∷ rest) some = refl
+
+pub trailing-read : (file : List ℕ) (cut : CutPicture) (rest : List ℕ) →
+    lines_in 1 Nothing (parts 10 file) ≡ fine (cut, parts 10 rest) → is_empty rest ≡ false →
+    cut_in file ≡ faulty (faults.Trailing (length file - length rest))
+trailing-read file cut rest read some =
+    file-finish file (fine (cut, parts 10 rest)) read
+    ∙ ap (whole_cut (length file) cut) (joined-parts 10 rest)
+    ∙ rest-read (length file) cut rest some
+
+pub some-length : (bytes : List ℕ) → (length bytes == 0) ≡ false → is_empty bytes ≡ false
+some-length [] e = absurd cc
+some-length (byte ∷ bytes) e = refl
