@@ -1,6 +1,8 @@
 -- A turn of the replay beside a real run.
-use Rattle.std.proofs.Common.{◌≡◌, ℕ, zero, suc, ◌+◌, ◌-◌, ◌≤◌, ◌<◌, List, [], length, length-drop, ap, sym, refl, ◌∙◌}
+use Rattle.std.proofs.Common.{◌≡◌, ℕ, zero, suc, ◌+◌, ◌-◌, ◌≤◌, ◌<◌, List, [], length, length-drop, length-append, ap, sym, refl, ◌∙◌}
 use Rattle.std.proofs.Common.{Bool, true, arith, Option, Some, None}
+use Rattle.std.proofs.Common.{take, ◌++◌}
+use Rattle.std.proofs.Math.Seq.{take-append_seam}
 use Rattle.std.proofs.lemmas.List.{nil_from_length}
 use Rattle.crossing_bits.specs.Askers.{Asker, Fed, Fed', Short, feed}
 use Rattle.crossing_bits.specs.Streams.{Stream, left_of}
@@ -11,6 +13,7 @@ use Rattle.rv32im_machine.specs.State.{State}
 use Rattle.replay_machine.specs.declared.marks.Mark.{Mark}
 use Rattle.replay_machine.specs.declared.turns.ReplayTurn.{ReplayTurn}
 use Rattle.replay_machine.specs.declared.turns.ReplayTurn.TheVariants.{Wants, Stopped as DidStop}
+use Rattle.replay_machine.specs.declared.turns.ReplayTurn.TheVariants.{Ran as DidRun, Exited as DidExit}
 use Rattle.replay_machine.specs.declared.turns.ReplayTurn.TheVariants.{RangeOutside as DidRange}
 use Rattle.lockstep_replay.specs.Marks.{mark_of, is_same_mark}
 use Rattle.replay_machine.specs.Standing.{Standing, Stands, Turned, mode_answer, end_answer, turn_answer, taken_after}
@@ -21,6 +24,7 @@ use Rattle.lockstep_replay.specs.declared.differences.Difference.{Difference}
 use Rattle.lockstep_replay.specs.declared.verdicts.ReplayStop.TheVariants.{Guest, RangeOutside, Short as TooShort}
 use Rattle.lockstep_replay.specs.declared.verdicts.Why.TheVariants.{ReplayFault}
 use Rattle.lockstep_replay.specs.Differences.{byte_difference, status_difference, first_of, difference_of}
+use Rattle.lockstep_replay.specs.Standings.{why_answered}
 use Rattle.lockstep_replay.specs.Turning.{why_compared, Joins, InStep}
 use Rattle.lockstep_replay.specs.Verdicts.{why_output, why_marks, why_stopped, why_copy, why_replay}
 use Rattle.lockstep_replay.proofs.Conditions.{NotStopped, SameMarks, marks_same, first_none, none_output, none_marks}
@@ -219,3 +223,59 @@ in_step-of real needed after stream mode missing used inside none =
       taken = omega (arith, inside, used, marks.bits, length-drop stream.taken stream.bits);
       output = no_byte 0 real.control.output after.state.control.output marks.output bytes;
     }
+
+-- ---- by what the replay has answered
+
+pub beside-why :
+    (real : State) (needed : ℕ) (masks : Masks) (asker : Asker ReplayPlace) (before : Standing) (old : Stream)
+    (after : Standing) (stream : Stream) (answer : ReplayTurn) → needed < 4294967296 →
+    before.taken + length (left_of old) ≡ needed → after.taken ≡ taken_after before.taken old stream →
+    Turned masks (feed asker (left_of old)) after stream answer →
+    why_answered real needed after answer ≡ why_replay real needed (feed asker (left_of old))
+beside-why real needed masks asker before old after stream DidRun small used taken h =
+    beside-runs real needed masks after stream Ran DidRun (feed asker (left_of old)) h refl (λ fault same. cc)
+    (taken-of masks asker before old after stream Ran DidRun needed small used taken h refl)
+beside-why real needed masks asker before old after stream (DidExit status) small used taken h =
+    beside-runs real needed masks after stream (Exited status) (DidExit status) (feed asker (left_of old)) h refl
+    (λ fault same. cc)
+    (taken-of masks asker before old after stream (Exited status) (DidExit status) needed small used taken h refl)
+beside-why real needed masks asker before old after stream (Wants missing) small used taken h =
+    beside-wants real needed masks after stream missing (Wants missing) (feed asker (left_of old)) h refl
+beside-why real needed masks asker before old after stream (DidStop fault) small used taken h =
+    beside-stops real needed masks after stream fault (DidStop fault) (feed asker (left_of old)) h refl
+beside-why real needed masks asker before old after stream (DidRange region range) small used taken h =
+    beside-outside real needed masks after stream region range (DidRange region range) (feed asker (left_of old)) h refl
+
+-- the answer of a replay of which nothing fails is that it runs, or has exited
+pub runs-of : (real : State) (needed : ℕ) (after : Standing) (answer : ReplayTurn) →
+    why_answered real needed after answer ≡ None →
+    (mode : Stepped) × ((answer ≡ mode_answer mode) × (why_compared real needed after mode ≡ None))
+runs-of real needed after DidRun none = (Ran, (refl, none))
+runs-of real needed after (DidExit status) none = (Exited status, (refl, none))
+runs-of real needed after (Wants missing) none = absurd (cc)
+runs-of real needed after (DidStop fault) none = absurd (cc)
+runs-of real needed after (DidRange region range) none = absurd (cc)
+
+-- ---- a quick look
+
+running-status : (index : ℕ) (real : Stepped) → status_difference index real Ran ≡ None
+running-status index Ran = refl
+running-status index (Exited status) = refl
+running-status index (Stopped fault) = refl
+
+pub compared-none : (real : State) (needed : ℕ) (after : Standing) →
+    is_same_mark (mark_of real needed) (mark_of after.state after.taken) ≡ true →
+    byte_difference 0 real.control.output after.state.control.output ≡ None →
+    why_compared real needed after Ran ≡ None
+compared-none real needed after same bytes =
+    rw (same, bytes, running-status (length real.control.output) real.control.mode) refl
+
+-- two outputs that begin with the same one
+pub begins-alike : (first a b : List ℕ) → ((more : List ℕ) × (a ≡ first ++ more)) →
+    ((more : List ℕ) × (b ≡ first ++ more)) → take (length first) a ≡ take (length first) b
+begins-alike first a b h k =
+    ap (λ (l : List ℕ). take (length first) l) h.1 ∙ take-append_seam first h.0
+    ∙ sym (ap (λ (l : List ℕ). take (length first) l) k.1 ∙ take-append_seam first k.0)
+
+pub begins-short : (first b : List ℕ) → ((more : List ℕ) × (b ≡ first ++ more)) → length first ≤ length b
+begins-short first b k = omega (arith, ap length k.1, length-append first k.0)

@@ -27,6 +27,7 @@ use Rattle.region_machine.specs.declared.real_turns.RealTurn.{RealTurn}
 use Rattle.lockstep_replay.specs.declared.verdicts.Why.{Why}
 use Rattle.lockstep_replay.specs.Crossing.{crossing_unless}
 use Rattle.lockstep_replay.specs.Sides.{tally_of}
+use Rattle.lockstep_replay.specs.Standings.{why_beside, why_standing}
 use Rattle.lockstep_replay.specs.Turning.{Makes, Keeps, Rounds, InStep, Joins, Joined, crossed, fed_turn}
 use Rattle.lockstep_replay.specs.Verdicts.{counted_bits, why_budget, why_mode, why_broken, why_common, why_replay}
 use Rattle.lockstep_replay.proofs.Turns.{Within, within-of, why-within}
@@ -328,3 +329,58 @@ used-played before tally standing reached after turn p e =
     let w : Within (tally_of tally) (crossed standing.enclosures (MaskAt tally.masks) [] before) (tally_of after) =
     within-played before tally standing reached after turn (MaskAt tally.masks) [] p e (ahead-self tally.masks) in
     omega (arith, p.keeps.used, ap length w.left, w.needed)
+
+-- ---- what fails of the real run alone, or else of what comes later
+
+later-budget : (test : Bool) (budget needed : ℕ) (later : Option Why) (why : Why) →
+    why_budget test budget needed None ≡ Some why → why_budget test budget needed later ≡ Some why
+later-budget true budget needed later why e = e
+later-budget false budget needed later why e = absurd (cc)
+
+pub later-fails : (mode : Stepped) (budget needed : ℕ) (later : Option Why) (why : Why) →
+    why_mode mode budget needed None ≡ Some why → why_mode mode budget needed later ≡ Some why
+later-fails Ran budget needed later why e = later-budget (nat_lt budget needed) budget needed later why e
+later-fails (Exited status) budget needed later why e = later-budget (nat_lt budget needed) budget needed later why e
+later-fails (Stopped fault) budget needed later why e = e
+
+none-budget : (test : Bool) (budget needed : ℕ) (later : Option Why) →
+    why_budget test budget needed None ≡ None → why_budget test budget needed later ≡ later
+none-budget true budget needed later e = absurd (cc)
+none-budget false budget needed later e = refl
+
+pub none-fails : (mode : Stepped) (budget needed : ℕ) (later : Option Why) →
+    why_mode mode budget needed None ≡ None → why_mode mode budget needed later ≡ later
+none-fails Ran budget needed later e = none-budget (nat_lt budget needed) budget needed later e
+none-fails (Exited status) budget needed later e = none-budget (nat_lt budget needed) budget needed later e
+none-fails (Stopped fault) budget needed later e = absurd (cc)
+
+-- a step of each run outside of regions
+abbrev pub outside_turn : RealTurn
+outside_turn = record { enclosed = false; broken = None }
+
+pub step-fails : (before : State) (tally : Tallying) (standing : Standing) (reached : State) (after : Tallying)
+    (why : Why) → Played before tally standing reached after outside_turn →
+    why_mode reached.control.mode after.budget after.needed None ≡ Some why →
+    Rounds standing.enclosures before tally standing reached after standing
+    (record { enclosed = false; why = why_standing reached after standing })
+step-fails before tally standing reached after why p e =
+    subst (λ (w : Option Why). Rounds standing.enclosures before tally standing reached after standing
+    (record { enclosed = false; why = w }))
+    (sym (later-fails reached.control.mode after.budget after.needed (why_beside reached after.needed standing) why e))
+    (round-fails before tally standing reached after outside_turn why p e)
+
+pub step-beside : (before : State) (tally : Tallying) (standing : Standing) (reached : State) (after : Tallying)
+    (next : Standing) (last : Tallying) → Played before tally standing reached after outside_turn →
+    why_mode reached.control.mode after.budget after.needed None ≡ None →
+    IsBeside before tally standing reached after outside_turn next last (why_beside reached after.needed next) →
+    Rounds standing.enclosures before tally standing reached last next
+    (record { enclosed = false; why = why_standing reached last next })
+step-beside before tally standing reached after next last p e b =
+    let same : why_standing reached last next ≡ why_beside reached after.needed next =
+    ap (λ n. why_mode reached.control.mode last.budget n (why_beside reached n next)) b.needed
+    ∙ (ap (λ n. why_mode reached.control.mode n after.needed (why_beside reached after.needed next)) b.budget
+    ∙ none-fails reached.control.mode after.budget after.needed (why_beside reached after.needed next) e) in
+    subst (λ (w : Option Why). Rounds standing.enclosures before tally standing reached last next
+    (record { enclosed = false; why = w })) (sym same)
+    (round-beside before tally standing reached after outside_turn next last (why_beside reached after.needed next) p e
+    refl b)

@@ -1,15 +1,16 @@
 -- What a turn of the real run leaves of its tally: nothing new, where the turn is inside a skipped region.
-use Rattle.std.proofs.Common.{◌≡◌, List, [], Bool, true, false, refl, sym, ap, subst}
+use Rattle.std.proofs.Common.{◌≡◌, List, [], Bool, true, false, refl, sym, ap, subst, ◌∙◌, None}
 use Rattle.flow_base.specs.declared.points.Point.{Point}
 use Rattle.cut_file.specs.Masks.{MaskAt}
 use Rattle.rv32im_machine.specs.State.{State}
 use Rattle.rv32im_machine.specs.Language.{Walk}
 use Rattle.rv32im_machine.specs.Folds.{real_end}
+use Rattle.rv32im_machine.specs.Rows.{walk_of}
 use Rattle.rv32im_machine.specs.Playing.{Played, Finished}
 use Rattle.region_machine.specs.declared.real_turns.RealTurn.{RealTurn}
-use Rattle.region_machine.specs.Breaking.{Breaks}
-use Rattle.region_machine.specs.Enclosures.{Enclosures, is_enclosed, kind_of}
-use Rattle.region_machine.specs.Guests.{guest_walk}
+use Rattle.region_machine.specs.Breaking.{Breaks, kind_break}
+use Rattle.region_machine.specs.Enclosures.{Enclosures, Steps, is_enclosed, is_enclosed_kind, kind_of}
+use Rattle.region_machine.specs.Guests.{guest_walk, kind_walk}
 use Rattle.region_machine.specs.Runs.{passed, visited}
 use Rattle.replay_machine.specs.Runs.{Masks}
 use Rattle.replay_machine.specs.Visits.{IsAhead}
@@ -75,3 +76,20 @@ makes-turn Stop enclosures before tally reached after turn state enclosed broken
       tallies = leaves.tallies;
       ahead = leaves.ahead;
     }
+
+-- a step outside of regions
+pub makes-step : (Stop : Type 0) (enclosures : Enclosures) (before : State) (tally : Tallying) (reached : State)
+    (after : Tallying) →
+    Told {Stop = Stop} tally (walk_of before) (Finished reached (tally_of after)) →
+    kind_of enclosures.regions before.control ≡ Steps None →
+    Makes enclosures (kind_of enclosures.regions before.control) before tally reached after
+    (record { enclosed = false; broken = None })
+makes-step Stop enclosures before tally reached after told outside =
+    let walk : guest_walk enclosures.regions before ≡ walk_of before = ap (λ kind. kind_walk kind before) outside in
+    let exposed : is_enclosed enclosures before.control ≡ false = ap (λ kind. is_enclosed_kind enclosures kind) outside in
+    makes-turn Stop enclosures before tally reached after (record { enclosed = false; broken = None })
+    (sym (ap (λ w. real_end w) walk ∙ (told (MaskAt tally.masks) [] (ahead-self tally.masks)).0))
+    (sym exposed)
+    (sym (ap (λ kind. kind_break kind before) outside))
+    (λ enclosed. absurd (cc))
+    (λ same. subst (λ w. Told {Stop = Stop} tally w (Finished reached (tally_of after))) (sym walk) told)

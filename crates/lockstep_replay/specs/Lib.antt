@@ -12,3 +12,4 @@ pub mod Ends
 pub mod Turning
 pub mod Beginnings
 pub mod Checks
+pub mod Standings

@@ -13,6 +13,7 @@ pub(crate) struct Difference {
 }
 
 /// The first byte in which two lists differ, whose first bytes have this index.
+#[inline(always)]
 fn difference_from(real: &[u8], replay: &[u8], index: u32) -> Option<Difference>
     requires { index + length real.now < 2 ^ 32 }
     ensures { result ≡ byte_difference index real.now replay.now }
@@ -39,6 +40,7 @@ fn difference_from(real: &[u8], replay: &[u8], index: u32) -> Option<Difference>
 }
 
 /// The first byte in which two outputs differ, where their first `from` bytes are equal.
+#[inline(always)]
 pub(crate) fn output_difference(real: &[u8], replay: &[u8], from: usize) -> Option<Difference>
     requires real { from ≤ length real.now }
     requires replay { from ≤ length replay.now }
@@ -46,6 +48,9 @@ pub(crate) fn output_difference(real: &[u8], replay: &[u8], from: usize) -> Opti
     requires few { length real.now < 2 ^ 32 }
     ensures { result ≡ byte_difference 0 real.now replay.now }
 {
+    if from == real.len() {
+        return None;
+    }
     difference_from(&real[from..], &replay[from..], from as u32)
 }
 

@@ -9,7 +9,7 @@ ghost use Rattle.lockstep_replay.specs.Turning.{Ends, Keeps};
 ghost use Rattle.lockstep_replay.specs.Verdicts.{Accepts, First, judged_from};
 ghost use Rattle.region_machine.specs.Within.{may_leave};
 
-use crate::rounds::make_round;
+use crate::rounds::{Round, make_round};
 use crate::tallies::Tallying;
 use crate::two_runs::TwoRuns;
 use crate::verdicts::{Verdict, Why};
@@ -151,8 +151,12 @@ fn run_turns(runs: TwoRuns, turns: u32) -> Verdict
     let mut real = real;
     let mut tally = tally;
     let mut replay = replay;
+    let mut made = Round {
+        enclosed: false,
+        why: None,
+    };
     for _ in 0..turns {
-        let made = make_round(&mut real, &mut tally, &mut replay);
+        make_round(&mut real, &mut tally, &mut replay, &mut made);
         if let Some(why) = made.why {
             return Verdict::Rejected(why);
         }

@@ -15,6 +15,7 @@ fn has_exited(mode: Stepped) -> bool
 }
 
 /// The mark of a run of which so many bits have crossed.
+#[inline(always)]
 pub(crate) fn mark_at(machine: &Machine, bits: u32) -> Mark
     ensures { result ≡ mark_of machine.now bits }
 {
@@ -27,6 +28,7 @@ pub(crate) fn mark_at(machine: &Machine, bits: u32) -> Mark
 }
 
 /// Whether two marks are equal.
+#[inline(always)]
 pub(crate) fn is_same(first: Mark, second: Mark) -> bool
     ensures { result ≡ is_same_mark first second }
 {

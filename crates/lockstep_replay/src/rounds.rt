@@ -1,16 +1,17 @@
-ghost use Rattle.std.specs.Prelude.{◌≡◌, None, IsTrue, nat_lt};
-ghost use Rattle.region_machine.specs.Enclosures.{kind_of};
+ghost use Rattle.std.specs.Prelude.{◌≡◌, ℕ, List as Seq, None, IsTrue, nat_lt, false};
+ghost use Rattle.region_machine.specs.Enclosures.{Steps, kind_of};
 ghost use Rattle.region_machine.specs.Within.{may_leave};
+ghost use Rattle.lockstep_replay.specs.Standings.{why_standing};
 ghost use Rattle.lockstep_replay.specs.Turning.{Keeps, Makes, Rounds};
 ghost use Rattle.lockstep_replay.specs.Verdicts.{why_broken, why_budget, why_mode};
 
-use crate::replay_turns::replay_beside;
+use crate::replay_turns::{keeps_up, replay_reason};
 use crate::tallies::Tallying;
 use crate::verdicts::Why;
 use enclosure_regions::{Break, Regions};
 use region_machine::{RealTurn, real_turn_by};
 use replay_machine::Replay;
-use rv32im_machine::{Machine, Stepped};
+use rv32im_machine::{Machine, Stepped, turn_by};
 
 /// What a turn of the real run leaves beside its tally, with the replay's turn beside it.
 #[derive(Clone, Copy, Debug)]
@@ -22,6 +23,7 @@ pub(crate) struct Round {
 }
 
 /// Whether so many bits exceed the budget.
+#[inline(always)]
 fn budget_reason(budget: u32, needed: u32) -> Option<Why>
     ensures { result ≡ why_budget (nat_lt budget needed) budget needed None }
 {
@@ -33,6 +35,7 @@ fn budget_reason(budget: u32, needed: u32) -> Option<Why>
 }
 
 /// Whether the real run is stopped, or else has more bits than the budget.
+#[inline(always)]
 fn mode_reason(mode: Stepped, budget: u32, needed: u32) -> Option<Why>
     ensures { result ≡ why_mode mode budget needed None }
 {
@@ -44,6 +47,7 @@ fn mode_reason(mode: Stepped, budget: u32, needed: u32) -> Option<Why>
 }
 
 /// What fails of the real run alone: it breaks a region, or is stopped, or has more bits than the budget.
+#[inline(always)]
 fn real_reason(broken: Option<Break>, mode: Stepped, budget: u32, needed: u32) -> Option<Why>
     ensures { result ≡ why_broken broken (why_mode mode budget needed None) }
 {
@@ -67,7 +71,7 @@ fn real_turn(real: &mut Machine, tally: &mut Tallying, regions: &Regions, skip: 
 
 /// One turn of the real run, and unless it is the entry of a skipped region or inside it one turn of the replay, which
 /// is lent the bits that crossed since its last turn.
-pub(crate) fn make_round(real: &mut Machine, tally: &mut Tallying, replay: &mut Replay) -> Round
+fn make_region_round(real: &mut Machine, tally: &mut Tallying, replay: &mut Replay) -> Round
     requires { Keeps real.old replay.old tally.old.bits tally.old.needed tally.old.budget }
     ensures { Rounds replay.old.enclosures real.old tally.old replay.old real.new tally.new replay.new result }
 {
@@ -86,6 +90,109 @@ pub(crate) fn make_round(real: &mut Machine, tally: &mut Tallying, replay: &mut 
         };
     }
     let needed = tally.needed;
-    let why = replay_beside(real, replay, &mut tally.bits, needed);
+    if keeps_up(real, replay, &mut tally.bits, needed) {
+        return Round {
+            enclosed,
+            why: None,
+        };
+    }
+    let why = replay_reason(real, needed, replay);
     Round { enclosed, why }
+}
+
+/// The same, put into a round.
+#[inline(never)]
+fn put_region_round(
+    real: &mut Machine,
+    tally: &mut Tallying,
+    replay: &mut Replay,
+    round: &mut Round,
+)
+    requires { Keeps real.old replay.old tally.old.bits tally.old.needed tally.old.budget }
+    ensures { Rounds replay.old.enclosures real.old tally.old replay.old real.new tally.new replay.new round.new }
+{
+    *round = make_region_round(real, tally, replay);
+}
+
+/// One step of the real run outside of these regions; its bits are tallied.
+#[inline(always)]
+fn real_step(real: &mut Machine, tally: &mut Tallying, _regions: &Regions)
+    requires { kind_of _regions.now.items real.old.control ≡ Steps None }
+    ensures { (skip : Seq ℕ) → Makes (record { regions = _regions.now.items; skip = skip })
+        (kind_of _regions.now.items real.old.control) real.old tally.old real.new tally.new
+        (record { enclosed = false; broken = None }) }
+{
+    match turn_by(real, tally) {
+        Ok(()) => {}
+        Err(never) => match never {},
+    }
+}
+
+/// One step of each run outside of regions, the replay being lent the bits that crossed since its last turn; whether a
+/// quick look tells that nothing fails, and else [`put_reason`] says what does.
+#[inline(always)]
+fn make_step(real: &mut Machine, tally: &mut Tallying, replay: &mut Replay) -> bool
+    requires keeps { Keeps real.old replay.old tally.old.bits tally.old.needed tally.old.budget }
+    requires outside { kind_of replay.old.enclosures.regions real.old.control ≡ Steps None }
+    ensures rounds { Rounds replay.old.enclosures real.old tally.old replay.old real.new tally.new replay.new
+        (record { enclosed = false; why = why_standing real.new tally.new replay.new }) }
+    ensures fine { IsTrue result → why_standing real.new tally.new replay.new ≡ None }
+{
+    real_step(real, tally, replay.regions());
+    if let Some(_) = mode_reason(real.mode(), tally.budget, tally.needed) {
+        return false;
+    }
+    let needed = tally.needed;
+    keeps_up(real, replay, &mut tally.bits, needed)
+}
+
+/// What fails after a step of each run outside of regions is put into a round.
+#[cold]
+#[inline(never)]
+fn put_reason(real: &Machine, tally: &Tallying, replay: &Replay, round: &mut Round)
+    ensures { round.new ≡ record { enclosed = round.old.enclosed; why = why_standing real.now tally.now replay.now } }
+{
+    round.why = match mode_reason(real.mode(), tally.budget, tally.needed) {
+        Some(why) => Some(why),
+        None => replay_reason(real, tally.needed, replay),
+    };
+}
+
+/// A round outside of regions. What it is, is put into a round that has not failed.
+#[inline(always)]
+fn make_outside_round(
+    real: &mut Machine,
+    tally: &mut Tallying,
+    replay: &mut Replay,
+    round: &mut Round,
+)
+    requires keeps { Keeps real.old replay.old tally.old.bits tally.old.needed tally.old.budget }
+    requires outside { kind_of replay.old.enclosures.regions real.old.control ≡ Steps None }
+    requires fine { round.old.why ≡ None }
+    ensures { Rounds replay.old.enclosures real.old tally.old replay.old real.new tally.new replay.new round.new }
+{
+    round.enclosed = false;
+    if !make_step(real, tally, replay) {
+        put_reason(real, tally, replay, round);
+    }
+}
+
+/// One turn of the real run, and unless it is the entry of a skipped region or inside it one turn of the replay, which
+/// is lent the bits that crossed since its last turn. What it leaves is put into a round that has not failed.
+#[inline(always)]
+pub(crate) fn make_round(
+    real: &mut Machine,
+    tally: &mut Tallying,
+    replay: &mut Replay,
+    round: &mut Round,
+)
+    requires keeps { Keeps real.old replay.old tally.old.bits tally.old.needed tally.old.budget }
+    requires fine { round.old.why ≡ None }
+    ensures { Rounds replay.old.enclosures real.old tally.old replay.old real.new tally.new replay.new round.new }
+{
+    if replay.is_outside(real) {
+        make_outside_round(real, tally, replay, round);
+    } else {
+        put_region_round(real, tally, replay, round);
+    }
 }

@@ -30,6 +30,8 @@ pub(crate) struct Tallying {
 
 /// Counts the bits of a value under a mask, and keeps them as long as the budget holds; the answer is the number so
 /// far.
+#[cold]
+#[inline(never)]
 #[tactic(auto, using(crossing_bits::proofs::Places::length_bits_under, crossing_bits::proofs::Places::count_bound))]
 fn keep(bits: &mut Bits, needed: u32, budget: u32, value: u32, mask: u32) -> u32
     requires room { budget ≤ length bits.old.bits + bits.old.room }
@@ -66,6 +68,7 @@ impl Tallying {
     ghost use Rattle.lockstep_replay.specs.Sides.{tally_of};
 
     /// The bits of a value under the mask of the next visit of its point cross.
+    #[inline(always)]
     pub(crate) fn cross(&mut self, point: Point, value: u32)
         requires { IsTrue (is_slot point.slot) }
         ensures budget { self.new.budget ≡ self.old.budget }
@@ -75,6 +78,9 @@ impl Tallying {
             IsAhead self.new.masks masks (point ∷ past) }
     {
         let mask = self.masks.next(point);
+        if mask == 0 {
+            return;
+        }
         self.needed = keep(&mut self.bits, self.needed, self.budget, value, mask);
     }
 }
@@ -107,6 +113,7 @@ impl Passer for Tallying {
         Ok(())
     }
 
+    #[inline(always)]
     fn pass(&mut self, passing: Passing) -> Result<u32, Infallible> {
         self.cross(passing.point, passing.value);
         Ok(passing.value)

@@ -6,3 +6,4 @@ pub mod Enclosed
 pub mod Stillness
 pub mod Guarded
 pub mod NextTurns
+pub mod Marking

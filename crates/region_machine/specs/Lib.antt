@@ -6,3 +6,4 @@ pub mod Runs
 pub mod Starts
 pub mod Guards
 pub mod NextTurns
+pub mod Marked

@@ -91,6 +91,7 @@ fn turn_outside(regions: &Regions, pc: u32) -> GuestTurn<'_>
 }
 
 /// The turn at an address of a guest that runs, where the region with this number is entered, 0: none.
+#[inline(always)]
 fn running_turn(regions: &Regions, number: u16, pc: u32) -> GuestTurn<'_>
     ensures kind { seen result ≡ kind_within regions.now.items (number_of regions.now.items number) pc }
     ensures rules { IsTrue (has_rules (seen result)) }
@@ -104,6 +105,7 @@ fn running_turn(regions: &Regions, number: u16, pc: u32) -> GuestTurn<'_>
 }
 
 /// The turn that a machine makes next under these regions. Outside regions it takes a look at each enter address.
+#[inline(always)]
 pub fn guest_turn<'a>(machine: &Machine, regions: &'a Regions) -> GuestTurn<'a>
     ensures kind { seen result ≡ kind_of regions.now.items machine.now.control }
     ensures rules { IsTrue (has_rules (seen result)) }

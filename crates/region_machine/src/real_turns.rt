@@ -30,6 +30,7 @@ pub struct RealTurn {
 }
 
 /// The entry of a region, and what breaks it.
+#[inline(always)]
 fn enter<P: Observer>(
     machine: &mut Machine,
     passer: &mut P,
@@ -47,6 +48,7 @@ fn enter<P: Observer>(
 }
 
 /// The leave of a region, and what breaks it.
+#[inline(always)]
 fn leave<P: Observer>(
     machine: &mut Machine,
     passer: &mut P,
@@ -66,6 +68,7 @@ fn leave<P: Observer>(
 }
 
 /// One step inside a region, and what breaks it first. The turn is played to its end, also where it breaks the region.
+#[inline(always)]
 fn step_inside<P: Observer>(
     machine: &mut Machine,
     passer: &mut P,
@@ -89,6 +92,7 @@ fn step_inside<P: Observer>(
 }
 
 /// A turn of this kind, each value handed to a passer, and what breaks a region in it.
+#[inline(always)]
 fn kind_turn<P: Observer>(
     machine: &mut Machine,
     passer: &mut P,
@@ -113,6 +117,7 @@ fn kind_turn<P: Observer>(
 }
 
 /// Whether a turn is the entry of one of the regions with these numbers or inside it.
+#[inline(always)]
 fn is_enclosed_turn(turn: GuestTurn<'_>, skip: &[u16]) -> bool
     ensures { (regions : Seq TheRegion) →
         result ≡ is_enclosed_kind (record { regions = regions; skip = skip.now }) (seen turn.entry) }
@@ -126,6 +131,7 @@ fn is_enclosed_turn(turn: GuestTurn<'_>, skip: &[u16]) -> bool
 }
 
 /// A turn of this kind of which nobody is told, and what breaks a region in it.
+#[inline(always)]
 fn unobserved_turn(machine: &mut Machine, turn: GuestTurn<'_>) -> Option<Break>
     requires rules { IsTrue (has_rules (seen turn)) }
     requires leave { IsTrue (can_leave (seen turn) machine.old.store.kept machine.old.setting.base) }
@@ -143,6 +149,7 @@ fn unobserved_turn(machine: &mut Machine, turn: GuestTurn<'_>) -> Option<Break>
 /// leave or a step. Each of its values is handed to an observer, but of the entry of a skipped region and of the turns
 /// inside it the observer is told nothing. The turn is played to its end also where it breaks a region; where the
 /// observer stops it, the machine is left in the middle of it. It takes no memory of its own.
+#[inline(always)]
 pub fn real_turn_by<P: Observer>(
     machine: &mut Machine,
     observer: &mut P,

@@ -1,4 +1,4 @@
-ghost use Rattle.std.specs.Prelude.{◌≡◌, ◌≢◌, ℕ, ◌+◌, ◌<◌, ◌++◌, length, List as Seq, IfOk, None};
+ghost use Rattle.std.specs.Prelude.{◌≡◌, ◌≢◌, ℕ, ◌+◌, ◌<◌, ◌++◌, length, List as Seq, IfOk, IsTrue, None};
 ghost use Rattle.flow_base.specs.declared.points.Point.{Point as ThePoint};
 ghost use Rattle.elf32_loader.specs.Images.{picture_of};
 ghost use Rattle.cut_file.specs.Masks.{MaskAt};
@@ -12,6 +12,7 @@ ghost use Rattle.replay_machine.specs.Runs.{ReplayPlace, Masks, replayed, replay
 ghost use Rattle.replay_machine.specs.Starts.{replay_guest};
 ghost use Rattle.replay_machine.specs.Visits.{IsAhead};
 ghost use Rattle.replay_machine.specs.Sides.{Side, Comes};
+ghost use Rattle.region_machine.specs.Enclosures.{kind_of, Steps};
 ghost use Rattle.region_machine.specs.Runs.{has_exited};
 ghost use Rattle.replay_machine.specs.Standing.{Stands, Turned, end_answer, turn_answer, taken_after};
 ghost use Rattle.replay_machine.specs.Standing.{mark_of};
@@ -28,6 +29,7 @@ use cut_file::Cut;
 use elf32_loader::Image;
 use enclosure_regions::{Regions, copy_regions};
 use flow_base::{Bytes, List, NoMemory};
+use region_machine::MarkedRegions;
 use rv32im_machine::{Machine, Stepped};
 use std::alloc::Global;
 use std::marker::Model;
@@ -41,7 +43,7 @@ pub struct Replay {
     machine: Machine,
     side: Replaying,
     taken: u64,
-    regions: Regions,
+    marked: MarkedRegions,
     skip: List<u16>,
     outside: Option<Outside>,
 }
@@ -54,7 +56,7 @@ impl Model for Replay {
     ghost Value = { Standing };
 
     ghost view = { λ r. record {
-      enclosures = record { regions = r.regions.items; skip = r.skip };
+      enclosures = record { regions = r.marked.regions.items; skip = r.skip };
       state = r.machine;
       outside = r.outside;
       ahead = r.side.masks;
@@ -63,7 +65,7 @@ impl Model for Replay {
     } };
 
     ghost invariant = { λ r. (r.taken < 2 ^ 64)
-        × (r.side.missing ≡ 0 → IsTrue (may_leave r.regions.items r.machine)) };
+        × (r.side.missing ≡ 0 → IsTrue (may_leave r.marked.regions.items r.machine)) };
 }
 
 /// So many zeros.
@@ -77,6 +79,7 @@ fn zeroed(alloc: Global, count: usize) -> Result<Bytes, NoMemory>
 }
 
 /// What a turn answers that wants no bit, by the range that ended it, if one did, and how the machine stands.
+#[inline(always)]
 fn end_of(outside: Option<Outside>, mode: Stepped) -> ReplayTurn
     ensures { result ≡ end_answer outside mode }
 {
@@ -94,6 +97,7 @@ fn end_of(outside: Option<Outside>, mode: Stepped) -> ReplayTurn
 }
 
 /// The same of any turn, after which so many bits are missing.
+#[inline(always)]
 fn answer(missing: u8, outside: Option<Outside>, mode: Stepped) -> ReplayTurn
     ensures { result ≡ turn_answer missing outside mode }
 {
@@ -136,6 +140,7 @@ impl Replay {
         let machine = Machine::new(alloc, image, public, &zeros, OUTPUT_LIMIT)?;
         let bits = Bits::with_room(alloc, 0)?;
         let regions = copy_regions(alloc, regions)?;
+        let marked = MarkedRegions::new(alloc, regions)?;
         let skip = copy_numbers(alloc, &cut.skip)?;
         let side = Replaying {
             masks,
@@ -146,7 +151,7 @@ impl Replay {
             machine,
             side,
             taken: 0,
-            regions,
+            marked,
             skip,
             outside: None,
         })
@@ -157,6 +162,7 @@ impl Replay {
     /// its end with the other values as they are. `RangeOutside` comes exactly where a region is entered or skipped one
     /// of whose ranges is not inside guest memory; nothing is then done. After an answer other than `Ran` each later
     /// call gives the same answer and changes nothing.
+    #[inline(always)]
     pub fn turn(&mut self, bits: &mut Bits) -> ReplayTurn
         ensures turn { (masks : Masks) (place : ReplayPlace) → Stands self.old masks place →
             Turned masks (feed (replay_turn self.old.enclosures masks place) (left_of bits.old)) self.new bits.new
@@ -185,6 +191,7 @@ impl Replay {
     }
 
     /// The turn of a replay that no range has ended and that wants nothing.
+    #[inline(always)]
     fn inside_turn(&mut self, bits: &mut Bits) -> ReplayTurn
         requires wants { self.old.missing ≡ 0 }
         requires outside { self.old.outside ≡ None }
@@ -208,6 +215,7 @@ impl Replay {
     }
 
     /// The turn of a replay that runs, that no range has ended and that wants nothing.
+    #[inline(always)]
     fn run_turn(&mut self, bits: &mut Bits) -> ReplayTurn
         requires wants { self.old.missing ≡ 0 }
         requires outside { self.old.outside ≡ None }
@@ -225,13 +233,14 @@ impl Replay {
     {
         let before = bits.left();
         let skip = self.skip.as_slice();
-        self.outside = play(&mut self.machine, &mut self.side, &self.regions, skip, bits);
+        self.outside = play(&mut self.machine, &mut self.side, &self.marked, skip, bits);
         let used = before.saturating_sub(bits.left());
         self.taken = self.taken.saturating_add(u64::from(used));
         answer(self.side.missing, self.outside, self.machine.mode())
     }
 
     /// Where the replay stands; `bits` counts up to 2^64 - 1.
+    #[inline(always)]
     pub fn mark(&self) -> Mark
         ensures { result ≡ mark_of self.now }
     {
@@ -250,11 +259,27 @@ impl Replay {
         self.machine.output()
     }
 
+    /// What the last turn has answered, and each later one answers where it is not `Ran`; `Ran` before the first.
+    pub fn answer(&self) -> ReplayTurn
+        ensures { result ≡ turn_answer self.now.missing self.now.outside self.now.state.control.mode }
+    {
+        answer(self.side.missing, self.outside, self.machine.mode())
+    }
+
+    /// Whether one look tells that the turn that a machine makes next is a step outside of the regions of the program;
+    /// else it may be any.
+    #[inline(always)]
+    pub fn is_outside(&self, machine: &Machine) -> bool
+        ensures { IsTrue result → kind_of self.now.enclosures.regions machine.now.control ≡ Steps None }
+    {
+        self.marked.is_outside(machine)
+    }
+
     /// The regions of the program.
     pub fn regions(&self) -> &Regions
         ensures { result.now.items ≡ self.now.enclosures.regions }
     {
-        &self.regions
+        &self.marked.regions
     }
 
     /// The numbers of the regions that are skipped.

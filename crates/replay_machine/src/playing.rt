@@ -16,12 +16,13 @@ use crate::outsides::Outside;
 use crate::replay_turns::replay_turn_by;
 use crate::replays::Replaying;
 use crossing_bits::Bits;
-use enclosure_regions::{Region, Regions, first_outside};
-use region_machine::{GuestTurn, guest_turn};
+use enclosure_regions::{Region, first_outside};
+use region_machine::{GuestTurn, MarkedRegions};
 use rv32im_machine::Machine;
 use std::mem;
 
 /// The first range that is not inside guest memory at the entry of a region.
+#[inline(always)]
 fn outside_at_entry(machine: &Machine, region: &Region) -> Option<Outside>
     requires { IsTrue (is_region region.now) }
     ensures outside { result ≡
@@ -39,6 +40,7 @@ fn outside_at_entry(machine: &Machine, region: &Region) -> Option<Outside>
 }
 
 /// The first range that is not inside guest memory, where the turn is an entry.
+#[inline(always)]
 fn outside_at(machine: &Machine, turn: GuestTurn<'_>) -> Option<Outside>
     requires { IsTrue (has_rules (seen turn)) }
     ensures outside { result ≡ kind_outside_range (seen turn.entry) machine.now }
@@ -53,6 +55,7 @@ fn outside_at(machine: &Machine, turn: GuestTurn<'_>) -> Option<Outside>
 }
 
 /// One turn of this kind on the bits that are left.
+#[inline(always)]
 fn play_turn(
     machine: &mut Machine,
     side: &mut Replaying,
@@ -78,27 +81,28 @@ fn play_turn(
 
 /// One turn on the bits that are left of a replay that skips the regions with these numbers; where it is the entry of a
 /// region with a range outside of guest memory, nothing is done.
+#[inline(always)]
 pub(crate) fn play(
     machine: &mut Machine,
     side: &mut Replaying,
-    regions: &Regions,
+    marked: &MarkedRegions,
     skip: &[u16],
     bits: &mut Bits,
 ) -> Option<Outside>
     requires missing { side.old.missing ≡ 0 }
-    requires leave { IsTrue (may_leave regions.now.items machine.old) }
-    ensures outside { result ≡ range_outside regions.now.items machine.old }
+    requires leave { IsTrue (may_leave marked.now.regions.items machine.old) }
+    ensures outside { result ≡ range_outside marked.now.regions.items machine.old }
     ensures still { result ≢ None →
         (machine.new ≡ machine.old) × (side.new ≡ side.old) × (bits.new ≡ bits.old) }
     ensures turn { result ≡ None → (masks : Masks) (past : Seq ThePoint) → IsAhead side.old.masks masks past →
         Comes masks bits.old
         (feed (replayed masks past
-        (replay_walk (record { regions = regions.now.items; skip = skip.now }) machine.old))
+        (replay_walk (record { regions = marked.now.regions.items; skip = skip.now }) machine.old))
         (left_of bits.old)) machine.new
         (record { ahead = side.new.masks; stream = bits.new; missing = side.new.missing }) }
-    ensures leave { side.new.missing ≡ 0 → IsTrue (may_leave regions.now.items machine.new) }
+    ensures leave { side.new.missing ≡ 0 → IsTrue (may_leave marked.now.regions.items machine.new) }
 {
-    let turn = guest_turn(machine, regions);
+    let turn = marked.next_turn(machine);
     match outside_at(machine, turn) {
         Some(outside) => Some(outside),
         None => {

@@ -31,6 +31,7 @@ fn skip_or_enter<P: Passer>(
 }
 
 /// A turn of this kind of a replay that skips the regions with these numbers.
+#[inline(always)]
 pub(crate) fn replay_turn_by<P: Passer>(
     machine: &mut Machine,
     passer: &mut P,

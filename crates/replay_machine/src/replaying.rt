@@ -17,6 +17,7 @@ use rv32im_machine::{Passer, Passing, Place, Seen, Shape, Source};
 impl Replaying {
     /// The value with the next bits in place of those under the mask of its point. Where too few are left, the number
     /// that is missing is kept, no bit is taken any more, and values go on as they are.
+    #[inline(always)]
     fn patch(&mut self, point: Point, value: u32) -> u32
         requires slot { IsTrue (is_slot point.slot) }
         requires value { value ≤ width_of point.slot }
@@ -68,6 +69,7 @@ impl Passer for Replaying {
         Ok(())
     }
 
+    #[inline(always)]
     fn pass(&mut self, passing: Passing) -> Result<u32, ()> {
         Ok(self.patch(passing.point, passing.value))
     }

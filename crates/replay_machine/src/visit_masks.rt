@@ -72,6 +72,7 @@ impl VisitMasks {
     /// The mask at the next visit of a point, 0 where the cut does not name the point; that visit is then behind. At an
     /// address that no point of the cut has, it is mostly found by one look, and else in the logarithm of the number of
     /// the cut's points. It takes no memory.
+    #[inline(always)]
     pub fn next(&mut self, point: Point) -> u32
         requires { IsTrue (is_slot point.slot) }
         ensures mask { (masks : Masks) (past : Seq ThePoint) → IsAhead self.old masks past →
@@ -83,6 +84,43 @@ impl VisitMasks {
         if !self.marks[place(point.address)] {
             return 0;
         }
+        self.next_marked(point)
+    }
+
+    /// The same at an address that has a mark. The point is handed on as a copy, so that no other visit needs to keep
+    /// one in memory.
+    #[inline(always)]
+    fn next_marked(&mut self, point: Point) -> u32
+        requires { IsTrue (is_slot point.slot) }
+        ensures mask { (masks : Masks) (past : Seq ThePoint) → IsAhead self.old masks past →
+            result ≡ mask_at masks past point }
+        ensures counted { (masks : Masks) (past : Seq ThePoint) → IsAhead self.old masks past →
+            IsAhead self.new masks (point ∷ past) }
+        ensures width { result ≤ width_of point.slot }
+    {
+        let Point {
+            region,
+            address,
+            slot,
+        } = point;
+        self.next_found(Point {
+            region,
+            address,
+            slot,
+        })
+    }
+
+    /// The same, the point sought by halves.
+    #[cold]
+    #[inline(never)]
+    fn next_found(&mut self, point: Point) -> u32
+        requires { IsTrue (is_slot point.slot) }
+        ensures mask { (masks : Masks) (past : Seq ThePoint) → IsAhead self.old masks past →
+            result ≡ mask_at masks past point }
+        ensures counted { (masks : Masks) (past : Seq ThePoint) → IsAhead self.old masks past →
+            IsAhead self.new masks (point ∷ past) }
+        ensures width { result ≤ width_of point.slot }
+    {
         match find(self.points.as_slice(), point) {
             Some(index) => pass_at(&self.points, &mut self.cursors, index, point),
             None => 0,

@@ -18,6 +18,7 @@ use crate::opcodes::{AUIPC, BRANCH, JAL, JALR, LOAD, LUI, MISC_MEM, OP, OP_IMM, 
 
 /// The instruction of a word; `None` where the word is no instruction, which is exactly where no instruction in range
 /// has it as its word (RISC-V Unprivileged ISA, "RV32/64G Instruction Set Listings").
+#[inline(always)]
 pub fn decode(word: u32) -> Option<Instr>
     ensures exact { result ≡ decoded word }
     ensures fits { IfSome result InRange }
@@ -28,6 +29,7 @@ pub fn decode(word: u32) -> Option<Instr>
 }
 
 #[tactic(auto, unfolding(crate::specs::Encoding::decoded))]
+#[inline(always)]
 fn decode_by_opcode(word: u32) -> Option<Instr>
     ensures { result ≡ decoded word }
 {

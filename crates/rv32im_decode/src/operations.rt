@@ -31,6 +31,7 @@ impl ImmKind {
 impl OpKind {
     /// What the operation computes from the words of rs1 and rs2 (RISC-V Unprivileged ISA, "Integer Register-Register
     /// Operations", "Multiplication Operations" and "Division Operations").
+    #[inline(always)]
     pub fn result(self, first: u32, second: u32) -> u32
         ensures { result ≡ op_result self first second }
     {

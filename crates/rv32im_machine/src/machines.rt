@@ -222,11 +222,11 @@ impl Machine {
         requires { IsTrue (is_inside self.now.setting.base address 4) }
         ensures { result ≡ word_at self.now.setting.base self.now.store address }
     {
-        let _ = &self.base;
-        let byte0 = self.byte(address);
-        let byte1 = self.byte(address + 1);
-        let byte2 = self.byte(address + 2);
-        let byte3 = self.byte(address + 3);
+        let index = (address - self.base) as usize;
+        let byte0 = self.memory[index];
+        let byte1 = self.memory[index + 1];
+        let byte2 = self.memory[index + 2];
+        let byte3 = self.memory[index + 3];
         u32::from(byte0)
             + 256 * (u32::from(byte1) + 256 * (u32::from(byte2) + 256 * u32::from(byte3)))
     }

@@ -13,6 +13,7 @@ use flow_base::Slot;
 use rv32im_decode::OpKind;
 
 /// What an operation computes from two words.
+#[inline(always)]
 pub(crate) fn compute(operation: Operation, first: u32, second: u32) -> u32
     ensures { result ≡ computed operation first second }
 {
@@ -49,6 +50,7 @@ pub(crate) fn operand_sources() -> Sources
 }
 
 /// The value of a register passes a slot and goes on.
+#[inline(always)]
 pub(crate) fn operand<P: Passer>(
     machine: &Machine,
     passer: &mut P,
@@ -74,6 +76,7 @@ pub(crate) fn operand<P: Passer>(
 }
 
 /// The sum of the first operand and the immediate passes as the address of a load or store.
+#[inline(always)]
 pub(crate) fn decided_address<P: Passer>(
     machine: &Machine,
     passer: &mut P,

@@ -34,6 +34,7 @@ pub fn is_clean_in(page: &Option<Page>, place: usize, count: usize) -> bool
     }
 }
 
+/// The label of a byte in a list of one for each, by its place.
 pub fn listed(labels: &[Label], offset: usize) -> Label
     requires offset { offset < length labels.now }
     requires labels { All IsByteLabel labels.now }

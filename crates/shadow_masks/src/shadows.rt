@@ -268,7 +268,15 @@ impl Shadow {
         requires { All (λ register. register < 32) registers.now }
         ensures { Restores registers.now self.old self.new }
     {
-        for register in registers.as_slice() {
+        self.restore_each(registers.as_slice());
+    }
+
+    /// The same of a slice of registers.
+    pub fn restore_each(&mut self, registers: &[u8])
+        requires { All (λ register. register < 32) registers.now }
+        ensures { Restores registers.now self.old self.new }
+    {
+        for register in registers {
             self.give_back(*register);
         }
     }

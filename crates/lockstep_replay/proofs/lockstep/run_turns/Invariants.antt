@@ -1,4 +1,4 @@
-use Rattle.std.proofs.Common.{◌≡◌, ℕ, ◌-◌, List}
+use Rattle.std.proofs.Common.{◌≡◌, ℕ, ◌-◌, List, None}
 use Rattle.lockstep_replay.specs.Beginnings.{Begins}
 use Rattle.lockstep_replay.specs.Tasks.{Task, Limits}
 use Rattle.lockstep_replay.specs.Turning.{Keeps}
@@ -8,6 +8,7 @@ use Rattle.lockstep_replay.proofs.lockstep.run_turns.Given as goal
 
 abbrev pub invariant-loop : goal.invariant-loop
 invariant-loop l = record {
+  fine : l.made.why ≡ None;
   keeps : Keeps l.real l.replay l.tally.bits l.tally.needed l.tally.budget;
   stands : (task : Task) (limits : Limits) (secret : List ℕ) → Begins l.fn.runs task limits secret →
       StandsAt task limits secret l.counter l.real l.tally l.replay;

@@ -12,13 +12,13 @@ use Rattle.replay_machine.proofs.playing.play.Goals as goal
 
 pub returns-in-None-clause-leave : goal.returns-in-None-clause-leave
 returns-in-None-clause-leave c = λ none.
-    let enclosures : Enclosures = record { regions = c.args.regions.now.items; skip = c.args.skip.now } in
-    let kind = seen c.guest_turn-turn.result in
-    comes-so (CanGoOn c.args.regions.now.items) (MaskAt c.args.side.now.masks) []
+    let enclosures : Enclosures = record { regions = c.args.marked.now.regions.items; skip = c.args.skip.now } in
+    let kind = seen c.next_turn-turn.result in
+    comes-so (CanGoOn c.args.marked.now.regions.items) (MaskAt c.args.side.now.masks) []
     (replay_kind_walk enclosures kind c.args.machine.now)
     (left_of c.args.bits.now) c.args.bits.now _ c.play_turn.new.machine _
-    (replay_kind_keeps enclosures kind c.args.machine.now c.args.regions.now.keeps_rules c.requires.leave
-    (sym c.guest_turn-turn.ensures.kind) (c.in-None.ensures.inside refl))
+    (replay_kind_keeps enclosures kind c.args.machine.now c.args.marked.now.regions.keeps_rules c.requires.leave
+    (sym c.next_turn-turn.ensures.kind) (c.in-None.ensures.inside refl))
     refl
-    (c.play_turn.ensures c.args.regions.now.items (MaskAt c.args.side.now.masks) [] (ahead-self c.args.side.now.masks))
+    (c.play_turn.ensures c.args.marked.now.regions.items (MaskAt c.args.side.now.masks) [] (ahead-self c.args.side.now.masks))
     none

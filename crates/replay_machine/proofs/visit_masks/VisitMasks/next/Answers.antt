@@ -1,4 +1,4 @@
-use Rattle.std.proofs.Common.{◌≡◌, ◌∙◌, ap, sym, subst, List, None}
+use Rattle.std.proofs.Common.{◌≡◌, ◌∙◌, ap, subst, List, None}
 use Rattle.cut_file.specs.declared.points.CutPoint.{CutPoint}
 use Rattle.cut_file.specs.Masks.{MaskAt}
 use Rattle.replay_machine.specs.Visits.{MovesOn}
@@ -23,20 +23,3 @@ returns-then-not-index-clause-counted c = λ masks past ahead.
     ahead-moves c.args.self.now c.args.self.now masks past c.args.point
     (subst (λ (l : List CutPoint). MovesOn c.args.point l l) c.self.view_is
     (none-moves c.self.inside.points.items c.self.inside.cursors.items c.args.point (gone-unmarked c))) ahead
-
-gone-sought : (c : goal.In-None) → index_from 0 c.self.inside.points.items c.args.point ≡ None
-gone-sought c =
-    ap (λ (l : List CutPoint). index_from 0 l c.args.point) (sym c.as_slice.ensures.value) ∙ sym c.find.ensures
-    ∙ c.in-None.is
-
-pub returns-in-None-clause-mask : goal.returns-in-None-clause-mask
-returns-in-None-clause-mask c = λ masks past ahead.
-    none-one c.self.inside.points.items c.self.inside.cursors.items c.args.point (gone-sought c)
-    ∙ ap (λ (l : List CutPoint). MaskAt l c.args.point 1) c.self.view_is
-    ∙ ahead-mask c.args.self.now masks past c.args.point ahead
-
-pub returns-in-None-clause-counted : goal.returns-in-None-clause-counted
-returns-in-None-clause-counted c = λ masks past ahead.
-    ahead-moves c.args.self.now c.args.self.now masks past c.args.point
-    (subst (λ (l : List CutPoint). MovesOn c.args.point l l) c.self.view_is
-    (none-moves c.self.inside.points.items c.self.inside.cursors.items c.args.point (gone-sought c))) ahead

@@ -1,7 +1,7 @@
-use Rattle.std.proofs.Common.{sym, refl, ◌∙◌}
+use Rattle.std.proofs.Common.{sym, refl, ◌∙◌, None}
 use Rattle.lockstep_replay.proofs.RoundResults.{Played, round-fails, round-enclosed, round-beside, output-begins}
 use Rattle.lockstep_replay.proofs.RoundResults.{used-played}
-use Rattle.lockstep_replay.proofs.rounds.make_round.Goals as goal
+use Rattle.lockstep_replay.proofs.rounds.make_region_round.Goals as goal
 
 pub returns-in-Some : goal.returns-in-Some
 returns-in-Some c =
@@ -31,8 +31,8 @@ returns-then-enclosed c =
     c.real_turn-turn.new.tally c.real_turn-turn.result
     played (sym (rw c.mode.ensures at c.real_reason.ensures) ∙ c.in_default.is) c.if-enclosed.true
 
-pub replay_beside-why-requires-clause-begins : goal.replay_beside-why-requires-clause-begins
-replay_beside-why-requires-clause-begins c =
+pub keeps_up-requires-clause-begins : goal.keeps_up-requires-clause-begins
+keeps_up-requires-clause-begins c =
     let played : Played c.args.real.now c.args.tally.now c.args.replay.now c.real_turn-turn.new.real
     c.real_turn-turn.new.tally c.real_turn-turn.result =
     record {
@@ -45,8 +45,8 @@ replay_beside-why-requires-clause-begins c =
     c.real_turn-turn.new.tally c.real_turn-turn.result
     played
 
-pub replay_beside-why-requires-clause-used : goal.replay_beside-why-requires-clause-used
-replay_beside-why-requires-clause-used c =
+pub keeps_up-requires-clause-used : goal.keeps_up-requires-clause-used
+keeps_up-requires-clause-used c =
     let played : Played c.args.real.now c.args.tally.now c.args.replay.now c.real_turn-turn.new.real
     c.real_turn-turn.new.tally c.real_turn-turn.result =
     record {
@@ -58,6 +58,31 @@ replay_beside-why-requires-clause-used c =
     used-played c.args.real.now c.args.tally.now c.args.replay.now c.real_turn-turn.new.real
     c.real_turn-turn.new.tally c.real_turn-turn.result
     played (sym (rw c.mode.ensures at c.real_reason.ensures) ∙ c.in_default.is)
+
+pub returns-then-keeps_up : goal.returns-then-keeps_up
+returns-then-keeps_up c =
+    let played : Played c.args.real.now c.args.tally.now c.args.replay.now c.real_turn-turn.new.real
+    c.real_turn-turn.new.tally c.real_turn-turn.result =
+    record {
+      makes = rw (c.regions.ensures, c.skip.ensures) at c.real_turn-turn.ensures;
+      keeps = c.requires;
+      small = c.args.tally.now.small;
+      rules = rw c.regions.ensures at c.regions.result.now.keeps_rules;
+    } in
+    round-beside c.args.real.now c.args.tally.now c.args.replay.now c.real_turn-turn.new.real
+    c.real_turn-turn.new.tally c.real_turn-turn.result
+    c.keeps_up.new.replay _ None played
+    (sym (rw c.mode.ensures at c.real_reason.ensures) ∙ c.in_default.is) c.if-enclosed.false
+    (record {
+      says = λ masks place stands. sym (c.keeps_up.ensures.fine c.if-keeps_up.true) ∙ c.keeps_up.ensures.why masks place stands;
+      joins = λ masks place stands none. c.keeps_up.ensures.joins masks place stands (c.keeps_up.ensures.fine c.if-keeps_up.true);
+      enclosures = c.keeps_up.ensures.enclosures;
+      bits = c.keeps_up.ensures.bits;
+      masks = refl;
+      needed = refl;
+      budget = refl;
+      agrees = λ none. c.keeps_up.ensures.agrees (c.keeps_up.ensures.fine c.if-keeps_up.true);
+    })
 
 pub returns : goal.returns
 returns c =
@@ -71,15 +96,15 @@ returns c =
     } in
     round-beside c.args.real.now c.args.tally.now c.args.replay.now c.real_turn-turn.new.real
     c.real_turn-turn.new.tally c.real_turn-turn.result
-    c.replay_beside-why.new.replay _ c.replay_beside-why.result played
+    c.keeps_up.new.replay _ c.replay_reason-why.result played
     (sym (rw c.mode.ensures at c.real_reason.ensures) ∙ c.in_default.is) c.if-enclosed.false
     (record {
-      says = c.replay_beside-why.ensures.why;
-      joins = c.replay_beside-why.ensures.joins;
-      enclosures = c.replay_beside-why.ensures.enclosures;
-      bits = c.replay_beside-why.ensures.bits;
+      says = λ masks place stands. c.replay_reason-why.ensures ∙ c.keeps_up.ensures.why masks place stands;
+      joins = λ masks place stands none. c.keeps_up.ensures.joins masks place stands (sym c.replay_reason-why.ensures ∙ none);
+      enclosures = c.keeps_up.ensures.enclosures;
+      bits = c.keeps_up.ensures.bits;
       masks = refl;
       needed = refl;
       budget = refl;
-      agrees = c.replay_beside-why.ensures.agrees;
+      agrees = λ none. c.keeps_up.ensures.agrees (sym c.replay_reason-why.ensures ∙ none);
     })
