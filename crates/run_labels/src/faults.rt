@@ -1,0 +1,24 @@
+use enclosure_regions::Break;
+use rv32im_machine::Fault;
+
+/// Why a run is not measured: the first of these in the first turn in which one holds. Within one instruction a fetch
+/// outside of guest memory comes before secret code, and that before all else; at an entry a secret base register comes
+/// before a range outside of guest memory.
+#[derive(Clone, Copy, Debug, PartialEq, Eq)]
+pub enum MeasureFault {
+    /// The guest is stopped.
+    Guest(Fault),
+    /// The run breaks a region.
+    Region(Break),
+    /// So many turns were made without an exit.
+    TurnLimit { limit: u32 },
+    /// A bit of the four bytes that are fetched from this address may depend on the secret.
+    SecretCode { pc: u32 },
+    /// At the entry of a region a bit of the base register of one of its ranges may depend on the secret; the register
+    /// of the first such range.
+    BaseSecret { region: u16, register: u8 },
+    /// The graph of the run has more than 65,536 points, more than 1,048,576 links or a capacity of 2^48 bits or more.
+    GraphLimit,
+    /// There is not enough memory.
+    Memory,
+}

@@ -1,0 +1,6 @@
+pub mod Appending
+pub mod CleanCode
+pub mod Nodes
+pub mod PassingNotes
+pub mod Settings
+pub mod TrackedTurns

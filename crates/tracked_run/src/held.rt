@@ -1,0 +1,23 @@
+ghost use Rattle.std.specs.Prelude.{◌≡◌};
+ghost use Rattle.tracked_run.specs.Labels.{none_held};
+
+use shadow_masks::Label;
+
+/// The labels of the two operands that have gone on in a turn.
+#[derive(Clone, Copy, Debug)]
+pub(crate) struct Held {
+    pub first: Label,
+    pub second: Label,
+}
+
+impl Held {
+    /// A turn begins with no operand.
+    pub(crate) fn none() -> Held
+        ensures { result ≡ none_held }
+    {
+        Held {
+            first: Label::clean(),
+            second: Label::clean(),
+        }
+    }
+}

@@ -1,0 +1,74 @@
+ghost use Rattle.std.specs.Prelude.{◌≡◌, ℕ, Some, OnOk, IsTrue};
+ghost use Rattle.flow_base.specs.Points.{is_slot};
+ghost use Rattle.rv32im_machine.specs.Playing.{IsAim, AreSources};
+ghost use Rattle.run_labels.specs.Masks.{labels_after, mask_of};
+ghost use Rattle.tracked_run.specs.Labels.{labels_of};
+ghost use Rattle.tracked_run.specs.Linking.{Appends, masked_events};
+ghost use Rattle.tracked_run.specs.Notes.{Answers, Notes};
+
+use crate::held::Held;
+use crate::linking::add_passing;
+use crate::passing_masks::{aimed_mask, work_mask};
+use crate::placing::{labelled, put_aimed};
+use crate::rule_answers::answer_of;
+use crate::source_masks::source_masks;
+use flow_base::NoMemory;
+use flow_graph::Events;
+use rv32im_machine::Passing;
+use shadow_masks::Shadow;
+use transfer_rules::RuleBook;
+
+/// The mask of a passing, by the book's rules; none where it is no word, as in no turn of a guest.
+fn passing_mask(shadow: &Shadow, held: Held, book: &RuleBook, passing: Passing) -> Option<u32>
+    requires slot { IsTrue (is_slot passing.point.slot) }
+    requires sources { AreSources (Some shadow.now.base) passing.sources }
+    ensures { Answers book.now.table (labels_of shadow.now held) passing result }
+{
+    let masks = source_masks(shadow, held, passing.sources);
+    let answer = answer_of(book, passing.work, masks);
+    let mask = work_mask(passing.work, masks, answer)?;
+    Some(aimed_mask(passing.aim, passing.point.slot, mask))
+}
+
+/// The events of a passing of this mask are added, and what its value goes to gets the label.
+/// `NoMemory` where there is not enough.
+fn note_mask<E: Events>(
+    events: &mut E,
+    shadow: &mut Shadow,
+    held: &mut Held,
+    passing: Passing,
+    mask: u32,
+) -> Result<(), NoMemory>
+    requires aim { IsAim (Some shadow.old.base) passing.aim }
+    requires sources { AreSources (Some shadow.old.base) passing.sources }
+    ensures base { shadow.new.base ≡ shadow.old.base }
+    ensures labels { OnOk result ((answer : ℕ) → mask ≡ mask_of (labels_of shadow.old held.old) answer passing →
+        labels_of shadow.new held.new ≡ labels_after (labels_of shadow.old held.old) answer passing) }
+    ensures events { OnOk result (Appends (E.stands_for events.old) (E.stands_for events.new)
+        (masked_events (labels_of shadow.old held.old) mask passing)) }
+{
+    add_passing(events, shadow, *held, passing, mask)?;
+    put_aimed(shadow, held, passing.aim, labelled(mask, passing.point))
+}
+
+/// A value passes: its mask is found by the book's rules, its events are added, and what it goes to gets its label.
+/// `NoMemory` where there is not enough.
+pub(crate) fn note_passing<E: Events>(
+    events: &mut E,
+    shadow: &mut Shadow,
+    held: &mut Held,
+    book: &RuleBook,
+    passing: Passing,
+) -> Result<(), NoMemory>
+    requires slot { IsTrue (is_slot passing.point.slot) }
+    requires aim { IsAim (Some shadow.old.base) passing.aim }
+    requires sources { AreSources (Some shadow.old.base) passing.sources }
+    ensures base { shadow.new.base ≡ shadow.old.base }
+    ensures notes { OnOk result (Notes book.now.table (labels_of shadow.old held.old) (E.stands_for events.old) passing
+        (labels_of shadow.new held.new) (E.stands_for events.new)) }
+{
+    match passing_mask(shadow, *held, book, passing) {
+        Some(mask) => note_mask(events, shadow, held, passing, mask),
+        None => Err(NoMemory),
+    }
+}

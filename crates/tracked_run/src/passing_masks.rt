@@ -1,0 +1,42 @@
+ghost use Rattle.std.specs.Prelude.{◌≡◌, IfSome, IsTrue};
+ghost use Rattle.flow_base.specs.Points.{is_slot};
+ghost use Rattle.run_labels.specs.Masks.{answered_mask as mask_answered, aimed_mask as mask_aimed};
+ghost use Rattle.run_labels.specs.Masks.{work_mask as mask_worked};
+ghost use Rattle.tracked_run.specs.Labels.{listed_masks};
+
+use crate::source_masks::{SourceMasks, shaped_mask};
+use flow_base::{Slot, slot_width};
+use rv32im_machine::{Aim, Operation, Work};
+
+/// The mask of what is computed, by the rule's answer: a decision has one bit.
+fn answered_mask(operation: Operation, answer: u32) -> u32
+    ensures { result ≡ mask_answered operation answer }
+{
+    match operation {
+        Operation::Result(_) => answer,
+        Operation::Decision(_) => answer % 2,
+        Operation::Target => answer,
+    }
+}
+
+/// The mask of what is made of sources of these masks, by the rule's answer; none as in [`shaped_mask`].
+pub(crate) fn work_mask(work: Work, masks: SourceMasks, answer: u32) -> Option<u32>
+    ensures { IfSome result (λ mask. mask ≡ mask_worked work (listed_masks masks) answer) }
+{
+    match work {
+        Work::Shaped(shape) => shaped_mask(shape, masks),
+        Work::Computed(operation, _, _) => Some(answered_mask(operation, answer)),
+    }
+}
+
+/// The mask of a passing, of what is made for it: an output of a region has every bit of its slot.
+pub(crate) fn aimed_mask(aim: Aim, slot: Slot, mask: u32) -> u32
+    requires { IsTrue (is_slot slot) }
+    ensures { result ≡ mask_aimed aim slot mask }
+{
+    match aim {
+        Aim::Put(_) => mask,
+        Aim::Decide => mask,
+        Aim::Give(_) => slot_width(slot),
+    }
+}

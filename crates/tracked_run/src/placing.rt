@@ -1,0 +1,115 @@
+ghost use Rattle.std.specs.Prelude.{◌≡◌, ◌<◌, ◌^◌, Some, OnOk, IsTrue};
+ghost use Rattle.guest_calls.specs.Calls.{is_inside};
+ghost use Rattle.rv32im_machine.specs.Playing.{IsAim, IsPlace};
+ghost use Rattle.shadow_masks.specs.Labels.{IsLabel};
+ghost use Rattle.shadow_masks.specs.Pages.{label_of};
+ghost use Rattle.run_labels.specs.TurnLabels.{label_at as label_of_place, put_label as label_put, aim_label};
+ghost use Rattle.tracked_run.specs.Labels.{labels_of};
+
+use crate::held::Held;
+use flow_base::{NoMemory, Point};
+use rv32im_machine::{Aim, Place};
+use shadow_masks::{Label, Shadow};
+
+/// The label of a place.
+pub(crate) fn label_at(shadow: &Shadow, held: Held, place: Place) -> Label
+    requires { IsPlace (Some shadow.now.base) place }
+    ensures { result ≡ label_of_place (labels_of shadow.now held) place }
+{
+    match place {
+        Place::Register(register) => shadow.reg(register),
+        Place::Byte(address) => shadow.byte(address),
+        Place::First => held.first,
+        Place::Second => held.second,
+    }
+}
+
+/// The label of a mask and a point: the clean one where the mask is 0.
+pub(crate) fn labelled(mask: u32, point: Point) -> Label
+    ensures label { result ≡ label_of mask point }
+    ensures is_label { IsLabel result }
+{
+    if mask == 0 {
+        Label::clean()
+    } else {
+        Label { mask, point }
+    }
+}
+
+/// A register gets a label; that of x0 stays clean.
+fn put_register(shadow: &mut Shadow, held: Held, register: u8, label: Label)
+    requires register { register < 32 }
+    requires label { IsLabel label }
+    ensures base { shadow.new.base ≡ shadow.old.base }
+    ensures put { labels_of shadow.new held ≡ label_put (Place.Register register) label (labels_of shadow.old held) }
+{
+    shadow.set_reg(register, label);
+}
+
+/// A byte gets a label. The label of a byte has at most 8 bits, and no turn of a guest gives it another; one that has
+/// more is not taken, as where memory is short.
+fn put_byte(shadow: &mut Shadow, held: Held, address: u32, label: Label) -> Result<(), NoMemory>
+    requires inside { IsTrue (is_inside shadow.old.base address 1) }
+    requires label { IsLabel label }
+    ensures base { shadow.new.base ≡ shadow.old.base }
+    ensures put { OnOk result
+        (labels_of shadow.new held ≡ label_put (Place.Byte address) label (labels_of shadow.old held)) }
+{
+    if label.mask <= 0xff {
+        shadow.set_byte(address, label)
+    } else {
+        Err(NoMemory)
+    }
+}
+
+/// A place gets a label.
+/// `NoMemory` where there is not enough.
+pub(crate) fn put_label(
+    shadow: &mut Shadow,
+    held: &mut Held,
+    place: Place,
+    label: Label,
+) -> Result<(), NoMemory>
+    requires place { IsPlace (Some shadow.old.base) place }
+    requires label { IsLabel label }
+    ensures base { shadow.new.base ≡ shadow.old.base }
+    ensures put { OnOk result
+        (labels_of shadow.new held.new ≡ label_put place label (labels_of shadow.old held.old)) }
+{
+    match place {
+        Place::Register(register) => {
+            put_register(shadow, *held, register, label);
+            Ok(())
+        }
+        Place::Byte(address) => put_byte(shadow, *held, address, label),
+        Place::First => {
+            held.first = label;
+            Ok(())
+        }
+        Place::Second => {
+            held.second = label;
+            Ok(())
+        }
+    }
+}
+
+/// What a value goes to gets its label; a decision goes to no place.
+/// `NoMemory` where there is not enough.
+pub(crate) fn put_aimed(
+    shadow: &mut Shadow,
+    held: &mut Held,
+    aim: Aim,
+    label: Label,
+) -> Result<(), NoMemory>
+    requires aim { IsAim (Some shadow.old.base) aim }
+    requires label { IsLabel label }
+    ensures base { shadow.new.base ≡ shadow.old.base }
+    ensures put { OnOk result
+        (labels_of shadow.new held.new ≡ aim_label aim label (labels_of shadow.old held.old)) }
+{
+    match aim {
+        Aim::Put(place) => put_label(shadow, held, place, label),
+        Aim::Decide => Ok(()),
+        Aim::Give(place) => put_label(shadow, held, place, label),
+    }
+}

@@ -1,0 +1,116 @@
+ghost use Rattle.std.specs.Prelude.{◌≡◌, ◌<◌, ◌≤◌, Some, IfSome, IsTrue};
+ghost use Rattle.guest_calls.specs.Calls.{is_inside};
+ghost use Rattle.rv32im_machine.specs.Playing.{IsSource, AreSources};
+ghost use Rattle.rv32im_machine.specs.State.{joined};
+ghost use Rattle.rv32im_machine.specs.Language.{part_of, shaped};
+ghost use Rattle.shadow_masks.specs.Pages.{label_from};
+ghost use Rattle.shadow_masks.specs.Shades.{byte_label};
+ghost use Rattle.run_labels.specs.Masks.{masks_of, source_mask as mask_of_source};
+ghost use Rattle.tracked_run.specs.Labels.{AreMasks, labels_of, listed_masks};
+
+use crate::held::Held;
+use crate::placing::label_at;
+use rv32im_machine::{Part, Shape, Source, Sources};
+use shadow_masks::Shadow;
+
+/// The masks of the sources of a passing, those of bytes by ascending address, and 0 where there are fewer than four.
+#[derive(Clone, Copy, Debug)]
+pub(crate) struct SourceMasks {
+    pub first: u32,
+    pub second: u32,
+    pub third: u32,
+    pub fourth: u32,
+}
+
+/// The mask of a source.
+fn source_mask(shadow: &Shadow, held: Held, source: Source) -> u32
+    requires { IsSource (Some shadow.now.base) source }
+    ensures { result ≡ mask_of_source (labels_of shadow.now held) source }
+{
+    match source {
+        Source::At(place) => label_at(shadow, held, place).mask,
+        Source::Constant(_) => 0,
+        Source::Secret(_) => 0xff,
+    }
+}
+
+/// The masks of `count` bytes from an address on, 1 to 4.
+fn byte_masks(shadow: &Shadow, address: u32, count: u32) -> SourceMasks
+    requires inside { IsTrue (is_inside shadow.now.base address count) }
+    requires some { 0 < count }
+    requires few { count ≤ 4 }
+    ensures first { result.first ≡ (label_from (byte_label shadow.now) address count 0).mask }
+    ensures second { result.second ≡ (label_from (byte_label shadow.now) address count 1).mask }
+    ensures third { result.third ≡ (label_from (byte_label shadow.now) address count 2).mask }
+    ensures fourth { result.fourth ≡ (label_from (byte_label shadow.now) address count 3).mask }
+{
+    let labels = shadow.bytes(address, count);
+    SourceMasks {
+        first: labels[0].mask,
+        second: labels[1].mask,
+        third: labels[2].mask,
+        fourth: labels[3].mask,
+    }
+}
+
+/// The masks of the sources of a passing.
+pub(crate) fn source_masks(shadow: &Shadow, held: Held, sources: Sources) -> SourceMasks
+    requires { AreSources (Some shadow.now.base) sources }
+    ensures { AreMasks result (masks_of (labels_of shadow.now held) sources) }
+{
+    match sources {
+        Sources::One(source) => SourceMasks {
+            first: source_mask(shadow, held, source),
+            second: 0,
+            third: 0,
+            fourth: 0,
+        },
+        Sources::Two(first, second) => SourceMasks {
+            first: source_mask(shadow, held, first),
+            second: source_mask(shadow, held, second),
+            third: 0,
+            fourth: 0,
+        },
+        Sources::Byte(address) => byte_masks(shadow, address, 1),
+        Sources::Half(address) => byte_masks(shadow, address, 2),
+        Sources::Word(address) => byte_masks(shadow, address, 4),
+    }
+}
+
+/// The masks of bytes as one mask, the lowest byte first; none where one is not the mask of a byte.
+fn joined_masks(masks: SourceMasks) -> Option<u32>
+    ensures { IfSome result (λ mask. mask ≡ joined (listed_masks masks)) }
+{
+    let bytes = masks.first <= 0xff
+        && masks.second <= 0xff
+        && masks.third <= 0xff
+        && masks.fourth <= 0xff;
+    if bytes {
+        Some(masks.first + 256 * (masks.second + 256 * (masks.third + 256 * masks.fourth)))
+    } else {
+        None
+    }
+}
+
+/// One byte of a mask.
+fn part_mask(part: Part, mask: u32) -> u32
+    ensures { result ≡ part_of part mask }
+{
+    match part {
+        Part::Byte0 => mask % 256,
+        Part::Byte1 => mask / 256 % 256,
+        Part::Byte2 => mask / 65536 % 256,
+        Part::Byte3 => mask / 16777216 % 256,
+    }
+}
+
+/// The mask of what moves bits of its sources about; none where that is no word, as in no turn of a guest.
+pub(crate) fn shaped_mask(shape: Shape, masks: SourceMasks) -> Option<u32>
+    ensures { IfSome result (λ mask. mask ≡ shaped shape (listed_masks masks)) }
+{
+    match shape {
+        Shape::Copied => Some(masks.first),
+        Shape::Extended(kind) => joined_masks(masks).map(|loaded| kind.extend(loaded)),
+        Shape::Part(part) => Some(part_mask(part, masks.first)),
+    }
+}
