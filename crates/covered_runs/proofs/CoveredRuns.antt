@@ -1,0 +1,75 @@
+-- The law that a covered run is accepted: within as many turns as it has, and so within more.
+use Rattle.std.proofs.Common.{◌≡◌, suc, [], length, refl, sym, ap, subst, ◌∙◌, arith}
+use Rattle.crossing_bits.specs.Askers.{feed, Fed'}
+use Rattle.cut_file.specs.Masks.{MaskAt}
+use Rattle.rv32im_machine.specs.Start.{zeros}
+use Rattle.rv32im_machine.specs.State.{State}
+use Rattle.region_machine.specs.Enclosures.{Enclosures}
+use Rattle.region_machine.specs.Runs.{common_turns}
+use Rattle.region_machine.specs.Starts.{guest}
+use Rattle.replay_machine.specs.Runs.{replay_fresh, Replay}
+use Rattle.lockstep_replay.specs.Acceptance.{HasExited}
+use Rattle.lockstep_replay.specs.Crossing.{cross_after}
+use Rattle.lockstep_replay.specs.Tasks.{task_of, replay_start}
+use Rattle.lockstep_replay.proofs.Bounds.{greater_limits_law}
+use Rattle.lockstep_replay.proofs.Runs.{cross_grows}
+use Rattle.run_labels.specs.Runs.{run_after, unlabelled}
+use Rattle.covered_runs.specs.Laws.{CoveredLaw}
+use Rattle.covered_runs.proofs.Accepted.{zero_bytes, length_zeros, follows_at, exits_alike}
+use Rattle.covered_runs.proofs.GraphEvents.{named-closed}
+use Rattle.covered_runs.proofs.GraphTurns.{run_named}
+use Rattle.covered_runs.proofs.ProperRows.{proper_law}
+use Rattle.covered_runs.proofs.ProperRuns.{proper_events_law}
+use Rattle.covered_runs.proofs.RunFacts.{Premises, run_facts}
+use Rattle.covered_runs.proofs.Standing.{state_of}
+
+pub covered_law : CoveredLaw
+covered_law program public_input regions secret cut side answers budget turns output rules measured shorter same covers
+    within =
+    let place = guest program public_input secret in
+    let setting = place.state.setting in
+    let first = place.state.control in
+    let store = place.state.store in
+    let other = zeros cut.secret_len in
+    let masks = MaskAt cut.points in
+    let task = task_of program public_input regions cut in
+    let both : Enclosures = record { regions = regions; skip = cut.skip } in
+    let events = (run_after regions answers (unlabelled place)).events in
+    let orderly = proper_events_law regions answers place rules measured.guest measured.sound in
+    let known : Premises side cut.skip regions masks setting secret first store answers = record {
+      sound = measured.sound;
+      unrefused = measured.unrefused;
+      closed = named-closed side [] events (run_named regions answers place orderly).0 covers.closed;
+      contained = covers.contains;
+    } in
+    let facts = run_facts side cut.skip regions masks setting secret first store answers known in
+    let nowhere = covers.skips 0 ∙ covers.outside in
+    let long : length secret ≡ length other = same ∙ sym (length_zeros cut.secret_len) in
+    let starts : replay_fresh (state_of setting other first store) ≡ replay_start task =
+    ap (λ n. replay_fresh (state_of (record setting { secret_length = n }) other first store)) long in
+    let fewer = cross_grows both masks place (length answers) turns shorter in
+    greater_limits_law task (record { budget = budget; turns = length answers })
+    (record { budget = budget; turns = turns }) secret output (omega arith) shorter
+    (record {
+      has_length = same;
+      unbroken = facts.same_broken ∙ facts.unbroken;
+      exits = subst (λ (s : State). HasExited s output) (sym facts.same_state) measured.exits;
+      within = omega (arith, fewer, within);
+      follows = λ turn below exposed.
+          let at = follows_at side cut.skip regions masks setting secret other first store measured.guest.secret
+          (zero_bytes cut.secret_len) covers.skips proper_law rules nowhere measured.guest refl answers known turn below
+          exposed in record {
+            place = at.0;
+            uses = subst (λ z. feed (Replay both masks (common_turns both (suc turn) place) z)
+                (cross_after both masks (suc turn) place) ≡ Fed' at.0 []) starts at.1;
+            inside = at.2;
+            mark = at.3;
+          };
+      replay_exits = λ last.
+          exits_alike side cut.skip regions masks setting secret other first store measured.guest.secret
+          (zero_bytes cut.secret_len) covers.skips proper_law rules nowhere measured.guest refl answers output
+          last.place
+          known measured.exits
+          (subst (λ z. feed (Replay both masks (common_turns both (length answers) place) z)
+          (cross_after both masks (length answers) place) ≡ Fed' last.place []) (sym starts) last.uses);
+    })

@@ -1,0 +1,13 @@
+pub mod Sides
+pub mod RunCuts
+pub mod ClosedEvents
+pub mod GraphLaws
+pub mod SecretBits
+pub mod Covers
+pub mod Proper
+pub mod ProperLaws
+pub mod Laws
+pub mod SecretSides
+pub mod GuestLaws
+pub mod CrossingLaws
+pub mod MeasuredLaws

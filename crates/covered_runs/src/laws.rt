@@ -1,0 +1,20 @@
+ghost use Rattle.covered_runs.specs.Laws.{CoveredLaw};
+ghost use Rattle.covered_runs.specs.MeasuredLaws.{MeasuredLaw};
+ghost use Rattle.covered_runs.specs.ProperLaws.{ProperTurnsLaw};
+
+/// The turn of each instruction is proper. It does nothing when it is called.
+pub fn turns_are_proper()
+    ensures proper { ProperTurnsLaw }
+{}
+
+/// A run that a cut covers by a side of its graph is accepted with that cut, within every budget that its crossing bits
+/// have. It does nothing when it is called.
+pub fn covered_runs_are_accepted()
+    ensures covered { CoveredLaw }
+{}
+
+/// A run is accepted with the cut of it and of a side of its graph, within the side's capacity. It does nothing when it
+/// is called.
+pub fn measured_runs_are_accepted()
+    ensures measured { MeasuredLaw }
+{}

@@ -1,0 +1,14 @@
+//! Cuts that cover a run: the cut of a run and a side of its graph, what it is that a cut covers a run, and the law that
+//! a covered run is accepted.
+#![tactic(auto)]
+
+mod graph_laws;
+mod laws;
+mod secret_laws;
+
+pub use graph_laws::{
+    cuts_of_runs_cover, cuts_of_runs_cross, guests_stay_guests, sides_are_closed_for_events,
+    sides_are_closed_for_links,
+};
+pub use laws::{covered_runs_are_accepted, measured_runs_are_accepted, turns_are_proper};
+pub use secret_laws::{least_sides_are_small, runs_read_their_secret};
