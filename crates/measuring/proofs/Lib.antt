@@ -1,0 +1,13 @@
+pub mod VisitRuns
+pub mod Keeping
+pub mod Events
+pub mod CutRuns
+pub mod Orders
+pub mod Splits
+pub mod CutNames
+pub mod RunCut
+pub mod Turns
+pub mod Measuring
+pub mod NamedLinks
+pub mod Within
+pub mod OwnCuts

@@ -1,0 +1,61 @@
+-- A measured run is accepted with its own cut, within its own number of bits, which are at most eight for each byte of
+-- its secret.
+use Rattle.std.proofs.Common.{◌≡◌, ℕ, ◌*◌, ◌≤◌, List, ◌∷◌, length, subst, sym, ◌∙◌, arith}
+use Rattle.std.specs.Prelude.{Result, Ok, Err, IfOk}
+use Rattle.cut_file.proofs.Following.{cut-valid}
+use Rattle.cut_file.specs.Pictures.{picture_of}
+use Rattle.elf32_loader.specs.Pictures.{Picture}
+use Rattle.enclosure_regions.specs.declared.region_parts.Region.{Region}
+use Rattle.flow_base.specs.declared.outputs.Output.{Output}
+use Rattle.lockstep_replay.specs.Acceptance.{Accept}
+use Rattle.lockstep_replay.specs.Tasks.{task_of}
+use Rattle.max_flow.specs.Flows.{side_capacity}
+use Rattle.region_machine.specs.Starts.{guest}
+use Rattle.run_labels.specs.declared.faults.MeasureFault.{MeasureFault}
+use Rattle.run_labels.specs.Runs.{LabelledRun, run_after, unlabelled}
+use Rattle.covered_runs.specs.MeasuredLaws.{AreInputs, IsWholeRun}
+use Rattle.covered_runs.specs.RunCuts.{IsCutOf}
+use Rattle.covered_runs.specs.Sides.{named_side}
+use Rattle.covered_runs.proofs.CoveredRuns.{covered_law}
+use Rattle.covered_runs.proofs.CutMeasured.{measured_law}
+use Rattle.covered_runs.proofs.SecretRuns.{secret_bits_law}
+use Rattle.covered_runs.proofs.SecretSides.{least_bits_law}
+use Rattle.measuring.specs.declared.measured.Measured.{Measured}
+use Rattle.measuring.specs.Accepting.{IsAcceptedByItsCut}
+use Rattle.measuring.specs.Measures.{Measures}
+
+module _ (table : ℕ) (program : Picture) (public_input : List ℕ) (regions : List Region) (secret : List ℕ) (turns : ℕ)
+    (measured : Measured) (m : Measures table regions (unlabelled (guest program public_input secret)) (length secret)
+    turns measured) where
+  answers : List (List ℕ)
+  answers = m.exits.last ∷ m.exits.earlier
+
+  pub accepted : AreInputs program public_input regions secret →
+      IsAcceptedByItsCut program public_input regions secret turns measured
+  accepted inputs =
+      let capacity = side_capacity measured.graph measured.side.points measured.side.relays in
+      let whole : IsWholeRun program public_input regions secret (m.exits.last ∷ m.exits.earlier) measured.output =
+      record {
+        sound = m.exits.is_run.sound;
+        unrefused = m.exits.is_run.unrefused;
+        exits = record { bytes = m.exits.written; status = m.exits.exited };
+      } in
+      subst (λ budget. Accept (task_of program public_input regions (picture_of measured.cut))
+      (record { budget = budget; turns = turns }) secret measured.output) m.measure.capacity
+      (measured_law covered_law program public_input regions secret (m.exits.last ∷ m.exits.earlier) measured.graph
+      measured.side.points measured.side.relays (picture_of measured.cut) turns measured.output inputs whole
+      (omega (arith, m.exits.is_run.counted, m.exits.within)) m.measure.graph m.measure.side.side
+      (subst (λ bits. IsCutOf (length secret) (run_after regions (m.exits.last ∷ m.exits.earlier) (unlabelled (guest program public_input secret))).events
+      (named_side measured.graph measured.side.points measured.side.relays) bits (picture_of measured.cut))
+      (sym m.measure.capacity) m.measure.cut)
+      (cut-valid measured.cut))
+
+  pub few : measured.value ≤ 8 * length secret
+  few =
+      let reads = secret_bits_law program public_input secret regions (m.exits.last ∷ m.exits.earlier)
+      m.exits.is_run.unrefused in
+      let least = least_bits_law (run_after regions (m.exits.last ∷ m.exits.earlier) (unlabelled (guest program public_input secret))).events
+      measured.graph measured.side.points measured.side.relays m.measure.graph m.measure.side reads.sources in
+      let bits = reads.bits in
+      let capacity = m.measure.capacity in
+      omega (arith, bits, least, capacity)

@@ -1,0 +1,15 @@
+-- The measured run is accepted with the cut that was measured of it.
+use Rattle.std.specs.Prelude.{ℕ, List}
+use Rattle.cut_file.specs.Pictures.{picture_of}
+use Rattle.elf32_loader.specs.Pictures.{Picture}
+use Rattle.enclosure_regions.specs.declared.region_parts.Region.{Region}
+use Rattle.lockstep_replay.specs.Acceptance.{Accept}
+use Rattle.lockstep_replay.specs.Tasks.{task_of}
+use Rattle.measuring.specs.declared.measured.Measured.{Measured}
+
+-- the secret is accepted with its measured cut within the measured number of bits and this limit of turns, with the
+-- measured output
+abbrev pub IsAcceptedByItsCut : Picture → List ℕ → List Region → List ℕ → ℕ → Measured → Type 0
+IsAcceptedByItsCut program public_input regions secret turns measured =
+    Accept (task_of program public_input regions (picture_of measured.cut))
+    (record { budget = measured.value; turns = turns }) secret measured.output

@@ -1,0 +1,47 @@
+-- A run that is followed turn by turn, and how it ends.
+use Rattle.std.specs.Prelude.{◌≡◌, ℕ, List, ◌∷◌, false}
+use Rattle.enclosure_regions.specs.declared.region_parts.Region.{Region}
+use Rattle.region_machine.specs.Runs.{has_exited}
+use Rattle.rv32im_machine.specs.State.{State}
+use Rattle.shadow_masks.specs.Shades.{Shades}
+use Rattle.run_labels.specs.Runs.{LabelledRun, run_after}
+use Rattle.run_labels.specs.declared.faults.MeasureFault.{MeasureFault}
+use Rattle.run_labels.specs.declared.faults.MeasureFault.TheVariants.{TurnLimit, Guest, Region as RegionFault}
+use Rattle.run_labels.specs.declared.faults.MeasureFault.TheVariants.{SecretCode, BaseSecret, GraphLimit, Memory}
+use Rattle.tracked_run.specs.Runs.{Stands}
+use Rattle.measuring.specs.declared.following.Exit.{Exit}
+use Rattle.measuring.specs.declared.following.RunEnd.{RunEnd}
+use Rattle.measuring.specs.declared.following.RunEnd.TheVariants.{Exited, Refused}
+use Rattle.measuring.specs.declared.recordings.Recording.{Recording}
+use Rattle.measuring.specs.Recordings.{Records}
+use Rattle.measuring.specs.RunCauses.{IsRun, GoesOn, Exits, IsRefused}
+
+-- machine, shadow and recording stand where the run does after so many turns
+pub record Follows (table : ℕ) (regions : List Region) (start : LabelledRun) (turns : ℕ) (machine : State)
+    (shadow : Shades) (recording : Recording) : Type 0 where
+  pub answers : List (List ℕ)
+  pub is_run : IsRun table regions start answers turns
+  pub stands : Stands machine shadow (run_after regions answers start)
+  pub running : has_exited machine.control.mode ≡ false
+  pub records : Records recording (run_after regions answers start).events
+
+-- the run exits, and these are its events
+pub record HasEnded (table : ℕ) (regions : List Region) (start : LabelledRun) (limit : ℕ) (end : Exit) : Type 0 where
+  pub exits : Exits table regions start limit end.turns end.output
+  pub records : Records end.recording (run_after regions (exits.last ∷ exits.earlier) start).events
+
+-- the cause of a fault of a run: its turns, or one that is refused; a run by itself meets neither a limit of its graph
+-- nor want of memory
+abbrev pub HasRunCause : ℕ → List Region → LabelledRun → ℕ → MeasureFault → Type 0
+HasRunCause table regions start limit (TurnLimit turns) = (turns ≡ limit) × GoesOn table regions start limit
+HasRunCause table regions start limit (Guest fault) = IsRefused table regions start limit (Guest fault)
+HasRunCause table regions start limit (RegionFault broken) = IsRefused table regions start limit (RegionFault broken)
+HasRunCause table regions start limit (SecretCode pc) = IsRefused table regions start limit (SecretCode pc)
+HasRunCause table regions start limit (BaseSecret region register) =
+    IsRefused table regions start limit (BaseSecret region register)
+HasRunCause table regions start limit GraphLimit = ⊥
+HasRunCause table regions start limit Memory = ⊥
+
+abbrev pub EndsAs : ℕ → List Region → LabelledRun → ℕ → RunEnd → Type 0
+EndsAs table regions start limit (Exited exit) = HasEnded table regions start limit exit
+EndsAs table regions start limit (Refused fault) = HasRunCause table regions start limit fault

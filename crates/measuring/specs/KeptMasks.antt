@@ -1,0 +1,23 @@
+-- The masks of the visits of points, as they are kept by point.
+use Rattle.std.specs.Prelude.{◌≡◌, ℕ, List, [], Option, Some, None, slice_get, true}
+use Rattle.std.specs.Map.{lookup}
+use Rattle.flow_base.specs.declared.points.Point.{Point}
+use Rattle.flow_graph.specs.EventGraphs.{is_same}
+use Rattle.measuring.specs.declared.point_visits.PointVisits.{PointVisits}
+use Rattle.measuring.specs.PointMasks.{point_masks}
+
+abbrev pub masks_if_any : Option PointVisits → List ℕ
+masks_if_any None = []
+masks_if_any (Some visits) = point_masks visits
+
+-- the masks of the visits of a point, in order; of a point that is not kept there are none
+abbrev pub kept_masks : List (Point × PointVisits) → Point → List ℕ
+kept_masks entries point = masks_if_any (lookup (is_same point) entries)
+
+-- the point is kept at this index
+pub record StandsAt (entries : List (Point × PointVisits)) (point : Point) (index : ℕ) : Type 0 where
+  pub key : Point
+  pub visits : PointVisits
+  pub same : is_same point key ≡ true
+  pub at : slice_get entries index ≡ Some (key, visits)
+  pub found : lookup (is_same point) entries ≡ Some visits

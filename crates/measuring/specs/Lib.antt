@@ -1,0 +1,14 @@
+pub mod VisitRuns
+pub mod PointMasks
+pub mod KeptMasks
+pub mod Visits
+pub mod Recordings
+pub mod Splits
+pub mod CutRuns
+pub mod Cutting
+pub mod RunCauses
+pub mod Following
+pub mod Limits
+pub mod Measures
+pub mod Weighing
+pub mod Accepting

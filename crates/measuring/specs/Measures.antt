@@ -1,0 +1,53 @@
+-- What is measured of a run.
+use Rattle.std.specs.Prelude.{◌≡◌, ℕ, List, ◌∷◌}
+use Rattle.cut_file.specs.Pictures.{picture_of}
+use Rattle.covered_runs.specs.RunCuts.{IsCutOf}
+use Rattle.covered_runs.specs.Sides.{named_side}
+use Rattle.enclosure_regions.specs.declared.region_parts.Region.{Region}
+use Rattle.flow_graph.specs.declared.events.Event.{Event}
+use Rattle.flow_graph.specs.EventGraphs.{IsGraphOf}
+use Rattle.location_collapse.specs.Limits.{ExceedsLimit}
+use Rattle.max_flow.specs.Flows.{HasNoGreater, IsFlowOf, Least, flow_value, side_capacity}
+use Rattle.run_labels.specs.Runs.{LabelledRun, run_after}
+use Rattle.run_labels.specs.declared.faults.MeasureFault.{MeasureFault}
+use Rattle.run_labels.specs.declared.faults.MeasureFault.TheVariants.{TurnLimit, Guest, Region as RegionFault}
+use Rattle.run_labels.specs.declared.faults.MeasureFault.TheVariants.{SecretCode, BaseSecret, GraphLimit, Memory}
+use Rattle.measuring.specs.declared.measured.Measured.{Measured}
+use Rattle.measuring.specs.Following.{HasRunCause}
+use Rattle.measuring.specs.RunCauses.{Exits}
+use Rattle.flow_base.specs.declared.outputs.Output.{Output}
+
+-- the graph of the events, a maximum flow of it, its least minimum side, and the cut of that side
+pub record IsMeasureOf (secret_len : ℕ) (events : List Event) (measured : Measured) : Type 0 where
+  pub graph : IsGraphOf events measured.graph
+  pub flow : IsFlowOf measured.graph measured.flow.points measured.flow.links
+  pub value : flow_value measured.graph measured.flow.points measured.flow.links ≡ measured.value
+  pub greatest : HasNoGreater measured.graph measured.value
+  pub side : Least measured.graph measured.side.points measured.side.relays
+  pub capacity : side_capacity measured.graph measured.side.points measured.side.relays ≡ measured.value
+  pub cut : IsCutOf secret_len events (named_side measured.graph measured.side.points measured.side.relays)
+      measured.value (picture_of measured.cut)
+
+-- the run exits within the limit, and this is the measure of its events
+pub record Measures (table : ℕ) (regions : List Region) (start : LabelledRun) (secret_len limit : ℕ)
+    (measured : Measured) : Type 0 where
+  pub exits : Exits table regions start limit measured.turns measured.output
+  pub measure : IsMeasureOf secret_len (run_after regions (exits.last ∷ exits.earlier) start).events measured
+
+-- the run exits within the limit, and its graph exceeds a limit
+pub record IsTooLarge (table : ℕ) (regions : List Region) (start : LabelledRun) (limit : ℕ) : Type 0 where
+  pub turns : ℕ
+  pub output : Output
+  pub exits : Exits table regions start limit turns output
+  pub exceeds : ExceedsLimit (run_after regions (exits.last ∷ exits.earlier) start).events
+
+-- why a run is not measured; of want of memory nothing is said
+abbrev pub HasCause : ℕ → List Region → LabelledRun → ℕ → MeasureFault → Type 0
+HasCause table regions start limit (TurnLimit turns) = HasRunCause table regions start limit (TurnLimit turns)
+HasCause table regions start limit (Guest fault) = HasRunCause table regions start limit (Guest fault)
+HasCause table regions start limit (RegionFault broken) = HasRunCause table regions start limit (RegionFault broken)
+HasCause table regions start limit (SecretCode pc) = HasRunCause table regions start limit (SecretCode pc)
+HasCause table regions start limit (BaseSecret region register) =
+    HasRunCause table regions start limit (BaseSecret region register)
+HasCause table regions start limit GraphLimit = IsTooLarge table regions start limit
+HasCause table regions start limit Memory = Unit {0}

@@ -1,0 +1,20 @@
+-- Runs of visits that have one mask.
+use Rattle.std.specs.Prelude.{ℕ, ◌==◌, ◌&&◌, nat_lt, not, Bool, List, [], ◌∷◌, ◌++◌, replicate}
+use Rattle.std.specs.List.{list_all}
+use Rattle.cut_file.specs.Cuts.{neighbours_pass}
+use Rattle.measuring.specs.declared.point_visits.VisitRun.{VisitRun}
+
+-- the masks of runs, one for each visit
+unfoldable pub run_masks : List VisitRun → List ℕ
+run_masks [] = []
+run_masks (run ∷ runs) = replicate run.count run.mask ++ run_masks runs
+
+abbrev pub is_visit_run : VisitRun → Bool
+is_visit_run run = nat_lt 0 run.count
+
+abbrev pub have_other_masks : VisitRun → VisitRun → Bool
+have_other_masks first second = not (first.mask == second.mask)
+
+-- each run has a visit, and neighbouring runs have different masks
+abbrev pub are_visit_runs : List VisitRun → Bool
+are_visit_runs runs = list_all is_visit_run runs && neighbours_pass have_other_masks runs

@@ -1,0 +1,26 @@
+-- What is measured of an exit.
+use Rattle.std.specs.Prelude.{◌≡◌, ℕ, List, Bool, true}
+use Rattle.flow_graph.specs.declared.events.Event.{Event}
+use Rattle.run_labels.specs.declared.faults.MeasureFault.{MeasureFault}
+use Rattle.run_labels.specs.declared.faults.MeasureFault.TheVariants.{TurnLimit, Guest, Region as RegionFault}
+use Rattle.run_labels.specs.declared.faults.MeasureFault.TheVariants.{SecretCode, BaseSecret, GraphLimit, Memory}
+use Rattle.measuring.specs.declared.following.Exit.{Exit}
+use Rattle.measuring.specs.declared.measured.Measured.{Measured}
+use Rattle.measuring.specs.Measures.{IsMeasureOf}
+use Rattle.measuring.specs.Recordings.{Records}
+
+-- the measure of an exit, by whatever events its recording stands for
+pub record Weighs (exit : Exit) (secret_len : ℕ) (measured : Measured) : Type 0 where
+  pub turns : measured.turns ≡ exit.turns
+  pub output : measured.output ≡ exit.output
+  pub measure : (events : List Event) → Records exit.recording events → IsMeasureOf secret_len events measured
+
+-- why an exit is not measured: its events exceed a limit, or memory is short
+abbrev pub IsUnweighed : Bool → MeasureFault → Type 0
+IsUnweighed is_full GraphLimit = is_full ≡ true
+IsUnweighed is_full Memory = Unit {0}
+IsUnweighed is_full (TurnLimit turns) = ⊥
+IsUnweighed is_full (Guest fault) = ⊥
+IsUnweighed is_full (RegionFault broken) = ⊥
+IsUnweighed is_full (SecretCode pc) = ⊥
+IsUnweighed is_full (BaseSecret region register) = ⊥

@@ -1,0 +1,47 @@
+ghost use Rattle.std.specs.Prelude.{◌≤◌, ◌*◌, length, IfErr, IfOk};
+ghost use Rattle.elf32_loader.specs.Images.{picture_of};
+ghost use Rattle.region_machine.specs.Starts.{guest};
+ghost use Rattle.run_labels.specs.Runs.{unlabelled};
+ghost use Rattle.measuring.specs.Accepting.{IsAcceptedByItsCut};
+ghost use Rattle.measuring.specs.Measures.{HasCause, Measures};
+
+use crate::inputs::tell_inputs;
+use crate::measured::Measured;
+use crate::weighing::measure_run;
+use elf32_loader::Image;
+use enclosure_regions::Regions;
+use flow_base::Bytes;
+use run_labels::MeasureFault;
+use std::alloc::Global;
+use transfer_rules::RuleBook;
+
+/// Measures the run of a program on a public input and a secret, with these regions, by the mask rules of a book, through
+/// at most `turns` turns: how many bits of the secret can have flowed to what is seen of it, and where they can be cut
+/// (McCamant and Ernst, PLDI 2008). The secret is accepted with that cut within that number of bits, which are at most
+/// eight for each of its bytes.
+///
+/// The secret has at most 65,536 bytes. Of the errors the first turn in which one holds decides; `TurnLimit` where the run
+/// does not exit within the limit, `GraphLimit` where it does and its graph exceeds a limit, and `Memory` where there is
+/// not enough. `Memory` would be answered, too, where the number of visits of a point of the cut with one mask is 2^32 or
+/// more, or the slot of a point of the cut is none that a turn passes: in no run within the limits of the tool is it so.
+pub fn measure(
+    alloc: Global,
+    image: &Image,
+    public: &Bytes,
+    secret: &Bytes,
+    regions: &Regions,
+    book: &RuleBook,
+    turns: u32,
+) -> Result<Measured, MeasureFault>
+    requires { length secret.now ≤ 65536 }
+    ensures ok { IfOk result (λ measured. Measures book.now.table regions.now.items
+        (unlabelled (guest (picture_of image.now) public.now secret.now)) (length secret.now) turns measured) }
+    ensures err { IfErr result (λ fault. HasCause book.now.table regions.now.items
+        (unlabelled (guest (picture_of image.now) public.now secret.now)) turns fault) }
+    ensures accepted { IfOk result (λ measured.
+        IsAcceptedByItsCut (picture_of image.now) public.now regions.now.items secret.now turns measured) }
+    ensures few { IfOk result (λ measured. measured.value ≤ 8 * length secret.now) }
+{
+    tell_inputs(image, public, secret, regions);
+    measure_run(alloc, image, public, secret, regions, book, turns)
+}

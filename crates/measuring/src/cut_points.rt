@@ -1,0 +1,165 @@
+ghost use Rattle.std.specs.Prelude.{◌≡◌, ◌<◌, ◌++◌, ◌∷◌, [], true, IfOk, OnOk, IfSome, IfNone, None, Some};
+ghost use Rattle.std.specs.List.{AllByRecursion, list_all};
+ghost use Rattle.std.specs.Map.{lookup};
+ghost use Rattle.flow_base.specs.Points.{is_slot};
+ghost use Rattle.flow_graph.specs.EventGraphs.{is_same};
+ghost use Rattle.cut_file.specs.Cuts.{are_runs, is_point, is_point_of, is_run};
+ghost use Rattle.cut_file.specs.Masks.{listed_masks};
+ghost use Rattle.covered_runs.specs.RunCuts.{united};
+ghost use Rattle.measuring.specs.CutRuns.{HasKeptMasks, as_run, as_runs, once, points_of, united_runs};
+ghost use Rattle.measuring.specs.KeptMasks.{kept_masks};
+ghost use Rattle.measuring.specs.PointMasks.{all_runs, point_masks};
+ghost use Rattle.measuring.specs.VisitRuns.{is_visit_run};
+
+use crate::kept_visits::KeptVisits;
+use crate::point_visits::{PointVisits, VisitRun};
+use cut_file::{CutPoint, Run};
+use flow_base::{List, NoMemory, Point, Slot};
+use std::alloc::Global;
+
+/// Puts a run of visits at the end.
+/// `NoMemory` where there is not enough, or where the run has 2^32 visits or more.
+fn put_run(runs: &mut List<Run>, run: VisitRun) -> Result<(), NoMemory>
+    requires { is_visit_run run ≡ true }
+    ensures put { OnOk result (runs.new ≡ runs.old ++ as_run run ∷ []) }
+    ensures valid { OnOk result (is_run (as_run run) ≡ true) }
+{
+    match u32::try_from(run.count) {
+        Ok(count) => runs.push(Run {
+            count,
+            mask: run.mask,
+        }),
+        Err(_) => Err(NoMemory),
+    }
+}
+
+/// Runs of visits as runs of a cut.
+/// `NoMemory` where there is not enough, or where a run has 2^32 visits or more.
+fn put_runs(runs: &mut List<Run>, visits: &[VisitRun]) -> Result<(), NoMemory>
+    requires some { list_all is_visit_run visits.now ≡ true }
+    requires valid { list_all is_run runs.old ≡ true }
+    ensures put { OnOk result (runs.new ≡ runs.old ++ as_runs visits.now) }
+    ensures valid { OnOk result (list_all is_run runs.new ≡ true) }
+{
+    let mut rest = visits;
+    while let [run, more @ ..] = rest {
+        put_run(runs, *run)?;
+        rest = more;
+    }
+    Ok(())
+}
+
+/// The masks of the visits of a point as runs of a cut.
+/// `NoMemory` where there is not enough, or where a run has 2^32 visits or more.
+fn runs_of(alloc: Global, visits: &PointVisits) -> Result<List<Run>, NoMemory>
+    ensures masks { IfOk result (λ runs. listed_masks runs ≡ point_masks visits.now) }
+    ensures valid { IfOk result (λ runs. are_runs runs ≡ true) }
+{
+    let mut runs = List::new(alloc);
+    put_runs(&mut runs, visits.earlier.as_slice())?;
+    put_run(&mut runs, visits.latest)?;
+    Ok(runs)
+}
+
+/// The masks that are kept of a point's visits as runs of a cut; none where it was not visited.
+/// `NoMemory` where there is not enough, or where a run has 2^32 visits or more.
+fn runs_at(alloc: Global, visits: &KeptVisits, point: &Point) -> Result<List<Run>, NoMemory>
+    ensures masks { IfOk result (λ runs. listed_masks runs ≡ kept_masks visits.now.points.entries point.now) }
+    ensures valid { IfOk result (λ runs. are_runs runs ≡ true) }
+{
+    match visits.points.get(point) {
+        Some(kept) => runs_of(alloc, kept),
+        None => Ok(List::new(alloc)),
+    }
+}
+
+/// The bits that the masks of some of the runs have.
+fn union(runs: &[Run]) -> u32
+    ensures { result ≡ united_runs runs.now }
+{
+    let mut mask = 0;
+    let mut rest = runs;
+    while let [run, more @ ..] = rest {
+        mask |= run.mask;
+        rest = more;
+    }
+    mask
+}
+
+/// One visit with this mask, as a pattern of masks.
+fn pattern(alloc: Global, mask: u32) -> Result<List<Run>, NoMemory>
+    ensures { IfOk result (λ rest. rest ≡ once mask) }
+{
+    let mut rest = List::new(alloc);
+    rest.push(Run { count: 1, mask })?;
+    Ok(rest)
+}
+
+/// Whether a slot is one that a turn can pass: the registers of outputs are 1 to 31 and their ranges 0 to 63.
+fn is_known(slot: Slot) -> bool
+    ensures { result ≡ is_slot slot }
+{
+    match slot {
+        Slot::OutReg(register) => 1 <= register && register <= 31,
+        Slot::OutRange(range) => range < 64,
+        _ => true,
+    }
+}
+
+/// The point of these parts; None where its slot is none that a turn can pass.
+fn known_point(region: u16, address: u32, slot: Slot) -> Option<Point>
+    ensures point { IfSome result (λ point. point ≡ record { region = region; address = address; slot = slot }) }
+    ensures valid { IfSome result (λ point. is_point point ≡ true) }
+{
+    if is_known(slot) {
+        Some(Point {
+            region,
+            address,
+            slot,
+        })
+    } else {
+        None
+    }
+}
+
+/// A point of the cut with the masks of its visits, and behind them their union.
+/// `NoMemory` where there is not enough, where a run has 2^32 visits or more, or where the slot is none that a turn can
+/// pass.
+fn cut_point(alloc: Global, visits: &KeptVisits, point: &Point) -> Result<CutPoint, NoMemory>
+    ensures point { IfOk result (λ cut_point. cut_point.point ≡ point.now) }
+    ensures masks { IfOk result (λ cut_point. HasKeptMasks visits.now cut_point) }
+    ensures valid { IfOk result (λ cut_point. is_point_of 1 cut_point ≡ true) }
+{
+    let Some(known) = known_point(point.region, point.address, point.slot) else {
+        return Err(NoMemory);
+    };
+    let runs = runs_at(alloc, visits, &known)?;
+    let rest = pattern(alloc, union(runs.as_slice()))?;
+    Ok(CutPoint {
+        point: known,
+        runs,
+        rest,
+    })
+}
+
+/// The points of the cut, each with the masks of its visits, and behind them their union.
+/// `NoMemory` where there is not enough, where a run has 2^32 visits or more, or where a slot is none that a turn can
+/// pass.
+pub(crate) fn cut_points(
+    alloc: Global,
+    visits: &KeptVisits,
+    points: &[Point],
+) -> Result<List<CutPoint>, NoMemory>
+    ensures points { IfOk result (λ made. points_of made ≡ points.now) }
+    ensures masks { IfOk result (λ made. AllByRecursion (HasKeptMasks visits.now) made) }
+    ensures valid { IfOk result (λ made. list_all (is_point_of 1) made ≡ true) }
+{
+    let mut made = List::new(alloc);
+    let mut rest = points;
+    while let [point, more @ ..] = rest {
+        let next = cut_point(alloc, visits, point)?;
+        made.push(next)?;
+        rest = more;
+    }
+    Ok(made)
+}

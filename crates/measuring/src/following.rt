@@ -1,0 +1,70 @@
+ghost use Rattle.std.specs.Prelude.{◌≤◌, length, IfOk};
+ghost use Rattle.elf32_loader.specs.Images.{picture_of};
+ghost use Rattle.region_machine.specs.Starts.{guest};
+ghost use Rattle.run_labels.specs.Runs.{unlabelled};
+ghost use Rattle.measuring.specs.Following.{EndsAs};
+
+use crate::recordings::Recording;
+use elf32_loader::Image;
+use enclosure_regions::Regions;
+use flow_base::{Bytes, NoMemory, Output};
+use run_labels::MeasureFault;
+use std::alloc::Global;
+use tracked_run::{Tracked, TrackedTurn};
+use transfer_rules::RuleBook;
+
+/// The exit of a run.
+#[derive(Drop)]
+pub struct Exit {
+    /// The number of its turns; the exit is the last.
+    pub turns: u32,
+    /// What it has written, and its status.
+    pub output: Output,
+    /// The graph of its events and the visits of its points.
+    pub recording: Recording,
+}
+
+/// How a run ends that is measured.
+#[derive(Drop)]
+pub enum RunEnd {
+    /// The guest exits.
+    Exited(Exit),
+    /// It does not exit within the turn limit, or a turn is refused.
+    Refused(MeasureFault),
+}
+
+/// The end of a measured run, with the graph and the visits of its events.
+/// `NoMemory` where there is not enough.
+pub(crate) fn follow(
+    alloc: Global,
+    image: &Image,
+    public: &Bytes,
+    secret: &Bytes,
+    regions: &Regions,
+    book: &RuleBook,
+    turns: u32,
+) -> Result<RunEnd, NoMemory>
+    requires { length secret.now ≤ 65536 }
+    ensures { IfOk result (λ end. EndsAs book.now.table regions.now.items
+        (unlabelled (guest (picture_of image.now) public.now secret.now)) turns end) }
+{
+    let mut recording = Recording::new(alloc)?;
+    let mut tracked = Tracked::new(alloc, image, public, secret, regions, book)?;
+    for made in 0..turns {
+        match tracked.turn(&mut recording)? {
+            TrackedTurn::Ran => {}
+            TrackedTurn::Exited(status) => {
+                return Ok(RunEnd::Exited(Exit {
+                    turns: made + 1,
+                    output: Output {
+                        bytes: tracked.into_output(),
+                        status,
+                    },
+                    recording,
+                }));
+            }
+            TrackedTurn::Refused(fault) => return Ok(RunEnd::Refused(fault)),
+        }
+    }
+    Ok(RunEnd::Refused(MeasureFault::TurnLimit { limit: turns }))
+}

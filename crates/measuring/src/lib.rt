@@ -1,0 +1,28 @@
+//! The measurement of one run: how many bits of the secret can have flowed to what is seen of the run, as the maximum
+//! flow of the graph of its events, and the cut at which they cross.
+#![tactic(auto)]
+
+mod accepting;
+mod cut_points;
+mod cutting;
+mod following;
+mod inputs;
+mod kept_visits;
+mod measured;
+mod point_visits;
+mod recordings;
+mod splitting;
+#[cfg(test)]
+mod tests;
+mod weighing;
+
+pub use accepting::measure;
+#[doc(hidden)]
+pub use following::{Exit, RunEnd};
+#[doc(hidden)]
+pub use kept_visits::KeptVisits;
+pub use measured::Measured;
+#[doc(hidden)]
+pub use point_visits::{PointVisits, VisitRun};
+#[doc(hidden)]
+pub use recordings::Recording;

@@ -1,0 +1,73 @@
+ghost use Rattle.std.specs.Prelude.{◌++◌, ◌∷◌, [], IsTrue};
+ghost use Rattle.measuring.specs.VisitRuns.{are_visit_runs};
+
+use flow_base::{List, NoMemory};
+use std::alloc::Global;
+
+/// A mask that is the same for a number of visits of a point.
+#[derive(Clone, Copy, Debug, PartialEq, Eq)]
+pub struct VisitRun {
+    /// The number of visits, 1 or more.
+    pub count: u64,
+    /// The mask at each of them.
+    pub mask: u32,
+}
+
+/// The masks of the visits of one point that was visited, in order, as runs: neighbouring runs have different masks.
+#[derive(Drop)]
+pub struct PointVisits {
+    /// The runs before the latest.
+    pub earlier: List<VisitRun>,
+    /// The run of the latest visit.
+    pub latest: VisitRun,
+    ghost sound: { IsTrue (are_visit_runs (earlier ++ latest ∷ [])) },
+}
+
+impl PointVisits {
+    ghost use Rattle.std.specs.Prelude.{◌≡◌, ◌==◌, ◌++◌, ◌∷◌, [], OnOk, OnErr, false};
+    ghost use Rattle.measuring.specs.PointMasks.{point_masks};
+
+    /// One visit with this mask. It takes no memory.
+    pub fn first(alloc: Global, mask: u32) -> PointVisits
+        ensures { point_masks result ≡ mask ∷ [] }
+    {
+        PointVisits {
+            earlier: List::new(alloc),
+            latest: VisitRun { count: 1, mask },
+        }
+    }
+
+    /// One visit more. Where memory is short, or there are 2^64 visits with one mask, it answers want of memory and
+    /// the visits stay.
+    pub fn add(&mut self, mask: u32) -> Result<(), NoMemory>
+        ensures ok { OnOk result (point_masks self.new ≡ point_masks self.old ++ mask ∷ []) }
+        ensures err { OnErr result (self.new ≡ self.old) }
+    {
+        if self.latest.mask != mask {
+            return self.begin(mask);
+        }
+        match self.latest.count.checked_add(1) {
+            Some(count) => {
+                self.latest.count = count;
+                Ok(())
+            }
+            None => Err(NoMemory),
+        }
+    }
+
+    /// The first visit of a new run, whose mask is another than that of the latest.
+    fn begin(&mut self, mask: u32) -> Result<(), NoMemory>
+        requires { (self.old.latest.mask == mask) ≡ false }
+        ensures ok { OnOk result (point_masks self.new ≡ point_masks self.old ++ mask ∷ []) }
+        ensures err { OnErr result (self.new ≡ self.old) }
+    {
+        let latest = self.latest;
+        match self.earlier.push(latest) {
+            Ok(()) => {
+                self.latest = VisitRun { count: 1, mask };
+                Ok(())
+            }
+            Err(_) => Err(NoMemory),
+        }
+    }
+}
