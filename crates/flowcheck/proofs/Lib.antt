@@ -12,4 +12,5 @@ pub mod Headlines
 pub mod Files
 pub mod OneLine
 pub mod Told
+pub mod Tellings
 pub mod Counted

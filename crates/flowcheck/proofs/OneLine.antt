@@ -10,14 +10,23 @@ use Rattle.cut_file.specs.declared.faults.CutFault.{CutFault}
 use Rattle.cut_file.specs.declared.faults.CutFault.TheVariants as cut
 use Rattle.enclosure_regions.specs.declared.region_faults.RegionFault.{RegionFault}
 use Rattle.enclosure_regions.specs.declared.region_faults.RegionFault.TheVariants as regions
-use Rattle.enclosure_regions.specs.Texts.{fault_text}
+use Rattle.enclosure_regions.specs.Texts.{break_text, fault_text, place_text}
 use Rattle.rv32im_asm.specs.declared.fault.AsmFault.{AsmFault}
 use Rattle.rv32im_asm.specs.declared.fault.AsmFault.TheVariants as source
 use Rattle.rv32im_asm.specs.Kinds.{number_of}
 use Rattle.flow_certificate.specs.declared.faults.FormFault.{FormFault}
 use Rattle.flow_certificate.specs.declared.faults.FormFault.TheVariants as forms
 use Rattle.flow_certificate.specs.VerdictTexts.{form_fault_text}
-use Rattle.flowcheck.specs.FaultTexts.{cut_fault_text, hex_byte, program_fault_text, source_fault_text}
+use Rattle.enclosure_regions.specs.declared.break_kinds.Break.{Break}
+use Rattle.enclosure_regions.specs.declared.break_kinds.Break.TheVariants as breaks
+use Rattle.enclosure_regions.specs.declared.break_kinds.WrittenPlace.{WrittenPlace}
+use Rattle.enclosure_regions.specs.declared.break_kinds.WrittenPlace.TheVariants as places
+use Rattle.rv32im_machine.specs.declared.stepping.Fault.{Fault}
+use Rattle.rv32im_machine.specs.declared.stepping.Fault.TheVariants as stops
+use Rattle.run_labels.specs.declared.faults.MeasureFault.{MeasureFault}
+use Rattle.run_labels.specs.declared.faults.MeasureFault.TheVariants as run
+use Rattle.flowcheck.specs.FaultTexts.{cut_fault_text, hex_byte, program_fault_text, run_fault_text, source_fault_text}
+use Rattle.flowcheck.specs.Texts.{fault_text as stop_text}
 use Rattle.flowcheck.specs.Lines.{has_line_feed}
 use Rattle.flowcheck.specs.Names.{escape, is_control, shown}
 
@@ -125,3 +134,36 @@ source_fault source.Memory = is refl
 pub form_fault : (fault : FormFault) → Clean (form_fault_text fault)
 form_fault (forms.Line line) = two (codes "line ") line (is refl)
 form_fault forms.Memory = is refl
+
+stop : (fault : Fault) → Clean (stop_text fault)
+stop (stops.Illegal pc value) = joined (codes "illegal ") _ (is refl) (joined (hex_word pc) _ (word pc) (joined (codes " word ") _ (is refl) (word value)))
+stop (stops.FetchOutside pc) = joined (codes "fetch-outside ") _ (is refl) (word pc)
+stop (stops.FetchUnaligned pc) = joined (codes "fetch-unaligned ") _ (is refl) (word pc)
+stop (stops.LoadOutside pc address) =
+    joined (codes "load-outside ") _ (is refl) (joined (hex_word pc) _ (word pc) (joined (codes " address ") _ (is refl) (word address)))
+stop (stops.StoreOutside pc address) =
+    joined (codes "store-outside ") _ (is refl) (joined (hex_word pc) _ (word pc) (joined (codes " address ") _ (is refl) (word address)))
+stop (stops.Breakpoint pc) = joined (codes "breakpoint ") _ (is refl) (word pc)
+stop (stops.OutputLimit pc) = joined (codes "output-limit ") _ (is refl) (word pc)
+
+place : (place : WrittenPlace) → Clean (place_text place)
+place (places.Reg register) = two (codes "x") register (is refl)
+place (places.Byte address) = word address
+
+broken : (kind : Break) → Clean (break_text kind)
+broken (breaks.UndeclaredWrite region pc at) =
+    more (codes "region ") _ region (is refl) (joined (codes " undeclared ") _ (is refl) (joined (place_text at) _ (place at) (joined (codes " at ") _ (is refl) (word pc))))
+broken (breaks.KeepBroken region register before after) =
+    more (codes "region ") _ region (is refl) (more (codes " keep x") _ register (is refl)
+    (joined (codes " before ") _ (is refl) (joined (hex_word before) _ (word before) (joined (codes " after ") _ (is refl) (word after)))))
+broken (breaks.CallInRegion region pc) = more (codes "region ") _ region (is refl) (joined (codes " call at ") _ (is refl) (word pc))
+broken (breaks.RangeOutside region range) = more (codes "region ") _ region (is refl) (more (codes " range ") _ range (is refl) (is refl))
+
+pub run_fault : (fault : MeasureFault) → Clean (run_fault_text fault)
+run_fault (run.Guest fault) = stop fault
+run_fault (run.Region kind) = broken kind
+run_fault (run.TurnLimit limit) = two (codes "turns ") limit (is refl)
+run_fault (run.SecretCode pc) = joined (codes "secret-code ") _ (is refl) (word pc)
+run_fault (run.BaseSecret region register) = more (codes "region ") _ region (is refl) (more (codes " base x") _ register (is refl) (is refl))
+run_fault run.GraphLimit = is refl
+run_fault run.Memory = is refl

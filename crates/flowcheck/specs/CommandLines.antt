@@ -1,5 +1,5 @@
--- The command lines that are understood: a row for each command. The words behind the command are parted into options and
--- other words (see Parts).
+-- The command lines that are understood: a row for each command. The words behind the command are parted into options
+-- and other words (see Parts).
 use Rattle.std.specs.Prelude.{◌≡◌, ℕ, ◌≤◌, List, [], ◌∷◌, length, codes, Option, None, Some}
 use Rattle.std.specs.Fmt.{decimal}
 use Rattle.flowcheck.specs.declared.limits.Limits.{Limits}
@@ -14,10 +14,21 @@ pub record Check : Type 0 where
   pub secrets : List (List ℕ)
   pub limits : Limits
 
--- a command: a check of secrets, the program file of a source, the listing of a program, the verdict on a certificate,
--- or a cut in version 2
+-- one run of a guest that is to be measured: the names of its files, of which the region file may be none, and its
+-- limit of turns
+pub record Run : Type 0 where
+  pub program : List ℕ
+  pub public_input : List ℕ
+  pub region_file : Option (List ℕ)
+  pub secret : List ℕ
+  pub turns : ℕ
+
+-- a command: a check of secrets, the cut of a run or the certificate of its maximum flow, the program file of a source,
+-- the listing of a program, the verdict on a certificate, or a cut in version 2
 pub data Command : Type 0 where
   Checks : Check → Command
+  Measures : Run → Command
+  Graphs : Run → Command
   Assembles : List ℕ → Command
   Lists : List ℕ → Command
   Verifies : List ℕ → Command
@@ -48,6 +59,12 @@ pub record IsCheck (parts : Parts) (check : Check) : Type 0 where
   pub turns : IsTurnLimit parts.options.turns check.limits.turns
   pub regions : parts.options.regions ≡ check.region_file
 
+-- PROG PUBLIC SECRET
+pub record IsOneRun (parts : Parts) (run : Run) : Type 0 where
+  pub plain : parts.plain ≡ run.program ∷ run.public_input ∷ run.secret ∷ []
+  pub turns : IsTurnLimit parts.options.turns run.turns
+  pub regions : parts.options.regions ≡ run.region_file
+
 -- one file and no option
 abbrev pub IsOneFile : Parts → List ℕ → Type 0
 IsOneFile parts file = (parts.plain ≡ file ∷ []) × (parts.options ≡ no_options)
@@ -55,6 +72,8 @@ IsOneFile parts file = (parts.plain ≡ file ∷ []) × (parts.options ≡ no_op
 -- the row of each command: its name, and what stands behind it
 abbrev pub IsRow : List ℕ → Parts → Command → Type 0
 IsRow name parts (Checks check) = (name ≡ codes "check") × IsCheck parts check
+IsRow name parts (Measures run) = (name ≡ codes "measure") × IsOneRun parts run
+IsRow name parts (Graphs run) = (name ≡ codes "graph") × IsOneRun parts run
 IsRow name parts (Assembles source) = (name ≡ codes "asm") × IsOneFile parts source
 IsRow name parts (Lists program) = (name ≡ codes "list") × IsOneFile parts program
 IsRow name parts (Verifies certificate) = (name ≡ codes "verify") × IsOneFile parts certificate

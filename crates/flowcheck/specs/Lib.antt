@@ -13,6 +13,8 @@ pub mod Words
 pub mod CheckFiles
 pub mod Texts
 pub mod Checks
+pub mod RunFiles
+pub mod Measurements
 pub mod Assemblies
 pub mod Listings
 pub mod Verifications

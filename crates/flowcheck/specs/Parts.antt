@@ -60,8 +60,8 @@ abbrev pub with_options : Parts → Option OptionValues → Option Parts
 with_options before options =
     option_map (λ values. record { plain = before.plain; options = values; waiting = None }) options
 
--- The next word: the value of the option that waits for it, or a word that is no option, or an option with its value, or
--- one that waits for its value.
+-- The next word: the value of the option that waits for it, or a word that is no option, or an option with its value,
+-- or one that waits for its value.
 abbrev pub after_word : Parts → Option (List ℕ) → List ℕ → Option Parts
 after_word before (Some name) word = with_options before (set_beside before.options name word)
 after_word before None word =

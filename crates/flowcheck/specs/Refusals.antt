@@ -13,12 +13,14 @@ use Rattle.rv32im_asm.specs.declared.fault.AsmFault.TheVariants.{Memory as NoRoo
 use Rattle.flow_certificate.specs.declared.faults.FormFault.{FormFault}
 use Rattle.flow_certificate.specs.declared.faults.FormFault.TheVariants.{Memory as NoRoomForCertificate}
 use Rattle.flow_certificate.specs.VerdictTexts.{form_fault_text}
+use Rattle.run_labels.specs.declared.faults.MeasureFault.{MeasureFault}
+use Rattle.run_labels.specs.declared.faults.MeasureFault.TheVariants.{Memory as NoRoomForRun}
 use Rattle.flowcheck.specs.declared.refusals.Refusal.{Refusal}
 use Rattle.flowcheck.specs.declared.refusals.Refusal.TheVariants.{Usage, Program, Regions, Cut, Source, Load, TooLarge}
-use Rattle.flowcheck.specs.declared.refusals.Refusal.TheVariants.{Certificate, Memory}
+use Rattle.flowcheck.specs.declared.refusals.Refusal.TheVariants.{Certificate, Run, Memory}
 use Rattle.flowcheck.specs.declared.statuses.Status.{Status}
 use Rattle.flowcheck.specs.declared.statuses.Status.TheVariants as statuses
-use Rattle.flowcheck.specs.FaultTexts.{cut_fault_text, program_fault_text, source_fault_text}
+use Rattle.flowcheck.specs.FaultTexts.{cut_fault_text, program_fault_text, run_fault_text, source_fault_text}
 
 abbrev pub refusal_status : Refusal → Status
 refusal_status Usage = statuses.Usage
@@ -27,6 +29,7 @@ refusal_status (Regions fault) = statuses.Malformed
 refusal_status (Cut fault) = statuses.Malformed
 refusal_status (Source fault) = statuses.Malformed
 refusal_status (Certificate fault) = statuses.Malformed
+refusal_status (Run fault) = statuses.RunRefused
 refusal_status (Load name) = statuses.LoadFailed
 refusal_status (TooLarge name number) = statuses.TooLarge
 refusal_status Memory = statuses.NoMemory
@@ -38,6 +41,7 @@ refusal_text (Regions fault) = codes "refused 3 regions " ++ region_fault_text f
 refusal_text (Cut fault) = codes "refused 3 cut " ++ cut_fault_text fault
 refusal_text (Source fault) = codes "refused 3 source " ++ source_fault_text fault
 refusal_text (Certificate fault) = codes "refused 3 certificate " ++ form_fault_text fault
+refusal_text (Run fault) = codes "refused 4 " ++ run_fault_text fault
 refusal_text (Load name) = codes "refused 5 load " ++ name
 refusal_text (TooLarge name number) = codes "refused 6 too-large " ++ (name ++ (codes " " ++ decimal number))
 refusal_text Memory = codes "memory"
@@ -61,3 +65,6 @@ RefusesSource fault refusal =
 abbrev pub RefusesCertificate : FormFault → Refusal → Type 0
 RefusesCertificate fault refusal =
     (fault ≡ NoRoomForCertificate → refusal ≡ Memory) × (fault ≢ NoRoomForCertificate → refusal ≡ Certificate fault)
+
+abbrev pub RefusesRun : MeasureFault → Refusal → Type 0
+RefusesRun fault refusal = (fault ≡ NoRoomForRun → refusal ≡ Memory) × (fault ≢ NoRoomForRun → refusal ≡ Run fault)

@@ -3,11 +3,13 @@ use Rattle.std.specs.Prelude.{◌≤◌, map, option_map}
 use Rattle.flowcheck.specs.declared.check.CheckWords.{CheckWords}
 use Rattle.flowcheck.specs.declared.commands.CommandWords.{CommandWords}
 use Rattle.flowcheck.specs.declared.commands.CommandWords.TheVariants as words
+use Rattle.flowcheck.specs.declared.runs.RunWords.{RunWords}
 use Rattle.flowcheck.specs.declared.parts.OptionWords.{OptionWords}
 use Rattle.flowcheck.specs.declared.parts.Parts.{Parts as PartedWords}
 use Rattle.flowcheck.specs.declared.loads.Want.{Want as WantedFile}
 use Rattle.flowcheck.specs.Parts.{OptionValues, Parts}
-use Rattle.flowcheck.specs.CommandLines.{Check, Command, Checks, Assembles, Lists, Verifies, Migrates, highest_budget}
+use Rattle.flowcheck.specs.CommandLines.{Check, Run, Command, Checks, Measures, Graphs, Assembles, Lists, Verifies}
+use Rattle.flowcheck.specs.CommandLines.{Migrates, highest_budget, highest_turns}
 use Rattle.flowcheck.specs.Loading.{Want}
 
 abbrev pub values_of : OptionWords → OptionValues
@@ -33,20 +35,33 @@ check_of words = record {
   limits = words.limits;
 }
 
+abbrev pub run_of : RunWords → Run
+run_of words = record {
+  program = words.program.now;
+  public_input = words.public_input.now;
+  region_file = option_map (λ word. word.now) words.regions;
+  secret = words.secret.now;
+  turns = words.turns;
+}
+
 abbrev pub command_of : CommandWords → Command
 command_of (words.Check check) = Checks (check_of check)
+command_of (words.Measure run) = Measures (run_of run)
+command_of (words.Graph run) = Graphs (run_of run)
 command_of (words.Assemble source) = Assembles source.now
 command_of (words.List program) = Lists program.now
 command_of (words.Verify certificate) = Verifies certificate.now
 command_of (words.Migrate cut) = Migrates cut.now
 
--- the budget of a check is within its limit
-abbrev pub HasBudget : CommandWords → Type 0
-HasBudget (words.Check check) = check.limits.budget ≤ highest_budget
-HasBudget (words.Assemble source) = Unit {0}
-HasBudget (words.List program) = Unit {0}
-HasBudget (words.Verify certificate) = Unit {0}
-HasBudget (words.Migrate cut) = Unit {0}
+-- the budget of a check and the turns of a measured run are within their limits
+abbrev pub HasLimits : CommandWords → Type 0
+HasLimits (words.Check check) = check.limits.budget ≤ highest_budget
+HasLimits (words.Measure run) = run.turns ≤ highest_turns
+HasLimits (words.Graph run) = run.turns ≤ highest_turns
+HasLimits (words.Assemble source) = Unit {0}
+HasLimits (words.List program) = Unit {0}
+HasLimits (words.Verify certificate) = Unit {0}
+HasLimits (words.Migrate cut) = Unit {0}
 
 abbrev pub want_of : WantedFile → Want
 want_of want = record { name = want.name.now; kind = want.kind }

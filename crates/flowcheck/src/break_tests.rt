@@ -4,7 +4,7 @@ use std::alloc::Global;
 use std::test::Fail;
 
 /// Reads a secret byte and writes Y, or N where it is 0.
-const BRANCH: [u32; 16] = [
+pub const BRANCH: [u32; 16] = [
     0x0030_0513, // 0x10000 addi a0,x0,3
     0x0001_15b7, // 0x10004 lui a1,0x11
     0x0010_0613, // 0x10008 addi a2,x0,1
@@ -24,7 +24,7 @@ const BRANCH: [u32; 16] = [
 ];
 
 /// Reads a secret byte, counts its bits, and writes the count modulo 4.
-const COUNT: [u32; 21] = [
+pub const COUNT: [u32; 21] = [
     0x0030_0513, // 0x10000 addi a0,x0,3
     0x0001_15b7, // 0x10004 lui a1,0x11
     0x0010_0613, // 0x10008 addi a2,x0,1
@@ -58,7 +58,7 @@ const SKIPPED: &str =
 
 const SKIPPED_ALONE: &str = "flowcheck-cut 1\nsecret 1\nbits 0\nskip 1\nend\n";
 
-const COUNTED: &str =
+pub const COUNTED: &str =
     r#"{"regions":[{"id":1,"enter":"0x10018","leave":"0x10034","outs":["t0","t1","t2"]}]}"#;
 
 /// A check of the secret 3 with a region file, and the line that it must put.

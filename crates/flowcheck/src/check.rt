@@ -1,10 +1,10 @@
-ghost use Rattle.std.specs.Prelude.{◌≡◌, ◌≢◌, ◌≤◌, ◌++◌, ℕ, List as Seq, Option, Err, None, Ok, length, map, is_some, option_map, IfOk, IfErr, IfSome, OnOk};
+ghost use Rattle.std.specs.Prelude.{◌≡◌, ◌≢◌, ◌≤◌, ◌++◌, ℕ, List as Seq, Option, Err, None, Ok, length, map, is_some};
+ghost use Rattle.std.specs.Prelude.{option_map, IfOk, IfSome, OnOk};
 ghost use Rattle.elf32_loader.specs.Images.{picture_of};
-ghost use Rattle.enclosure_regions.specs.declared.region_faults.RegionFault.TheVariants.{Memory as NoRoomForRegions};
 ghost use Rattle.flowcheck.specs.CheckFiles.{AreShort, and_others, files_of};
-ghost use Rattle.flowcheck.specs.Checks.{AnswersCheck, AnswersCut, AnswersProgram, AnswersRegions, AreRegions};
-ghost use Rattle.flowcheck.specs.Checks.{IsRegionFault, check_wants, region_wants, secret_wants};
-ghost use Rattle.flowcheck.specs.CommandLines.{Check, IsCheck, IsTurnLimit, highest_budget};
+ghost use Rattle.flowcheck.specs.Checks.{AnswersCheck, AnswersCut, AnswersProgram, AnswersRegions, check_wants};
+ghost use Rattle.flowcheck.specs.Checks.{region_wants, secret_wants};
+ghost use Rattle.flowcheck.specs.CommandLines.{Check, IsCheck, highest_budget};
 ghost use Rattle.flowcheck.specs.Loading.{AreWithin};
 ghost use Rattle.flowcheck.specs.Words.{check_of, parts_in, want_of};
 ghost use Rattle.flowcheck.specs.declared.refusals.Refusal.TheVariants.{Load, Memory};
@@ -17,50 +17,46 @@ use crate::numbers::number_of;
 use crate::parts::Parts;
 use crate::refusals::Refusal;
 use crate::replies::Reply;
+use crate::shared::{push_regions, regions_of, turns_of};
 use cut_file::read_cut;
 use elf32_loader::{Image, load_image};
-use enclosure_regions::{RegionFault, Regions, read_regions};
+use enclosure_regions::Regions;
 use flow_base::{Bytes, List, NoMemory};
 use std::alloc::Global;
 
 /// The words of a check of secrets.
 #[derive(Drop)]
 pub struct CheckWords<'a> {
+    /// The name of the program file.
     pub program: &'a str,
+    /// The name of the file of the public input.
     pub public_input: &'a str,
+    /// The name of the cut file.
     pub cut: &'a str,
+    /// The name of the region file, where one is named.
     pub regions: Option<&'a str>,
+    /// The names of the files of the secrets.
     pub secrets: List<&'a str>,
+    /// The budget and the limit of turns.
     pub limits: Limits,
 }
 
 /// The files of a check.
 #[derive(Clone, Copy)]
 pub struct CheckFiles<'a> {
+    /// The program file.
     pub program: &'a Bytes,
+    /// The public input.
     pub public_input: &'a Bytes,
+    /// The cut file.
     pub cut: &'a Bytes,
+    /// The region file, where one is named.
     pub regions: Option<&'a Bytes>,
+    /// The secrets.
     pub secrets: &'a [Bytes],
 }
 
 const HIGHEST_BUDGET: u32 = 1_048_576;
-
-const DEFAULT_TURNS: u32 = 1_000_000;
-
-const HIGHEST_TURNS: u32 = 20_000_000;
-
-/// The limit of turns that a value names, or the one without a value; None exactly where it names none.
-fn turns_of(alloc: Global, value: Option<&str>) -> Result<Option<u32>, NoMemory>
-    ensures is { IfOk result (λ found. IfSome found (λ turns. IsTurnLimit (option_map (λ word. word.now)
-        value.entry) turns)) }
-    ensures none { result ≡ Ok None → (turns : ℕ) → ¬ IsTurnLimit (option_map (λ word. word.now) value.entry) turns }
-{
-    match value {
-        Some(word) => number_of(alloc, word, 1, HIGHEST_TURNS),
-        None => Ok(Some(DEFAULT_TURNS)),
-    }
-}
 
 /// The check that the words behind `check` name; None exactly where they name none.
 pub fn check_words<'a>(alloc: Global, parts: &Parts<'a>) -> Result<Option<CheckWords<'a>>, NoMemory>
@@ -87,21 +83,6 @@ pub fn check_words<'a>(alloc: Global, parts: &Parts<'a>) -> Result<Option<CheckW
         secrets: List::from_vec(secrets.to_vec(alloc)?),
         limits: Limits { budget, turns },
     }))
-}
-
-/// Appends the region file, where one is named.
-fn push_regions<'a>(wants: &mut List<Want<'a>>, regions: Option<&'a str>) -> Result<(), NoMemory>
-    ensures { OnOk result (map want_of wants.new ≡ map want_of wants.old
-        ++ region_wants (option_map (λ word. word.now) regions.entry)) }
-{
-    let Some(name) = regions else {
-        return Ok(());
-    };
-    wants.push(Want {
-        name,
-        kind: FileKind::Regions,
-    })?;
-    Ok(())
 }
 
 /// Appends each secret.
@@ -166,18 +147,6 @@ fn answer_cut(
         files.secrets,
     )?;
     Ok(reply)
-}
-
-/// The regions of the region file, or none without a file; the error is the file's first fault.
-fn regions_of(alloc: Global, file: Option<&Bytes>) -> Result<Regions, RegionFault>
-    ensures ok { IfOk result (λ regions. AreRegions (option_map (λ bytes. bytes.now) file.entry) regions.items) }
-    ensures err { IfErr result (λ fault. fault ≢ NoRoomForRegions
-        → IsRegionFault (option_map (λ bytes. bytes.now) file.entry) fault) }
-{
-    match file {
-        Some(file) => read_regions(alloc, file.as_slice()),
-        None => Ok(Regions::none(alloc)),
-    }
 }
 
 /// The answer once the program is read: by the region file, if one is named, and by the cut file.

@@ -1,12 +1,13 @@
 ghost use Rattle.std.specs.Prelude.{◌≡◌, ◌≢◌, ◌≤◌, ◌∷◌, [], ℕ, List as Seq, Err, None, Ok, codes, map, string_bytes};
 ghost use Rattle.std.specs.Prelude.{IfNone, IfOk, IfSome};
 ghost use Rattle.flow_base.specs.Counts.{Rose};
-ghost use Rattle.flowcheck.specs.CommandLines.{Command, IsCommand, IsNoCommand, IsOneFile, IsRow};
+ghost use Rattle.flowcheck.specs.CommandLines.{Check, Command, Run, IsCheck, IsCommand, IsNoCommand, IsOneFile};
+ghost use Rattle.flowcheck.specs.CommandLines.{IsOneRun, IsRow};
 ghost use Rattle.flowcheck.specs.Loading.{AreWithin, Leaves, LeavesPart, want};
 ghost use Rattle.flowcheck.specs.Replies.{AnswersCommand, AnswersFiles, AnswersWords, LeavesWords, LeavesWordsPart};
 ghost use Rattle.flowcheck.specs.Replies.{wants_of as wants_of_of};
 ghost use Rattle.flowcheck.specs.SingleLoads.{HasCause};
-ghost use Rattle.flowcheck.specs.Words.{HasBudget, command_of, parts_in, want_of};
+ghost use Rattle.flowcheck.specs.Words.{HasLimits, command_of, parts_in, want_of};
 ghost use Rattle.flowcheck.specs.declared.refusals.Refusal.TheVariants.{Load, Memory};
 
 use crate::check::{self, CheckWords};
@@ -15,15 +16,21 @@ use crate::loads::{Want, load_all};
 use crate::parts::{Parts, parts_of};
 use crate::refusals::Refusal;
 use crate::replies::Reply;
-use crate::{asm, list, migrate, verify};
+use crate::runs::{self, RunWords, run_words};
+use crate::{asm, graph, list, measure, migrate, verify};
 use flow_base::{Bytes, Files, List, NoMemory};
 use std::alloc::Global;
+use transfer_rules::RuleBook;
 
 /// The words of a command.
 #[derive(Drop)]
 pub enum CommandWords<'a> {
     /// `check PROG PUBLIC CUT BUDGET SECRET.. [--turns N] [--regions FILE]`
     Check(CheckWords<'a>),
+    /// `measure PROG PUBLIC SECRET [--turns N] [--regions FILE]`
+    Measure(RunWords<'a>),
+    /// `graph PROG PUBLIC SECRET [--turns N] [--regions FILE]`
+    Graph(RunWords<'a>),
     /// `asm SOURCE`
     Assemble { source: &'a str },
     /// `list PROG`
@@ -51,8 +58,8 @@ fn file_word<'a>(parts: &Parts<'a>) -> Option<&'a str>
 /// The command of one file that a name and the words behind it name; None exactly where there is none.
 fn file_row<'a>(name: &str, parts: &Parts<'a>) -> Option<CommandWords<'a>>
     ensures is { IfSome result (λ command. IsRow name.now (parts_in parts.now) (command_of command)) }
-    ensures budget { IfSome result (λ command. HasBudget command) }
-    ensures none { result ≡ None → name.now ≢ codes "check"
+    ensures limits { IfSome result (λ command. HasLimits command) }
+    ensures none { result ≡ None → name.now ≢ codes "check" → name.now ≢ codes "measure" → name.now ≢ codes "graph"
         → (command : Command) → ¬ IsRow name.now (parts_in parts.now) command }
 {
     let file = file_word(parts)?;
@@ -71,6 +78,45 @@ fn file_row<'a>(name: &str, parts: &Parts<'a>) -> Option<CommandWords<'a>>
     None
 }
 
+/// The check that the words behind `check` name; None exactly where they name none.
+fn check_row<'a>(alloc: Global, parts: &Parts<'a>) -> Result<Option<CommandWords<'a>>, NoMemory>
+    ensures is { IfOk result (λ found. IfSome found (λ command. IsRow (codes "check") (parts_in parts.now) (command_of
+        command))) }
+    ensures limits { IfOk result (λ found. IfSome found (λ command. HasLimits command)) }
+    ensures none { result ≡ Ok None → (check : Check) → ¬ IsCheck (parts_in parts.now) check }
+{
+    let Some(check) = check::check_words(alloc, parts)? else {
+        return Ok(None);
+    };
+    Ok(Some(CommandWords::Check(check)))
+}
+
+/// The cut of the run that the words behind `measure` name; None exactly where they name none.
+fn measure_row<'a>(alloc: Global, parts: &Parts<'a>) -> Result<Option<CommandWords<'a>>, NoMemory>
+    ensures is { IfOk result (λ found. IfSome found (λ command. IsRow (codes "measure") (parts_in parts.now)
+        (command_of command))) }
+    ensures limits { IfOk result (λ found. IfSome found (λ command. HasLimits command)) }
+    ensures none { result ≡ Ok None → (run : Run) → ¬ IsOneRun (parts_in parts.now) run }
+{
+    let Some(run) = run_words(alloc, parts)? else {
+        return Ok(None);
+    };
+    Ok(Some(CommandWords::Measure(run)))
+}
+
+/// The certificate of the run that the words behind `graph` name; None exactly where they name none.
+fn graph_row<'a>(alloc: Global, parts: &Parts<'a>) -> Result<Option<CommandWords<'a>>, NoMemory>
+    ensures is { IfOk result (λ found. IfSome found (λ command. IsRow (codes "graph") (parts_in parts.now) (command_of
+        command))) }
+    ensures limits { IfOk result (λ found. IfSome found (λ command. HasLimits command)) }
+    ensures none { result ≡ Ok None → (run : Run) → ¬ IsOneRun (parts_in parts.now) run }
+{
+    let Some(run) = run_words(alloc, parts)? else {
+        return Ok(None);
+    };
+    Ok(Some(CommandWords::Graph(run)))
+}
+
 /// The command of a name and the words behind it; None exactly where there is none.
 fn row_of<'a>(
     alloc: Global,
@@ -79,14 +125,17 @@ fn row_of<'a>(
 ) -> Result<Option<CommandWords<'a>>, NoMemory>
     ensures is { IfOk result (λ found. IfSome found (λ command. IsRow name.now (parts_in parts.now) (command_of
         command))) }
-    ensures budget { IfOk result (λ found. IfSome found (λ command. HasBudget command)) }
+    ensures limits { IfOk result (λ found. IfSome found (λ command. HasLimits command)) }
     ensures none { result ≡ Ok None → (command : Command) → ¬ IsRow name.now (parts_in parts.now) command }
 {
     if name == "check" {
-        let Some(check) = check::check_words(alloc, parts)? else {
-            return Ok(None);
-        };
-        return Ok(Some(CommandWords::Check(check)));
+        return check_row(alloc, parts);
+    }
+    if name == "measure" {
+        return measure_row(alloc, parts);
+    }
+    if name == "graph" {
+        return graph_row(alloc, parts);
     }
     Ok(file_row(name, parts))
 }
@@ -98,7 +147,7 @@ pub fn command_words<'a>(
 ) -> Result<Option<CommandWords<'a>>, NoMemory>
     ensures is { IfOk result (λ found. IfSome found (λ command. IsCommand (map string_bytes words.entry.now)
         (command_of command))) }
-    ensures budget { IfOk result (λ found. IfSome found (λ command. HasBudget command)) }
+    ensures limits { IfOk result (λ found. IfSome found (λ command. HasLimits command)) }
     ensures none { result ≡ Ok None → IsNoCommand (map string_bytes words.entry.now) }
 {
     let [name, others @ ..] = words else {
@@ -125,6 +174,7 @@ fn wants_of<'a>(alloc: Global, command: &CommandWords<'a>) -> Result<List<Want<'
 {
     match command {
         CommandWords::Check(check) => check::wants(alloc, check),
+        CommandWords::Measure(run) | CommandWords::Graph(run) => runs::wants(alloc, run),
         CommandWords::Assemble { source } => one_want(alloc, *source, FileKind::Source),
         CommandWords::List { program } => one_want(alloc, *program, FileKind::Program),
         CommandWords::Verify { certificate } => {
@@ -135,14 +185,22 @@ fn wants_of<'a>(alloc: Global, command: &CommandWords<'a>) -> Result<List<Want<'
 }
 
 /// The answer of a command to its files.
-fn answer_files(alloc: Global, command: &CommandWords, files: &[Bytes]) -> Result<Reply, Refusal>
-    requires budget { HasBudget command.now }
+fn answer_files(
+    alloc: Global,
+    command: &CommandWords,
+    files: &[Bytes],
+    book: &RuleBook,
+) -> Result<Reply, Refusal>
+    requires table { book.now.table ≡ 1 }
+    requires limits { HasLimits command.now }
     requires within { AreWithin (wants_of_of (command_of command.now)) files.now }
     ensures answers { result ≢ Err Memory → AnswersFiles (command_of command.now) files.now result }
     ensures cause { (name : Seq ℕ) → result ≢ Err (Load name) }
 {
     match command {
         CommandWords::Check(check) => check::answer(alloc, check, files),
+        CommandWords::Measure(run) => measure::answer(alloc, run, files, book),
+        CommandWords::Graph(run) => graph::answer(alloc, run, files, book),
         CommandWords::Assemble { .. } => asm::answer(alloc, files),
         CommandWords::List { .. } => list::answer(alloc, files),
         CommandWords::Verify { .. } => verify::answer(alloc, files),
@@ -155,8 +213,10 @@ fn answer_command<F: Files>(
     alloc: Global,
     files: &mut F,
     command: &CommandWords,
+    book: &RuleBook,
 ) -> Result<Reply, Refusal>
-    requires budget { HasBudget command.now }
+    requires table { book.now.table ≡ 1 }
+    requires limits { HasLimits command.now }
     ensures answers { result ≢ Err Memory → AnswersCommand (F.told files.old) (command_of command.now) result }
     ensures leaves { result ≢ Err Memory → Leaves (F.told files.old) (wants_of_of (command_of command.now))
         (F.told files.new) }
@@ -166,7 +226,7 @@ fn answer_command<F: Files>(
 {
     let wants = wants_of(alloc, command)?;
     let loaded = load_all(alloc, files, wants.as_slice())?;
-    answer_files(alloc, command, loaded.as_slice())
+    answer_files(alloc, command, loaded.as_slice(), book)
 }
 
 /// The answer to the words of a command line.
@@ -174,7 +234,9 @@ pub fn answer_words<F: Files>(
     alloc: Global,
     files: &mut F,
     words: &[String],
+    book: &RuleBook,
 ) -> Result<Reply, Refusal>
+    requires table { book.now.table ≡ 1 }
     ensures answers { result ≢ Err Memory → AnswersWords (F.told files.old) (map string_bytes words.now) result }
     ensures leaves { result ≢ Err Memory → LeavesWords (F.told files.old) (map string_bytes words.now) (F.told
         files.new) }
@@ -183,7 +245,7 @@ pub fn answer_words<F: Files>(
     ensures faults { F.faults files.old ≤ F.faults files.new }
 {
     match command_words(alloc, words)? {
-        Some(command) => answer_command(alloc, files, &command),
+        Some(command) => answer_command(alloc, files, &command, book),
         None => Err(Refusal::Usage),
     }
 }

@@ -3,15 +3,24 @@
 
 mod asm;
 #[cfg(test)]
+mod book_tests;
+#[cfg(test)]
 mod break_tests;
 mod check;
 mod commands;
 mod fault_texts;
+#[cfg(test)]
+mod form_tests;
+mod forms;
+mod graph;
 mod judging;
 mod kinds;
 mod limits;
 mod list;
 mod loads;
+mod measure;
+#[cfg(test)]
+mod measure_tests;
 mod migrate;
 mod names;
 mod numbers;
@@ -20,6 +29,8 @@ mod refusals;
 #[cfg(test)]
 mod region_tests;
 mod replies;
+mod runs;
+mod shared;
 mod statuses;
 #[cfg(test)]
 mod tests;
@@ -28,30 +39,12 @@ mod top;
 mod verify;
 
 use flow_base::{DiskFiles, Sink, StandardOut};
-use std::alloc::Global;
+use std::alloc::{AllocError, Global};
 use std::env;
 use std::io::ErrorKind;
 use std::process::ExitCode;
 pub use top::flowcheck;
-
-const HELP: &str = "flowcheck check PROG PUBLIC CUT BUDGET SECRET.. [--turns N] [--regions FILE]\n\
-    flowcheck asm SOURCE\n\
-    flowcheck list PROG\n\
-    flowcheck verify CERT\n\
-    flowcheck migrate CUT\n\n\
-    check judges by lockstep replay whether a run of PROG on each secret gives away\n\
-    no bits but those of the cut, at most BUDGET of them. PROG is an ELF32 program\n\
-    of RV32IM, PUBLIC its public input, CUT a cut file, and each SECRET a file with\n\
-    a secret input; BUDGET is 0 to 1048576, and there are 1 to 64 secrets. A run\n\
-    that has not exited after N turns is rejected; N is 1 to 20000000, and 1000000\n\
-    where it is not named. FILE is a region file: it says of pieces of PROG which\n\
-    registers and bytes they may write, and a run that breaks this is rejected. The\n\
-    replay runs a region, or skips it where the cut names it.\n\
-    asm writes the program file of an assembler source.\n\
-    list writes the instructions of a program file.\n\
-    verify says whether a certificate shows a maximum flow of its graph. CERT is a\n\
-    certificate file.\n\
-    migrate writes the cut of a cut file in version 2.\n";
+use transfer_rules::*;
 
 const VERSION: &str = "flowcheck 0.1.0\n";
 
@@ -72,28 +65,67 @@ fn words_of(rt: &HostRuntime, alloc: Global) -> Result<Vec<String>, u8> {
 }
 
 /// The text that a lone word `--help` or `--version` asks for.
-fn text_asked<'a>(words: &[String]) -> Option<&'a str> {
+fn text_asked(alloc: Global, words: &[String]) -> Result<Option<String>, AllocError> {
     match words {
-        [word] if word.as_str() == "--help" => Some(HELP),
-        [word] if word.as_str() == "--version" => Some(VERSION),
-        _ => None,
+        [word] if word.as_str() == "--help" => Ok(Some(forms::help(alloc)?)),
+        [word] if word.as_str() == "--version" => Ok(Some(VERSION.to_string(alloc)?)),
+        _ => Ok(None),
+    }
+}
+
+/// Writes a text, and the status of that: 0, or 7 where the write fails.
+fn written(rt: HostRuntime, text: &str) -> u8 {
+    let mut out = StandardOut::new(rt);
+    match out.put(text.as_bytes()) {
+        Ok(()) => 0,
+        Err(_) => 7,
+    }
+}
+
+/// Writes to standard error what is wrong with the words, which are no command line.
+fn complain(rt: HostRuntime) {
+    let Ok(words) = words_of(&rt, rt.alloc()) else {
+        return;
+    };
+    if let Ok(text) = forms::complaint(rt.alloc(), words.as_slice()) {
+        let _ = rt.eprint(text);
     }
 }
 
 fn main(rt: HostRuntime) -> ExitCode {
-    let mut out = StandardOut::new(rt);
     let words = match words_of(&rt, rt.alloc()) {
         Ok(words) => words,
         Err(status) => return ExitCode::from(status),
     };
-    if let Some(text) = text_asked(words.as_slice()) {
-        let status = if out.put(text.as_bytes()).is_ok() {
-            0
-        } else {
-            7
-        };
-        return ExitCode::from(status);
+    match text_asked(rt.alloc(), words.as_slice()) {
+        Ok(None) => {}
+        Ok(Some(text)) => return ExitCode::from(written(rt, text.as_str())),
+        Err(_) => return ExitCode::from(8),
     }
     let mut files = DiskFiles::new(rt);
-    ExitCode::from(flowcheck(rt.alloc(), words, &mut files, &mut out))
+    let mut out = StandardOut::new(rt);
+    let books = [RuleBook::new(
+        1,
+        [
+            Rule::new(Class::Add, 1, add_1),
+            Rule::new(Class::Sub, 1, sub_1),
+            Rule::new(Class::And, 1, and_1),
+            Rule::new(Class::Or, 1, or_1),
+            Rule::new(Class::Xor, 1, xor_1),
+            Rule::new(Class::Sll, 1, sll_1),
+            Rule::new(Class::Srl, 1, srl_1),
+            Rule::new(Class::Sra, 1, sra_1),
+            Rule::new(Class::Slt, 1, slt_1),
+            Rule::new(Class::Sltu, 1, sltu_1),
+            Rule::new(Class::Equal, 1, equal_1),
+            Rule::new(Class::Mul, 1, mul_1),
+            Rule::new(Class::High, 1, high_1),
+            Rule::new(Class::Div, 1, div_1),
+        ],
+    )];
+    let status = flowcheck(rt.alloc(), words, &mut files, &mut out, &books);
+    if status == 2 {
+        complain(rt);
+    }
+    ExitCode::from(status)
 }

@@ -1,7 +1,7 @@
 ghost use Rattle.std.specs.Prelude.{◌≡◌};
 ghost use Rattle.flowcheck.specs.Refusals.{refusal_status};
 
-use crate::fault_texts::{CutText, ProgramText, SourceText};
+use crate::fault_texts::{CutText, ProgramText, RunText, SourceText};
 use crate::names::Name;
 use crate::statuses::Status;
 use cut_file::CutFault;
@@ -9,6 +9,7 @@ use elf32_loader::ElfFault;
 use enclosure_regions::RegionFault;
 use flow_base::NoMemory;
 use flow_certificate::FormFault;
+use run_labels::MeasureFault;
 use rv32im_asm::AsmFault;
 use std::fmt;
 
@@ -27,6 +28,8 @@ pub enum Refusal {
     Source(AsmFault),
     /// The certificate file gives no certificate.
     Certificate(FormFault),
+    /// The run is not measured.
+    Run(MeasureFault),
     /// The load of this name failed.
     Load {
         /// The name.
@@ -55,6 +58,7 @@ impl Refusal {
             | Refusal::Cut(_)
             | Refusal::Source(_)
             | Refusal::Certificate(_) => Status::Malformed,
+            Refusal::Run(_) => Status::RunRefused,
             Refusal::Load { .. } => Status::LoadFailed,
             Refusal::TooLarge { .. } => Status::TooLarge,
             Refusal::Memory => Status::NoMemory,
@@ -85,6 +89,10 @@ impl fmt::Display for Refusal {
                 write!(f, "refused 3 source {fault}")
             }
             Refusal::Certificate(fault) => write!(f, "refused 3 certificate {fault}"),
+            Refusal::Run(fault) => {
+                let fault = RunText(fault);
+                write!(f, "refused 4 {fault}")
+            }
             Refusal::Load { name } => write!(f, "refused 5 load {name}"),
             Refusal::TooLarge { name, number } => {
                 write!(f, "refused 6 too-large {name} {number}")
@@ -167,6 +175,19 @@ impl From<FormFault> for Refusal {
         match fault {
             FormFault::Memory => Refusal::Memory,
             fault => Refusal::Certificate(fault),
+        }
+    }
+}
+
+impl From<MeasureFault> for Refusal {
+    ghost use Rattle.flowcheck.specs.Refusals.{RefusesRun};
+
+    ghost from_gives = { RefusesRun };
+
+    fn from(fault: MeasureFault) -> Refusal {
+        match fault {
+            MeasureFault::Memory => Refusal::Memory,
+            fault => Refusal::Run(fault),
         }
     }
 }

@@ -1,4 +1,4 @@
-use crate::flowcheck;
+use crate::book_tests::answer_by_table_1;
 use crate::tests::{EXIT, HEAD, NO_BITS, TRAILING, hold, program};
 use flow_base::{Bytes, List, MemoryFiles, MemorySink, NoMemory};
 use std::alloc::Global;
@@ -56,12 +56,12 @@ pub fn answered(
         loads: 0,
         faults: 0,
     };
-    let mut sink = MemorySink::new(alloc, 1000, List::new(alloc))?;
+    let mut sink = MemorySink::new(alloc, 4000, List::new(alloc))?;
     let mut given = Vec::new(alloc);
     for word in words {
         given.push(word.to_string(alloc)?).map_err(|_| NoMemory)?;
     }
-    let status = flowcheck(alloc, given, &mut files, &mut sink);
+    let status = answer_by_table_1(alloc, given, &mut files, &mut sink);
     Ok(Answer {
         status,
         text: Bytes::from_slice(alloc, sink.taken())?,

@@ -10,7 +10,9 @@ use std::alloc::Global;
 /// A status and the whole text that is put with it.
 #[derive(Drop)]
 pub struct Reply {
+    /// What the command line is answered by.
     pub status: Status,
+    /// The whole text.
     pub text: Bytes,
 }
 

@@ -12,6 +12,8 @@ pub enum Status {
     Usage,
     /// A program, a region file, a cut, a source or a certificate is malformed.
     Malformed,
+    /// The run of a guest is not measured.
+    RunRefused,
     /// A load failed.
     LoadFailed,
     /// A file has more bytes than its limit.
@@ -23,7 +25,7 @@ pub enum Status {
 }
 
 impl Status {
-    /// The number with which a process ends: 0 to 3 and 5 to 8, in the order above.
+    /// The number with which a process ends: 0 to 8, in the order above.
     pub fn number(self) -> u8
         ensures { result ≡ number_of self }
     {
@@ -32,6 +34,7 @@ impl Status {
             Status::Rejected => 1,
             Status::Usage => 2,
             Status::Malformed => 3,
+            Status::RunRefused => 4,
             Status::LoadFailed => 5,
             Status::TooLarge => 6,
             Status::PutFailed => 7,

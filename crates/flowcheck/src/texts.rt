@@ -1,5 +1,4 @@
 ghost use Rattle.std.specs.Prelude.{◌≡◌, ◌++◌, IfOk};
-ghost use Rattle.flow_base.specs.HexWords.{hex_word as hex_word_of};
 ghost use Rattle.lockstep_replay.specs.Judgements.{judgement_of};
 ghost use Rattle.lockstep_replay.specs.Verdicts.{Accepts, Rejects};
 ghost use Rattle.lockstep_replay.specs.declared.verdicts.Why.TheVariants.{Parted};
@@ -8,6 +7,7 @@ ghost use Rattle.flowcheck.specs.Texts.{counts_line as counts_line_of, fault_tex
 ghost use Rattle.flowcheck.specs.Texts.{mark_text as mark_text_of, stop_text as stop_text_of};
 ghost use Rattle.flowcheck.specs.Texts.{verdict_line as verdict_line_of, why_text as why_text_of};
 
+use crate::fault_texts::StopText;
 use crossing_bits::Bits;
 use enclosure_regions::Break;
 use flow_base::{Bytes, NoMemory, Output, hex_word};
@@ -16,57 +16,13 @@ use replay_machine::Mark;
 use rv32im_machine::Fault;
 use std::alloc::Global;
 
-/// A text, and a word behind it.
-fn with_word(alloc: Global, head: &str, word: u32) -> Result<Bytes, NoMemory>
-    ensures { IfOk result (λ text. text ≡ head.now ++ hex_word_of word) }
-{
-    let mut text = head.as_bytes().to_vec(alloc)?;
-    text.extend_from_slice(&hex_word(word))?;
-    Ok(Bytes::from_vec(text))
-}
-
-/// Two texts, and a word behind each.
-fn with_words(
-    alloc: Global,
-    head: &str,
-    word: u32,
-    middle: &str,
-    other: u32,
-) -> Result<Bytes, NoMemory>
-    ensures { IfOk result (λ text. text ≡ head.now ++ (hex_word_of word ++ (middle.now ++ hex_word_of other))) }
-{
-    let mut text = head.as_bytes().to_vec(alloc)?;
-    text.extend_from_slice(&hex_word(word))?;
-    text.extend_from_slice(middle.as_bytes())?;
-    text.extend_from_slice(&hex_word(other))?;
-    Ok(Bytes::from_vec(text))
-}
-
 /// Why a guest is stopped.
 fn fault_text(alloc: Global, fault: Fault) -> Result<Bytes, NoMemory>
     ensures { IfOk result (λ text. text ≡ fault_text_of fault) }
 {
-    match fault {
-        Fault::Illegal { pc, word } => with_words(alloc, "illegal ", pc, " word ", word),
-        Fault::FetchOutside { pc } => with_word(alloc, "fetch-outside ", pc),
-        Fault::FetchUnaligned { pc } => with_word(alloc, "fetch-unaligned ", pc),
-        Fault::LoadOutside { pc, address } => with_words(
-            alloc,
-            "load-outside ",
-            pc,
-            " address ",
-            address,
-        ),
-        Fault::StoreOutside { pc, address } => with_words(
-            alloc,
-            "store-outside ",
-            pc,
-            " address ",
-            address,
-        ),
-        Fault::Breakpoint { pc } => with_word(alloc, "breakpoint ", pc),
-        Fault::OutputLimit { pc } => with_word(alloc, "output-limit ", pc),
-    }
+    let stop = StopText(fault);
+    let text = format!(in alloc; "{stop}")?;
+    Ok(Bytes::from_vec(text.into_bytes()))
 }
 
 /// A text, and another behind it.

@@ -1,5 +1,5 @@
-ghost use Rattle.std.specs.Prelude.{◌≡◌, ◌≢◌, ◌≤◌, ℕ, List as Seq, length, take, map, string_bytes, option_map, IfOk, IsTrue};
-ghost use Rattle.std.specs.Prelude.{◌∷◌, []};
+ghost use Rattle.std.specs.Prelude.{◌≡◌, ◌≢◌, ◌≤◌, ◌∷◌, [], ℕ, List as Seq, length, take, map, string_bytes};
+ghost use Rattle.std.specs.Prelude.{option_map, IfOk, IsTrue};
 ghost use Rattle.flow_base.specs.Counts.{Rose};
 ghost use Rattle.flow_base.specs.Puts.{after_put};
 ghost use Rattle.flowcheck.specs.CommandLines.{Check, Checks, IsCommand, IsNoCommand};
@@ -13,9 +13,16 @@ use crate::replies::{Reply, reply_of};
 use crate::statuses::Status;
 use flow_base::{Files, NoMemory, Sink};
 use std::alloc::Global;
+use transfer_rules::RuleBook;
 
 /// The reply to the words of a command line.
-fn reply_to<F: Files>(alloc: Global, files: &mut F, words: &[String]) -> Result<Reply, NoMemory>
+fn reply_to<F: Files>(
+    alloc: Global,
+    files: &mut F,
+    words: &[String],
+    book: &RuleBook,
+) -> Result<Reply, NoMemory>
+    requires table { book.now.table ≡ 1 }
     ensures reply { IfOk result (λ reply. Replies (F.told files.old) (map string_bytes words.now) (record {
       status = number_of reply.status;
       text = reply.text;
@@ -30,7 +37,7 @@ fn reply_to<F: Files>(alloc: Global, files: &mut F, words: &[String]) -> Result<
     ensures line { IfOk result (λ reply. 2 ≤ number_of reply.status → IsOneLine reply.text) }
     ensures refused { IfOk result (λ reply. IsNoCommand (map string_bytes words.now) → number_of reply.status ≡ 2) }
 {
-    let answer = answer_words(alloc, files, words);
+    let answer = answer_words(alloc, files, words, book);
     reply_of(alloc, answer)
 }
 
@@ -39,15 +46,18 @@ fn reply_to<F: Files>(alloc: Global, files: &mut F, words: &[String]) -> Result<
 ///
 /// The answer is a status: 0 where a command is done, and of a check where all secrets are accepted, of a certificate
 /// where it is verified, 1 where some secret or the certificate is rejected, 2 where the words are no command line, 3
-/// where a program, a region file, a cut, a source or a certificate is malformed, 5 where a load failed, 6 where a file
-/// has more bytes than its limit, 7 where the put failed, and 8 for want of memory; then nothing is put.
+/// where a program, a region file, a cut, a source or a certificate is malformed, 4 where the run of a guest is not
+/// measured, 5 where a load failed, 6 where a file has more bytes than its limit, 7 where the put failed, and 8 for want
+/// of memory; then nothing is put. `books` has the book of the mask rules of table 1, by which runs are measured.
 pub fn flowcheck<F: Files, K: Sink>(
     alloc: Global,
     words: Vec<String>,
     files: &mut F,
     out: &mut K,
+    books: &[RuleBook],
 ) -> u8
-    ensures known { IsTrue (is_one_of (0 ∷ 1 ∷ 2 ∷ 3 ∷ 5 ∷ 6 ∷ 7 ∷ 8 ∷ []) result) }
+    requires books { map (λ book. book.table) books.now ≡ 1 ∷ [] }
+    ensures known { IsTrue (is_one_of (0 ∷ 1 ∷ 2 ∷ 3 ∷ 4 ∷ 5 ∷ 6 ∷ 7 ∷ 8 ∷ []) result) }
     ensures usage { result ≡ 2 → IsNoCommand (map string_bytes words.items) }
     ensures refused { IsNoCommand (map string_bytes words.items) → result ≢ 7 → result ≢ 8 → result ≡ 2 }
     ensures load_cause { result ≡ 5 → Rose (F.faults files.old) (F.faults files.new) }
@@ -69,7 +79,7 @@ pub fn flowcheck<F: Files, K: Sink>(
         × (count ≤ length reply.text)
         × (K.told out.new ≡ option_map (after_put (take count reply.text)) (K.told out.old)) }
 {
-    let Ok(reply) = reply_to(alloc, files, words.as_slice()) else {
+    let Ok(reply) = reply_to(alloc, files, words.as_slice(), &books[0]) else {
         return Status::NoMemory.number();
     };
     match out.put(reply.text.as_slice()) {

@@ -1,0 +1,68 @@
+-- What is measured of a run, and what is told of it.
+use Rattle.std.proofs.Common.{◌≡◌, ◌∙◌, inl, inr, sym, ℕ, List, Option, Result, Ok, Err}
+use Rattle.elf32_loader.specs.Pictures.{Picture}
+use Rattle.enclosure_regions.specs.declared.region_parts.Region.{Region}
+use Rattle.measuring.specs.declared.measured.Measured.{Measured}
+use Rattle.flowcheck.specs.declared.refusals.Refusal.{Refusal}
+use Rattle.flowcheck.specs.Answers.{Answer}
+use Rattle.flowcheck.specs.Measurements.{Runs, RunsProgram, RunsRegions}
+
+-- what is measured, or refused
+abbrev pub Is : Measured → Result Measured Refusal → Type 0
+Is measured found = found ≡ Ok measured
+
+-- what is refused stays refused, and of what is measured so much is told
+pub record Follows (Tells : Measured → Answer → Type 0) (found : Result Measured Refusal) (answer : Answer) : Type 0 where
+  pub refused : (refusal : Refusal) → found ≡ Err refusal → answer ≡ Err refusal
+  pub told : (measured : Measured) → found ≡ Ok measured → Tells measured answer
+
+runs : (Tells : Measured → Answer → Type 0) (found : Result Measured Refusal) (answer : Answer) → Follows Tells found answer →
+    (public_input secret : List ℕ) (turns : ℕ) (picture : Picture) (regions : List Region) →
+    Runs Is public_input secret turns picture regions found → Runs Tells public_input secret turns picture regions answer
+runs Tells found answer law public_input secret turns picture regions (inl (fault, cause, room, e)) =
+    inl (fault, cause, room, law.refused _ e)
+runs Tells found answer law public_input secret turns picture regions (inr (measured, is, accepted, few, e)) =
+    inr (measured, is, accepted, few, law.told measured e)
+
+runs-regions : (Tells : Measured → Answer → Type 0) (found : Result Measured Refusal) (answer : Answer) → Follows Tells found answer →
+    (public_input secret : List ℕ) (turns : ℕ) (region_file : Option (List ℕ)) (picture : Picture) →
+    RunsRegions Is public_input secret turns region_file picture found →
+    RunsRegions Tells public_input secret turns region_file picture answer
+runs-regions Tells found answer law public_input secret turns region_file picture (inl (fault, first, e)) =
+    inl (fault, first, law.refused _ e)
+runs-regions Tells found answer law public_input secret turns region_file picture (inr (regions, are, rest)) =
+    inr (regions, are, runs Tells found answer law public_input secret turns picture regions rest)
+
+pub runs_program : (Tells : Measured → Answer → Type 0) (found : Result Measured Refusal) (answer : Answer) → Follows Tells found answer →
+    (program_file public_input : List ℕ) (region_file : Option (List ℕ)) (secret : List ℕ) (turns : ℕ) →
+    RunsProgram Is program_file public_input region_file secret turns found →
+    RunsProgram Tells program_file public_input region_file secret turns answer
+runs_program Tells found answer law program_file public_input region_file secret turns (inl (fault, first, e)) =
+    inl (fault, first, law.refused _ e)
+runs_program Tells found answer law program_file public_input region_file secret turns (inr (picture, image, rest)) =
+    inr (picture, image, runs-regions Tells found answer law public_input secret turns region_file picture rest)
+
+pub refusal_of : (a b : Refusal) (found : Result Measured Refusal) → found ≡ Err a → found ≡ Err b → a ≡ b
+refusal_of a b found e h = cc
+
+pub not_measured : (a : Refusal) (measured : Measured) (found : Result Measured Refusal) → found ≡ Err a → found ≡ Ok measured → ⊥
+not_measured a measured found e h = cc
+
+measured-of : (a b : Measured) (found : Result Measured Refusal) → found ≡ Ok a → found ≡ Ok b → a ≡ b
+measured-of a b found e h = cc
+
+-- a refusal that is handed on
+pub refused_on : (Tells : Measured → Answer → Type 0) (refusal : Refusal) (found : Result Measured Refusal) (answer : Answer) →
+    found ≡ Err refusal → answer ≡ Err refusal → Follows Tells found answer
+refused_on Tells refusal found answer e h = record {
+  refused = λ other is. rw (refusal_of other refusal found is e) h;
+  told = λ measured is. absurd (not_measured refusal measured found e is);
+}
+
+-- a measurement of which is told
+pub told_of : (Tells : Measured → Answer → Type 0) (measured : Measured) (found : Result Measured Refusal) (answer : Answer) →
+    found ≡ Ok measured → Tells measured answer → Follows Tells found answer
+told_of Tells measured found answer e h = record {
+  refused = λ refusal is. absurd (not_measured refusal measured found is e);
+  told = λ other is. rw (measured-of other measured found is e) h;
+}

@@ -1,0 +1,187 @@
+//! The forms of the commands as `clap` tells them: in the help, and beside what is wrong with words that are no command
+//! line. What is a command line is decided by the words' own splitter alone.
+
+use clap::builder::ValueParser;
+use clap::{Arg, Command};
+use std::alloc::{AllocError, Global};
+
+const ABOUT: &str = "How many bits of its secret can a program's output have given away?";
+
+/// What is wrong where `clap` finds nothing wrong.
+const NARROWER: &str =
+    "error: no word and no value is empty, only behind `=` does a value begin with `-`, and numbers \
+    have no leading zeros";
+
+/// A word of a command.
+fn word<'a>(alloc: Global, name: &'a str, help: &'a str) -> Arg<'a> {
+    Arg::new(alloc, name).required(true).help(help)
+}
+
+/// An option with a value.
+fn option<'a>(alloc: Global, name: &'a str, value: &'a str, help: &'a str) -> Arg<'a> {
+    Arg::new(alloc, name)
+        .long(name)
+        .value_name(value)
+        .help(help)
+}
+
+/// A command without words, of which `clap`'s own words for help and version are none.
+fn bare<'a>(alloc: Global, name: &'a str) -> Command<'a> {
+    Command::new(alloc, name)
+        .no_binary_name(true)
+        .disable_help_flag(true)
+        .disable_version_flag(true)
+        .disable_help_subcommand(true)
+}
+
+/// The option `--turns`.
+fn turns<'a>(alloc: Global) -> Arg<'a> {
+    let help =
+        "The number of turns within which a run must exit, 1 to 20000000; 1000000 without it";
+    option(alloc, "turns", "N", help).value_parser(ValueParser::unsigned(1, 20_000_000))
+}
+
+/// The option `--regions`.
+fn regions<'a>(alloc: Global) -> Arg<'a> {
+    let help = "A region file: which registers and bytes pieces of PROG may write";
+    option(alloc, "regions", "FILE", help)
+}
+
+/// The form of `check`.
+fn check<'a>(alloc: Global) -> Result<Command<'a>, AllocError> {
+    let about =
+        "Judge by lockstep replay whether a run on each secret gives away no bits but those of a cut";
+    let budget = word(
+        alloc,
+        "BUDGET",
+        "How many bits may cross in a run, 0 to 1048576",
+    );
+    let secret = word(
+        alloc,
+        "SECRET",
+        "A file with a secret input; 1 to 64 of them",
+    );
+    bare(alloc, "check")
+        .bin_name("flowcheck check")?
+        .about(about)
+        .arg(word(alloc, "PROG", "The guest, an ELF32 program file of RV32IM"))?
+        .arg(word(alloc, "PUBLIC", "The file of its public input"))?
+        .arg(word(alloc, "CUT", "The file of the cut"))?
+        .arg(budget.value_parser(ValueParser::unsigned(0, 1_048_576)))?
+        .arg(secret.num_args(1..=64usize))?
+        .arg(turns(alloc))?
+        .arg(regions(alloc))
+}
+
+/// The form of a command that measures a run.
+fn one_run<'a>(
+    alloc: Global,
+    line: &'a str,
+    name: &'a str,
+    about: &'a str,
+) -> Result<Command<'a>, AllocError> {
+    bare(alloc, name)
+        .bin_name(line)?
+        .about(about)
+        .arg(word(alloc, "PROG", "The guest, an ELF32 program file of RV32IM"))?
+        .arg(word(alloc, "PUBLIC", "The file of its public input"))?
+        .arg(word(alloc, "SECRET", "The file of its secret input"))?
+        .arg(turns(alloc))?
+        .arg(regions(alloc))
+}
+
+/// The form of a command of one file.
+fn one_file<'a>(
+    alloc: Global,
+    line: &'a str,
+    name: &'a str,
+    about: &'a str,
+    file: Arg<'a>,
+) -> Result<Command<'a>, AllocError> {
+    bare(alloc, name).bin_name(line)?.about(about).arg(file)
+}
+
+/// The forms of the commands of one file.
+fn one_file_forms<'a>(alloc: Global) -> Result<Vec<Command<'a>>, AllocError> {
+    let mut forms = Vec::new(alloc);
+    let source = word(alloc, "SOURCE", "The file of the source");
+    let about = "Write the program file of an assembler source";
+    forms.push(one_file(alloc, "flowcheck asm", "asm", about, source)?)?;
+    let program = word(alloc, "PROG", "An ELF32 program file of RV32IM");
+    let about = "Write the instructions of a program file";
+    forms.push(one_file(alloc, "flowcheck list", "list", about, program)?)?;
+    let certificate = word(alloc, "CERT", "The certificate file");
+    let about = "Say whether a certificate shows a maximum flow of its graph";
+    forms.push(one_file(alloc, "flowcheck verify", "verify", about, certificate)?)?;
+    let cut = word(alloc, "CUT", "The file of the cut");
+    let about = "Write the cut of a cut file in version 2";
+    forms.push(one_file(alloc, "flowcheck migrate", "migrate", about, cut)?)?;
+    Ok(forms)
+}
+
+/// The form of each command.
+fn forms<'a>(alloc: Global) -> Result<Vec<Command<'a>>, AllocError> {
+    let mut forms = Vec::new(alloc);
+    forms.push(check(alloc)?)?;
+    let about =
+        "Measure how many bits of the secret the output of a run can have given away, and write the cut";
+    forms.push(one_run(alloc, "flowcheck measure", "measure", about)?)?;
+    let about = "Measure a run, and write the certificate of the maximum flow of its graph";
+    forms.push(one_run(alloc, "flowcheck graph", "graph", about)?)?;
+    for form in one_file_forms(alloc)? {
+        forms.push(form)?;
+    }
+    Ok(forms)
+}
+
+/// The form of a command line.
+fn command_line<'a>(alloc: Global) -> Result<Command<'a>, AllocError> {
+    bare(alloc, "flowcheck")
+        .about(ABOUT)
+        .subcommand_required(true)
+        .subcommands(forms(alloc)?)
+}
+
+/// The text of the help: the commands, and then the form of each.
+pub fn help(alloc: Global) -> Result<String, AllocError> {
+    let mut text = command_line(alloc)?.render_help()?;
+    for mut form in forms(alloc)? {
+        text.push('\n')?;
+        let shown = form.render_help()?;
+        text.push_str(shown.as_str())?;
+    }
+    Ok(text)
+}
+
+/// The line of the form of the command that the words begin with, or of a command line where they begin with none.
+fn form_line(alloc: Global, words: &[String]) -> Result<String, AllocError> {
+    let name = match words {
+        [name, ..] => name.as_str(),
+        [] => "",
+    };
+    for mut form in forms(alloc)? {
+        if form.get_name() == name {
+            return form.render_usage();
+        }
+    }
+    command_line(alloc)?.render_usage()
+}
+
+/// What `clap` says is wrong with words that are no command line, up to its first blank line.
+fn wrong(alloc: Global, words: &[String]) -> Result<String, AllocError> {
+    let Err(error) = command_line(alloc)?.try_get_matches_from(words) else {
+        return NARROWER.to_string(alloc);
+    };
+    let text = format!(in alloc; "{error}")?;
+    match text.as_str().split_once("\n\n") {
+        Some((head, _)) => head.to_string(alloc),
+        None => text.as_str().trim_end().to_string(alloc),
+    }
+}
+
+/// What is wrong with words that are no command line, and the form of their command.
+pub fn complaint(alloc: Global, words: &[String]) -> Result<String, AllocError> {
+    let wrong = wrong(alloc, words)?;
+    let line = form_line(alloc, words)?;
+    format!(in alloc; "{wrong}\n\n{line}\n")
+}
