@@ -1,8 +1,9 @@
 #!/usr/bin/env python3
 """run.py EXECUTABLE
 
-Times `check` of the built program over guests that it makes by `asm`: a tight loop, a loop through a region that the
-replay runs, the same loop with the region skipped, a copy of memory byte by byte, and 64 secrets one after another.
+Times `check` of the built program over guests that it makes by `asm`: a tight loop, the same with 256 regions that it
+never enters, a loop through a region that the replay runs, the same loop with the region skipped, a copy of memory
+byte by byte, and 64 secrets one after another.
 Prints for each how many turns the real run makes, the seconds of the whole command, the nanoseconds for each turn of
 both machines together, turns a second, and the most memory that the command had. Every check must accept its secrets.
 Linux with Python 3."""
@@ -40,6 +41,18 @@ def region_loop(rounds, skipped):
         f'"ranges":[{{"offset":{BASE + 0x2000},"length":4}}]}}]}}'
     )
     return Guest(lines, 6 * rounds + 5, region, skipped)
+
+
+def beside_regions(rounds):
+    """The tight loop, with 256 regions that it never enters."""
+    regions = ",".join(
+        f'{{"id":{1 + i},"enter":"{BASE + 0x1000 + 8 * i:#x}","leave":"{BASE + 0x1004 + 8 * i:#x}",'
+        f'"outs":[],"keep":[],"ranges":[]}}'
+        for i in range(256)
+    )
+    guest = tight_loop(rounds)
+    guest.region = f'{{"regions":[{regions}]}}'
+    return guest
 
 
 def copy_loop(rounds, size):
@@ -93,6 +106,7 @@ def main():
     executable = os.path.abspath(sys.argv[1])
     rows = [
         ("tight loop", tight_loop(9_999_990), 1),
+        ("beside 256 regions", beside_regions(9_999_990), 1),
         ("loop through a region", region_loop(3_333_330, False), 1),
         ("the same, skipped", region_loop(3_333_330, True), 1),
         ("copy of memory", copy_loop(60, 65_536), 1),

@@ -3,7 +3,8 @@
 
 Runs random lists of words through an executable in an empty folder, and judges each as the definition of command lines
 does: its reading is written here once more, apart from the program. Words that are no command line must be answered by
-status 2 and `refused 2 usage`; a command line by status 5 and the name of its first file, since the folder holds none.
+status 2 and `refused 2 usage`, and on standard error by what is wrong and a form; a command line by status 5 and the
+name of its first file, since the folder holds none, and by nothing on standard error.
 COMMAND may be several words; they stand before a trial's words. Prints each list that differs, and last `N passed, M
 failed`; the status is 1 where one failed."""
 import argparse
@@ -13,7 +14,8 @@ import sys
 import tempfile
 from concurrent.futures import ThreadPoolExecutor
 
-OPTIONS = {"check": ("--turns", "--regions"), "asm": (), "list": (), "verify": (), "migrate": ()}
+RUN = ("--turns", "--regions")
+OPTIONS = {"check": RUN, "measure": RUN, "graph": RUN, "asm": (), "list": (), "verify": (), "migrate": ()}
 
 
 def number(word, lowest, highest):
@@ -41,18 +43,17 @@ def first_file(words):
         if not value or name not in OPTIONS[words[0]] or name in taken:
             return None
         taken[name] = value
-    if words[0] != "check":
-        return plain[0] if len(plain) == 1 else None
-    if not 5 <= len(plain) <= 68 or not number(plain[3], 0, 1_048_576):
-        return None
     if not number(taken.get("--turns", "1"), 1, 20_000_000):
         return None
-    return plain[0]
+    if words[0] == "check":
+        return plain[0] if 5 <= len(plain) <= 68 and number(plain[3], 0, 1_048_576) else None
+    count = 3 if words[0] in ("measure", "graph") else 1
+    return plain[0] if len(plain) == count else None
 
 
 ODD = ["", "-", "--", "-x", "--help", "--version", "--json", "--turns", "--turns=", "--turns=5", "--regions", "--regions=",
        "--regions=r", "--regions=-r", "--regions=a=b", "--turns=05", "--turns=0", "--turns=20000001", "--turn=5", "a=b", "=",
-       "=5", "-t=5", "05", "1048577", "+5", " 5", "check", "measure"]
+       "=5", "-t=5", "05", "1048577", "+5", " 5", "check", "report"]
 
 
 def option(rng):
@@ -64,11 +65,13 @@ def option(rng):
 
 def trial(rng):
     """Words that are nearly a command line."""
-    command = rng.choice(["check"] * 6 + ["asm", "list", "verify", "migrate", "help", "measure"])
+    command = rng.choice(["check"] * 6 + ["measure", "graph", "asm", "list", "verify", "migrate", "help", "report"])
     if command == "check":
         budget = rng.choice(["0", "8", "1048576"] * 4 + ["1048577", "08", "-8", "", "x", "4294967296"])
         count = rng.choice([1, 1, 2, 3, 64] * 3 + [0, 65])
         parts = [["prog"], ["public"], ["cut"], [budget]] + [["s%d" % i] for i in range(count)]
+    elif command in ("measure", "graph"):
+        parts = [["prog"], ["public"], ["secret"], ["more"]][:rng.choice([3, 3, 3, 2, 4])]
     else:
         parts = [["file"]] * rng.choice([1, 1, 1, 0, 2])
     for _ in range(rng.choice([0, 0, 1, 1, 2, 2, 3])):
@@ -91,10 +94,13 @@ def trial(rng):
 def judge(command, folder, words):
     if words in (["--help"], ["--version"]):
         return None
-    run = subprocess.run(command + words, cwd=folder, stdout=subprocess.PIPE, stderr=subprocess.DEVNULL, timeout=60)
+    run = subprocess.run(command + words, cwd=folder, stdout=subprocess.PIPE, stderr=subprocess.PIPE, timeout=60)
     name = first_file(words)
-    wanted = (2, "refused 2 usage\n") if name is None else (5, "refused 5 load %s\n" % name)
-    seen = (run.returncode, run.stdout.decode(errors="replace"))
+    wanted = (2, "refused 2 usage\n", "told") if name is None else (5, "refused 5 load %s\n" % name, "")
+    error = run.stderr.decode(errors="replace")
+    if error.startswith("error: ") and "\n\nUsage: flowcheck " in error:
+        error = "told"
+    seen = (run.returncode, run.stdout.decode(errors="replace"), error)
     return None if seen == wanted else "%r: %r, wanted %r" % (words, seen, wanted)
 
 

@@ -1,11 +1,11 @@
 #!/usr/bin/env python3
-"""compare.py EXECUTABLE [--first SEED] [--count N]
+"""compare.py EXECUTABLE [--first SEED] [--count N] [--patterns]
 
 Runs `check` of the built program on N random trials (400 without the option) from this seed (1 without it) on, and
-compares status and text with those of the model. Of every twentieth trial the acceptance of each short run is computed
-by its definition as well. Prints how many secrets had each verdict and reason and how many let bits cross at each slot,
-and last how many trials agree and differ. The files and words of those that differ are kept in a folder that is named;
-then the status is 1. Python 3 only."""
+compares status and text with those of the model. With --patterns most cuts are of version 2. Of every twentieth trial
+the acceptance of each short run is computed by its definition as well. Prints how many secrets had each verdict and
+reason and how many let bits cross at each slot, and last how many trials agree and differ. The files and words of those
+that differ are kept in a folder that is named; then the status is 1. Python 3 only."""
 import argparse
 import collections
 import json
@@ -96,11 +96,11 @@ class Counts:
             print(f"{self.others[name]:8} {name}")
 
 
-def compare(executable, seeds):
+def compare(executable, seeds, has_patterns):
     """Compares the trials of the seeds; how many differ."""
     counts, differing, folder = Counts(), 0, None
     for seed in seeds:
-        files, words = random_trial(seed)
+        files, words = random_trial(seed, has_patterns)
         command = Command(files, words)
         judgements = command.judgements()
         counts.add(judgements)
@@ -126,8 +126,10 @@ def main():
     parser.add_argument("executable", type=pathlib.Path)
     parser.add_argument("--first", type=int, default=1, metavar="SEED")
     parser.add_argument("--count", type=int, default=400, metavar="N")
+    parser.add_argument("--patterns", action="store_true")
     words = parser.parse_args()
-    return int(compare(words.executable.resolve(), range(words.first, words.first + words.count)) > 0)
+    seeds = range(words.first, words.first + words.count)
+    return int(compare(words.executable.resolve(), seeds, words.patterns) > 0)
 
 
 if __name__ == "__main__":

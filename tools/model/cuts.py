@@ -1,4 +1,5 @@
 """Cuts and region files: the mask at each visit, and the texts of files that are well formed."""
+import itertools
 import json
 
 from guest import ALL, Region, shown
@@ -30,33 +31,80 @@ def slot_width(slot):
     return 255 if is_byte else ALL
 
 
-class Cut:
-    """A cut. A point is (region, address, slot); its masks are runs (count, mask) and the mask of the rest."""
+MOST_FOLDED, MOST_PATTERN = 65_536, 64
 
-    def __init__(self, secret_length, bits=0, skip=(), points=None):
+
+def length_of(runs):
+    """How many masks some runs are."""
+    return sum(count for count, _ in runs)
+
+
+def mask_in(runs, place):
+    """The mask at a place, counted from 0."""
+    for count, mask in runs:
+        if place < count:
+            return mask
+        place -= count
+    raise IndexError(place)
+
+
+def runs_of(masks):
+    """Masks as runs of which neighbours differ."""
+    return [(len(list(group)), mask) for mask, group in itertools.groupby(masks)]
+
+
+def run_words(runs):
+    """Runs as words of a cut."""
+    return [f"{count}*{shown(mask)}" for count, mask in runs]
+
+
+class Cut:
+    """A cut. A point is (region, address, slot); its masks are runs (count, mask), and the runs of a pattern that
+    repeats behind them. In version 1 the pattern is one mask."""
+
+    def __init__(self, secret_length, bits=0, skip=(), points=None, version=1):
         self.secret_length, self.bits, self.skip = secret_length, bits, sorted(skip)
-        self.points = points or {}
+        self.points, self.version = points or {}, version
 
     def mask_at(self, point, visit):
         """The mask at the visit with this number, counted from 1; 0 where the point is not listed."""
-        runs, mask = self.points.get(point, ((), 0))
-        for count, listed in runs:
-            if visit <= count:
-                mask = listed
-                break
-            visit -= count
+        if point not in self.points:
+            return 0
+        runs, rest = self.points[point]
+        length = length_of(runs)
+        mask = mask_in(runs, visit - 1) if visit <= length else mask_in(rest, (visit - length - 1) % length_of(rest))
         return mask & slot_width(point[2])
 
     def text(self):
         """The one text of the cut."""
-        lines = ["flowcheck-cut 1", f"secret {self.secret_length}", f"bits {self.bits}"]
+        lines = [f"flowcheck-cut {self.version}", f"secret {self.secret_length}", f"bits {self.bits}"]
         lines += [f"skip {number}" for number in self.skip]
         for point in sorted(self.points, key=point_order):
             region, address, slot = point
             runs, rest = self.points[point]
-            words = [f"{count}*{shown(mask)}" for count, mask in runs]
-            lines.append(" ".join(["point", str(region), shown(address), slot, *words, "rest", shown(rest)]))
+            last = [shown(rest[0][1])] if self.version == 1 else run_words(rest)
+            lines.append(" ".join(["point", str(region), shown(address), slot, *run_words(runs), "rest", *last]))
         return "\n".join(lines + ["end", ""])
+
+    def migrated(self):
+        """The same cut in version 2."""
+        return Cut(self.secret_length, self.bits, self.skip, self.points, 2)
+
+    def folded(self):
+        """The cut in version 2, with the masks of each point as a pattern where they repeat one."""
+        points = {point: folded(*masks) for point, masks in self.points.items()}
+        return Cut(self.secret_length, self.bits, self.skip, points, 2)
+
+
+def folded(runs, rest):
+    """The shortest pattern that these masks repeat at least twice, or the same masks."""
+    if length_of(runs) > MOST_FOLDED:
+        return runs, rest
+    masks = [mask for count, mask in runs for _ in range(count)]
+    for period in range(1, min(MOST_PATTERN, len(masks) // 2) + 1):
+        if masks[period:] == masks[:-period]:
+            return [], runs_of(masks[:period])
+    return runs, rest
 
 
 class VisitMasks:
@@ -80,17 +128,24 @@ def places_of(mask):
     return [1 << index for index in range(mask.bit_length()) if mask >> index & 1]
 
 
+def read_runs(words):
+    """The runs of the words of a cut; a mask alone is a run of one."""
+    pairs = [word.split("*") if "*" in word else ("1", word) for word in words]
+    return [(int(count), int(mask, 16)) for count, mask in pairs]
+
+
 def read_cut(file):
     """The cut of a well-formed text."""
     lines = file.decode().split("\n")
-    cut = Cut(int(lines[1].split()[1]), int(lines[2].split()[1]))
+    cut = Cut(int(lines[1].split()[1]), int(lines[2].split()[1]), version=int(lines[0].split()[1]))
     for line in lines[3:-2]:
         words = line.split()
         if words[0] == "skip":
             cut.skip.append(int(words[1]))
         else:
-            runs = [(int(count), int(mask, 16)) for count, mask in (run.split("*") for run in words[4:-2])]
-            cut.points[int(words[1]), int(words[2], 16), words[3]] = runs, int(words[-1], 16)
+            rest = words.index("rest")
+            masks = read_runs(words[4:rest]), read_runs(words[rest + 1 :])
+            cut.points[int(words[1]), int(words[2], 16), words[3]] = masks
     return cut
 
 

@@ -28,7 +28,10 @@ COUNTS = ((0x100001, 1), (0x100001, 0), (2, 1), (3, 0), (1, 3), (0, 2), (4, 2), 
 
 
 class Forks(Pieces):
-    """A program with forks. `strange` lists where they are; `inner` is a piece whose base register 5 is uncertain."""
+    """A program with forks. `strange` lists where they are; `inner` is a piece whose base register 5 is uncertain. The
+    less `spread` is, the oftener regions are blocks; `outside` is how often a range of a region is no memory."""
+
+    spread, outside = 1, 0.02
 
     def __init__(self, dice, code, data):
         super().__init__(dice, code, data)

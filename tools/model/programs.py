@@ -1,6 +1,7 @@
 """Whole random programs, and their program files in many shapes."""
 import struct
 
+from carriers import Carriers
 from forks import Forks
 from instructions import ALL
 from words import store_word
@@ -15,7 +16,7 @@ def random_bytes(dice, count):
     return bytes(dice.randrange(256) for _ in range(count))
 
 
-def begin_program(dice):
+def begin_program(dice, make=Forks):
     """A program that sets register 8 to the address of its data, which may be near the end of a page."""
     base = dice.choice(BASES)
     code = base + dice.choice([0, 0, 0, 0, 4, 0x10, 0x700, 0xFFC])
@@ -23,7 +24,7 @@ def begin_program(dice):
     if dice.random() < 0.15:
         data = (code + ROOM + 0xFFF & ~0xFFF) - dice.choice([0, 2, 4, 8])
         data += 0x1000 if data < code + ROOM else 0
-    program = Forks(dice, code, data)
+    program = make(dice, code, data)
     program.put_number(8, data)
     return program
 
@@ -70,10 +71,44 @@ def forked_program(dice):
     return program
 
 
-def random_program(dice, is_forked):
-    """A program that fits before its data, and its file."""
+def summing_program(dice):
+    """A short program that sums up what a table says of its secret, and writes the sum."""
+    program = begin_program(dice, Carriers)
+    program.read(3, 0, ALL)
+    program.look_up()
+    if program.happens(0.3):
+        program.block(dice.randint(1, 2))
+    program.show_all()
+    program.exit()
+    return program
+
+
+def carrying_program(dice):
+    """A program that carries its secret many ways, perhaps several times, and writes between."""
+    if dice.random() < 0.15:
+        return summing_program(dice)
+    program = begin_program(dice, Carriers)
+    program.read(3, 0, dice.choice([1, 2, 4, 8, ALL, ALL, ALL]))
+    if program.happens(0.2):
+        program.read(0, 8, 4)
+    top = program.begin_rounds(dice.choice([1, 1, 1, 1, 2, 3, 5]))
+    for _ in range(dice.randint(1, 3)):
+        program.block(dice.randint(1, 6))
+        for _ in range(dice.choice([0, 0, 1, 1, 2])):
+            dice.choice([program.write, program.call_by_last, program.any_call])()
+    if program.happens(0.12):
+        dice.choice([program.fork, program.spoil_code, program.spoil_code, program.oddity])()
+    program.end_rounds(top)
+    if program.happens(0.8):
+        dice.choice([program.write_state, program.show_all, program.show_all])()
+    program.exit()
+    return program
+
+
+def random_program(dice, make):
+    """A program that fits before its data, made so, and its file."""
     while True:
-        program = forked_program(dice) if is_forked else usual_program(dice)
+        program = make(dice)
         body = program.body()
         if len(body) <= ROOM:
             return program, program_file(dice, segments_of(dice, program, body), entry_of(dice, program))

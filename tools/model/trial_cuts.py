@@ -35,17 +35,17 @@ def random_masks(dice, point, visits):
     runs = joined([(1, random_mask(dice, width)) for _ in range(count)])
     if runs and dice.random() < 0.2:
         runs[-1] = min(runs[-1][0] + dice.choice([1, 2, 3, 4294967294]), MOST_COUNT), runs[-1][1]
-    return runs, random_mask(dice, width)
+    return runs, [(1, random_mask(dice, width))]
 
 
 def whole_masks(dice, point, visits):
     """Masks under which every bit of every visit crosses, in some spelling."""
     width, kind = slot_width(point[2]), dice.random()
     if kind < 0.6:
-        return [], width
+        return [], [(1, width)]
     if kind < 0.8:
-        return [(max(visits, 1), width)], dice.choice([0, width])
-    return [(1, dice.choice([ALL, width]))], width
+        return [(max(visits, 1), width)], [(1, dice.choice([0, width]))]
+    return [(1, dice.choice([ALL, width]))], [(1, width)]
 
 
 class CutMaker:
@@ -115,7 +115,7 @@ class CutMaker:
                     self.points[listed] = masks(dice, listed, self.visits.get(listed, 1))
         for address in range(self.program.code, self.program.here, 4):
             if dice.random() < 0.2:
-                self.points.setdefault((0, address, "rs"), ([], ALL))
+                self.points.setdefault((0, address, "rs"), ([], [(1, ALL)]))
 
     def choose_in_fork(self):
         """Lists some points of a strange piece, which the replay passes on another path."""
@@ -155,6 +155,24 @@ class CutMaker:
         return Cut(length, dice.choice([0, 8, dice.randrange(1 << 32)]), self.skip, self.points)
 
 
+def random_pattern(dice, point, runs, rest):
+    """The masks of a point with a pattern behind them: the mask that was there, alone or among others, or the masks
+    before it, again and again."""
+    kind = dice.random()
+    if kind < 0.35:
+        return runs, rest
+    if runs and kind < 0.65:
+        return dice.choice([[], runs]), runs
+    masks = [rest[0][1], rest[0][1], random_mask(dice, slot_width(point[2]))]
+    return runs, joined([(dice.choice([1, 1, 2, 3]), dice.choice(masks)) for _ in range(dice.randint(1, 5))])
+
+
+def with_patterns(dice, cut):
+    """The cut in version 2, with patterns."""
+    points = {point: random_pattern(dice, point, *masks) for point, masks in cut.points.items()}
+    return Cut(cut.secret_length, cut.bits, cut.skip, points, 2)
+
+
 def thinned(dice, cut):
     """The cut with some points left out, and of others some bits."""
     points = dict(cut.points)
@@ -162,7 +180,7 @@ def thinned(dice, cut):
         runs, rest = points.pop(point)
         if dice.random() < 0.3:
             mask = dice.randrange(1 << 32) | dice.randrange(1 << 32)
-            points[point] = joined([(count, listed & mask) for count, listed in runs]), rest & mask
+            points[point] = joined([(count, listed & mask) for count, listed in runs]), [(1, rest[0][1] & mask)]
     return Cut(cut.secret_length, cut.bits, cut.skip, points)
 
 

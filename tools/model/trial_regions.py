@@ -64,7 +64,7 @@ def random_regions(dice, program, image, public, secrets):
 
 def random_bounds(dice, program, path):
     """The enter and the leave address of a region: of some pieces, of a stretch of the run, or anywhere."""
-    kind = dice.random()
+    kind = dice.random() * program.spread
     if program.inner and dice.random() < 0.8:
         return program.inner
     if kind < 0.62 and program.blocks:
@@ -136,7 +136,7 @@ def random_spans(dice, program, stored):
         widened[0], widened[1] = widened[0] - before, widened[1] + before + dice.randrange(6)
     if dice.random() < 0.15 or program.inner and not spans:
         spans.append([program.data + dice.randrange(-4, 40), dice.randint(1, 6)])
-    if dice.random() < 0.02:
+    if dice.random() < program.outside:
         end = (program.code & ~0xFFFF) + (1 << 24)
         spans.append([dice.choice([0, ALL, program.data - 0x100000, end - 2]), dice.randint(1, 6)])
     return dice.sample(spans, len(spans)) if dice.random() < 0.2 else spans

@@ -1,0 +1,257 @@
+#!/usr/bin/env python3
+"""compare_measures.py [EXECUTABLE] [--first SEED] [--count N] [--rules] [--cut] [--reports]
+
+Measures N random trials (400 without the option) from this seed (1 without it) on by the model, by both tables of mask
+rules, and checks the model by itself: every measured run must be accepted with its own cut and number, and every flow
+and side must be those of networkx (where Python has it) and verified.
+
+With an executable, runs its `measure` and `graph` on each trial and compares status and text with those of the model;
+of two certificates the flows may differ, but the one of the program must be verified by the model and by the program's
+own `verify`. Each cut that the program measures is given to its `check` with its own number and secret, and to its
+`migrate`. With --rules and --cut some trials have these options; with --reports the texts of `report` are compared too,
+and now and then that of `trial`.
+
+Prints what the trials had, and last how many agree and differ. The files and words of those that differ are kept in a
+folder that is named; then the status is 1."""
+import argparse
+import collections
+import json
+import pathlib
+import random
+import subprocess
+import sys
+import tempfile
+import time
+
+import flows
+from answers import Ended, measured_of, run_text
+from certificates import verify, without_flows
+from cuts import read_cut, slot_order
+from measure_checks import Guest, narrowing_wrongs, wrongs
+from measure_trials import measure_trial, measure_words
+from verdicts import answer
+from worked_trial import trial_line
+
+SECONDS, THOROUGH_EACH, TRIAL_EACH = 300, 10, 20
+
+
+class Folder:
+    """A trial's files in a folder, in which the program runs."""
+
+    def __init__(self, executable, path, files):
+        self.executable, self.path = executable, pathlib.Path(path)
+        for name, data in files.items():
+            (self.path / name).write_bytes(data)
+
+    def run(self, *words):
+        """The status and the text of the program on these words."""
+        try:
+            done = subprocess.run([self.executable, *words], cwd=self.path, capture_output=True, timeout=SECONDS)
+        except subprocess.TimeoutExpired:
+            return None, f"no answer within {SECONDS} seconds"
+        return done.returncode, done.stdout.decode(errors="replace")
+
+
+def model_answer(measured, command, options):
+    """The answer of the model, where it has measured or has a refusal's text."""
+    return (4, measured) if isinstance(measured, str) else (0, run_text(measured, command, options))
+
+
+def graph_wrongs(folder, expected, given):
+    """What is wrong with an answer to `graph`."""
+    if expected[0] != given[0] or without_flows(expected[1]) != without_flows(given[1]):
+        yield f"graph: {given} for {expected}"
+    elif given[0] == 0:
+        (folder.path / "certificate").write_text(given[1])
+        verified = 0, f"verified {given[1].split()[3]}\n"
+        for judge, verdict in (("model", verify(given[1].encode())), ("program", folder.run("verify", "certificate"))):
+            if verdict != verified:
+                yield f"verify by the {judge}: {verdict}"
+
+
+def check_wrongs(folder, guest, measured, words, text):
+    """What is wrong with the check of the cut that the program has measured, and with `migrate` of it."""
+    (folder.path / "cut").write_text(text)
+    migrated = folder.run("migrate", "cut")
+    if migrated != (0, read_cut(text.encode()).migrated().text()):
+        yield f"migrate: {migrated}"
+    budget = text.split("\n")[2].split()[1]
+    given = folder.run("check", *words[:2], "cut", budget, *words[2:])
+    expected = answer([guest.judged(measured.cut(), measured.bits)], budget)
+    if given != expected or given[0]:
+        yield f"check: {given} for {expected}"
+
+
+def program_wrongs(folder, guest, measured, options, words, has_reports):
+    """What is wrong with the answers of the program to a trial."""
+    given, cut_option = dict(options), [["--cut", options["--cut"]]] if "--cut" in options else []
+    both = without_options(words, ["--cut"])
+    expected, answered = model_answer(measured, "measure", given), folder.run("measure", *words)
+    if expected != answered:
+        yield f"measure{cut_option}: {answered} for {expected}"
+    elif expected[0] == 0:
+        yield from check_wrongs(folder, guest, measured, without_options(both, ["--rules"]), answered[1])
+    yield from graph_wrongs(folder, model_answer(measured, "graph", given), folder.run("graph", *both))
+    for flags in ([[], ["--json"]] if has_reports else []):
+        expected = model_answer(measured, "report", dict.fromkeys(flags))
+        answered = folder.run("report", *both, *flags)
+        if expected != answered:
+            yield f"report {flags}: {answered} for {expected}"
+
+
+def trial_wrongs(folder, seed):
+    """What is wrong with the answer of the program to `trial` of a number."""
+    number = random.Random(f"number {seed}").choice([seed, seed * 104_729 % (1 << 32)])
+    expected, answered = (0, trial_line(number)), folder.run("trial", str(number))
+    if expected != answered:
+        yield f"trial {number}: {answered} for {expected}"
+
+
+def without_options(words, names):
+    """Words without some options, each of which is a word or two."""
+    kept, rest = [], list(words)
+    while rest:
+        word = rest.pop(0)
+        if word.partition("=")[0] not in names:
+            kept.append(word)
+        elif "=" not in word:
+            rest.pop(0)
+    return kept
+
+
+def kind_of(refusal):
+    """The kind of a refusal, without numbers."""
+    words = refusal.split()[2:]
+    if words[0] != "region":
+        return words[0]
+    if words[2] == "undeclared":
+        return "region undeclared " + ("register" if words[3][0] == "x" else "byte")
+    return f"region {words[2]}"
+
+
+def family(slot):
+    """A slot; those of registers and of ranges are one each."""
+    return slot if slot == "rs" or slot[0] not in "xr" else slot[0] + "N"
+
+
+class Counts:
+    """What the trials had."""
+
+    def __init__(self):
+        self.endings, self.passed, self.cut, self.others = (collections.Counter() for _ in range(4))
+
+    def add(self, measured):
+        """Counts a run that is measured, or the text of its refusal."""
+        if isinstance(measured, str):
+            self.endings["refused " + kind_of(measured)] += 1
+            return
+        cut = measured.cut()
+        self.endings["measured" if measured.bits else "measured with no bit"] += 1
+        self.passed.update({family(point[2]) for point in measured.graph.points})
+        self.cut.update({family(point[2]) for point in cut.points})
+        self.others["with a skipped region"] += bool(cut.skip)
+        self.others["with a relay outside the side"] += len(cut.skip) < len(measured.graph.relays)
+        self.others["with several masks at a point of the cut"] += any(len(runs) > 1 for runs, _ in cut.points.values())
+        self.others["with a pattern in the fold"] += any(not runs for runs, _ in cut.folded().points.values())
+        self.others["with fewer bits than are read"] += measured.bits < 8 * measured.secret_length
+        self.others["with several points in the cut"] += len(cut.points) > 1
+
+    def show(self):
+        """Prints the counts."""
+        for name in sorted(self.endings):
+            print(f"{self.endings[name]:8} {name}")
+        for slot in sorted(self.passed, key=lambda slot: slot_order(slot.replace("N", "0"))):
+            print(f"{self.passed[slot]:8} with secret bits at {slot}, in the cut {self.cut[slot]}")
+        for name in sorted(self.others):
+            print(f"{self.others[name]:8} {name}")
+
+
+def keep(folder, seed, files, words, texts):
+    """Keeps a trial that differs, with its words and what is wrong."""
+    place = folder / str(seed)
+    place.mkdir()
+    for name, data in files.items():
+        (place / name).write_bytes(data)
+    (place / "words.json").write_text(json.dumps(words))
+    (place / "wrong.txt").write_text("\n".join(texts) + "\n")
+
+
+class Comparison:
+    """A comparison of trials."""
+
+    def __init__(self, words):
+        self.words, self.counts, self.differing, self.folder = words, {1: Counts(), 2: Counts()}, 0, None
+
+    def options_of(self, seed, options):
+        """The options of a trial, perhaps with those that are asked for."""
+        dice = random.Random(f"options {seed}")
+        for is_asked, name in ((self.words.rules, "--rules"), (self.words.cut, "--cut")):
+            if is_asked and dice.random() < 0.6:
+                options = options + [[name, dice.choice("122")]]
+        return options
+
+    def measured(self, files, options, table):
+        """What the model measures by a table, or the text of its refusal."""
+        try:
+            return measured_of(files, ["program", "public", "secret"], dict(options) | {"--rules": table})
+        except Ended as ended:
+            return ended.args[1]
+
+    def try_seed(self, seed):
+        """Makes one trial."""
+        files, options = measure_trial(seed)
+        options = self.options_of(seed, options)
+        words, guest, texts = measure_words(seed, options), Guest(files, options), []
+        results = {table: self.measured(files, options, table) for table in (1, 2)}
+        for table, measured in results.items():
+            self.counts[table].add(measured)
+            if not isinstance(measured, str):
+                texts += [f"table {table}: {text}" for text in wrongs(guest, measured, seed % THOROUGH_EACH == 0)]
+        texts += narrowing_wrongs(results[1], results[2])
+        if self.words.executable:
+            measured = results[int(dict(options).get("--rules", 1))]
+            with tempfile.TemporaryDirectory() as path:
+                folder = Folder(self.words.executable.resolve(), path, files)
+                texts += program_wrongs(folder, guest, measured, dict(options), words, self.words.reports)
+                if self.words.reports and seed % TRIAL_EACH == 0:
+                    texts += trial_wrongs(folder, seed)
+        if texts:
+            self.differ(seed, files, words, texts)
+
+    def differ(self, seed, files, words, texts):
+        """Counts and keeps a trial that differs."""
+        self.differing += 1
+        self.folder = self.folder or pathlib.Path(tempfile.mkdtemp(prefix="flowcheck-measures-"))
+        keep(self.folder, seed, files, words, texts)
+        print(f"trial {seed} differs: {texts[0][:300]}", flush=True)
+
+    def make(self):
+        """Makes all trials; how many differ."""
+        begin, count = time.monotonic(), self.words.count
+        if not flows.networkx:
+            print("flows are not compared with those of networkx, which is not there")
+        for seed in range(self.words.first, self.words.first + count):
+            self.try_seed(seed)
+        for table, counts in self.counts.items():
+            print(f"by table {table}:")
+            counts.show()
+        if self.folder:
+            print(f"the trials that differ are in {self.folder}")
+        print(f"{1000 * (time.monotonic() - begin) / max(count, 1):.0f} milliseconds for each trial")
+        print(f"{count - self.differing} agree, {self.differing} differ")
+        return self.differing
+
+
+def main():
+    """Reads the words of the command."""
+    parser = argparse.ArgumentParser(description=__doc__, formatter_class=argparse.RawDescriptionHelpFormatter)
+    parser.add_argument("executable", type=pathlib.Path, nargs="?")
+    parser.add_argument("--first", type=int, default=1, metavar="SEED")
+    parser.add_argument("--count", type=int, default=400, metavar="N")
+    for flag in ("--rules", "--cut", "--reports"):
+        parser.add_argument(flag, action="store_true")
+    return int(Comparison(parser.parse_args()).make() > 0)
+
+
+if __name__ == "__main__":
+    sys.exit(main())
