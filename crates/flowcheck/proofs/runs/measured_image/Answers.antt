@@ -14,5 +14,10 @@ returns-in_err-measured-clause-runs g c = λ known.
 
 pub returns-clause-runs : goal.returns-clause-runs
 returns-clause-runs g c = λ known.
-    inr (c.in_ok-measured.measured, rw c.requires.table at c.in_ok-measured.ensures.ok, c.in_ok-measured.ensures.accepted,
-    c.in_ok-measured.ensures.few, refl)
+    inr (
+      c.in_ok-measured.measured,
+      rw c.requires.table at c.in_ok-measured.ensures.ok,
+      c.in_ok-measured.ensures.accepted,
+      c.in_ok-measured.ensures.few,
+      refl,
+    )
