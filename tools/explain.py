@@ -1,0 +1,92 @@
+"""Explains a run on one page: how many bits of its secret the output can have given away, and where they pass.
+
+Call: explain.py PROG PUBLIC SECRET [--turns N] [--regions FILE] [--rules N]
+      explain.py PROG PUBLIC --check CUT BUDGET SECRET [--turns N] [--regions FILE]
+
+The first form measures a run. The second says of a secret that `check` rejects where and why. Both write one HTML file,
+which needs nothing beside it, or with --text a text for the terminal.
+
+  --output FILE        the file of the page; without it `explain.html`, and `-` is standard output
+  --text               a text on standard output
+  --source FOLDER      where sources are that have moved; may be given more than once
+  --flowcheck COMMAND  the program; without it crates/flowcheck/out/flowcheck, else `flowcheck`, else the model
+
+Python 3 is enough for addresses and functions; lines of sources want llvm-symbolizer or addr2line for RISC-V, and -g."""
+import argparse
+import os
+import sys
+
+HERE = os.path.dirname(os.path.abspath(__file__))
+sys.path[:0] = [os.path.join(HERE, "explain"), os.path.join(HERE, "model")]
+
+from answering import Program
+from document import html_page, text_page
+from elf_symbols import ProgramFile
+from measured_page import measured_page, refused_page
+from refusals import program_fault
+from rejection import Rejection
+from rejection_page import rejection_page
+from run_facts import Inputs, NoMeasure, RunFacts, read
+from source_lines import Places
+
+
+def arguments():
+    """The words of the command line."""
+    parser = argparse.ArgumentParser(description=__doc__.split("\n")[0], usage="\n".join(__doc__.split("\n")[2:4]).strip())
+    parser.add_argument("program")
+    parser.add_argument("public")
+    parser.add_argument("secret", nargs="?")
+    parser.add_argument("--check", nargs=3, metavar=("CUT", "BUDGET", "SECRET"))
+    for name in ("--turns", "--regions", "--rules"):
+        parser.add_argument(name)
+    parser.add_argument("--output", default="explain.html")
+    parser.add_argument("--text", action="store_true")
+    parser.add_argument("--source", action="append", default=[])
+    parser.add_argument("--flowcheck")
+    words = parser.parse_args()
+    if (words.secret is None) == (words.check is None):
+        parser.error("name one secret, or --check CUT BUDGET SECRET")
+    if words.check and words.rules:
+        parser.error("--rules is no option of a check")
+    return words
+
+
+def page(words):
+    """The title and the sections of the page."""
+    file = read(words.program)
+    if program_fault(file):
+        raise SystemExit(f"refused 3 program {program_fault(file)}")
+    program, asked = ProgramFile(file), Program(words.flowcheck)
+    places = Places(words.program, program, words.source)
+    options = [(name, getattr(words, name)) for name in ("turns", "regions", "rules")]
+    flat = [word for name, value in options if value for word in (f"--{name}", value)]
+    if words.check:
+        cut, budget, secret = words.check
+        inputs = Inputs(words.program, words.public, secret, flat)
+        return rejection_page(Rejection(asked, inputs, cut, budget, program), program, places)
+    inputs = Inputs(words.program, words.public, words.secret, flat)
+    try:
+        return measured_page(RunFacts(asked, inputs), program, places)
+    except NoMeasure as refusal:
+        return refused_page(str(refusal), inputs, program, places)
+
+
+def main():
+    """Writes the page."""
+    words = arguments()
+    try:
+        title, sections = page(words)
+    except OSError as fault:
+        raise SystemExit(f"{fault.filename}: {fault.strerror}") from None
+    if words.text:
+        sys.stdout.write(text_page(title, sections))
+    elif words.output == "-":
+        sys.stdout.write(html_page(title, sections))
+    else:
+        with open(words.output, "w", encoding="utf-8") as out:
+            out.write(html_page(title, sections))
+        print(f"{title}: {words.output}")
+
+
+if __name__ == "__main__":
+    main()

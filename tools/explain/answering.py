@@ -1,0 +1,44 @@
+"""Answers to command lines: of the built program, or of the model in `tools/model` where there is no program."""
+import os
+import shlex
+import shutil
+import subprocess
+
+from answers import answer_to
+
+TOOLS = os.path.dirname(os.path.dirname(os.path.abspath(__file__)))
+BUILT = os.path.join(TOOLS, "..", "crates", "flowcheck", "out", "flowcheck")
+NO_COMMAND = 2
+
+
+class DiskFiles(dict):
+    """The files of the disk by their names, as the model takes them."""
+
+    def __contains__(self, name):
+        return dict.__contains__(self, name) or os.path.isfile(name)
+
+    def __missing__(self, name):
+        with open(name, "rb") as file:
+            self[name] = file.read()
+        return self[name]
+
+
+class Program:
+    """Whoever answers command lines. `words` are the words of the built program; none are the model."""
+
+    def __init__(self, command=None):
+        if command is None:
+            command = shlex.quote(BUILT) if os.path.exists(BUILT) else shutil.which("flowcheck") or ""
+        self.words = shlex.split(command)
+
+    def name(self):
+        """How a user calls it."""
+        return "flowcheck" if self.words else "the model of tools/model"
+
+    def answer(self, words):
+        """The status and the text. A command that the program does not know yet is answered by the model."""
+        if self.words:
+            done = subprocess.run(self.words + words, stdout=subprocess.PIPE, stderr=subprocess.DEVNULL, check=False)
+            if done.returncode != NO_COMMAND or words[0] != "report":
+                return done.returncode, done.stdout.decode("utf-8", "replace")
+        return answer_to(DiskFiles(), words)

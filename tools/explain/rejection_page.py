@@ -1,0 +1,211 @@
+"""The page of a secret that `check` is asked about: where the two runs part, and what would have covered it."""
+import shlex
+
+from document import Commands, Section, Table, Words
+from flow_picture import bits_text
+from guest import shown
+from instruction_text import instruction_text, slot_words
+from measured_page import REFUSALS
+from measures import Measured, Refused
+from pieces_of_code import Marks, listing_blocks, source_blocks
+from region_finding import Calls, Enclosure, NoRegion, note_run, regions_text
+from cuts import read_regions
+
+REASONS = {
+    "budget": "The run of this secret lets more bits cross the cut than the budget allows.",
+    "replay": "The replay, which knows the bits that crossed and not the secret, cannot go on as the real run does.",
+    "parted": "The real run and the replay, which knows only the bits that crossed, go different ways here.",
+    "output": "The real run and the replay, which knows only the bits that crossed, write different bytes here.",
+    "turns": "The guest did not exit within the limit of turns; --turns sets another, up to 20000000.",
+    "secret-length": "The secret does not have the length that the cut names; the length is public.",
+    "undeclared": "Inside a region the guest wrote what the region does not declare.",
+    "keep": "A register that the region says it keeps was not given back.",
+    "call": "The guest made a call inside a region; leave the call out of the region.",
+    "range": "A range of the region is not inside guest memory; its base register points elsewhere.",
+}
+
+
+def reason_words(reason):
+    """What a reason means."""
+    words = reason.split()
+    if words[0] == "guest":
+        return "The guest was stopped. " + REFUSALS.get(words[1], "")
+    return REASONS[words[2] if words[0] == "region" else words[0]]
+
+
+def verdict_section(rejection):
+    """The verdict in words."""
+    line = rejection.line
+    blocks = [Words(line, "number")]
+    if line != rejection.model_line:
+        blocks.append(Words(f"The model in tools/model says another thing, which is a fault: {rejection.model_line}"))
+    if rejection.is_accepted:
+        words = (
+            "Nothing parts the two runs. Of any secrets that this check accepts at most "
+            f"2^{rejection.budget} different outputs arise."
+        )
+        return Section("", *blocks, Words(words))
+    return Section("", *blocks, Words(reason_words(rejection.reason)))
+
+
+def value_text(value, point):
+    """A value of a slot."""
+    if value is None:
+        return "-"
+    slot = point[2]
+    if slot == "de":
+        return "taken" if value else "not taken"
+    is_byte = slot in ("in", "ou", "st") or slot[0] == "r" and slot != "rs"
+    text = f"0x{value:02x}" if is_byte else shown(value)
+    return text + (f" '{chr(value)}'" if is_byte and 32 <= value < 127 else f" ({value:,})" if not is_byte else "")
+
+
+def where_section(rejection, program, places):
+    """The turn and the instruction at which the verdict falls."""
+    lockstep = rejection.lockstep
+    if lockstep is None or rejection.is_accepted:
+        return None
+    address, kind = lockstep.begin, lockstep.kind
+    place, text = places.at(address), instruction_text(program.instruction(address), address)
+    turn = f"turn {lockstep.number:,} of those that both runs make" if lockstep.number else "the first turn"
+    parts = [f"It is {turn}, at {shown(address)}", text if kind == "step" else f"the {kind} of a region", place.text()]
+    blocks = [Words(", ".join(parts) + "."), Words(places.line_of(place).strip() or "No line of a source is known.", "dim")]
+    rows = []
+    for passed in lockstep.passed[:200]:
+        sign = " (differs)" if passed.differs() else ""
+        values = [value_text(value, passed.point) for value in (passed.real, passed.replayed)]
+        rows.append([passed.point[2] + sign, slot_words(passed.point[2]), *values, shown(passed.mask) if passed.mask else "-"])
+    if rows:
+        heads = ["Slot", "What passes", "Real run", "Replay", "Crosses"]
+        attributes = [{"data-slot": row[0], "class": "cut" if "differs" in row[0] else ""} for row in rows]
+        blocks.append(Table(heads, rows, attributes, "slots"))
+    marks = lockstep.marks()
+    if marks and not rejection.reason.startswith(("budget", "replay")):
+        blocks.append(Table(["After the turn", "Stands at"], [["Real run", marks[0]], ["Replay", marks[1]]], None, "slots"))
+    return Section("Where", *blocks)
+
+
+def point_text(point, mask, places):
+    """A point with its mask, as a row."""
+    place = places.at(point[1])
+    return [f"point {point[0]} {shown(point[1])} {point[2]} rest {shown(mask)}", place.text(), slot_words(point[2])]
+
+
+def cover_section(rejection, places):
+    """Which points would have covered the difference."""
+    if rejection.is_accepted or rejection.lockstep is None:
+        return None
+    blocks, whole = [], rejection.whole
+    if rejection.covers:
+        rows = [point_text(point, mask, places) for point, mask in rejection.covers]
+        blocks += [Words("These lines in the cut would have let the difference cross:"), Table(["Line", "Place", "What"], rows)]
+        if whole.word == "accepted":
+            blocks.append(Words(f"With them the secret is accepted, and {bits_text(len(whole.bits))} cross."))
+        else:
+            blocks.append(Words(f"With them the secret is still rejected: {whole.text}."))
+    elif rejection.reason.startswith("budget"):
+        if whole.word == "accepted":
+            blocks.append(Words(f"With a budget of {bits_text(len(whole.bits))} this cut accepts the secret."))
+        else:
+            blocks.append(Words(f"Without any budget the secret would be rejected later: {whole.text}."))
+    blocks += own_measure(rejection, places) + region_words(rejection, places) + declaration_words(rejection)
+    return Section("What would have covered it", *blocks) if blocks else None
+
+
+def own_measure(rejection, places):
+    """What a measurement of this secret says, and the points of its cut that the given cut lacks."""
+    parts = rejection.runs(rejection.cut, 0)
+    try:
+        measured = Measured(*parts[:4], 1, rejection.limit)
+    except Refused:
+        return []
+    words = f"A measurement of this secret finds {bits_text(measured.bits)}, and its own cut accepts it with that budget."
+    lacking = [point for point in measured.cut().points if point not in rejection.cut.points]
+    if not lacking:
+        return [Words(words)]
+    rows = [point_text(point, mask_of(measured, point), places) for point in lacking]
+    return [Words(words + " That cut has these points, which the given one lacks:"), Table(["Line", "Place", "What"], rows)]
+
+
+def mask_of(measured, point):
+    """The secret bits that passed a point."""
+    return measured.cut().points[point][1][0][1]
+
+
+def region_words(rejection, places):
+    """A region around the function in which the two runs part, tried by the model."""
+    program, number = rejection.program, max([region.number for region in rejection.regions], default=0) + 1
+    function = program.function_at(rejection.lockstep.begin)
+    if not rejection.covers or function is None or function.name in ("main", "_start") or rejection.regions:
+        return []
+    calls = Calls(program)
+    sites = [site for site in calls.sites.get(function.address, []) if not function.holds(site)]
+    try:
+        enclosures = [
+            Enclosure(index, site, function, *calls.written(function)) for index, site in enumerate(sorted(sites), number)
+        ]
+        if not enclosures or note_run(program, rejection.public, rejection.secret, enclosures, rejection.limit):
+            return []
+        regions = read_regions(regions_text(enclosures).encode())
+        measured = Measured(*rejection.runs(rejection.cut, 0)[:3], regions, 1, rejection.limit)
+    except (NoRegion, Refused):
+        return []
+    inputs = rejection.inputs
+    command = ["python3", "tools/regions.py", inputs.program, function.name, "--public", inputs.public]
+    words = (
+        f"Or a region around the call of {function.name}: with it this run measures {bits_text(measured.bits)}, and what "
+        "happens inside need not be the same. This writes it:"
+    )
+    return [Words(words), Commands([shlex.join([*command, "--secret", inputs.secret]) + " >regions"])]
+
+
+def declaration_words(rejection):
+    """How to declare what a break of a region names."""
+    words = rejection.reason.split()
+    if words[0] != "region":
+        return []
+    number = words[1]
+    if words[2] == "undeclared" and words[3].startswith("x"):
+        return [Words(f"Region {number} would have kept to its declaration with this register among its outs.")]
+    if words[2] == "undeclared":
+        address = int(words[3], 16)
+        stack = rejection.lockstep.real.guest.at_entry[2]
+        where = f'base "sp" and offset {address - stack}' if abs(address - stack) < 1 << 20 else f"offset {address}"
+        return [Words(f"Region {number} would have kept to its declaration with a range of length 1 at {where}.")]
+    if words[2] == "keep":
+        return [Words(f"Region {number} would have kept to its declaration with {words[3]} among its outs instead.")]
+    return []
+
+
+def crossing_section(rejection, places):
+    """The bits that crossed at each point."""
+    lockstep = rejection.lockstep
+    if lockstep is None or not lockstep.by_point:
+        return None
+    rows = [
+        [str(bits), f"{point[0]} {shown(point[1])} {point[2]}", places.at(point[1]).text(), slot_words(point[2])]
+        for point, bits in lockstep.by_point.items()
+    ]
+    words = f"Up to there {bits_text(len(lockstep.bits))} crossed; the budget is {rejection.budget}."
+    return Section("What crossed", Words(words), Table(["Bits", "Point", "Place", "What"], rows, None, "points"))
+
+
+def rejection_page(rejection, program, places):
+    """The title and the sections of the page."""
+    inputs = rejection.inputs
+    word = "accepted" if rejection.is_accepted else "rejected"
+    title = f"{inputs.secret} is {word} by {rejection.cut_name} in {inputs.program}"
+    sections = [verdict_section(rejection), where_section(rejection, program, places), cover_section(rejection, places)]
+    sections.append(crossing_section(rejection, places))
+    lockstep = rejection.lockstep
+    if lockstep:
+        bits = {}
+        for point, count in lockstep.by_point.items():
+            bits[point[1]] = bits.get(point[1], 0) + count
+        marks = Marks(bits, {point[1] for point in rejection.cut.points}, None if rejection.is_accepted else lockstep.begin)
+        key = Words("Marked: where it is, and the cut with the bits that crossed there.", "dim")
+        sections.append(Section("The source", key, *source_blocks(places, marks)))
+        sections.append(Section("The listing", *listing_blocks(program, places, marks)))
+    again = shlex.join(["flowcheck", *inputs.words("measure")]) + " >cut"
+    sections.append(Section("Measure this secret", Commands([again])))
+    return title, [section for section in sections if section]

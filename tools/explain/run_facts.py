@@ -1,0 +1,95 @@
+"""What a program says of a measured run: its report, its cut and its certificate."""
+import json
+
+from certificates import Certificate
+from cuts import length_of, read_cut, read_regions
+from passings import POINT, RELAY
+
+
+class NoMeasure(Exception):
+    """The run is not measured; the text is the program's."""
+
+
+class Inputs:
+    """The words of a run: program, public input and secret, and its options as words."""
+
+    def __init__(self, program, public, secret, options=()):
+        self.program, self.public, self.secret, self.options = program, public, secret, list(options)
+
+    def words(self, command):
+        """The words of a command on this run."""
+        return [command, self.program, self.public, self.secret, *self.options]
+
+    def option(self, name):
+        """The value of an option, or None."""
+        return self.options[self.options.index(name) + 1] if name in self.options else None
+
+    def without(self, *names):
+        """The options but some."""
+        kept = []
+        for name, value in zip(self.options[::2], self.options[1::2]):
+            kept += [] if name in names else [name, value]
+        return kept
+
+    def regions(self):
+        """The regions of the run's region file."""
+        name = self.option("--regions")
+        return read_regions(read(name)) if name else []
+
+
+def read(name):
+    """The bytes of a file."""
+    with open(name, "rb") as file:
+        return file.read()
+
+
+class CutPoint:
+    """A point of the cut: its region, address and slot, the bits that passed there, its visits and its masks."""
+
+    def __init__(self, point, bits, runs):
+        self.point, self.bits, self.visits = point, bits, length_of(runs)
+        self.region, self.address, self.slot = point
+        self.mask = 0
+        for _, mask in runs:
+            self.mask |= mask
+
+
+class RunFacts:
+    """A measured run: `numbers` are those of `report --json`."""
+
+    def __init__(self, program, inputs):
+        self.inputs = inputs
+        self.numbers = json.loads(self.ask(program, inputs.words("report") + ["--json"]))
+        short = Inputs(inputs.program, inputs.public, inputs.secret, inputs.without("--cut"))
+        self.cut_text = self.ask(program, short.words("measure"))
+        self.certificate = Certificate(self.ask(program, short.words("graph")))
+        self.cut = read_cut(self.cut_text.encode())
+        bits = {(item["region"], int(item["address"], 16), item["slot"]): item["bits"] for item in self.numbers["cut"]}
+        self.cut_points = [CutPoint(point, bits[point], runs) for point, (runs, _) in self.cut.points.items()]
+        self.graph = self.certificate.graph
+
+    @staticmethod
+    def ask(program, words):
+        """The text of a command, which must succeed."""
+        status, text = program.answer(words)
+        if status:
+            raise NoMeasure(text.strip() or f"status {status}")
+        return text
+
+    def flows(self):
+        """The links that something flows over, as (source, target, flow)."""
+        return [(source, target, flow) for (source, target), flow in self.certificate.links if flow]
+
+    def passed(self):
+        """The bits that passed each point of the graph."""
+        return {point: capacity for point, capacity, _, _ in self.certificate.points}
+
+    def halves(self, place):
+        """Whether the two halves of a point are on the secret's side of the cut."""
+        return self.certificate.points[place][3]
+
+    def is_on_secret_side(self, end, second):
+        """Whether an end of a link is on the secret's side."""
+        if end[0] == POINT:
+            return self.halves(end[1])[second]
+        return dict(self.certificate.relays)[end[1]] if end[0] == RELAY else False
