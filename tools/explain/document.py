@@ -50,10 +50,16 @@ class Table:
         return "\n".join(parts + ["</tbody></table>"])
 
     def text(self):
-        """As lines, with columns as wide as their longest cell."""
+        """As lines, with columns as wide as their longest cell; those that do not fit stand below their row."""
         rows = [self.heads] + self.rows
         widths = [max(len(row[index]) for row in rows) for index in range(len(self.heads))]
-        return ["  ".join(cell.ljust(width) for cell, width in zip(row, widths)).rstrip() for row in rows]
+        fitting = sum(sum(widths[: count + 1]) + 2 * count <= TEXT_WIDTH for count in range(len(widths)))
+        lines = []
+        for row in rows:
+            lines.append("  ".join(cell.ljust(width) for cell, width in zip(row[:fitting], widths)).rstrip())
+            for head, cell in zip(self.heads[fitting:], row[fitting:]) if row is not self.heads else ():
+                lines += textwrap.wrap(f"{head}: {cell}", TEXT_WIDTH, initial_indent="      ", subsequent_indent="        ")
+        return lines
 
 
 class Commands:
