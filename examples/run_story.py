@@ -2,10 +2,10 @@
 
 Call: run_story.py [--update] COMPILER STORY
 
-A command is a line of README.md that begins with four spaces, a dollar sign and a space; the indented lines below it are
-what it prints. Each command must end with status 0. With gcc all that is printed must be as in the text; with clang,
-whose programs have other addresses, the last line of the last command must be. `--update` writes what is printed into the
-text. FLOWCHECK is the program, as a command; without it the built one is taken, else the model."""
+A command is a line of README.md that begins with four spaces, a dollar sign and a space; the indented lines below it
+are what it prints. Each command must end with status 0. With gcc all that is printed must be as in the text; with
+clang, whose programs have other addresses, the last line of the last command must be. `--update` writes what is printed
+into the text. FLOWCHECK is the program, as a command; without it the built one is taken, else the model."""
 import os
 import shlex
 import shutil
@@ -23,8 +23,8 @@ COPIED = ("examples", "tools")
 
 def program():
     """The command of the program, with whole paths."""
-    default = BUILT if os.path.exists(BUILT) else "python3 " + shlex.quote(os.path.join(TOP, "tools/model/flowcheck.py"))
-    words = shlex.split(os.environ.get("FLOWCHECK", default))
+    model = "python3 " + shlex.quote(os.path.join(TOP, "tools", "model", "flowcheck.py"))
+    words = shlex.split(os.environ.get("FLOWCHECK", BUILT if os.path.exists(BUILT) else model))
     return [os.path.abspath(word) if os.path.exists(word) else word for word in words]
 
 

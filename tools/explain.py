@@ -11,7 +11,8 @@ which needs nothing beside it, or with --text a text for the terminal.
   --source FOLDER      where sources are that have moved; may be given more than once
   --flowcheck COMMAND  the program; without it crates/flowcheck/out/flowcheck, else `flowcheck`, else the model
 
-Python 3 is enough for addresses and functions; lines of sources want llvm-symbolizer or addr2line for RISC-V, and -g."""
+Python 3 is enough for addresses and functions; lines of sources want -g, and llvm-symbolizer or addr2line for
+RISC-V."""
 import argparse
 import os
 import sys
@@ -32,7 +33,9 @@ from source_lines import Places
 
 def arguments():
     """The words of the command line."""
-    parser = argparse.ArgumentParser(description=__doc__.split("\n")[0], usage="\n".join(__doc__.split("\n")[2:4]).strip())
+    parser = argparse.ArgumentParser(
+        description=__doc__, usage=argparse.SUPPRESS, formatter_class=argparse.RawDescriptionHelpFormatter
+    )
     parser.add_argument("program")
     parser.add_argument("public")
     parser.add_argument("secret", nargs="?")

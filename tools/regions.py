@@ -6,7 +6,7 @@ Each call of a named function from elsewhere becomes a region: entered at the ca
 Registers are declared from the code of the function and of those that it calls: `ra`, `t` and `a` registers as outputs,
 `sp` and `s` registers as kept. Memory is declared from runs, one for each secret: what they write on the stack and
 elsewhere, all at once. At last `measure` is asked for each secret; what it still finds undeclared is added, until it
-finds nothing. Give secrets that take different ways; a run on another way may break the region, and is then rejected."""
+finds nothing. Give secrets that take different ways; a run on another way may break the region."""
 import argparse
 import os
 import re

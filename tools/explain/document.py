@@ -58,7 +58,7 @@ class Table:
         for row in rows:
             lines.append("  ".join(cell.ljust(width) for cell, width in zip(row[:fitting], widths)).rstrip())
             for head, cell in zip(self.heads[fitting:], row[fitting:]) if row is not self.heads else ():
-                lines += textwrap.wrap(f"{head}: {cell}", TEXT_WIDTH, initial_indent="      ", subsequent_indent="        ")
+                lines += textwrap.wrap(f"{head}: {cell}", TEXT_WIDTH, initial_indent=6 * " ", subsequent_indent=8 * " ")
         return lines
 
 
@@ -80,12 +80,12 @@ class Commands:
 class Marked:
     """Lines of a source or a listing: each is (kind, margin, number, text), of which kind says how it is marked."""
 
-    def __init__(self, title, lines):
-        self.title, self.lines = title, lines
+    def __init__(self, title, lines, is_listing=False):
+        self.title, self.lines, self.kind = title, lines, "marked listing" if is_listing else "marked"
 
     def html(self):
         """As HTML: a table whose last column takes what is left."""
-        parts = [f"<h3>{html.escape(self.title)}</h3>", '<table class="marked"><tbody>']
+        parts = [f'<h3>{html.escape(self.title)}</h3><table class="{self.kind}"><tbody>']
         for kind, margin, number, text in self.lines:
             cells = f'<td class="margin">{html.escape(margin)}</td><td class="number">{html.escape(number)}</td>'
             parts.append(f'<tr class="{kind}">{cells}<td class="code">{html.escape(text) or " "}</td></tr>')

@@ -82,7 +82,7 @@ class ProgramFile:
 
     def functions_named(self, name):
         """The functions of a name, and the copies that compilers make of them, as name.isra.0."""
-        return [function for function in self.functions if function.name == name or function.name.startswith(name + ".")]
+        return [function for function in self.functions if function.name.split(".")[0] == name or function.name == name]
 
     def object_at(self, address):
         """The object in which an address lies, or None."""

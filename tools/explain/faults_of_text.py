@@ -68,7 +68,8 @@ def spaces(line):
     """The column of a space that is too many or of a tab, or None."""
     match = re.search(r"  |\t|^ | $", line)
     if match:
-        return match.start() + (1 if match[0] == "  " else 0), "words stand exactly one space apart, and no line begins or ends with one"
+        expected = "words stand exactly one space apart, and no line begins or ends with one"
+        return match.start() + (1 if match[0] == "  " else 0), expected
     return None
 
 
@@ -204,7 +205,8 @@ def shape_hint(file, refusal):
         if not re.fullmatch(r"0x[0-9a-fA-F]{1,8}", str(item[key])) or int(item[key], 16) % 4:
             return f': {key} is an address as "0x10018", a multiple of 4'
     for key in ("outs", "keep"):
-        wrong = [name for name in item.get(key) or [] if name not in NAMES] if isinstance(item.get(key, []), list) else [key]
+        names = item.get(key, [])
+        wrong = [name for name in names if name not in NAMES] if isinstance(names, list) else [key]
         if wrong:
             return f": {wrong[0]} in {key} is no register"
     return ": its id may stand twice, or a range is not as it should be"

@@ -9,11 +9,12 @@ from passings import SOURCE as FIRST
 
 SOURCE, SINK = ("source", ""), ("sink", "")
 CUT, RELAY_NODE, SECRET_SIDE, SEEN_SIDE = "cut", "relay", "secret side", "seen side"
-MOST_NODES = 22
+LEVELS = ["point", "line", "function", "side"]
 
 
 class Grouping:
-    """Nodes and the flow between them, at one level of detail."""
+    """Nodes and the flow between them, at one level of detail: lines with each point of the cut by itself, lines, whole
+    functions, or the two sides of the cut."""
 
     def __init__(self, facts, places, level):
         self.facts, self.places, self.level = facts, places, level
@@ -78,10 +79,10 @@ class Grouping:
         return place.text()
 
     def cut_node(self, point):
-        """The node of a point of the cut: one for each point, unless functions or sides are drawn."""
-        is_fine = self.level == "line"
-        name = f"{self.places.at(point[1]).text()}|{point[2]} at {shown(point[1])}" if is_fine else self.group(point)
-        return CUT, name
+        """The node of a point of the cut."""
+        if self.level == "point":
+            return CUT, f"{self.group(point)}|{point[2]} at {shown(point[1])}"
+        return CUT, self.group(point)
 
     def node(self, end, second):
         """The node of an end of a link, a point with its first or its second half."""
@@ -102,12 +103,3 @@ class Grouping:
         into = sum(flow for (_, target), flow in self.flows.items() if target == node)
         return into or sum(flow for (source, _), flow in self.flows.items() if source == node)
 
-
-def grouping_of(facts, places):
-    """The finest grouping that has few enough nodes for a picture."""
-    levels = ["line", "function", "side"]
-    for level in levels:
-        grouping = Grouping(facts, places, level)
-        if len(grouping.nodes()) <= MOST_NODES:
-            return grouping
-    return grouping

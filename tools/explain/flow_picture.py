@@ -1,10 +1,11 @@
-"""The picture of a flow as SVG: boxes in layers from the secret at the top to what is seen at the bottom, joined by bands
-whose widths are the bits that flow."""
+"""The picture of a flow as SVG: boxes in layers from the secret at the top to what is seen at the bottom, joined by
+bands whose widths are the bits that flow."""
 import html
 
-from flow_groups import CUT, RELAY_NODE, SECRET_SIDE, SINK, SOURCE
+from flow_groups import CUT, LEVELS, RELAY_NODE, SECRET_SIDE, SINK, SOURCE, Grouping
 
-BOX, GAP, MARGIN, BETWEEN = 50, 12, 6, 46
+BOX, GAP, MARGIN, BETWEEN, LEAST_GAP = 50, 12, 6, 46, 3
+MOST_NODES = 24
 CHARACTER = 7
 
 
@@ -59,7 +60,7 @@ class Picture:
             return ["what is seen", "output and status", bits]
         if kind == CUT:
             place, _, slot = name.partition("|")
-            return [f"CUT  {bits_text(self.grouping.cut_bits[node])}", place or "all points", slot or "its points"]
+            return [f"CUT  {bits_text(self.grouping.cut_bits[node])}", place or "all of it", slot or "its points"]
         if kind == RELAY_NODE:
             return [name, "what happens inside", bits]
         first, _, rest = name.rpartition(" ")
@@ -123,6 +124,7 @@ class Picture:
                 best, order = crossings, [list(row) for row in self.rows]
         self.rows = order
         self.place_rows()
+        self.fits = all(self.gap(row) >= LEAST_GAP for row in self.rows)
         for item in (item for row in self.rows for item in row):
             item.into.sort(key=lambda band: band[0].middle())
             item.out.sort(key=lambda band: band[1].middle())
@@ -144,12 +146,16 @@ class Picture:
 
     def place_row(self, row):
         """Sets the left edges of the items of a row; one with more than fits has smaller gaps."""
-        total = sum(item.width for item in row)
-        gap = min(GAP, (self.width - 2 * MARGIN - total) / max(len(row) - 1, 1))
-        left = (self.width - total - gap * (len(row) - 1)) / 2
+        gap = self.gap(row)
+        left = (self.width - sum(item.width for item in row) - gap * (len(row) - 1)) / 2
         for item in row:
             item.left = left
             left += item.width + gap
+
+    def gap(self, row):
+        """The gap between the items of a row."""
+        total = sum(item.width for item in row)
+        return min(GAP, (self.width - 2 * MARGIN - total) / max(len(row) - 1, 1))
 
     def top(self, layer):
         """The upper edge of a row."""
@@ -169,7 +175,8 @@ class Picture:
 
     def side(self, source, target):
         """The class of a band: on which side of the cut it is."""
-        return "secret" if source == SOURCE or source[0] == SECRET_SIDE or target[0] == CUT else "seen"
+        is_secret = source[0] in (SOURCE[0], SECRET_SIDE) or target[0] in (SECRET_SIDE, CUT)
+        return "secret" if is_secret else "seen"
 
     def edge(self, item, bands, band):
         """Where a band begins at the edge of an item: its left and its right."""
@@ -190,11 +197,9 @@ class Picture:
             f"H{low_right:.1f} C{low_right:.1f} {half} {right:.1f} {half} {right:.1f} {top} Z"
         )
         names = html.escape(f"{node_text(source)} to {node_text(target)}: {bits_text(flow)}")
-        first, last = int(upper.is_box), int(lower.is_box)
-        return (
-            f'<path class="band {self.side(source, target)}" data-flow="{flow}" data-first="{first}" data-last="{last}" '
-            f'data-from="{source[0]}" data-to="{target[0]}" d="{shape}"><title>{names}</title></path>'
-        )
+        ends = f'data-from="{source[0] if upper.is_box else ""}" data-to="{target[0] if lower.is_box else ""}"'
+        mark = f'class="band {self.side(source, target)}" data-flow="{flow}" {ends}'
+        return f'<path {mark} d="{shape}"><title>{names}</title></path>'
 
     def pass_svg(self, item):
         """The stretch of a long band beside the boxes of a row."""
@@ -219,6 +224,17 @@ class Picture:
             place = f'x="{item.middle():.1f}" y="{top + 15 + 14.5 * index}"'
             parts.append(f'<text class="line{index}" {place} text-anchor="middle">{html.escape(text)}</text>')
         return "".join(parts + ["</g>"])
+
+
+def picture_of(facts, places, width):
+    """The picture of the finest grouping that fits into a width."""
+    for level in LEVELS:
+        grouping = Grouping(facts, places, level)
+        if len(grouping.nodes()) <= MOST_NODES or level == LEVELS[-1]:
+            picture = Picture(grouping, facts, width)
+            if picture.fits:
+                break
+    return picture
 
 
 def mean(values, default):

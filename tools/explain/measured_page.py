@@ -1,9 +1,8 @@
-"""The page of a measured run: the number, the cut, the picture, the sources, the regions, and the commands that follow."""
+"""The page of a measured run: the number, the cut, the picture, the sources, the regions, and what to do next."""
 import shlex
 
 from document import Commands, Drawing, Folded, Section, Table, Words
-from flow_groups import grouping_of
-from flow_picture import Picture, bits_text, node_text
+from flow_picture import bits_text, node_text, picture_of
 from guest import shown
 from instruction_text import NAMES, instruction_text, slot_words
 from pieces_of_code import Marks, listing_blocks, source_blocks
@@ -27,12 +26,15 @@ def number_section(facts):
     else:
         first = f"The output of this run has given away nothing of {whole}."
     promise = (
-        f"All secrets that check accepts with this cut and a budget of {bits_text(bits)} have at most {outputs_text(bits)} "
-        "together. The output is what the guest writes and its exit status; time is not counted."
+        f"All secrets that check accepts with this cut and a budget of {bits_text(bits)} have at most "
+        f"{outputs_text(bits)} together. The output is what the guest writes and its exit status; time is not counted."
+    )
+    turns, output, status, points, links = (
+        facts.numbers[name] for name in ("turns", "output", "status", "points", "links")
     )
     run = (
-        f"The run took {facts.numbers['turns']:,} turns, wrote {facts.numbers['output']:,} bytes and exited with status "
-        f"{facts.numbers['status']}. Its graph has {facts.numbers['points']:,} points and {facts.numbers['links']:,} links."
+        f"The run took {turns:,} turns, wrote {output:,} bytes and exited with status {status}. Its graph has "
+        f"{points:,} points and {links:,} links."
     )
     return Section("", Words(first, "number", bits), Words(promise), Words(run, "dim"))
 
@@ -49,8 +51,8 @@ def cut_section(facts, program, places):
         text = instruction_text(program.instruction(cut.address), cut.address)
         row = [str(cut.bits), region + (place.function or "-"), place.line_text() or "-"]
         row += [f"{shown(cut.address)} {text}", cut.slot]
-        row += [f"{cut.visits:,}", f"{slot_words(cut.slot)}, mask {shown(cut.mask)}", places.line_of(place).strip() or "-"]
-        rows.append(row)
+        row += [f"{cut.visits:,}", f"{slot_words(cut.slot)}, mask {shown(cut.mask)}"]
+        rows.append(row + [places.line_of(place).strip() or "-"])
         name = f"{cut.region} {shown(cut.address)} {cut.slot}"
         attributes.append({"data-cut": name, "data-bits": cut.bits, "data-visits": cut.visits})
     words = (
@@ -64,18 +66,25 @@ def picture_section(facts, places):
     """The flow as a picture."""
     if not facts.numbers["bits"]:
         return Section("The flow", Words("Nothing flows from the secret to what is seen."))
-    grouping = grouping_of(facts, places)
     label = f"{bits_text(facts.numbers['bits'])} flow from the secret to what is seen, through the cut"
-    wide, narrow = (Picture(grouping, facts, width).svg(label) for width in (WIDE, NARROW))
+    wide, narrow = (picture_of(facts, places, width) for width in (WIDE, NARROW))
     lines = [
         f"{bits_text(flow):>12}   {node_text(source)}  ->  {node_text(target)}"
-        for (source, target), flow in grouping.flows.items()
+        for (source, target), flow in wide.grouping.flows.items()
     ]
     words = (
-        f"One maximum flow, by {grouping.level}: blue on the secret's side of the cut, amber on the side that is seen, and "
-        "as wide as the bits that flow; what goes to and fro is left out. Other maximum flows may take other ways; all of them pass the cut."
+        f"One maximum flow, {level_words(wide, places)}: blue on the secret's side of the cut, amber on the side that "
+        "is seen, and as wide as the bits that flow; what goes to and fro is left out. Other maximum flows may take other "
+        "ways; all of them pass the cut."
     )
-    return Section("The flow", Drawing(wide, narrow, lines), Words(words, "dim"))
+    return Section("The flow", Drawing(wide.svg(label), narrow.svg(label), lines), Words(words, "dim"))
+
+
+def level_words(picture, places):
+    """What a box of a picture is."""
+    if picture.grouping.level in ("point", "line"):
+        return "by line" if places.has_lines() else "by function or instruction"
+    return "by function" if picture.grouping.level == "function" else "by the sides of the cut"
 
 
 def code_sections(facts, program, places):
@@ -86,8 +95,8 @@ def code_sections(facts, program, places):
     marks = Marks(cut_bits, {point[1] for point in facts.passed()})
     sources, listings = source_blocks(places, marks), listing_blocks(program, places, marks)
     key = "In red: the cut, with the bits that pass there. In blue: secret bits pass. "
-    lack = "" if sources else "There is no source: build with -g, and name its folder by --source where it has moved. "
-    sections = [Section("The source", Words(key + lack, "dim"), *sources)]
+    lack = "No line of a source is known, or no source was found: build with -g, and name its folder by --source."
+    sections = [Section("The source", Words(key if sources else lack, "dim"), *sources)]
     if listings:
         sections.append(Section("The listing", Words(key, "dim"), *listings))
     return sections
@@ -118,8 +127,10 @@ def regions_section(facts, places):
         enter, leave = places.at(region.enter), places.at(region.leave)
         replay = "skipped" if region.number in facts.cut.skip else "run"
         ranges = "; ".join(map(range_text, region.ranges)) or "-"
-        row = [str(region.number), replay, f"{shown(region.enter)} {enter.text()}", f"{shown(region.leave)} {leave.text()}"]
-        rows.append(row + [register_names(region.outs), register_names(region.keep), ranges, str(bits.get(region.number, 0))])
+        row = [str(region.number), replay]
+        row += [f"{shown(region.enter)} {enter.text()}", f"{shown(region.leave)} {leave.text()}"]
+        row += [register_names(region.outs), register_names(region.keep), ranges, str(bits.get(region.number, 0))]
+        rows.append(row)
         attributes.append({"data-region": region.number, "data-skip": int(region.number in facts.cut.skip)})
     heads = ["Region", "Replay", "Entered at", "Left at", "Outputs", "Kept", "Memory", "Cut bits"]
     words = (
@@ -137,13 +148,17 @@ def commands_section(facts):
     check = ["flowcheck", "check", inputs.program, inputs.public, "cut", str(bits)]
     lines = [measure, shlex.join([*check, inputs.secret, *usual]), shlex.join([*check, "OTHER", *usual])]
     words = (
-        "The first command writes the cut, the second checks this secret, which is accepted, and the third any other, or "
-        "up to 64 of them."
+        "The first command writes the cut, the second checks this secret, which is accepted, and the third any other, "
+        "or up to 64 of them."
     )
     again = "Of a secret that is rejected, this says where and why:"
-    explain = shlex.join(["python3", "tools/explain.py", inputs.program, inputs.public, "--check", "cut", str(bits), "OTHER"])
+    explain = ["python3", "tools/explain.py", inputs.program, inputs.public, "--check", "cut", str(bits), "OTHER"]
     return Section(
-        "Check another secret", Words(words), Commands(lines), Words(again), Commands([f"{explain} {shlex.join(usual)}".strip()]),
+        "Check another secret",
+        Words(words),
+        Commands(lines),
+        Words(again),
+        Commands([shlex.join(explain + usual)]),
         Folded("The cut", Commands(facts.cut_text.rstrip("\n").split("\n"), "cut")),
     )
 

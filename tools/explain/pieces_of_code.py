@@ -102,4 +102,4 @@ def listing_block(title, program, places, marks, ranges):
             kind, margin = marks.kind_of([address])
             text = instruction_text(program.instruction(address), address)
             lines.append((kind, margin, f"{address:08x}", text))
-    return Marked(title, lines)
+    return Marked(title, lines, True)

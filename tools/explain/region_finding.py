@@ -112,7 +112,7 @@ class Enclosure:
             "{" + (f'"base": "{base}", ' if base else "") + f'"offset": {offset}, "length": {length}' + "}"
             for base, offset, length in self.ranges()
         )
-        outs, keep = (", ".join(f'"{REGISTERS[number]}"' for number in sorted(names)) for names in (self.outs, self.keep))
+        outs, keep = (", ".join(f'"{REGISTERS[one]}"' for one in sorted(names)) for names in (self.outs, self.keep))
         return (
             f'{{"id": {self.number}, "enter": "0x{self.site:x}", "leave": "0x{self.site + 4:x}",\n'
             f'  "outs": [{outs}],\n  "keep": [{keep}],\n  "ranges": [{spans}]}}'

@@ -47,8 +47,8 @@ class TracedReplay(Replay):
 
 
 class Passed:
-    """One value of the last turn: its point, what it was in the real run, what went on in the replay, and the mask of the
-    bits that the cut lets cross."""
+    """One value of the last turn: its point, what it was in the real run, what went on in the replay, and the mask of
+    the bits that the cut lets cross."""
 
     def __init__(self, point, real, replayed, mask):
         self.point, self.real, self.replayed, self.mask = point, real, replayed, mask
@@ -116,8 +116,8 @@ class Lockstep:
     def is_parted(self, turn):
         """Whether the two runs differ after a turn, or have ended."""
         mark = turn.pc, len(self.bits), turn.output_length, turn.is_exited
-        is_same = mark == self.replay.mark() and self.real.guest.output[: turn.output_length] == self.replay.guest.output
-        return turn.is_exited or not is_same
+        is_same = self.real.guest.output[: turn.output_length] == self.replay.guest.output
+        return turn.is_exited or mark != self.replay.mark() or not is_same
 
     def marks(self):
         """Where both runs stand, or nothing where one has been stopped."""

@@ -1,6 +1,7 @@
 """The page of a secret that `check` is asked about: where the two runs part, and what would have covered it."""
 import shlex
 
+from cuts import read_regions
 from document import Commands, Section, Table, Words
 from flow_picture import bits_text
 from guest import shown
@@ -9,7 +10,6 @@ from measured_page import REFUSALS
 from measures import Measured, Refused
 from pieces_of_code import Marks, listing_blocks, source_blocks
 from region_finding import Calls, Enclosure, NoRegion, note_run, regions_text
-from cuts import read_regions
 
 REASONS = {
     "budget": "The run of this secret lets more bits cross the cut than the budget allows.",
@@ -69,19 +69,22 @@ def where_section(rejection, program, places):
     place, text = places.at(address), instruction_text(program.instruction(address), address)
     turn = f"turn {lockstep.number:,} of those that both runs make" if lockstep.number else "the first turn"
     parts = [f"It is {turn}, at {shown(address)}", text if kind == "step" else f"the {kind} of a region", place.text()]
-    blocks = [Words(", ".join(parts) + "."), Words(places.line_of(place).strip() or "No line of a source is known.", "dim")]
+    line = places.line_of(place).strip() or "No line of a source is known."
+    blocks = [Words(", ".join(parts) + "."), Words(line, "dim")]
     rows = []
     for passed in lockstep.passed[:200]:
         sign = " (differs)" if passed.differs() else ""
         values = [value_text(value, passed.point) for value in (passed.real, passed.replayed)]
-        rows.append([passed.point[2] + sign, slot_words(passed.point[2]), *values, shown(passed.mask) if passed.mask else "-"])
+        mask = shown(passed.mask) if passed.mask else "-"
+        rows.append([passed.point[2] + sign, slot_words(passed.point[2]), *values, mask])
     if rows:
-        heads = ["Slot", "What passes", "Real run", "Replay", "Crosses"]
+        heads = ["Slot", "What passes", "Real run", "Replay", "Mask of the cut"]
         attributes = [{"data-slot": row[0], "class": "cut" if "differs" in row[0] else ""} for row in rows]
         blocks.append(Table(heads, rows, attributes, "slots"))
     marks = lockstep.marks()
     if marks and not rejection.reason.startswith(("budget", "replay")):
-        blocks.append(Table(["After the turn", "Stands at"], [["Real run", marks[0]], ["Replay", marks[1]]], None, "slots"))
+        rows = [["Real run", marks[0]], ["Replay", marks[1]]]
+        blocks.append(Table(["After the turn", "Stands at"], rows, None, "slots"))
     return Section("Where", *blocks)
 
 
@@ -91,6 +94,11 @@ def point_text(point, mask, places):
     return [f"point {point[0]} {shown(point[1])} {point[2]} rest {shown(mask)}", place.text(), slot_words(point[2])]
 
 
+def lines_table(rows):
+    """A table of lines of a cut."""
+    return Table(["Line of the cut", "Place", "What passes"], rows, None, "points")
+
+
 def cover_section(rejection, places):
     """Which points would have covered the difference."""
     if rejection.is_accepted or rejection.lockstep is None:
@@ -98,7 +106,7 @@ def cover_section(rejection, places):
     blocks, whole = [], rejection.whole
     if rejection.covers:
         rows = [point_text(point, mask, places) for point, mask in rejection.covers]
-        blocks += [Words("These lines in the cut would have let the difference cross:"), Table(["Line", "Place", "What"], rows)]
+        blocks += [Words("These lines in the cut would have let the difference cross:"), lines_table(rows)]
         if whole.word == "accepted":
             blocks.append(Words(f"With them the secret is accepted, and {bits_text(len(whole.bits))} cross."))
         else:
@@ -119,12 +127,12 @@ def own_measure(rejection, places):
         measured = Measured(*parts[:4], 1, rejection.limit)
     except Refused:
         return []
-    words = f"A measurement of this secret finds {bits_text(measured.bits)}, and its own cut accepts it with that budget."
+    words = f"A measurement of this secret finds {bits_text(measured.bits)}; its own cut accepts it with that budget."
     lacking = [point for point in measured.cut().points if point not in rejection.cut.points]
     if not lacking:
         return [Words(words)]
     rows = [point_text(point, mask_of(measured, point), places) for point in lacking]
-    return [Words(words + " That cut has these points, which the given one lacks:"), Table(["Line", "Place", "What"], rows)]
+    return [Words(words + " That cut has these points, which the given one lacks:"), lines_table(rows)]
 
 
 def mask_of(measured, point):
@@ -141,9 +149,8 @@ def region_words(rejection, places):
     calls = Calls(program)
     sites = [site for site in calls.sites.get(function.address, []) if not function.holds(site)]
     try:
-        enclosures = [
-            Enclosure(index, site, function, *calls.written(function)) for index, site in enumerate(sorted(sites), number)
-        ]
+        writes = calls.written(function)
+        enclosures = [Enclosure(index, site, function, *writes) for index, site in enumerate(sorted(sites), number)]
         if not enclosures or note_run(program, rejection.public, rejection.secret, enclosures, rejection.limit):
             return []
         regions = read_regions(regions_text(enclosures).encode())
@@ -153,8 +160,8 @@ def region_words(rejection, places):
     inputs = rejection.inputs
     command = ["python3", "tools/regions.py", inputs.program, function.name, "--public", inputs.public]
     words = (
-        f"Or a region around the call of {function.name}: with it this run measures {bits_text(measured.bits)}, and what "
-        "happens inside need not be the same. This writes it:"
+        f"Or a region around the call of {function.name}: with it this run measures {bits_text(measured.bits)}, and "
+        "what happens inside need not be the same. This writes it:"
     )
     return [Words(words), Commands([shlex.join([*command, "--secret", inputs.secret]) + " >regions"])]
 
@@ -202,7 +209,8 @@ def rejection_page(rejection, program, places):
         bits = {}
         for point, count in lockstep.by_point.items():
             bits[point[1]] = bits.get(point[1], 0) + count
-        marks = Marks(bits, {point[1] for point in rejection.cut.points}, None if rejection.is_accepted else lockstep.begin)
+        parted = None if rejection.is_accepted else lockstep.begin
+        marks = Marks(bits, {point[1] for point in rejection.cut.points}, parted)
         key = Words("Marked: where it is, and the cut with the bits that crossed there.", "dim")
         sections.append(Section("The source", key, *source_blocks(places, marks)))
         sections.append(Section("The listing", *listing_blocks(program, places, marks)))

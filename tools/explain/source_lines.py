@@ -1,5 +1,5 @@
-"""Where instructions come from: function, file and line, by the symbols and, where there is one, a symbolizer of binutils
-or LLVM. Without debug information the functions are left, and without symbols the addresses."""
+"""Where instructions come from: function, file and line, by the symbols and, where there is one, a symbolizer of
+binutils or LLVM. Without debug information the functions are left, and without symbols the addresses."""
 import os
 import re
 import shutil
@@ -13,7 +13,8 @@ LLVM = ["llvm-symbolizer"] + [f"llvm-symbolizer-{version}" for version in range(
 
 
 class Place:
-    """Where an instruction comes from. File and line are None without debug information, the function without symbols."""
+    """Where an instruction comes from. File and line are None without debug information, as the function is without
+    symbols."""
 
     def __init__(self, address, function=None, file=None, line=None):
         self.address, self.function, self.file, self.line = address, function, file, line
