@@ -5,22 +5,11 @@ import shutil
 import subprocess
 
 from answers import answer_to
+from flowcheck import Disk
 
 TOOLS = os.path.dirname(os.path.dirname(os.path.abspath(__file__)))
 BUILT = os.path.join(TOOLS, "..", "crates", "flowcheck", "out", "flowcheck")
 NO_COMMAND = 2
-
-
-class DiskFiles(dict):
-    """The files of the disk by their names, as the model takes them."""
-
-    def __contains__(self, name):
-        return dict.__contains__(self, name) or os.path.isfile(name)
-
-    def __missing__(self, name):
-        with open(name, "rb") as file:
-            self[name] = file.read()
-        return self[name]
 
 
 class Program:
@@ -41,4 +30,4 @@ class Program:
             done = subprocess.run(self.words + words, stdout=subprocess.PIPE, stderr=subprocess.DEVNULL, check=False)
             if done.returncode != NO_COMMAND or words[0] != "report":
                 return done.returncode, done.stdout.decode("utf-8", "replace")
-        return answer_to(DiskFiles(), words)
+        return answer_to(Disk(), words)

@@ -25,19 +25,19 @@ class ProgramFile:
 
     def __init__(self, file):
         self.file, self.image = file, Image(file)
-        self.code = list(self.executable_loads())
+        self.code = self.executable_loads()
         symbols = list(self.read_symbols())
         self.functions = self.functions_of(symbols)
         self.objects = sorted((symbol for kind, symbol in symbols if kind == OBJECT), key=lambda symbol: symbol.address)
         self.starts = [function.address for function in self.functions]
 
     def executable_loads(self):
-        """The first and the last address of each load that may be executed."""
+        """The first address and the one behind the last of each load that may be executed; of all where none says so."""
         place, size, count = struct.unpack_from("<I", self.file, 28)[0], *struct.unpack_from("<HH", self.file, 42)
-        for index in range(count):
-            kind, _, address, _, file_size, _, flags, _ = struct.unpack_from("<8I", self.file, place + size * index)
-            if kind == 1 and flags & EXECUTABLE and file_size:
-                yield address, address + file_size
+        headers = [struct.unpack_from("<8I", self.file, place + size * index) for index in range(count)]
+        loads = [header for header in headers if header[0] == 1 and header[5] and header[4]]
+        chosen = [header for header in loads if header[6] & EXECUTABLE] or loads
+        return [(address, address + length) for _, _, address, _, length, _, _, _ in chosen]
 
     def sections(self):
         """The section headers, none where the file has none that can be read."""

@@ -1,0 +1,348 @@
+"""Tests of explain.py, lint.py and regions.py.
+
+Call: picture_tests.py [--count N] [--flowcheck COMMAND]
+
+Pages of N random guests (100 without the option), of the stories under examples/ where there are compilers, and of stored
+guests: their numbers must be those of `report --json`, their pictures must carry the same flow from the secret to the
+cut and to what is seen, and the pages of random secrets must tell the verdict that `check` tells. Texts of cuts that are
+spoilt at random must be refused as the model refuses them. Where there is Chromium no page may be wider than a window of
+1280 or 390 pixels. FLOWCHECK, or the option, is the program; without it the built one is taken, else the model."""
+import argparse
+import json
+import os
+import random
+import re
+import subprocess
+import sys
+import tempfile
+
+HERE = os.path.dirname(os.path.abspath(__file__))
+sys.path.insert(0, HERE)
+
+import explain
+from answering import Program
+from cuts import read_cut
+from document import html_page, text_page
+from elf_symbols import ProgramFile
+from faults_of_text import cut_text_fault, regions_text_fault
+from measure_trials import measure_trial
+from picture_checks import Chromium, PageNumbers, page_wrongs
+from refusals import cut_fault, regions_fault
+from rejection import Rejection
+from rejection_page import rejection_page
+from run_facts import Inputs
+from source_lines import ADDR2LINE, LLVM, Places
+from trials import random_trial
+
+TOP = os.path.dirname(HERE)
+STORIES = [("password", ["early", "constant"]), ("redactor", ["stars", "initial"]), ("auction", ["open", "sealed"])]
+INPUTS = {"password": ("typed", "password"), "redactor": ("letter", "name"), "auction": ("lowest", "bids")}
+STORED = [
+    ("crates/guest_runs/data/pin-gcc.elf", "examples/guests/typed", "examples/guests/pin"),
+    ("crates/guest_runs/data/pin-clang.elf", "examples/guests/typed", "examples/guests/pin"),
+    ("examples/bit/program", "examples/bit/public", "examples/bit/secret3"),
+    ("examples/low/program", "examples/low/public", "examples/low/secret"),
+]
+DEEP = """
+#include "flowcheck.h"
+static volatile unsigned char table[16]; static unsigned total;
+__attribute__((noinline)) static unsigned inner(unsigned char *bytes, unsigned count) {
+    unsigned char copy[32]; volatile unsigned sum = 0;
+    for (unsigned i = 0; i < count; i++) { copy[i] = bytes[i]; table[i & 15] = copy[i]; }
+    for (unsigned i = 0; i < count; i++) if (copy[i] & 1) sum += copy[i];
+    total += sum; return sum;
+}
+__attribute__((noinline)) static unsigned outer(unsigned char *bytes, unsigned *parity) {
+    unsigned sum = inner(bytes, 8) + inner(bytes + 8, 8);
+    *parity = sum & 1; return sum & 7;
+}
+int main(void) {
+    unsigned char bytes[16]; unsigned parity = 0;
+    read_secret(bytes, 16);
+    unsigned low = outer(bytes, &parity);
+    return (low << 1 | (parity & 1)) & 15;
+}
+"""
+
+
+class Tests:
+    """The tests, with a folder for files and the pages that a window is asked about."""
+
+    def __init__(self, folder, program, count):
+        self.folder, self.program, self.count, self.wrongs, self.pages, self.done = folder, program, count, [], [], {}
+
+    def expect(self, what, is_right, detail=""):
+        """Counts a test, and notes it where it fails."""
+        kind = what.split(":")[0]
+        self.done[kind] = self.done.get(kind, 0) + 1
+        if not is_right:
+            self.wrongs.append(f"{what} {detail}")
+
+    def path(self, name):
+        """The path of a file in the folder."""
+        return os.path.join(self.folder, name)
+
+    def write(self, files):
+        """Writes files into the folder."""
+        for name, data in files.items():
+            with open(self.path(name), "wb") as file:
+                file.write(data)
+
+    def words(self, *plain, **options):
+        """The words of explain.py."""
+        usual = {"turns": None, "regions": None, "rules": None, "check": None, "source": [], "flowcheck": self.program}
+        program, public, *secret = plain
+        given = {"program": program, "public": public, "secret": secret[0] if secret else None}
+        return argparse.Namespace(**(usual | given | options))
+
+    def page(self, what, *plain, **options):
+        """Makes the page of a run in both forms, and compares its numbers with those of `report --json`."""
+        title, sections = explain.page(self.words(*plain, **options))
+        text, page = text_page(title, sections), html_page(title, sections)
+        flat = [word for name in ("turns", "regions", "rules") if options.get(name) for word in (f"--{name}", options[name])]
+        asked = Program(self.program)
+        status, answer = asked.answer(["report", *plain, *flat, "--json"])
+        if status:
+            self.expect(f"refused pages: {what}", answer.strip() in text and answer.strip().split(" ")[-1] in page, answer)
+            return page, text
+        numbers = json.loads(answer)
+        cut = read_cut(asked.answer(["measure", *plain, *flat])[1].encode())
+        listed = json.load(open(options["regions"], encoding="utf-8"))["regions"] if options.get("regions") else []
+        wrongs = list(page_wrongs(PageNumbers(page), text, numbers, cut, [region["id"] for region in listed]))
+        self.expect(f"pages: {what}", not wrongs, "; ".join(wrongs))
+        return page, text
+
+    def test_stored(self):
+        """Pages of stored guests, which have no debug information."""
+        for words in STORED:
+            page, _ = self.page(words[0], *(os.path.join(TOP, word) for word in words))
+            self.pages.append((words[0], page))
+
+    def test_random(self):
+        """Pages of random guests."""
+        for seed in range(1, self.count + 1):
+            files, options = measure_trial(seed)
+            if len(files["program"]) > 100_000:
+                continue
+            self.write(files)
+            named = {name.lstrip("-"): value for name, value in options}
+            if "regions" in named:
+                named["regions"] = self.path("regions")
+            page, _ = self.page(f"seed {seed}", *(self.path(name) for name in ("program", "public", "secret")), **named)
+            if seed % 20 == 0:
+                self.pages.append((f"seed {seed}", page))
+
+    def test_rejections(self):
+        """Pages of random checks: the verdict and the place must be those of `check`."""
+        for seed in range(1, self.count + 1):
+            files, words = random_trial(seed)
+            self.write(files)
+            budget = next(word for word in words[3:] if word.isdigit())
+            options = dict(re.findall(r"--(turns|regions)[= ](\S+)", " ".join(words)))
+            options = {name: self.path(value) if name == "regions" else value for name, value in options.items()}
+            for name in [word for word in words if word.startswith("secret")]:
+                self.rejection(f"seed {seed} {name}", budget, self.path(name), options)
+
+    def rejection(self, what, budget, secret, options):
+        """Makes the page of one check."""
+        flat = [word for name, value in options.items() for word in (f"--{name}", value)]
+        program = ProgramFile(explain.read(self.path("program")))
+        inputs = Inputs(self.path("program"), self.path("public"), secret, flat)
+        seen = Rejection(Program(self.program), inputs, self.path("cut"), budget, program)
+        title, sections = rejection_page(seen, program, Places(self.path("program"), program))
+        text, page = text_page(title, sections), html_page(title, sections)
+        is_told = seen.line == seen.model_line and "".join(seen.line.split()) in "".join(text.split())
+        self.expect(f"checks: {what}", is_told, f"{seen.line} | {seen.model_line}")
+        kind = "accepted" if seen.is_accepted else seen.reason.split(" ")[0]
+        self.done[f"checks told: {kind}"] = self.done.get(f"checks told: {kind}", 0) + 1
+        marks = re.fullmatch(r"parted real (.*) replay (.*)", seen.reason)
+        if marks:
+            self.expect(f"places: {what}", seen.lockstep.marks() == marks.groups(), seen.reason)
+        if kind in ("parted", "output"):
+            differing = [passed for passed in seen.lockstep.passed if passed.differs()]
+            self.expect(f"differences: {what}", bool(differing or len(seen.lockstep.passed) > 0), seen.reason)
+            self.expect(f"covers: {what}", bool(seen.covers), seen.reason)
+        if self.done.get(f"shown {kind}", 0) < 2:
+            self.done[f"shown {kind}"] = self.done.get(f"shown {kind}", 0) + 1
+            self.pages.append((what, page))
+
+    def test_lint(self):
+        """Texts that are spoilt at random are refused as the model refuses them, with a line and a caret."""
+        dice = random.Random(1)
+        for seed in range(1, 4 * self.count + 1):
+            files, _ = random_trial(seed % 50 + 1, True)
+            cut = spoilt(dice, files["cut"])
+            self.same_refusal("cuts", seed, cut_text_fault(cut), cut_fault(cut), "refused 3 cut ")
+            if "regions" in files:
+                regions = spoilt(dice, files["regions"])
+                self.same_refusal("regions", seed, regions_text_fault(regions), regions_fault(regions), "refused 3 regions ")
+
+    def same_refusal(self, what, seed, fault, refusal, head):
+        """Compares a refusal with that of the model."""
+        given = fault.refusal if fault else None
+        is_right = given == (head + refusal if refusal else None)
+        self.expect(f"refused {what}: {seed}", is_right and (not fault or bool(fault.lines("name"))), f"{given} for {refusal}")
+
+    def test_findings(self):
+        """What lint.py finds in a cut that is taken in silence."""
+        program, cut = os.path.join(TOP, "examples/bit/program"), self.path("cut")
+        for line, expected in (
+            ("point 0 0x00010018 rs rest 0x00000001", "nothing found"),
+            ("point 0 0x00010019 rs rest 0x00000001", "multiples of 4"),
+            ("point 0 0x00020000 rs rest 0x00000001", "no instruction at this address"),
+            ("point 0 0x00010018 de rest 0x00000001", "passes no de"),
+            ("point 0 0x00010018 a0 rest 0x00000001", "a0 is an argument of a call"),
+            ("point 1 0x00010018 x10 rest 0x00000001", "no region has the number 1"),
+            ("skip 3", "no region has this number"),
+            ("point 0 0x00010010 in rest 0x00000100", "beyond the slot's width 0x000000ff"),
+            ("point 0 0x00010018 rs rest 0x00000000", "no bit ever crosses"),
+            ("point 0 0x00010018 rs rest 0x1", "exactly eight digits: 0x00000001"),
+            ("point 0 0x00010018  rs rest 0x00000001", "exactly one space apart"),
+            ("point 0 0x0001001A rs rest 0x00000001", "lower case letters: 0x0001001a"),
+            ("point 0 0x00010018 rs rest 0x00000001\r", "CR and LF"),
+        ):
+            self.write({"cut": f"flowcheck-cut 1\nsecret 1\nbits 1\n{line}\nend\n".encode()})
+            self.expect(f"findings: {line}", expected in output("lint.py", program, cut)[1], output("lint.py", program, cut)[1])
+        regions = '{"regions": [{"id": 1, "enter": "0x10020", "leave": "0x10018"}, {"id": 2, "enter": "0x20000", "leave": "0x10018"}]}'
+        text = b"flowcheck-cut 1\nsecret 1\nbits 1\nskip 1\npoint 1 0x0001001c x10 rest 0x00000001\nend\n"
+        self.write({"cut": text, "regions": regions.encode()})
+        found = output("lint.py", program, cut, self.path("regions"))[1]
+        for expected in ("pass at its leave address 0x00010018", "x10 is not among the outs", "enter address 0x00020000"):
+            self.expect(f"findings: {expected}", expected in found, found)
+
+    def test_stories(self):
+        """Pages of the stories' guests, as each compiler makes them, whole, without debug information and stripped."""
+        for compiler in compilers():
+            for story, guests in STORIES:
+                source, (public, secret) = os.path.join(TOP, "examples", story), INPUTS[story]
+                for guest in guests:
+                    elf = self.built(compiler, os.path.join(source, guest + ".c"))
+                    inputs = os.path.join(source, public), os.path.join(source, secret)
+                    page, text = self.page(f"{guest} by {compiler}", elf, *inputs)
+                    self.pages.append((f"{guest} by {compiler}", page))
+                    self.expect(f"lines: {guest} by {compiler}", f"{guest}.c:" in text)
+                    if compiler == "gcc":
+                        self.symbolizers(elf)
+                    for option, has_names in (("--strip-debug", True), ("--strip-all", False)):
+                        bare = self.path("bare.elf")
+                        words = ["riscv64-unknown-elf-objcopy", option, elf, bare]
+                        subprocess.run(words, check=True, stderr=subprocess.DEVNULL)
+                        page, text = self.page(f"{guest} by {compiler} {option}", bare, *inputs)
+                        self.pages.append((f"{guest} by {compiler} {option}", page))
+                        self.expect(f"names: {guest} {option}", (" main" in text) == has_names and ".c:" not in text)
+
+    def built(self, compiler, source, *options):
+        """The program file that a compiler makes of a source."""
+        makefile, elf = os.path.join(TOP, "examples/guests/Makefile"), os.path.basename(source)[:-2] + ".elf"
+        with open(source, "rb") as file:
+            self.write({os.path.basename(source): file.read()})
+        words = ["make", "-s", "-B", "-f", makefile, f"COMPILER={compiler}", *options, elf]
+        subprocess.run(words, cwd=self.folder, check=True)
+        return self.path(elf)
+
+    def symbolizers(self, elf):
+        """Each symbolizer must say the same places. Of clang's inlined calls addr2line 2.40 does not know the names."""
+        program, seen = ProgramFile(explain.read(elf)), {}
+        for name in LLVM + ADDR2LINE:
+            if any(os.access(os.path.join(folder, name), os.X_OK) for folder in os.environ["PATH"].split(os.pathsep)):
+                words = [name, "--output-style=GNU", "--addresses", "--functions", "--inlines"] if "llvm" in name else [name, "-afi"]
+                places = Places(elf, program, (), words + ["-e"])
+                seen[name] = [(place.address, place.function, place.line) for place in places.places.values() if place.line]
+        lists = list(seen.values())
+        self.expect(f"symbolizers: {elf}", all(other == lists[0] for other in lists[1:]), " ".join(seen))
+
+    def test_regions(self):
+        """Regions around calls with stack, objects and callees: `measure` keeps to them, and the number goes down."""
+        self.write({"deep.c": DEEP.encode(), "nothing": b""})
+        self.write({f"s{index}": bytes(random.Random(index).randrange(256) for _ in range(16)) for index in range(8)})
+        secrets = [self.path(f"s{index}") for index in range(8)]
+        asked = Program(self.program)
+        for compiler in compilers():
+            elf = self.built(compiler, self.path("deep.c"))
+            base = json.loads(asked.answer(["report", elf, self.path("nothing"), secrets[0], "--json"])[1])["bits"]
+            for function, most in (("outer", 4), ("inner", base)):
+                named = [word for secret in secrets for word in ("--secret", secret)]
+                status, text = output("regions.py", elf, function, *named, "--flowcheck", self.program or "")
+                self.expect(f"regions: {function} by {compiler}", status == 0, text)
+                self.write({"regions": text[text.index("{") :].encode()})
+                named = ["--regions", self.path("regions")]
+                for secret in secrets:
+                    status, report = asked.answer(["report", elf, self.path("nothing"), secret, *named, "--json"])
+                    bits = json.loads(report)["bits"] if status == 0 else report
+                    self.expect(f"regions: {function} by {compiler} on {secret}", status == 0 and bits <= most, str(bits))
+                page, _ = self.page(f"{function} region", elf, self.path("nothing"), secrets[0], regions=named[1])
+                self.pages.append((f"{function} region by {compiler}", page))
+            for function in ("main", "missing"):
+                self.expect(f"no region: {function}", output("regions.py", elf, function)[0] == 1)
+
+    def test_windows(self):
+        """No page is wider than its window."""
+        chromium = Chromium(self.folder)
+        if not chromium.name:
+            print("no Chromium: the widths of pages are not tried")
+            return
+        for name, page in self.pages:
+            for width in (1280, 390):
+                wide = chromium.overflow(page, width)
+                self.expect(f"windows: {name} at {width}", wide == [], str(wide))
+
+
+def compilers():
+    """The compilers that are there."""
+    found = []
+    for name, command in (("gcc", "riscv64-unknown-elf-gcc"), ("clang", "ld.lld")):
+        if any(os.access(os.path.join(folder, command), os.X_OK) for folder in os.environ["PATH"].split(os.pathsep)):
+            found.append(name)
+    return found
+
+
+def output(script, *words):
+    """The status of a script and what it prints."""
+    words = [word for word in words if word] if "" not in words else list(words[:-2])
+    done = subprocess.run([sys.executable, os.path.join(HERE, script), *words], capture_output=True, text=True, check=False)
+    return done.returncode, done.stderr + done.stdout
+
+
+def spoilt(dice, text):
+    """A text with some bytes changed, left out, doubled or exchanged."""
+    text = bytearray(text)
+    for _ in range(dice.choice([0, 1, 1, 1, 2, 3])):
+        place = dice.randrange(len(text))
+        kind = dice.randrange(6)
+        if kind == 0:
+            text[place] = dice.choice(b"0123456789abcdefAFxX* \t\r\n\"{}[],:-")
+        elif kind == 1:
+            del text[place]
+        elif kind == 2:
+            text.insert(place, text[place])
+        elif kind == 3:
+            text.insert(place, dice.choice(b"0 \r\t\n9a"))
+        elif kind == 4:
+            lines = text.split(b"\n")
+            index = dice.randrange(len(lines))
+            lines.insert(dice.randrange(len(lines)), lines[index])
+            text = bytearray(b"\n".join(lines))
+        else:
+            text = dice.choice([text[:place], bytearray(b"\xef\xbb\xbf") + text, text + b"end\n", text])
+        text = text or bytearray(b"\n")
+    return bytes(text)
+
+
+def main():
+    """Runs the tests."""
+    parser = argparse.ArgumentParser(description=__doc__.split("\n")[0])
+    parser.add_argument("--count", type=int, default=100)
+    parser.add_argument("--flowcheck", default=os.environ.get("FLOWCHECK"))
+    words = parser.parse_args()
+    with tempfile.TemporaryDirectory(prefix="picture-") as folder:
+        tests = Tests(folder, words.flowcheck, words.count)
+        for name in [name for name in dir(Tests) if name.startswith("test_") and name != "test_windows"]:
+            getattr(tests, name)()
+        tests.test_windows()
+    print(", ".join(f"{count} {kind}" for kind, count in tests.done.items() if not kind.startswith("shown")))
+    print("\n".join(tests.wrongs) or "all right")
+    return 1 if tests.wrongs else 0
+
+
+if __name__ == "__main__":
+    sys.exit(main())
