@@ -2,11 +2,11 @@
 
 Call: picture_tests.py [--count N] [--flowcheck COMMAND]
 
-Pages of N random guests (100 without the option), of the stories under examples/ where there are compilers, and of stored
-guests: their numbers must be those of `report --json`, their pictures must carry the same flow from the secret to the
-cut and to what is seen, and the pages of random secrets must tell the verdict that `check` tells. Texts of cuts that are
-spoilt at random must be refused as the model refuses them. Where there is Chromium no page may be wider than a window of
-1280 or 390 pixels. FLOWCHECK, or the option, is the program; without it the built one is taken, else the model."""
+Pages of N random guests (100 without the option), of the stories under examples/ where there are compilers, and of
+stored guests: their numbers must be those of `report --json`, their pictures must carry the same flow from the secret
+to the cut and to what is seen, and the pages of random secrets must tell the verdict that `check` tells. Texts that are
+spoilt at random must be refused as the model refuses them. Where there is Chromium no page may be wider than a window
+of 1280 or 390 pixels. FLOWCHECK, or the option, is the program; without it the built one is taken, else the model."""
 import argparse
 import json
 import os
@@ -99,11 +99,13 @@ class Tests:
         """Makes the page of a run in both forms, and compares its numbers with those of `report --json`."""
         title, sections = explain.page(self.words(*plain, **options))
         text, page = text_page(title, sections), html_page(title, sections)
-        flat = [word for name in ("turns", "regions", "rules") if options.get(name) for word in (f"--{name}", options[name])]
+        named = [name for name in ("turns", "regions", "rules") if options.get(name)]
+        flat = [word for name in named for word in (f"--{name}", options[name])]
         asked = Program(self.program)
         status, answer = asked.answer(["report", *plain, *flat, "--json"])
         if status:
-            self.expect(f"refused pages: {what}", answer.strip() in text and answer.strip().split(" ")[-1] in page, answer)
+            is_told = "".join(answer.split()) in "".join(text.split()) and answer.split()[-1] in page
+            self.expect(f"refused pages: {what}", is_told, answer)
             return page, text
         numbers = json.loads(answer)
         cut = read_cut(asked.answer(["measure", *plain, *flat])[1].encode())
@@ -175,13 +177,15 @@ class Tests:
             self.same_refusal("cuts", seed, cut_text_fault(cut), cut_fault(cut), "refused 3 cut ")
             if "regions" in files:
                 regions = spoilt(dice, files["regions"])
-                self.same_refusal("regions", seed, regions_text_fault(regions), regions_fault(regions), "refused 3 regions ")
+                faults = regions_text_fault(regions), regions_fault(regions)
+                self.same_refusal("regions", seed, *faults, "refused 3 regions ")
 
     def same_refusal(self, what, seed, fault, refusal, head):
         """Compares a refusal with that of the model."""
         given = fault.refusal if fault else None
         is_right = given == (head + refusal if refusal else None)
-        self.expect(f"refused {what}: {seed}", is_right and (not fault or bool(fault.lines("name"))), f"{given} for {refusal}")
+        is_told = not fault or bool(fault.lines("name"))
+        self.expect(f"refused {what}: {seed}", is_right and is_told, f"{given} for {refusal}")
 
     def test_findings(self):
         """What lint.py finds in a cut that is taken in silence."""
@@ -202,12 +206,16 @@ class Tests:
             ("point 0 0x00010018 rs rest 0x00000001\r", "CR and LF"),
         ):
             self.write({"cut": f"flowcheck-cut 1\nsecret 1\nbits 1\n{line}\nend\n".encode()})
-            self.expect(f"findings: {line}", expected in output("lint.py", program, cut)[1], output("lint.py", program, cut)[1])
-        regions = '{"regions": [{"id": 1, "enter": "0x10020", "leave": "0x10018"}, {"id": 2, "enter": "0x20000", "leave": "0x10018"}]}'
+            found = output("lint.py", program, cut)[1]
+            self.expect(f"findings: {line}", expected in found, found)
+        regions = (
+            '{"regions": [{"id": 1, "enter": "0x10020", "leave": "0x10018"},'
+            ' {"id": 2, "enter": "0x20000", "leave": "0x10018"}]}'
+        )
         text = b"flowcheck-cut 1\nsecret 1\nbits 1\nskip 1\npoint 1 0x0001001c x10 rest 0x00000001\nend\n"
         self.write({"cut": text, "regions": regions.encode()})
         found = output("lint.py", program, cut, self.path("regions"))[1]
-        for expected in ("pass at its leave address 0x00010018", "x10 is not among the outs", "enter address 0x00020000"):
+        for expected in ("pass at its leave address 0x00010018", "x10 is not among the outs", "address 0x00020000"):
             self.expect(f"findings: {expected}", expected in found, found)
 
     def test_stories(self):
@@ -245,16 +253,16 @@ class Tests:
         program, seen = ProgramFile(explain.read(elf)), {}
         for name in LLVM + ADDR2LINE:
             if any(os.access(os.path.join(folder, name), os.X_OK) for folder in os.environ["PATH"].split(os.pathsep)):
-                words = [name, "--output-style=GNU", "--addresses", "--functions", "--inlines"] if "llvm" in name else [name, "-afi"]
-                places = Places(elf, program, (), words + ["-e"])
-                seen[name] = [(place.address, place.function, place.line) for place in places.places.values() if place.line]
+                words = ["--output-style=GNU", "--addresses", "--functions"] if "llvm" in name else ["-afi"]
+                places = Places(elf, program, (), [name, *words, "-e"]).places.values()
+                seen[name] = [(place.address, place.function, place.line) for place in places if place.line]
         lists = list(seen.values())
         self.expect(f"symbolizers: {elf}", all(other == lists[0] for other in lists[1:]), " ".join(seen))
 
     def test_regions(self):
         """Regions around calls with stack, objects and callees: `measure` keeps to them, and the number goes down."""
         self.write({"deep.c": DEEP.encode(), "nothing": b""})
-        self.write({f"s{index}": bytes(random.Random(index).randrange(256) for _ in range(16)) for index in range(8)})
+        self.write({f"s{index}": random.Random(index).randbytes(16) for index in range(8)})
         secrets = [self.path(f"s{index}") for index in range(8)]
         asked = Program(self.program)
         for compiler in compilers():
@@ -269,11 +277,23 @@ class Tests:
                 for secret in secrets:
                     status, report = asked.answer(["report", elf, self.path("nothing"), secret, *named, "--json"])
                     bits = json.loads(report)["bits"] if status == 0 else report
-                    self.expect(f"regions: {function} by {compiler} on {secret}", status == 0 and bits <= most, str(bits))
+                    what = f"regions: {function} by {compiler} on {secret}"
+                    self.expect(what, status == 0 and bits <= most, str(bits))
                 page, _ = self.page(f"{function} region", elf, self.path("nothing"), secrets[0], regions=named[1])
                 self.pages.append((f"{function} region by {compiler}", page))
+            self.suggestion(compiler, elf, secrets)
             for function in ("main", "missing"):
                 self.expect(f"no region: {function}", output("regions.py", elf, function)[0] == 1)
+
+    def suggestion(self, compiler, elf, secrets):
+        """The page of a secret that parts inside a function names a region around its call."""
+        inputs = Inputs(elf, self.path("nothing"), secrets[1])
+        self.write({"cut": b"flowcheck-cut 1\nsecret 16\nbits 0\nend\n"})
+        program = ProgramFile(explain.read(elf))
+        seen = Rejection(Program(self.program), inputs, self.path("cut"), "64", program)
+        text = text_page(*rejection_page(seen, program, Places(elf, program)))
+        self.expect(f"suggestions: {compiler}", "With them the secret is accepted" in text, text)
+        self.expect(f"suggestions: {compiler}", "Or a region around the call of inner" in " ".join(text.split()), text)
 
     def test_windows(self):
         """No page is wider than its window."""
@@ -299,7 +319,8 @@ def compilers():
 def output(script, *words):
     """The status of a script and what it prints."""
     words = [word for word in words if word] if "" not in words else list(words[:-2])
-    done = subprocess.run([sys.executable, os.path.join(HERE, script), *words], capture_output=True, text=True, check=False)
+    command = [sys.executable, os.path.join(HERE, script), *words]
+    done = subprocess.run(command, capture_output=True, text=True, check=False)
     return done.returncode, done.stderr + done.stdout
 
 

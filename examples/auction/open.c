@@ -1,5 +1,5 @@
-/* A sealed-bid auction. The secret are the bids of four bidders, three digits each: the highest bid wins, and the winner
- * pays the second highest. The public input has the lowest price, three digits too. */
+/* A sealed-bid auction. The secret is the bids of four bidders, three digits each. The highest bid wins, and the winner
+ * pays the second highest. The public input is the lowest price, three digits too. */
 #include "flowcheck.h"
 
 enum { BIDDERS = 4, DIGITS = 3 };

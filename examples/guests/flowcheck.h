@@ -1,4 +1,4 @@
-/* What a guest in C needs, for gcc and clang: the calls, the start, and the functions that compilers call by themselves.
+/* What a guest in C needs, for gcc and clang: the calls, the start, and functions that compilers call by themselves.
  *
  * Include it in one file and write `int main(void)`. The guest exits with what main returns.
  *

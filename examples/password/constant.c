@@ -1,5 +1,5 @@
-/* The password check of early.c with the same work for every password: the differences of all letters are collected, and
- * one decision is made of them. */
+/* The password check of early.c with the same work for every password: the differences of all letters are collected,
+ * and one decision is made of them. */
 #include "flowcheck.h"
 
 enum { LENGTH = 8 };

@@ -1,5 +1,5 @@
-/* The redactor of stars.c with the initial of the name and three stars, however long the name is. Five bits of a byte tell
- * which capital letter it is. */
+/* The redactor of stars.c with the initial of the name and three stars, however long the name is. Five bits of a byte
+ * tell which capital letter it is. */
 #include "flowcheck.h"
 
 enum { LENGTH = 12 };

@@ -32,7 +32,7 @@ class ProgramFile:
         self.starts = [function.address for function in self.functions]
 
     def executable_loads(self):
-        """The first address and the one behind the last of each load that may be executed; of all where none says so."""
+        """The first address and the one behind the last of each load that may be executed, or of all where none may."""
         place, size, count = struct.unpack_from("<I", self.file, 28)[0], *struct.unpack_from("<HH", self.file, 42)
         headers = [struct.unpack_from("<8I", self.file, place + size * index) for index in range(count)]
         loads = [header for header in headers if header[0] == 1 and header[5] and header[4]]

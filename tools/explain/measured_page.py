@@ -74,8 +74,8 @@ def picture_section(facts, places):
     ]
     words = (
         f"One maximum flow, {level_words(wide, places)}: blue on the secret's side of the cut, amber on the side that "
-        "is seen, and as wide as the bits that flow; what goes to and fro is left out. Other maximum flows may take other "
-        "ways; all of them pass the cut."
+        "is seen, and as wide as the bits that flow; what goes to and fro is left out. Other maximum flows may take "
+        "other ways; all of them pass the cut."
     )
     return Section("The flow", Drawing(wide.svg(label), narrow.svg(label), lines), Words(words, "dim"))
 

@@ -19,8 +19,9 @@ LOOK = """
     var box = one.getBoundingClientRect();
     if (box.width && (box.right > width + 0.5 || box.left < -0.5) && wide.length < 5)
       wide.push(one.tagName + " " + box.left + " to " + box.right);
-    if (one.scrollWidth > one.clientWidth + 1 && ["TD", "PRE", "P", "TABLE", "DIV"].includes(one.tagName) && wide.length < 5)
-      wide.push(one.tagName + " holds " + one.scrollWidth + " in " + one.clientWidth + ": " + one.textContent.slice(0, 40));
+    var holds = ["TD", "PRE", "P", "TABLE", "DIV"].includes(one.tagName);
+    if (holds && one.scrollWidth > one.clientWidth + 1 && wide.length < 5)
+      wide.push(one.tagName + " holds " + one.scrollWidth + " in " + one.clientWidth);
     if (one.tagName == "text") {
       var around = one.parentNode.querySelector("rect").getBoundingClientRect();
       if (box.width && (box.left < around.left - 1 || box.right > around.right + 1) && wide.length < 5)
@@ -72,7 +73,8 @@ def page_wrongs(page, text, numbers, cut, listed):
     visits = {f"{point[0]} {shown(point[1])} {point[2]}": length_of(runs) for point, (runs, _) in cut.points.items()}
     if page.visits != visits:
         yield f"visits {page.visits} for {visits}"
-    for form in ("took {turns:,} turns", "wrote {output:,} bytes", "status {status}.", "{points:,} points and {links:,} links"):
+    forms = "took {turns:,} turns", "wrote {output:,} bytes", "status {status}.", "{points:,} points", "{links:,} links"
+    for form in forms:
         if form.format(**numbers) not in words:
             yield f"no {form.format(**numbers)}"
     if page.regions != {number: number in numbers["skip"] for number in listed}:
@@ -81,7 +83,7 @@ def page_wrongs(page, text, numbers, cut, listed):
 
 
 def picture_wrongs(page, bits):
-    """What in the pictures of a page is wrong: each carries all bits from the secret through the cut to what is seen."""
+    """What is wrong in the pictures of a page: each carries all bits from the secret through the cut to the output."""
     if len(page.pictures) != (2 if bits else 0):
         yield f"{len(page.pictures)} pictures"
     for flows, boxes in zip(page.pictures, page.boxes):
