@@ -118,14 +118,14 @@ class Drawing:
 
 
 class Folded:
-    """A block behind a title, which a click opens."""
+    """Lines behind a title, which a click opens and closes; only many lines are closed at first."""
 
-    def __init__(self, title, block):
-        self.title, self.block = title, block
+    def __init__(self, title, lines):
+        self.title, self.block, self.mark = title, Commands(lines), " open" if len(lines) <= 40 else ""
 
     def html(self):
         """As HTML."""
-        return f"<details><summary>{html.escape(self.title)}</summary>{self.block.html()}</details>"
+        return f"<details{self.mark}><summary>{html.escape(self.title)}</summary>{self.block.html()}</details>"
 
     def text(self):
         """As lines."""

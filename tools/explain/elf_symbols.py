@@ -97,8 +97,8 @@ class ProgramFile:
         return sum(self.image.memory.get(address + index, 0) << 8 * index for index in range(4))
 
     def instruction(self, address):
-        """The instruction at an address, or None."""
-        return decode(self.word(address)) if self.is_code(address) else None
+        """The instruction at an address of the file's loads, or None."""
+        return decode(self.word(address)) if address % 4 == 0 and address in self.image.memory else None
 
     def addresses(self):
         """The addresses of all words of code."""

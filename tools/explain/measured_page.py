@@ -24,7 +24,7 @@ def number_section(facts):
     if bits:
         first = f"The output of this run can have given away at most {bits_text(bits)} of {whole}."
     else:
-        first = f"The output of this run has given away nothing of {whole}."
+        first = f"The output of this run can have given away nothing of {whole}."
     promise = (
         f"All secrets that check accepts with this cut and a budget of {bits_text(bits)} have at most "
         f"{outputs_text(bits)} together. The output is what the guest writes and its exit status; time is not counted."
@@ -159,7 +159,7 @@ def commands_section(facts):
         Commands(lines),
         Words(again),
         Commands([shlex.join(explain + usual)]),
-        Folded("The cut", Commands(facts.cut_text.rstrip("\n").split("\n"), "cut")),
+        Folded("The cut", facts.cut_text.rstrip("\n").split("\n")),
     )
 
 

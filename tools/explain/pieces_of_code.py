@@ -94,7 +94,7 @@ def listing_block(title, program, places, marks, ranges):
     lines, last = [], None
     for begin, end in ranges:
         lines += [("", "", "…", "")] if lines else []
-        for address in (4 * word for word in range(begin, end + 1) if program.is_code(4 * word)):
+        for address in (4 * word for word in range(begin, end + 1) if 4 * word in program.image.memory):
             place = places.at(address)
             if place.file and (place.file, place.line) != last:
                 last = place.file, place.line

@@ -74,12 +74,12 @@ class Lockstep:
             if stopped or len(self.bits) > budget or self.is_parted(turn):
                 self.turn = turn
                 return
-        self.turn = getattr(self.real, "stopped", None)
+        self.turn, self.passed = getattr(self.real, "stopped", None), []
         if self.turn:
-            self.number, self.begin = self.number + 1, self.turn.begin
+            self.number, self.begin, self.kind = self.number + 1, self.turn.begin, self.turn.kind
             self.passed = [Passed(visit[:3], visit[3], None, 0) for visit in self.turn.visits]
         else:
-            self.begin = self.real.turns[-1].pc if self.real.turns else image.entry
+            self.begin, self.kind = self.real.turns[-1].pc if self.real.turns else image.entry, "step"
 
     def cross(self, turn, masks):
         """Lets the bits of a turn cross; the masks of its visits."""
@@ -118,6 +118,13 @@ class Lockstep:
         mark = turn.pc, len(self.bits), turn.output_length, turn.is_exited
         is_same = self.real.guest.output[: turn.output_length] == self.replay.guest.output
         return turn.is_exited or mark != self.replay.mark() or not is_same
+
+    def busiest(self):
+        """The addresses at which most turns of the real run begin, each with their number."""
+        counts = {}
+        for turn in self.real.turns:
+            counts[turn.begin] = counts.get(turn.begin, 0) + 1
+        return sorted(counts.items(), key=lambda item: -item[1])
 
     def marks(self):
         """Where both runs stand, or nothing where one has been stopped."""

@@ -6,11 +6,13 @@ from document import Commands, Section, Table, Words
 from flow_picture import bits_text
 from guest import shown
 from instruction_text import instruction_text, slot_words
-from measured_page import REFUSALS
+from measured_page import REFUSALS, outputs_text
 from measures import Measured, Refused
 from pieces_of_code import Marks, listing_blocks, source_blocks
 from region_finding import Calls, Enclosure, NoRegion, note_run, regions_text
 
+MOST_ROWS = 20
+KINDS = {"enter": "the entry of a region", "leave": "the leave of a region", "skip": "the skip of a region"}
 REASONS = {
     "budget": "The run of this secret lets more bits cross the cut than the budget allows.",
     "replay": "The replay, which knows the bits that crossed and not the secret, cannot go on as the real run does.",
@@ -42,7 +44,7 @@ def verdict_section(rejection):
     if rejection.is_accepted:
         words = (
             "Nothing parts the two runs. Of any secrets that this check accepts at most "
-            f"2^{rejection.budget} different outputs arise."
+            f"{outputs_text(rejection.budget)} can arise."
         )
         return Section("", *blocks, Words(words))
     return Section("", *blocks, Words(reason_words(rejection.reason)))
@@ -60,6 +62,14 @@ def value_text(value, point):
     return text + (f" '{chr(value)}'" if is_byte and 32 <= value < 127 else f" ({value:,})" if not is_byte else "")
 
 
+def shown_of(passed):
+    """Of the values of a turn those that are shown: not all bytes of a long read, write or range."""
+    if len(passed) <= MOST_ROWS:
+        return passed
+    kept = [one for one in passed if one.point[2] not in ("in", "ou") and one.point[2][0] != "r" or one.differs()]
+    return kept[:MOST_ROWS]
+
+
 def where_section(rejection, program, places):
     """The turn and the instruction at which the verdict falls."""
     lockstep = rejection.lockstep
@@ -67,20 +77,26 @@ def where_section(rejection, program, places):
         return None
     address, kind = lockstep.begin, lockstep.kind
     place, text = places.at(address), instruction_text(program.instruction(address), address)
-    turn = f"turn {lockstep.number:,} of those that both runs make" if lockstep.number else "the first turn"
-    parts = [f"It is {turn}, at {shown(address)}", text if kind == "step" else f"the {kind} of a region", place.text()]
+    turn = f"turn {lockstep.number:,} of those that both runs make" if lockstep.turn else "where the run stands"
+    parts = [f"It is {turn}, at {shown(address)}", text if kind == "step" else KINDS[kind]]
+    parts += [place.text()] if place.function else []
     line = places.line_of(place).strip() or "No line of a source is known."
     blocks = [Words(", ".join(parts) + "."), Words(line, "dim")]
     rows = []
-    for passed in lockstep.passed[:200]:
+    for passed in shown_of(lockstep.passed):
         sign = " (differs)" if passed.differs() else ""
         values = [value_text(value, passed.point) for value in (passed.real, passed.replayed)]
         mask = shown(passed.mask) if passed.mask else "-"
         rows.append([passed.point[2] + sign, slot_words(passed.point[2]), *values, mask])
+    if len(rows) < len(lockstep.passed):
+        rows.append(["", f"{len(lockstep.passed) - len(rows):,} more, which are the same", "", "", ""])
     if rows:
         heads = ["Slot", "What passes", "Real run", "Replay", "Mask of the cut"]
         attributes = [{"data-slot": row[0], "class": "cut" if "differs" in row[0] else ""} for row in rows]
         blocks.append(Table(heads, rows, attributes, "slots"))
+    if rejection.reason.startswith("turns"):
+        busiest = [[f"{count:,}", shown(place), places.at(place).text()] for place, count in lockstep.busiest()[:8]]
+        blocks.append(Table(["Turns", "Instruction", "Place"], busiest, None, "points"))
     marks = lockstep.marks()
     if marks and not rejection.reason.startswith(("budget", "replay")):
         rows = [["Real run", marks[0]], ["Replay", marks[1]]]
