@@ -3,9 +3,7 @@
 A node is SOURCE, SINK, (CUT, group), (RELAY, region) or (SECRET_SIDE or SEEN_SIDE, group)."""
 from guest import shown
 from passings import POINT, RELAY
-from passings import SINK as LAST
 from passings import SOURCE as FIRST
-
 
 SOURCE, SINK = ("source", ""), ("sink", "")
 CUT, RELAY_NODE, SECRET_SIDE, SEEN_SIDE = "cut", "relay", "secret side", "seen side"
