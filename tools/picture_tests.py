@@ -63,6 +63,14 @@ int main(void) {
     return (low << 1 | (parity & 1)) & 15;
 }
 """
+TAIL = """
+#include "flowcheck.h"
+static volatile int sink;
+__attribute__((noinline)) static int leaf(int x) { for (int i = 0; i < x; i++) sink += i; return sink; }
+__attribute__((noinline)) static int middle(int x) { sink = x; return leaf(x + 1); }
+__attribute__((noinline)) static int down(int x) { return x <= 0 ? sink : down(x - 1) + down(x - 2); }
+int main(void) { unsigned char s; read_secret(&s, 1); return (middle(s & 3) + down(s & 3)) & 3; }
+"""
 
 
 class Tests:
@@ -270,7 +278,7 @@ class Tests:
             base = json.loads(asked.answer(["report", elf, self.path("nothing"), secrets[0], "--json"])[1])["bits"]
             for function, most in (("outer", 4), ("inner", base)):
                 named = [word for secret in secrets for word in ("--secret", secret)]
-                status, text = output("regions.py", elf, function, *named, "--flowcheck", self.program or "")
+                status, text = self.regions_of(elf, function, *named)
                 self.expect(f"regions: {function} by {compiler}", status == 0, text)
                 self.write({"regions": text[text.index("{") :].encode()})
                 named = ["--regions", self.path("regions")]
@@ -284,6 +292,15 @@ class Tests:
             self.suggestion(compiler, elf, secrets)
             for function in ("main", "missing"):
                 self.expect(f"no region: {function}", output("regions.py", elf, function)[0] == 1)
+            self.write({"tail.c": TAIL.encode()})
+            elf = self.built(compiler, self.path("tail.c"))
+            for function, is_region in (("middle", True), ("down", True), ("leaf", False)):
+                status, text = self.regions_of(elf, function, "--secret", secrets[0])
+                self.expect(f"regions: {function} by {compiler}", (status == 0) == is_region, text)
+
+    def regions_of(self, *words):
+        """The status and the text of regions.py."""
+        return output("regions.py", *words, *(["--flowcheck", self.program] if self.program else []))
 
     def suggestion(self, compiler, elf, secrets):
         """The page of a secret that parts inside a function names a region around its call."""
@@ -318,7 +335,6 @@ def compilers():
 
 def output(script, *words):
     """The status of a script and what it prints."""
-    words = [word for word in words if word] if "" not in words else list(words[:-2])
     command = [sys.executable, os.path.join(HERE, script), *words]
     done = subprocess.run(command, capture_output=True, text=True, check=False)
     return done.returncode, done.stderr + done.stdout

@@ -1,5 +1,6 @@
 """The page of a measured run: the number, the cut, the picture, the sources, the regions, and what to do next."""
 import shlex
+from os.path import basename as base
 
 from document import Commands, Drawing, Folded, Section, Table, Words
 from flow_picture import bits_text, node_text, picture_of
@@ -166,7 +167,7 @@ def commands_section(facts):
 def measured_page(facts, program, places):
     """The title and the sections of the page of a measured run."""
     inputs = facts.inputs
-    title = f"{bits_text(facts.numbers['bits'])} of {inputs.secret} in {inputs.program}"
+    title = f"{bits_text(facts.numbers['bits'])} of {base(inputs.secret)} in {base(inputs.program)}"
     sections = [number_section(facts), cut_section(facts, program, places), picture_section(facts, places)]
     sections += code_sections(facts, program, places) + [regions_section(facts, places), commands_section(facts)]
     return title, [section for section in sections if section]
@@ -181,7 +182,7 @@ def refused_page(text, inputs, program, places):
         marks = Marks(parted=addresses[0])
         where = Words(f"It is at {places.at(addresses[0]).text()}, {shown(addresses[0])}.")
         sections.append(Section("Where", where, *source_blocks(places, marks), *listing_blocks(program, places, marks)))
-    return f"No number for {inputs.secret} in {inputs.program}", sections
+    return f"No number for {base(inputs.secret)} in {base(inputs.program)}", sections
 
 
 REFUSALS = {

@@ -16,24 +16,25 @@ class NoRegion(Exception):
 
 
 class Calls:
-    """The calls in a program file: who calls whom, and where."""
+    """The calls in a program file: who calls or jumps to whom, and where."""
 
     def __init__(self, program):
-        self.program, self.sites, self.indirect, self.facts = program, {}, set(), {}
+        self.program, self.sites, self.jumps, self.indirect = program, {}, {}, set()
         before = None
         for address in program.addresses():
             instruction = program.instruction(address)
             target = self.target_of(address, instruction, before)
             if target is not None:
-                self.sites.setdefault(target, []).append(address)
+                kept = self.sites if instruction.destination == RETURN else self.jumps
+                kept.setdefault(target, []).append(address)
             elif instruction and instruction.form == "jump_register" and instruction.destination == RETURN:
                 self.indirect.add(address)
             before = instruction
 
     @staticmethod
     def target_of(address, instruction, before):
-        """Where a call goes, JAL or JALR behind its AUIPC; None where the instruction is no such call."""
-        if instruction is None or instruction.destination != RETURN:
+        """Where a call or a jump goes, JAL or JALR behind its AUIPC; None where the instruction is neither."""
+        if instruction is None or instruction.destination not in (0, RETURN):
             return None
         if instruction.form == "jump":
             return (address + instruction.immediate) & ALL
@@ -45,16 +46,14 @@ class Calls:
     def callees(self, function):
         """The functions that a function calls or jumps to."""
         found = {}
-        for target, sites in self.sites.items():
-            if any(function.holds(site) for site in sites):
+        for target, sites in [*self.sites.items(), *self.jumps.items()]:
+            if not function.holds(target) and any(function.holds(site) for site in sites):
                 found[target] = self.program.function_at(target)
-        for address in range(function.address, function.address + function.size, 4):
-            instruction = self.program.instruction(address)
-            if instruction and instruction.form == "jump" and not instruction.destination:
-                target = (address + instruction.immediate) & ALL
-                if not function.holds(target):
-                    found[target] = self.program.function_at(target)
         return [callee for callee in found.values() if callee]
+
+    def jumps_to(self, function):
+        """The jumps from elsewhere to the begin of a function, which are calls without a return."""
+        return [site for site in self.jumps.get(function.address, []) if not function.holds(site)]
 
     def written(self, function, seen=()):
         """The registers that a function and those that it calls may write, and how much of the stack they take."""
@@ -146,6 +145,10 @@ def enclosures_of(program, names):
             raise NoRegion(f"{name} is no function of the program; a compiler may have put its body where it is called")
         inside += functions
     for function in inside:
+        jumps = ", ".join(map(shown, calls.jumps_to(function)))
+        if jumps:
+            hint = "no region can be around that; build with -fno-optimize-sibling-calls"
+            raise NoRegion(f"{function.name} is called by a jump at {jumps}, and {hint}")
         sites = calls.sites.get(function.address, [])
         outer = [site for site in sites if not any(other.holds(site) for other in inside)]
         if not outer:

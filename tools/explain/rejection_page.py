@@ -1,5 +1,6 @@
 """The page of a secret that `check` is asked about: where the two runs part, and what would have covered it."""
 import shlex
+from os.path import basename as base
 
 from cuts import read_regions
 from document import Commands, Section, Table, Words
@@ -217,7 +218,7 @@ def rejection_page(rejection, program, places):
     """The title and the sections of the page."""
     inputs = rejection.inputs
     word = "accepted" if rejection.is_accepted else "rejected"
-    title = f"{inputs.secret} is {word} by {rejection.cut_name} in {inputs.program}"
+    title = f"{base(inputs.secret)} is {word} by {base(rejection.cut_name)} in {base(inputs.program)}"
     sections = [verdict_section(rejection), where_section(rejection, program, places), cover_section(rejection, places)]
     sections.append(crossing_section(rejection, places))
     lockstep = rejection.lockstep
