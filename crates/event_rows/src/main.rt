@@ -10,15 +10,14 @@ mod texts;
 mod turns;
 mod words;
 
-use elf32_loader::Image;
 use flow_graph::EventList;
 use guests::Guest;
 use lines::{Line, read_line};
 use std::io;
 use texts::{AnswerText, EventText};
-use tracked_run::{Tracked, TrackedTurn};
+use tracked_run::TrackedTurn;
 use transfer_rules::*;
-use turns::{Row, next_turn};
+use turns::{Row, rows_of};
 
 /// Prints events.
 fn print_events(rt: &HostRuntime, events: &EventList) -> io::Result<()> {
@@ -38,48 +37,12 @@ fn print_row(rt: &HostRuntime, row: &Row) -> io::Result<()> {
     println!(rt; "{answer}")
 }
 
-/// Prints the turns of a run up to its end, but at most so many.
-fn print_turns(rt: &HostRuntime, tracked: &mut Tracked<'_>, turns: u32) -> io::Result<()> {
-    for _ in 0..turns {
-        let Ok(row) = next_turn(rt.alloc(), tracked) else {
-            return println!(rt; "memory is short");
-        };
-        print_row(rt, &row)?;
-        if row.answer != TrackedTurn::Ran {
-            return Ok(());
-        }
+/// Prints the rows of a run.
+fn print_rows(rt: &HostRuntime, rows: &[Row]) -> io::Result<()> {
+    for row in rows {
+        print_row(rt, row)?;
     }
     Ok(())
-}
-
-/// Prints the turns of a guest with this program.
-fn print_run(
-    rt: &HostRuntime,
-    guest: &Guest,
-    image: &Image,
-    book: &RuleBook,
-    turns: u32,
-) -> io::Result<()> {
-    let secret = guest.secret();
-    let Ok(mut tracked) = Tracked::new(
-        rt.alloc(),
-        image,
-        guest.public(),
-        secret,
-        guest.regions(),
-        book,
-    ) else {
-        return println!(rt; "memory is short");
-    };
-    print_turns(rt, &mut tracked, turns)
-}
-
-/// Prints the turns of a guest.
-fn print_guest(rt: &HostRuntime, guest: &Guest, book: &RuleBook, turns: u32) -> io::Result<()> {
-    match programs::program(rt.alloc(), guest.code()) {
-        Some(image) => print_run(rt, guest, &image, book, turns),
-        None => println!(rt; "no program"),
-    }
 }
 
 fn main(rt: HostRuntime) -> io::Result<()> {
@@ -115,7 +78,10 @@ fn main(rt: HostRuntime) -> io::Result<()> {
                     println!(rt; "no part of a guest")?;
                 }
             }
-            Some(Line::Turns(turns)) => print_guest(&rt, &guest, &book, turns)?,
+            Some(Line::Turns(turns)) => match rows_of(rt.alloc(), &guest, &book, turns) {
+                Some(rows) => print_rows(&rt, rows.as_slice())?,
+                None => println!(rt; "no run")?,
+            },
             None => println!(rt; "no line of a table")?,
         }
     }

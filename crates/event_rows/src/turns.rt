@@ -3,10 +3,13 @@ ghost use Rattle.run_labels.specs.Runs.{LabelledRun};
 ghost use Rattle.tracked_run.specs.Runs.{Stands};
 ghost use Rattle.event_rows.specs.Rows.{IsRow};
 
-use flow_base::NoMemory;
+use crate::guests::Guest;
+use crate::programs::program;
+use flow_base::{List, NoMemory};
 use flow_graph::EventList;
 use std::alloc::Global;
 use tracked_run::{Tracked, TrackedTurn};
+use transfer_rules::RuleBook;
 
 /// What a turn of a measured run adds and answers.
 #[derive(Drop)]
@@ -19,7 +22,7 @@ pub struct Row {
 
 /// The next turn of a run that has not ended, with the events that it adds.
 /// `NoMemory` where there is not enough.
-pub fn next_turn(alloc: Global, tracked: &mut Tracked<'_>) -> Result<Row, NoMemory>
+fn next_turn(alloc: Global, tracked: &mut Tracked<'_>) -> Result<Row, NoMemory>
     ensures { tracked.old.spent ≡ None → IfOk result (λ row. (run : LabelledRun) →
         Stands tracked.old.machine tracked.old.shadow run →
         IsRow tracked.old.book.now.table tracked.old.regions.now.items run tracked.new.machine tracked.new.shadow
@@ -28,4 +31,29 @@ pub fn next_turn(alloc: Global, tracked: &mut Tracked<'_>) -> Result<Row, NoMemo
     let mut events = EventList::new(alloc);
     let answer = tracked.turn(&mut events)?;
     Ok(Row { events, answer })
+}
+
+/// The rows of a guest's first turns, up to its end, but at most so many; None where it has no program or memory is
+/// short.
+pub fn rows_of(alloc: Global, guest: &Guest, book: &RuleBook, turns: u32) -> Option<List<Row>> {
+    let image = program(alloc, guest.code())?;
+    let mut tracked = Tracked::new(
+        alloc,
+        &image,
+        guest.public(),
+        guest.secret(),
+        guest.regions(),
+        book,
+    )
+    .ok()?;
+    let mut rows = List::new(alloc);
+    for _ in 0..turns {
+        let row = next_turn(alloc, &mut tracked).ok()?;
+        let answer = row.answer;
+        rows.push(row).ok()?;
+        if answer != TrackedTurn::Ran {
+            break;
+        }
+    }
+    Some(rows)
 }
