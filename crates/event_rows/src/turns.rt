@@ -5,6 +5,7 @@ ghost use Rattle.event_rows.specs.Rows.{IsRow};
 
 use crate::guests::Guest;
 use crate::programs::program;
+use elf32_loader::Image;
 use flow_base::{List, NoMemory};
 use flow_graph::EventList;
 use std::alloc::Global;
@@ -33,27 +34,41 @@ fn next_turn(alloc: Global, tracked: &mut Tracked<'_>) -> Result<Row, NoMemory>
     Ok(Row { events, answer })
 }
 
-/// The rows of a guest's first turns, up to its end, but at most so many; None where it has no program or memory is
-/// short.
-pub fn rows_of(alloc: Global, guest: &Guest, book: &RuleBook, turns: u32) -> Option<List<Row>> {
-    let image = program(alloc, guest.code())?;
+/// The rows of the first turns of a guest with this program, up to its end, but at most so many.
+/// `NoMemory` where there is not enough.
+fn rows_of_program(
+    alloc: Global,
+    guest: &Guest,
+    image: &Image,
+    book: &RuleBook,
+    turns: u32,
+) -> Result<List<Row>, NoMemory> {
+    let mut rows = List::new(alloc);
     let mut tracked = Tracked::new(
         alloc,
-        &image,
+        image,
         guest.public(),
         guest.secret(),
         guest.regions(),
         book,
-    )
-    .ok()?;
-    let mut rows = List::new(alloc);
+    )?;
     for _ in 0..turns {
-        let row = next_turn(alloc, &mut tracked).ok()?;
+        let row = next_turn(alloc, &mut tracked)?;
         let answer = row.answer;
-        rows.push(row).ok()?;
+        rows.push(row)?;
         if answer != TrackedTurn::Ran {
             break;
         }
     }
-    Some(rows)
+    Ok(rows)
+}
+
+/// The rows of a guest's first turns, up to its end, but at most so many; None where it has no program or memory is
+/// short.
+pub fn rows_of(alloc: Global, guest: &Guest, book: &RuleBook, turns: u32) -> Option<List<Row>> {
+    let image = program(alloc, guest.code())?;
+    match rows_of_program(alloc, guest, &image, book, turns) {
+        Ok(rows) => Some(rows),
+        Err(_) => None,
+    }
 }
