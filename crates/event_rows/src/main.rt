@@ -13,11 +13,12 @@ mod words;
 use flow_graph::EventList;
 use guests::Guest;
 use lines::{Line, read_line};
+use programs::program;
 use std::io;
 use texts::{AnswerText, EventText};
-use tracked_run::TrackedTurn;
+use tracked_run::{Tracked, TrackedTurn};
 use transfer_rules::*;
-use turns::{Row, rows_of};
+use turns::{Row, next_turn};
 
 /// Prints events.
 fn print_events(rt: &HostRuntime, events: &EventList) -> io::Result<()> {
@@ -37,10 +38,16 @@ fn print_row(rt: &HostRuntime, row: &Row) -> io::Result<()> {
     println!(rt; "{answer}")
 }
 
-/// Prints the rows of a run.
-fn print_rows(rt: &HostRuntime, rows: &[Row]) -> io::Result<()> {
-    for row in rows {
-        print_row(rt, row)?;
+/// Prints the turns of a run up to its end, but at most so many.
+fn print_turns(rt: &HostRuntime, tracked: &mut Tracked<'_>, turns: u32) -> io::Result<()> {
+    for _ in 0..turns {
+        let Ok(row) = next_turn(rt.alloc(), tracked) else {
+            return println!(rt; "memory is short");
+        };
+        print_row(rt, &row)?;
+        if row.answer != TrackedTurn::Ran {
+            return Ok(());
+        }
     }
     Ok(())
 }
@@ -78,10 +85,24 @@ fn main(rt: HostRuntime) -> io::Result<()> {
                     println!(rt; "no part of a guest")?;
                 }
             }
-            Some(Line::Turns(turns)) => match rows_of(rt.alloc(), &guest, &book, turns) {
-                Some(rows) => print_rows(&rt, rows.as_slice())?,
-                None => println!(rt; "no run")?,
-            },
+            Some(Line::Turns(turns)) => {
+                let Some(image) = program(rt.alloc(), guest.code()) else {
+                    println!(rt; "no program")?;
+                    continue;
+                };
+                let Ok(mut tracked) = Tracked::new(
+                    rt.alloc(),
+                    &image,
+                    guest.public(),
+                    guest.secret(),
+                    guest.regions(),
+                    &book,
+                ) else {
+                    println!(rt; "memory is short")?;
+                    continue;
+                };
+                print_turns(&rt, &mut tracked, turns)?;
+            }
             None => println!(rt; "no line of a table")?,
         }
     }
