@@ -1,0 +1,110 @@
+//! Makes the measured runs of the guests of a table, and prints the events of each turn and what the turn answers, one
+//! line each. What must be printed is what an independent model of the rules finds of the same guests.
+#![tactic(auto)]
+
+mod guests;
+mod lines;
+mod point_texts;
+mod programs;
+mod texts;
+mod turns;
+mod words;
+
+use flow_graph::EventList;
+use guests::Guest;
+use lines::{Line, read_line};
+use programs::program;
+use std::io;
+use texts::{AnswerText, EventText};
+use tracked_run::{Tracked, TrackedTurn};
+use transfer_rules::*;
+use turns::{Row, next_turn};
+
+/// Prints events.
+fn print_events(rt: &HostRuntime, events: &EventList) -> io::Result<()> {
+    for event in events.events().as_slice() {
+        let event = EventText(*event);
+        println!(rt; "{event}")?;
+    }
+    Ok(())
+}
+
+/// Prints what a turn answers, and before it the turn's events where it is not refused.
+fn print_row(rt: &HostRuntime, row: &Row) -> io::Result<()> {
+    if !matches!(row.answer, TrackedTurn::Refused(_)) {
+        print_events(rt, &row.events)?;
+    }
+    let answer = AnswerText(row.answer);
+    println!(rt; "{answer}")
+}
+
+/// Prints the turns of a run up to its end, but at most so many.
+fn print_turns(rt: &HostRuntime, tracked: &mut Tracked<'_>, turns: u32) -> io::Result<()> {
+    for _ in 0..turns {
+        let Ok(row) = next_turn(rt.alloc(), tracked) else {
+            return println!(rt; "memory is short");
+        };
+        print_row(rt, &row)?;
+        if row.answer != TrackedTurn::Ran {
+            return Ok(());
+        }
+    }
+    Ok(())
+}
+
+fn main(rt: HostRuntime) -> io::Result<()> {
+    let book = RuleBook::new(
+        1,
+        [
+            Rule::new(Class::Add, 1, add_1),
+            Rule::new(Class::Sub, 1, sub_1),
+            Rule::new(Class::And, 1, and_1),
+            Rule::new(Class::Or, 1, or_1),
+            Rule::new(Class::Xor, 1, xor_1),
+            Rule::new(Class::Sll, 1, sll_1),
+            Rule::new(Class::Srl, 1, srl_1),
+            Rule::new(Class::Sra, 1, sra_1),
+            Rule::new(Class::Slt, 1, slt_1),
+            Rule::new(Class::Sltu, 1, sltu_1),
+            Rule::new(Class::Equal, 1, equal_1),
+            Rule::new(Class::Mul, 1, mul_1),
+            Rule::new(Class::High, 1, high_1),
+            Rule::new(Class::Div, 1, div_1),
+        ],
+    );
+    let mut guest = Guest::new(rt.alloc());
+    for line in rt.lines(rt.alloc()) {
+        let line = line?;
+        match read_line(line.as_str()) {
+            Some(Line::Guest(name)) => {
+                guest = Guest::new(rt.alloc());
+                println!(rt; "guest {name}")?;
+            }
+            Some(Line::Part(part, text)) => {
+                if guest.put(rt.alloc(), part, text).is_none() {
+                    println!(rt; "no part of a guest")?;
+                }
+            }
+            Some(Line::Turns(turns)) => {
+                let Some(image) = program(rt.alloc(), guest.code()) else {
+                    println!(rt; "no program")?;
+                    continue;
+                };
+                let Ok(mut tracked) = Tracked::new(
+                    rt.alloc(),
+                    &image,
+                    guest.public(),
+                    guest.secret(),
+                    guest.regions(),
+                    &book,
+                ) else {
+                    println!(rt; "memory is short")?;
+                    continue;
+                };
+                print_turns(&rt, &mut tracked, turns)?;
+            }
+            None => println!(rt; "no line of a table")?,
+        }
+    }
+    Ok(())
+}
