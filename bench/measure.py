@@ -4,15 +4,20 @@
 Times `measure` of the built program beside `check` of the same guest with the cut that was measured: a tight loop, the
 same with 256 regions that it never enters, a loop through a region, a copy of memory byte by byte, each of about so
 many turns (2,000,000 without the word), the tight loop of ten times as many, a loop that carries a secret byte through
-60,000 points, and a loop in which a point's mask changes at every visit, once and of ten times as many rounds.
+60,000 points, a loop in which a point's mask changes at every visit, once and of ten times as many rounds, 4,000,000
+instructions in a row, a point that is passed 1,000,000 times before it is secret, and a region with a range of 65,536
+bytes that is entered 66,000 times, whose `check` is left out.
 Prints for each the turns of the run, the seconds of both commands, how many times as long `measure` took, and the most
-memory that each had. Every run must be accepted with its own cut and number. Linux with Python 3."""
+memory that each had; of the last one the nanoseconds for each of the 4,325,376,000 visits of its point. Every other run
+must be accepted with its own cut and number, and the cut of the point that turns secret must begin with its clean
+visits. Linux with Python 3."""
 import os
 import pathlib
+import struct
 import sys
 import tempfile
 
-from run import EXIT, Guest, beside_regions, copy_loop, region_loop, tight_loop, timed
+from run import BASE, EXIT, Guest, beside_regions, copy_loop, region_loop, tight_loop, timed
 
 READ_A_BYTE = ["li a0, 3", "li a1, 0x80000", "li a2, 1", "li a7, 63", "ecall", "li a1, 0x80000", "lbu t1, 0(a1)"]
 
@@ -32,14 +37,45 @@ def changing(rounds):
     return Guest(lines, 5 * rounds + 16)
 
 
+def turning_secret(rounds):
+    """A register is copied so many times before it is secret, and then once more; of the secret one bit goes on."""
+    lines = [f"li t0, {rounds}", "li t3, 0", "loop: andi t1, t2, 1", "addi t0, t0, -1", "bne t0, x0, loop"]
+    lines += ["bne t3, x0, out"] + READ_A_BYTE[:-1] + ["lbu t2, 0(a1)", "li t3, 1", "li t0, 1", "j loop"]
+    lines += ["out: addi a0, t1, 0", "addi a7, x0, 93", "ecall"]
+    return Guest(lines, 3 * rounds + 32)
+
+
+def straight(instructions):
+    """So many instructions in a row, of which `asm` takes no source: the program itself."""
+    code = struct.pack("<I", 0x00130313) * instructions + struct.pack("<III", 0x00000513, 0x05D00893, 0x00000073)
+    head = b"\x7fELF" + bytes([1, 1, 1]) + bytes(9)
+    head += struct.pack("<HHIIIIIHHHHHH", 2, 243, 1, BASE, 52, 0, 0, 52, 32, 1, 0, 0, 0)
+    guest = Guest([], instructions + 3)
+    guest.program = head + struct.pack("<IIIIIIII", 1, 84, BASE, 0, len(code), len(code), 5, 1) + code
+    return guest
+
+
+def wide_region(rounds):
+    """Each round enters a region of one instruction, which declares 65,536 bytes, and leaves it."""
+    lines = [f"li t0, {rounds}", "loop: addi t0, t0, -1", "addi x0, x0, 0", "bne t0, x0, loop"] + EXIT
+    region = (
+        f'{{"regions":[{{"id":1,"enter":"{BASE + 12:#x}","leave":"{BASE + 16:#x}","outs":[],"keep":[],'
+        f'"ranges":[{{"offset":{BASE + 0x10000},"length":65536}}]}}]}}'
+    )
+    return Guest(lines, 5 * rounds + 5, region)
+
+
 def prepare(executable, folder, guest):
     """The words of both commands but for the cut and the budget."""
     paths = {name: f"{folder}/{name}" for name in ("source", "program", "public", "cut", "regions", "secret")}
-    pathlib.Path(paths["source"]).write_text(guest.source)
-    _, _, status, _ = timed([executable, "asm", paths["source"]], folder)
-    if status != 0:
-        raise SystemExit(f"the source is refused:\n{guest.source[:300]}")
-    os.replace(f"{folder}/put", paths["program"])
+    if hasattr(guest, "program"):
+        pathlib.Path(paths["program"]).write_bytes(guest.program)
+    else:
+        pathlib.Path(paths["source"]).write_text(guest.source)
+        _, _, status, _ = timed([executable, "asm", paths["source"]], folder)
+        if status != 0:
+            raise SystemExit(f"the source is refused:\n{guest.source[:300]}")
+        os.replace(f"{folder}/put", paths["program"])
     pathlib.Path(paths["public"]).write_bytes(b"")
     pathlib.Path(paths["secret"]).write_bytes(b"\x0f")
     options = ["--turns", "20000000"]
@@ -62,7 +98,17 @@ def measure_and_check(executable, folder, guest):
     checked, check_memory, status, text = timed(words, folder)
     if status != 0:
         raise SystemExit(f"{words}: status {status}:\n{text.decode()[:300]}")
-    return measured, measure_memory, checked, check_memory, bits
+    return measured, measure_memory, checked, check_memory, bits, cut
+
+
+def measure_alone(executable, folder, guest):
+    """Seconds and most memory of `measure`, and the cut."""
+    paths, options = prepare(executable, folder, guest)
+    words = [executable, "measure", paths["program"], paths["public"], paths["secret"]] + options
+    measured, memory, status, cut = timed(words, folder)
+    if status != 0:
+        raise SystemExit(f"{words}: status {status}:\n{cut.decode()[:300]}")
+    return measured, memory, cut
 
 
 def main():
@@ -80,16 +126,29 @@ def main():
         ("60,000 points", carried(max(1, turns // 30_000), 30_000)),
         ("changing masks", changing(turns // 50)),
         ("the same, ten times", changing(turns // 5)),
+        ("4,000,000 in a row", straight(4_000_000)),
+        ("clean, then secret", turning_secret(1_000_000)),
     ]
     print(f"{'guest':24}{'turns':>12}{'bits':>6}{'measure':>10}{'check':>9}{'times':>7}{'memory of both':>22}")
     with tempfile.TemporaryDirectory() as folder:
         for name, guest in rows:
-            measured, most, checked, other, bits = measure_and_check(executable, folder, guest)
+            measured, most, checked, other, bits, cut = measure_and_check(executable, folder, guest)
+            if name == "clean, then secret" and b" 1000000*0x00000000 " not in cut:
+                raise SystemExit(f"the clean visits are missing:\n{cut.decode()[:300]}")
             print(
                 f"{name:24}{guest.turns:>12}{bits:>6}{measured:>8.2f} s{checked:>7.2f} s{measured / checked:>7.2f}"
                 f"{most / 1e6:>11.1f}, {other / 1e6:.1f} MB",
                 flush=True,
             )
+        guest = wide_region(66_000)
+        measured, most, cut = measure_alone(executable, folder, guest)
+        if b"\nbits 0\n" not in cut:
+            raise SystemExit(f"the wide region is measured wrongly:\n{cut.decode()[:300]}")
+        visits = 66_000 * 65_536
+        print(
+            f"{'range of 65,536 bytes':24}{guest.turns:>12}{'0':>6}{measured:>8.2f} s"
+            f"{1e9 * measured / visits:>7.1f} ns a visit{most / 1e6:>11.1f} MB"
+        )
     return 0
 
 

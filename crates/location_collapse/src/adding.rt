@@ -44,6 +44,7 @@ impl Collapse {
     }
 
     /// Adds the bits of a mask to a point's capacity.
+    #[inline(always)]
     fn pass(&mut self, point: Point, mask: u32) -> Result<(), CollapseFault>
         ensures ok { OnOk result ((events : Seq AnEvent) → StandsFor self.old events → StandsFor self.new
             (events ++ PassEvent point mask ∷ [])) }
@@ -56,6 +57,7 @@ impl Collapse {
     }
 
     /// Keeps a link, where its ends are there.
+    #[inline(always)]
     fn put(&mut self, link: NamedLink) -> Result<(), CollapseFault>
         requires leads { may_lead link.source link.target ≡ true }
         ensures ok { OnOk result ((event : AnEvent) (events : Seq AnEvent) → Makes (knows self.old) event link →
@@ -65,7 +67,8 @@ impl Collapse {
             (knows self.old) event link → StandsFor self.old events → ExceedsLimit (events ++ event ∷ []) }
         ensures full { self.new.is_full ≡ self.old.is_full }
     {
-        if self.links.has(&link) {
+        if let Some(index) = self.links.find(&link) {
+            self.links.note(index);
             return Ok(());
         }
         if !self.has_ends(&link) {
@@ -75,6 +78,7 @@ impl Collapse {
     }
 
     /// Takes an event, unless a limit is exceeded then.
+    #[inline(always)]
     fn take(&mut self, event: Event) -> Result<(), CollapseFault>
         ensures ok { OnOk result ((events : Seq AnEvent) → StandsFor self.old events → StandsFor self.new
             (events ++ event ∷ [])) }
@@ -111,6 +115,7 @@ impl Collapse {
 
     /// Takes an event. `Limit` comes exactly where the graph of the events taken with this one exceeds a limit, or an
     /// earlier `add` answered it. An event that is not taken leaves no trace but that.
+    #[inline(always)]
     pub fn add(&mut self, event: Event) -> Result<(), CollapseFault>
         ensures ok { OnOk result ((events : Seq AnEvent) → StandsFor self.old events → StandsFor self.new
             (events ++ event ∷ [])) }
@@ -132,6 +137,7 @@ impl Collapse {
 }
 
 /// Whether an answer is that a limit is exceeded.
+#[inline(always)]
 fn tells_limit(taken: &Result<(), CollapseFault>) -> bool
     ensures { result ≡ is_limit taken.now }
 {

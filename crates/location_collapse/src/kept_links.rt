@@ -1,4 +1,5 @@
-ghost use Rattle.std.specs.Prelude.{◌≡◌, ◌≤◌, ◌∷◌, [], length, false, OnOk, OnErr, Err};
+ghost use Rattle.std.specs.Prelude.{◌≡◌, ◌≤◌, ◌∷◌, [], length, true, false, is_some, OnOk, OnErr, OnSome, Err};
+ghost use Rattle.std.specs.Bool.{OnTrue};
 ghost use Rattle.flow_graph.specs.EventGraphs.{is_among};
 ghost use Rattle.flow_graph.specs.Keeping.{TakesLinks};
 ghost use Rattle.location_collapse.specs.Limits.{HasAllLinks};
@@ -12,9 +13,15 @@ use std::alloc::Global;
 const MAX_LINKS: usize = 1_048_576;
 
 /// The links by the names of their ends, in the order in which they first occurred. They are at most 1,048,576.
+///
+/// A run makes much the same links in much the same order again and again. So a link is first looked for where the
+/// latest one stands, behind it, and where the one before stands.
 #[derive(Drop)]
 pub struct KeptLinks {
     pub named: IndexSet<NamedLink>,
+    /// Where the latest link that occurred again stands, and where another one did before it.
+    pub latest: usize,
+    pub before: usize,
     ghost few: { length named.keys ≤ 1048576 },
 }
 
@@ -25,17 +32,63 @@ impl KeptLinks {
     {
         KeptLinks {
             named: IndexSet::new(alloc),
+            latest: 0,
+            before: 0,
         }
     }
 
-    /// Whether the link has occurred.
-    pub fn has(&self, link: &NamedLink) -> bool
-        ensures { result ≡ is_among self.now.named.keys link.now }
+    /// Whether the link stands at an index.
+    #[inline(always)]
+    fn stands_at(&self, index: usize, link: &NamedLink) -> bool
+        ensures { OnTrue result (is_among self.now.named.keys link.now ≡ true) }
     {
-        self.named.contains(link)
+        match self.named.get_index(index) {
+            Some(named) => named == link,
+            None => false,
+        }
+    }
+
+    /// The index of the link, if it stands near the latest ones.
+    #[inline(always)]
+    fn find_near(&self, link: &NamedLink) -> Option<usize>
+        ensures { OnSome result (is_among self.now.named.keys link.now ≡ true) }
+    {
+        let behind = self.latest.wrapping_add(1);
+        if self.stands_at(self.latest, link) {
+            Some(self.latest)
+        } else if self.stands_at(behind, link) {
+            Some(behind)
+        } else if self.stands_at(self.before, link) {
+            Some(self.before)
+        } else {
+            None
+        }
+    }
+
+    /// The index of the link; None exactly where it has not occurred.
+    #[inline(always)]
+    pub fn find(&self, link: &NamedLink) -> Option<usize>
+        ensures { is_some result ≡ is_among self.now.named.keys link.now }
+    {
+        match self.find_near(link) {
+            Some(index) => Some(index),
+            None => self.named.get_index_of(link),
+        }
+    }
+
+    /// Notes where a link was found, for the next look. The links stay.
+    #[inline(always)]
+    pub fn note(&mut self, index: usize)
+        ensures { self.new.named.keys ≡ self.old.named.keys }
+    {
+        if index != self.latest {
+            self.before = self.latest;
+            self.latest = index;
+        }
     }
 
     /// Keeps a link that has not occurred before, unless there are 1,048,576 already.
+    #[inline(never)]
     pub fn put(&mut self, link: NamedLink) -> Result<(), CollapseFault>
         requires new { is_among self.old.named.keys link ≡ false }
         ensures ok { OnOk result (TakesLinks self.old.named.keys self.new.named.keys (link ∷ [])) }

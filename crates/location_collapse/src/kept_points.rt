@@ -23,9 +23,14 @@ const CAPACITY_LIMIT: u64 = 1 << 48;
 
 /// The points that have passed a mask other than 0, in the order in which they were first seen, each with its capacity
 /// in bits. They are at most 65,536, and capacities are below 2^48.
+///
+/// A run passes much the same points in much the same order again and again. So a point is first looked for where the
+/// latest one stands, and behind it.
 #[derive(Drop)]
 pub struct KeptPoints {
     pub capacities: IndexMap<Point, u64>,
+    /// Where the latest point stands that was passed again.
+    pub latest: usize,
     ghost small: { IsTrue (list_all is_small capacities.entries) },
     ghost few: { length capacities.entries ≤ 65536 },
 }
@@ -37,6 +42,7 @@ impl KeptPoints {
     {
         KeptPoints {
             capacities: IndexMap::new(alloc),
+            latest: 0,
         }
     }
 
@@ -54,8 +60,22 @@ impl KeptPoints {
         let _count = self.capacities.len();
     }
 
-    /// The index and the capacity of a point; None exactly where it has passed no mask other than 0.
-    fn find(&self, point: &Point) -> Option<(usize, u64)>
+    /// The capacity of a point, if it stands at an index.
+    #[inline(always)]
+    fn capacity_at(&self, index: usize, point: &Point) -> Option<u64>
+        ensures capacity { IfSome result (λ capacity.
+            capacity_in self.now.capacities.entries point.now ≡ Some capacity) }
+        ensures at { IfSome result (HoldsAt self.now.capacities.entries point.now index) }
+    {
+        match self.capacities.get_index(index) {
+            Some((key, capacity)) => { if key == point { Some(*capacity) } else { None } }
+            None => None,
+        }
+    }
+
+    /// The index and the capacity of a point, wherever it stands; see [`KeptPoints::find`].
+    #[inline(never)]
+    fn find_anywhere(&self, point: &Point) -> Option<(usize, u64)>
         ensures capacity { option_map (λ found. found.1) result ≡ capacity_in self.now.capacities.entries point.now }
         ensures at { IfSome result (λ found. HoldsAt self.now.capacities.entries point.now found.0 found.1) }
     {
@@ -65,7 +85,37 @@ impl KeptPoints {
         }
     }
 
+    /// The index and the capacity of a point, if it stands near the latest one.
+    #[inline(always)]
+    fn find_near(&self, point: &Point) -> Option<(usize, u64)>
+        ensures capacity { IfSome result (λ found.
+            capacity_in self.now.capacities.entries point.now ≡ Some found.1) }
+        ensures at { IfSome result (λ found. HoldsAt self.now.capacities.entries point.now found.0 found.1) }
+    {
+        let behind = self.latest.wrapping_add(1);
+        if let Some(capacity) = self.capacity_at(self.latest, point) {
+            return Some((self.latest, capacity));
+        }
+        match self.capacity_at(behind, point) {
+            Some(capacity) => Some((behind, capacity)),
+            None => None,
+        }
+    }
+
+    /// The index and the capacity of a point; None exactly where it has passed no mask other than 0.
+    #[inline(always)]
+    fn find(&self, point: &Point) -> Option<(usize, u64)>
+        ensures capacity { option_map (λ found. found.1) result ≡ capacity_in self.now.capacities.entries point.now }
+        ensures at { IfSome result (λ found. HoldsAt self.now.capacities.entries point.now found.0 found.1) }
+    {
+        match self.find_near(point) {
+            Some(found) => Some(found),
+            None => self.find_anywhere(point),
+        }
+    }
+
     /// Keeps a point that was not seen before, unless there are 65,536 points already.
+    #[inline(never)]
     fn start(&mut self, point: Point, bits: u64) -> Result<(), CollapseFault>
         requires unknown { is_known self.old.capacities.entries point ≡ false }
         requires some { 0 < bits }
@@ -85,6 +135,7 @@ impl KeptPoints {
     }
 
     /// Writes the capacity of the point at an index, unless it is 2^48 or more.
+    #[inline(always)]
     fn raise(&mut self, index: usize, capacity: u64) -> Result<(), CollapseFault>
         requires within { index < length self.old.capacities.entries }
         requires some { 0 < capacity }
@@ -97,10 +148,12 @@ impl KeptPoints {
             return Err(CollapseFault::Limit);
         }
         self.capacities[index] = capacity;
+        self.latest = index;
         Ok(())
     }
 
     /// Adds the bits of a mask to a point's capacity.
+    #[inline(always)]
     pub fn pass(&mut self, point: Point, mask: u32) -> Result<(), CollapseFault>
         ensures counted { OnOk result ((q : ThePoint) → count_in self.new.capacities.entries q ≡ count_in
             self.old.capacities.entries q + cond (is_same point q) (bit_count mask) 0) }

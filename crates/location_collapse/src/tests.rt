@@ -17,7 +17,10 @@ fn point(address: u32) -> Point {
 fn large(alloc: Global) -> Result<KeptPoints, Fail> {
     let mut capacities = IndexMap::new(alloc);
     capacities.insert(point(4), 281_474_976_710_654)?;
-    Ok(KeptPoints { capacities })
+    Ok(KeptPoints {
+        capacities,
+        latest: 0,
+    })
 }
 
 #[test]

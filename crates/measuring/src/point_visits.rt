@@ -39,6 +39,7 @@ impl PointVisits {
 
     /// One visit more. Where memory is short, or there are 2^64 visits with one mask, it answers want of memory and
     /// the visits stay.
+    #[inline(always)]
     pub fn add(&mut self, mask: u32) -> Result<(), NoMemory>
         ensures ok { OnOk result (point_masks self.new ≡ point_masks self.old ++ mask ∷ []) }
         ensures err { OnErr result (self.new ≡ self.old) }
@@ -56,6 +57,7 @@ impl PointVisits {
     }
 
     /// The first visit of a new run, whose mask is another than that of the latest.
+    #[inline(never)]
     fn begin(&mut self, mask: u32) -> Result<(), NoMemory>
         requires { (self.old.latest.mask == mask) ≡ false }
         ensures ok { OnOk result (point_masks self.new ≡ point_masks self.old ++ mask ∷ []) }

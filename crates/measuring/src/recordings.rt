@@ -36,6 +36,7 @@ impl Events for Recording {
     ghost stands_for = { λ recording events. Records recording events };
 
     /// Takes an event. Where the graph exceeds a limit with it, or did so before, nothing is kept of it.
+    #[inline(always)]
     fn add(&mut self, event: Event) -> Result<(), NoMemory>
         ensures { OnOk result ((events : Seq AnEvent) → Records self.old events → Records self.new
             (events ++ event ∷ [])) }

@@ -1,14 +1,17 @@
-use Rattle.std.proofs.Common.{sym, ◌∙◌}
+use Rattle.std.proofs.Common.{sym, ap, subst, ◌∙◌, ◌++◌, ◌∷◌, []}
+use Rattle.std.specs.Option.{is_some}
+use Rattle.flow_graph.specs.Keeping.{Keeps}
 use Rattle.std.proofs.lemmas.Result.{on_ok_weaker}
 use Rattle.std.proofs.Common.{inr, inl}
 use Rattle.location_collapse.proofs.Taking.{known_link, missing_end, new_link, made_alone}
 use Rattle.location_collapse.proofs.Limiting.{exceeds_links}
 use Rattle.location_collapse.proofs.collapses.Collapse.put.Goals as goal
 
-pub returns-then-has-clause-ok : goal.returns-then-has-clause-ok
-returns-then-has-clause-ok c = λ event events makes stands.
-    known_link c.args.self.now.points.capacities.entries c.args.self.now.links.named.keys event c.args.link events makes
-    (sym c.has.ensures ∙ c.if-has.true) stands
+pub returns-in-Some-clause-ok : goal.returns-in-Some-clause-ok
+returns-in-Some-clause-ok c = λ event events makes stands.
+    subst (λ keys. Keeps c.args.self.now.points.capacities.entries keys (events ++ event ∷ [])) (sym c.note.ensures)
+    (known_link c.args.self.now.points.capacities.entries c.args.self.now.links.named.keys event c.args.link events makes
+    (sym c.find.ensures ∙ ap is_some c.in-Some.is) stands)
 
 pub returns-then-not-has_ends-clause-ok : goal.returns-then-not-has_ends-clause-ok
 returns-then-not-has_ends-clause-ok c = λ event events makes stands.
@@ -27,4 +30,4 @@ pub returns-clause-limit : goal.returns-clause-limit
 returns-clause-limit c = λ e event events makes stands.
     inr (inl (exceeds_links c.args.self.now.points.capacities.entries c.args.self.now.links.named.keys events event
     c.args.link stands (made_alone _ event c.args.link makes (sym c.has_ends.ensures ∙ c.if-not-has_ends.false))
-    (sym c.has.ensures ∙ c.if-has.false) (c.put.ensures.full e)))
+    (sym c.find.ensures ∙ ap is_some c.in_default.is) (c.put.ensures.full e)))
