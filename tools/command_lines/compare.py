@@ -15,7 +15,10 @@ import tempfile
 from concurrent.futures import ThreadPoolExecutor
 
 RUN = ("--turns", "--regions")
-OPTIONS = {"check": RUN, "measure": RUN, "graph": RUN, "asm": (), "list": (), "verify": (), "migrate": ()}
+MEASURED = RUN + ("--rules",)
+OPTIONS = {"check": RUN, "measure": MEASURED + ("--cut",), "graph": MEASURED, "report": MEASURED, "asm": (), "list": (),
+           "verify": (), "migrate": ()}
+FLAGS = {"report": ("--json",)}
 
 
 def number(word, lowest, highest):
@@ -35,6 +38,11 @@ def first_file(words):
         if not word.startswith("-"):
             plain.append(word)
             continue
+        if word == "--json":
+            if word not in FLAGS.get(words[0], ()) or word in taken:
+                return None
+            taken[word] = ""
+            continue
         name, equals, value = word.partition("=")
         if not equals:
             if not rest or rest[0].startswith("-"):
@@ -45,18 +53,26 @@ def first_file(words):
         taken[name] = value
     if not number(taken.get("--turns", "1"), 1, 20_000_000):
         return None
+    if not all(number(taken.get(name, "1"), 1, 2) for name in ("--rules", "--cut")):
+        return None
     if words[0] == "check":
         return plain[0] if 5 <= len(plain) <= 68 and number(plain[3], 0, 1_048_576) else None
-    count = 3 if words[0] in ("measure", "graph") else 1
+    count = 3 if words[0] in ("measure", "graph", "report") else 1
     return plain[0] if len(plain) == count else None
 
 
-ODD = ["", "-", "--", "-x", "--help", "--version", "--json", "--turns", "--turns=", "--turns=5", "--regions", "--regions=",
-       "--regions=r", "--regions=-r", "--regions=a=b", "--turns=05", "--turns=0", "--turns=20000001", "--turn=5", "a=b", "=",
-       "=5", "-t=5", "05", "1048577", "+5", " 5", "check", "report"]
+ODD = ["", "-", "--", "-x", "--help", "--version", "--json", "--json=", "--json=v", "--turns", "--turns=", "--turns=5",
+       "--regions", "--regions=", "--regions=r", "--regions=-r", "--regions=a=b", "--rules", "--rules=2", "--rules=3",
+       "--cut=2", "--cut=02", "--turns=05", "--turns=0", "--turns=20000001", "--turn=5", "a=b", "=", "=5", "-t=5", "05",
+       "1048577", "+5", " 5", "check", "report"]
 
 
 def option(rng):
+    """An option or a flag in one of its forms."""
+    if rng.random() < 0.2:
+        choice = rng.choice(["1", "2"] * 4 + ["0", "3", "02", "x", ""])
+        return rng.choice([["--rules", choice], ["--rules=" + choice], ["--cut", choice], ["--cut=" + choice],
+                           ["--json"], ["--json"]])
     kind = rng.randrange(8)
     turns = rng.choice(["1", "5", "20000000", "0", "05", "-5", "20000001", "x"]) if rng.random() < 0.3 else "7"
     return [["--turns", turns], ["--turns=" + turns], ["--regions", "r"], ["--regions=r"], ["--regions=-r"],
@@ -65,12 +81,13 @@ def option(rng):
 
 def trial(rng):
     """Words that are nearly a command line."""
-    command = rng.choice(["check"] * 6 + ["measure", "graph", "asm", "list", "verify", "migrate", "help", "report"])
+    command = rng.choice(["check"] * 6 + ["measure", "graph", "report"] * 2
+                         + ["asm", "list", "verify", "migrate", "help", "trial"])
     if command == "check":
         budget = rng.choice(["0", "8", "1048576"] * 4 + ["1048577", "08", "-8", "", "x", "4294967296"])
         count = rng.choice([1, 1, 2, 3, 64] * 3 + [0, 65])
         parts = [["prog"], ["public"], ["cut"], [budget]] + [["s%d" % i] for i in range(count)]
-    elif command in ("measure", "graph"):
+    elif command in ("measure", "graph", "report"):
         parts = [["prog"], ["public"], ["secret"], ["more"]][:rng.choice([3, 3, 3, 2, 4])]
     else:
         parts = [["file"]] * rng.choice([1, 1, 1, 0, 2])

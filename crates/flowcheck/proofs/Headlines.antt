@@ -21,7 +21,7 @@ use Rattle.flowcheck.specs.declared.refusals.Refusal.{Refusal}
 use Rattle.flowcheck.specs.declared.statuses.Status.TheVariants.{Done, Rejected}
 use Rattle.flowcheck.specs.Answers.{Answer, told}
 use Rattle.flowcheck.specs.Checks.{AnswersCheck, AnswersCut, AnswersOthers, AnswersProgram, AnswersRegions, AreRegions, check_wants, judgements_of, limits_of, region_wants, secret_wants}
-use Rattle.flowcheck.specs.CommandLines.{Check, Command, Checks, Measures, Graphs, Assembles, Lists, Verifies, Migrates, IsCommand}
+use Rattle.flowcheck.specs.CommandLines.{Check, Command, Checks, Measures, Graphs, Reports, Assembles, Lists, Verifies, Migrates, IsCommand}
 use Rattle.flowcheck.specs.FileLimits.{limit_of}
 use Rattle.flowcheck.specs.Headline.{AreHeld, IsHeld, Says, AllSay, IsAmong, AreFewOfAll, AreFew, Headline}
 use Rattle.flowcheck.specs.Loading.{Want, AreWithin, IsLoadRefusal, Loads, and_load, loaded_from}
@@ -296,10 +296,12 @@ from-words : (source : Option Told) (words : List (List ℕ)) (answer : Answer) 
 from-words source words answer check is (inl (none, e)) low = absurd (none (Checks check) is)
 from-words source words answer check is (inr (Checks other, named, (loaded, loads, h))) low =
     from-loads source words other loaded answer named loads low h
-from-words source words answer check is (inr (Measures run, named, h)) low =
-    absurd (other-row words check (codes "measure") (Measures run) is named named.row.0 refl)
+from-words source words answer check is (inr (Measures version run, named, h)) low =
+    absurd (other-row words check (codes "measure") (Measures version run) is named named.row.0 refl)
 from-words source words answer check is (inr (Graphs run, named, h)) low =
     absurd (other-row words check (codes "graph") (Graphs run) is named named.row.0 refl)
+from-words source words answer check is (inr (Reports json run, named, h)) low =
+    absurd (other-row words check (codes "report") (Reports json run) is named named.row.0 refl)
 from-words source words answer check is (inr (Assembles file, named, h)) low =
     absurd (other-row words check (codes "asm") (Assembles file) is named named.row.0 refl)
 from-words source words answer check is (inr (Lists program, named, h)) low =

@@ -4,7 +4,6 @@ pub mod Judgements
 pub mod Lists
 pub mod LoadSteps
 pub mod Shown
-pub mod HexText
 pub mod Refusing
 pub mod Rows
 pub mod Others

@@ -1,9 +1,9 @@
 -- The row of a command.
-use Rattle.std.proofs.Common.{◌≡◌, ◌≢◌, ℕ, List, ◌∷◌, codes, Option, Some, None, IfSome, true, false, ap, sym, refl, subst, ◌∙◌}
+use Rattle.std.proofs.Common.{◌≡◌, ◌≢◌, ℕ, Bool, List, ◌∷◌, codes, Option, Some, None, IfSome, true, false, ap, sym, refl, subst, ◌∙◌}
 use Rattle.std.proofs.lemmas.Bool.{false≢true}
 use Rattle.std.specs.Str.{bytes_eq}
 use Rattle.flowcheck.specs.Parts.{Parts, parts_of}
-use Rattle.flowcheck.specs.CommandLines.{Check, Run, Command, Checks, Measures, Graphs, Assembles, Lists, Verifies, Migrates, IsCheck, IsOneFile, IsOneRun, IsRow, IsCommand}
+use Rattle.flowcheck.specs.CommandLines.{Check, Run, Command, Checks, Measures, Graphs, Reports, Assembles, Lists, Verifies, Migrates, IsCheck, IsGraph, IsMeasure, IsOneFile, IsReport, IsRow, IsCommand}
 
 -- two names that differ are not the same
 differs : (a b : List ℕ) → bytes_eq a a ≡ true → bytes_eq a b ≡ false → a ≡ b → ⊥
@@ -13,56 +13,75 @@ differs a b same apart e = false≢true (sym (subst (λ n. bytes_eq a n ≡ fals
 pub no_check : (name : List ℕ) (parts : Parts) → name ≡ codes "check" → ((check : Check) → ¬ IsCheck parts check) →
     (command : Command) → ¬ IsRow name parts command
 no_check name parts is none (Checks check) = λ row. none check row.1
-no_check name parts is none (Measures run) = λ row. differs (codes "check") (codes "measure") refl refl (sym is ∙ row.0)
+no_check name parts is none (Measures version run) = λ row. differs (codes "check") (codes "measure") refl refl (sym is ∙ row.0)
 no_check name parts is none (Graphs run) = λ row. differs (codes "check") (codes "graph") refl refl (sym is ∙ row.0)
+no_check name parts is none (Reports json run) = λ row. differs (codes "check") (codes "report") refl refl (sym is ∙ row.0)
 no_check name parts is none (Assembles source) = λ row. differs (codes "check") (codes "asm") refl refl (sym is ∙ row.0)
 no_check name parts is none (Lists program) = λ row. differs (codes "check") (codes "list") refl refl (sym is ∙ row.0)
 no_check name parts is none (Verifies certificate) = λ row. differs (codes "check") (codes "verify") refl refl (sym is ∙ row.0)
 no_check name parts is none (Migrates cut) = λ row. differs (codes "check") (codes "migrate") refl refl (sym is ∙ row.0)
 
 -- no row of the names of measured runs
-pub no_measure : (name : List ℕ) (parts : Parts) → name ≡ codes "measure" → ((run : Run) → ¬ IsOneRun parts run) →
+pub no_measure : (name : List ℕ) (parts : Parts) → name ≡ codes "measure" →
+    ((version : ℕ) (run : Run) → ¬ IsMeasure parts version run) →
     (command : Command) → ¬ IsRow name parts command
 no_measure name parts is none (Checks check) = λ row. differs (codes "measure") (codes "check") refl refl (sym is ∙ row.0)
-no_measure name parts is none (Measures run) = λ row. none run row.1
+no_measure name parts is none (Measures version run) = λ row. none version run row.1
 no_measure name parts is none (Graphs run) = λ row. differs (codes "measure") (codes "graph") refl refl (sym is ∙ row.0)
+no_measure name parts is none (Reports json run) = λ row. differs (codes "measure") (codes "report") refl refl (sym is ∙ row.0)
 no_measure name parts is none (Assembles source) = λ row. differs (codes "measure") (codes "asm") refl refl (sym is ∙ row.0)
 no_measure name parts is none (Lists program) = λ row. differs (codes "measure") (codes "list") refl refl (sym is ∙ row.0)
 no_measure name parts is none (Verifies certificate) = λ row. differs (codes "measure") (codes "verify") refl refl (sym is ∙ row.0)
 no_measure name parts is none (Migrates cut) = λ row. differs (codes "measure") (codes "migrate") refl refl (sym is ∙ row.0)
 
-pub no_graph : (name : List ℕ) (parts : Parts) → name ≡ codes "graph" → ((run : Run) → ¬ IsOneRun parts run) →
+pub no_graph : (name : List ℕ) (parts : Parts) → name ≡ codes "graph" → ((run : Run) → ¬ IsGraph parts run) →
     (command : Command) → ¬ IsRow name parts command
 no_graph name parts is none (Checks check) = λ row. differs (codes "graph") (codes "check") refl refl (sym is ∙ row.0)
-no_graph name parts is none (Measures run) = λ row. differs (codes "graph") (codes "measure") refl refl (sym is ∙ row.0)
+no_graph name parts is none (Measures version run) = λ row. differs (codes "graph") (codes "measure") refl refl (sym is ∙ row.0)
 no_graph name parts is none (Graphs run) = λ row. none run row.1
+no_graph name parts is none (Reports json run) = λ row. differs (codes "graph") (codes "report") refl refl (sym is ∙ row.0)
 no_graph name parts is none (Assembles source) = λ row. differs (codes "graph") (codes "asm") refl refl (sym is ∙ row.0)
 no_graph name parts is none (Lists program) = λ row. differs (codes "graph") (codes "list") refl refl (sym is ∙ row.0)
 no_graph name parts is none (Verifies certificate) = λ row. differs (codes "graph") (codes "verify") refl refl (sym is ∙ row.0)
 no_graph name parts is none (Migrates cut) = λ row. differs (codes "graph") (codes "migrate") refl refl (sym is ∙ row.0)
 
+pub no_report : (name : List ℕ) (parts : Parts) → name ≡ codes "report" →
+    ((json : Bool) (run : Run) → ¬ IsReport parts json run) → (command : Command) → ¬ IsRow name parts command
+no_report name parts is none (Checks check) = λ row. differs (codes "report") (codes "check") refl refl (sym is ∙ row.0)
+no_report name parts is none (Measures version run) = λ row. differs (codes "report") (codes "measure") refl refl (sym is ∙ row.0)
+no_report name parts is none (Graphs run) = λ row. differs (codes "report") (codes "graph") refl refl (sym is ∙ row.0)
+no_report name parts is none (Reports json run) = λ row. none json run row.1
+no_report name parts is none (Assembles source) = λ row. differs (codes "report") (codes "asm") refl refl (sym is ∙ row.0)
+no_report name parts is none (Lists program) = λ row. differs (codes "report") (codes "list") refl refl (sym is ∙ row.0)
+no_report name parts is none (Verifies certificate) = λ row. differs (codes "report") (codes "verify") refl refl (sym is ∙ row.0)
+no_report name parts is none (Migrates cut) = λ row. differs (codes "report") (codes "migrate") refl refl (sym is ∙ row.0)
+
 -- no row of another name whose parts name no file
 pub no_file : (name : List ℕ) (parts : Parts) → name ≢ codes "check" → name ≢ codes "measure" → name ≢ codes "graph" →
+    name ≢ codes "report" →
     ((file : List ℕ) → ¬ IsOneFile parts file) → (command : Command) → ¬ IsRow name parts command
-no_file name parts check measure graph none (Checks c) = λ row. check row.0
-no_file name parts check measure graph none (Measures run) = λ row. measure row.0
-no_file name parts check measure graph none (Graphs run) = λ row. graph row.0
-no_file name parts check measure graph none (Assembles source) = λ row. none source row.1
-no_file name parts check measure graph none (Lists program) = λ row. none program row.1
-no_file name parts check measure graph none (Verifies certificate) = λ row. none certificate row.1
-no_file name parts check measure graph none (Migrates cut) = λ row. none cut row.1
+no_file name parts check measure graph report none (Checks c) = λ row. check row.0
+no_file name parts check measure graph report none (Measures version run) = λ row. measure row.0
+no_file name parts check measure graph report none (Graphs run) = λ row. graph row.0
+no_file name parts check measure graph report none (Reports json run) = λ row. report row.0
+no_file name parts check measure graph report none (Assembles source) = λ row. none source row.1
+no_file name parts check measure graph report none (Lists program) = λ row. none program row.1
+no_file name parts check measure graph report none (Verifies certificate) = λ row. none certificate row.1
+no_file name parts check measure graph report none (Migrates cut) = λ row. none cut row.1
 
 -- no row of a name that no command has
 pub no_name : (name : List ℕ) (parts : Parts) → name ≢ codes "check" → name ≢ codes "measure" → name ≢ codes "graph" →
+    name ≢ codes "report" →
     name ≢ codes "asm" → name ≢ codes "list" → name ≢ codes "verify" → name ≢ codes "migrate" →
     (command : Command) → ¬ IsRow name parts command
-no_name name parts check measure graph asm list verify migrate (Checks c) = λ row. check row.0
-no_name name parts check measure graph asm list verify migrate (Measures run) = λ row. measure row.0
-no_name name parts check measure graph asm list verify migrate (Graphs run) = λ row. graph row.0
-no_name name parts check measure graph asm list verify migrate (Assembles source) = λ row. asm row.0
-no_name name parts check measure graph asm list verify migrate (Lists program) = λ row. list row.0
-no_name name parts check measure graph asm list verify migrate (Verifies certificate) = λ row. verify row.0
-no_name name parts check measure graph asm list verify migrate (Migrates cut) = λ row. migrate row.0
+no_name name parts check measure graph report asm list verify migrate (Checks c) = λ row. check row.0
+no_name name parts check measure graph report asm list verify migrate (Measures version run) = λ row. measure row.0
+no_name name parts check measure graph report asm list verify migrate (Graphs run) = λ row. graph row.0
+no_name name parts check measure graph report asm list verify migrate (Reports json run) = λ row. report row.0
+no_name name parts check measure graph report asm list verify migrate (Assembles source) = λ row. asm row.0
+no_name name parts check measure graph report asm list verify migrate (Lists program) = λ row. list row.0
+no_name name parts check measure graph report asm list verify migrate (Verifies certificate) = λ row. verify row.0
+no_name name parts check measure graph report asm list verify migrate (Migrates cut) = λ row. migrate row.0
 
 tails : (a c : List ℕ) (b d : List (List ℕ)) → a ∷ b ≡ c ∷ d → b ≡ d
 tails a c b d e = cc

@@ -1,5 +1,5 @@
 -- What is measured of a run, and what is told of it.
-use Rattle.std.proofs.Common.{◌≡◌, ◌∙◌, inl, inr, sym, ℕ, List, Option, Result, Ok, Err}
+use Rattle.std.proofs.Common.{◌≡◌, ◌∙◌, inl, inr, subst, sym, ℕ, List, Option, Result, Ok, Err}
 use Rattle.elf32_loader.specs.Pictures.{Picture}
 use Rattle.enclosure_regions.specs.declared.region_parts.Region.{Region}
 use Rattle.measuring.specs.declared.measured.Measured.{Measured}
@@ -17,30 +17,30 @@ pub record Follows (Tells : Measured → Answer → Type 0) (found : Result Meas
   pub told : (measured : Measured) → found ≡ Ok measured → Tells measured answer
 
 runs : (Tells : Measured → Answer → Type 0) (found : Result Measured Refusal) (answer : Answer) → Follows Tells found answer →
-    (public_input secret : List ℕ) (turns : ℕ) (picture : Picture) (regions : List Region) →
-    Runs Is public_input secret turns picture regions found → Runs Tells public_input secret turns picture regions answer
-runs Tells found answer law public_input secret turns picture regions (inl (fault, cause, room, e)) =
+    (table : ℕ) (public_input secret : List ℕ) (turns : ℕ) (picture : Picture) (regions : List Region) →
+    Runs Is table public_input secret turns picture regions found → Runs Tells table public_input secret turns picture regions answer
+runs Tells found answer law table public_input secret turns picture regions (inl (fault, cause, room, e)) =
     inl (fault, cause, room, law.refused _ e)
-runs Tells found answer law public_input secret turns picture regions (inr (measured, is, accepted, few, e)) =
+runs Tells found answer law table public_input secret turns picture regions (inr (measured, is, accepted, few, e)) =
     inr (measured, is, accepted, few, law.told measured e)
 
 runs-regions : (Tells : Measured → Answer → Type 0) (found : Result Measured Refusal) (answer : Answer) → Follows Tells found answer →
-    (public_input secret : List ℕ) (turns : ℕ) (region_file : Option (List ℕ)) (picture : Picture) →
-    RunsRegions Is public_input secret turns region_file picture found →
-    RunsRegions Tells public_input secret turns region_file picture answer
-runs-regions Tells found answer law public_input secret turns region_file picture (inl (fault, first, e)) =
+    (table : ℕ) (public_input secret : List ℕ) (turns : ℕ) (region_file : Option (List ℕ)) (picture : Picture) →
+    RunsRegions Is table public_input secret turns region_file picture found →
+    RunsRegions Tells table public_input secret turns region_file picture answer
+runs-regions Tells found answer law table public_input secret turns region_file picture (inl (fault, first, e)) =
     inl (fault, first, law.refused _ e)
-runs-regions Tells found answer law public_input secret turns region_file picture (inr (regions, are, rest)) =
-    inr (regions, are, runs Tells found answer law public_input secret turns picture regions rest)
+runs-regions Tells found answer law table public_input secret turns region_file picture (inr (regions, are, rest)) =
+    inr (regions, are, runs Tells found answer law table public_input secret turns picture regions rest)
 
 pub runs_program : (Tells : Measured → Answer → Type 0) (found : Result Measured Refusal) (answer : Answer) → Follows Tells found answer →
-    (program_file public_input : List ℕ) (region_file : Option (List ℕ)) (secret : List ℕ) (turns : ℕ) →
-    RunsProgram Is program_file public_input region_file secret turns found →
-    RunsProgram Tells program_file public_input region_file secret turns answer
-runs_program Tells found answer law program_file public_input region_file secret turns (inl (fault, first, e)) =
+    (table : ℕ) (program_file public_input : List ℕ) (region_file : Option (List ℕ)) (secret : List ℕ) (turns : ℕ) →
+    RunsProgram Is table program_file public_input region_file secret turns found →
+    RunsProgram Tells table program_file public_input region_file secret turns answer
+runs_program Tells found answer law table program_file public_input region_file secret turns (inl (fault, first, e)) =
     inl (fault, first, law.refused _ e)
-runs_program Tells found answer law program_file public_input region_file secret turns (inr (picture, image, rest)) =
-    inr (picture, image, runs-regions Tells found answer law public_input secret turns region_file picture rest)
+runs_program Tells found answer law table program_file public_input region_file secret turns (inr (picture, image, rest)) =
+    inr (picture, image, runs-regions Tells found answer law table public_input secret turns region_file picture rest)
 
 pub refusal_of : (a b : Refusal) (found : Result Measured Refusal) → found ≡ Err a → found ≡ Err b → a ≡ b
 refusal_of a b found e h = cc
@@ -66,3 +66,29 @@ told_of Tells measured found answer e h = record {
   refused = λ refusal is. absurd (not_measured refusal measured found is e);
   told = λ other is. rw (measured-of other measured found is e) h;
 }
+
+-- ---- what is measured has a cut of version 1
+
+version-runs : (measured : Measured) (found : Result Measured Refusal) → found ≡ Ok measured → (table : ℕ)
+    (public_input secret : List ℕ) (turns : ℕ) (picture : Picture) (regions : List Region) →
+    Runs Is table public_input secret turns picture regions found → measured.cut.version ≡ 1
+version-runs measured found is table public_input secret turns picture regions (inl (fault, cause, room, e)) =
+    absurd (not_measured _ measured found e is)
+version-runs measured found is table public_input secret turns picture regions (inr (other, m, accepted, few, e)) =
+    subst (λ (a : Measured). a.cut.version ≡ 1) (measured-of other measured found e is) m.measure.cut.version
+
+version-regions : (measured : Measured) (found : Result Measured Refusal) → found ≡ Ok measured → (table : ℕ)
+    (public_input secret : List ℕ) (turns : ℕ) (region_file : Option (List ℕ)) (picture : Picture) →
+    RunsRegions Is table public_input secret turns region_file picture found → measured.cut.version ≡ 1
+version-regions measured found is table public_input secret turns region_file picture (inl (fault, first, e)) =
+    absurd (not_measured _ measured found e is)
+version-regions measured found is table public_input secret turns region_file picture (inr (regions, are, rest)) =
+    version-runs measured found is table public_input secret turns picture regions rest
+
+pub first_version : (measured : Measured) (found : Result Measured Refusal) → found ≡ Ok measured → (table : ℕ)
+    (program_file public_input : List ℕ) (region_file : Option (List ℕ)) (secret : List ℕ) (turns : ℕ) →
+    RunsProgram Is table program_file public_input region_file secret turns found → measured.cut.version ≡ 1
+first_version measured found is table program_file public_input region_file secret turns (inl (fault, first, e)) =
+    absurd (not_measured _ measured found e is)
+first_version measured found is table program_file public_input region_file secret turns (inr (picture, image, rest)) =
+    version-regions measured found is table public_input secret turns region_file picture rest

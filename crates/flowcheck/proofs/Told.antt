@@ -16,10 +16,10 @@ use Rattle.flowcheck.specs.declared.statuses.Status.TheVariants.{Done, Rejected}
 use Rattle.flowcheck.specs.Answers.{Answer, told}
 use Rattle.flowcheck.specs.Assemblies.{AnswersSource, program_answer}
 use Rattle.flowcheck.specs.Checks.{AnswersCheck, AnswersCut, AnswersOthers, AnswersProgram, AnswersRegions}
-use Rattle.flowcheck.specs.CommandLines.{Check, Run, Command, Checks, Measures, Graphs, Assembles, Lists, Verifies, Migrates, IsNoCommand}
+use Rattle.flowcheck.specs.CommandLines.{Check, Run, Command, Checks, Measures, Graphs, Reports, Assembles, Lists, Verifies, Migrates, IsNoCommand}
 use Rattle.flowcheck.specs.Listings.{AnswersListed, AnswersListing}
 use Rattle.measuring.specs.declared.measured.Measured.{Measured}
-use Rattle.flowcheck.specs.Measurements.{AnswersRun, Runs, RunsProgram, RunsRegions, TellsCut, TellsGraph}
+use Rattle.flowcheck.specs.Measurements.{AnswersRun, Runs, RunsProgram, RunsRegions, TellsCut, TellsGraph, TellsReport}
 use Rattle.flowcheck.specs.Migrations.{AnswersMigrated, AnswersMigration}
 use Rattle.flowcheck.specs.Verifications.{AnswersVerification, AnswersVerified, verdict_reply}
 use Rattle.flowcheck.specs.Loading.{Want, IsLoadRefusal, Loads}
@@ -143,44 +143,48 @@ TellsDone Tells = (measured : Measured) (answer : Answer) → Tells measured ans
 done-text : (text : List ℕ) → NoUsage (Ok (record { status = Done; text = text }))
 done-text text = other _ (λ n. omega (arith, n)) (λ n. omega (arith, n)) (omega arith) (omega arith)
 
-runs-status : (Tells : Measured → Answer → Type 0) → TellsDone Tells → (public_input secret : List ℕ) (turns : ℕ)
-    (picture : Picture) (regions : List Region) (answer : Answer) → Runs Tells public_input secret turns picture regions answer →
+runs-status : (Tells : Measured → Answer → Type 0) → TellsDone Tells → (table : ℕ) (public_input secret : List ℕ) (turns : ℕ)
+    (picture : Picture) (regions : List Region) (answer : Answer) → Runs Tells table public_input secret turns picture regions answer →
     NoUsage answer
-runs-status Tells done public_input secret turns picture regions answer (inl (fault, cause, room, e)) =
+runs-status Tells done table public_input secret turns picture regions answer (inl (fault, cause, room, e)) =
     by answer _ e (other _ (λ n. omega (arith, n)) (λ n. omega (arith, n)) (omega arith) (joined (codes "refused 4 ") _ (literal (codes "refused 4 ") refl) (run_fault fault)))
-runs-status Tells done public_input secret turns picture regions answer (inr (measured, is, accepted, few, tells)) = done measured answer tells
+runs-status Tells done table public_input secret turns picture regions answer (inr (measured, is, accepted, few, tells)) = done measured answer tells
 
-runs-regions-status : (Tells : Measured → Answer → Type 0) → TellsDone Tells → (public_input secret : List ℕ) (turns : ℕ)
+runs-regions-status : (Tells : Measured → Answer → Type 0) → TellsDone Tells → (table : ℕ) (public_input secret : List ℕ) (turns : ℕ)
     (region_file : Option (List ℕ)) (picture : Picture) (answer : Answer) →
-    RunsRegions Tells public_input secret turns region_file picture answer → NoUsage answer
-runs-regions-status Tells done public_input secret turns region_file picture answer (inl (fault, first, e)) =
+    RunsRegions Tells table public_input secret turns region_file picture answer → NoUsage answer
+runs-regions-status Tells done table public_input secret turns region_file picture answer (inl (fault, first, e)) =
     by answer _ e (other _ (λ n. omega (arith, n)) (λ n. omega (arith, n)) (omega arith) (joined (codes "refused 3 regions ") _ (literal (codes "refused 3 regions ") refl) (region fault)))
-runs-regions-status Tells done public_input secret turns region_file picture answer (inr (regions, are, rest)) =
-    runs-status Tells done public_input secret turns picture regions answer rest
+runs-regions-status Tells done table public_input secret turns region_file picture answer (inr (regions, are, rest)) =
+    runs-status Tells done table public_input secret turns picture regions answer rest
 
-runs-program-status : (Tells : Measured → Answer → Type 0) → TellsDone Tells → (program_file public_input : List ℕ)
+runs-program-status : (Tells : Measured → Answer → Type 0) → TellsDone Tells → (table : ℕ) (program_file public_input : List ℕ)
     (region_file : Option (List ℕ)) (secret : List ℕ) (turns : ℕ) (answer : Answer) →
-    RunsProgram Tells program_file public_input region_file secret turns answer → NoUsage answer
-runs-program-status Tells done program_file public_input region_file secret turns answer (inl (fault, first, e)) =
+    RunsProgram Tells table program_file public_input region_file secret turns answer → NoUsage answer
+runs-program-status Tells done table program_file public_input region_file secret turns answer (inl (fault, first, e)) =
     by answer _ e (other _ (λ n. omega (arith, n)) (λ n. omega (arith, n)) (omega arith) (joined (codes "refused 3 program ") _ (literal (codes "refused 3 program ") refl) (program fault)))
-runs-program-status Tells done program_file public_input region_file secret turns answer (inr (picture, image, rest)) =
-    runs-regions-status Tells done public_input secret turns region_file picture answer rest
+runs-program-status Tells done table program_file public_input region_file secret turns answer (inr (picture, image, rest)) =
+    runs-regions-status Tells done table public_input secret turns region_file picture answer rest
 
 run-status : (Tells : Measured → Answer → Type 0) → TellsDone Tells → (run : Run) (files : List (List ℕ)) (answer : Answer) →
     AnswersRun Tells run files answer → NoUsage answer
 run-status Tells done run files answer h =
-    runs-program-status Tells done h.program_file h.public_input h.region_file h.secret run.turns answer h.runs
+    runs-program-status Tells done run.table h.program_file h.public_input h.region_file h.secret run.turns answer h.runs
 
-cut-done : TellsDone TellsCut
-cut-done measured answer (text, is, e) = by answer _ e (done-text text)
+cut-done : (version : ℕ) → TellsDone (TellsCut version)
+cut-done version measured answer (text, is, e) = by answer _ e (done-text text)
+
+report-done : (json : Bool) → TellsDone (TellsReport json)
+report-done json measured answer e = by answer _ e (done-text _)
 
 graph-done : TellsDone TellsGraph
 graph-done measured answer (text, is, e) = by answer _ e (done-text text)
 
 files-status : (command : Command) (files : List (List ℕ)) (answer : Answer) → AnswersFiles command files answer → NoUsage answer
 files-status (Checks check) files answer h = check-status check files answer h
-files-status (Measures run) files answer h = run-status TellsCut cut-done run files answer h
+files-status (Measures version run) files answer h = run-status (TellsCut version) (cut-done version) run files answer h
 files-status (Graphs run) files answer h = run-status TellsGraph graph-done run files answer h
+files-status (Reports json run) files answer h = run-status (TellsReport json) (report-done json) run files answer h
 files-status (Assembles source) files answer h = source-status files answer h
 files-status (Lists program) files answer h = listing-status files answer h
 files-status (Verifies certificate) files answer h = verification-status files answer h

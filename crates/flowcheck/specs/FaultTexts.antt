@@ -1,4 +1,4 @@
--- The texts of what is wrong with a program file, a cut file, a source and a run. Numbers are decimal; an address is 0x
+-- The texts of what is wrong with a program file, a cut file and a source. Numbers are decimal; an address is 0x
 -- and eight digits in lower case, a byte 0x and two.
 use Rattle.std.specs.Prelude.{ℕ, ◌/◌, ◌%◌, List, [], ◌∷◌, ◌++◌, codes}
 use Rattle.std.specs.Fmt.{decimal}
@@ -7,13 +7,9 @@ use Rattle.elf32_loader.specs.declared.fault.ElfFault.{ElfFault}
 use Rattle.elf32_loader.specs.declared.fault.ElfFault.TheVariants as elf
 use Rattle.cut_file.specs.declared.faults.CutFault.{CutFault}
 use Rattle.cut_file.specs.declared.faults.CutFault.TheVariants as cut
-use Rattle.enclosure_regions.specs.Texts.{break_text}
-use Rattle.run_labels.specs.declared.faults.MeasureFault.{MeasureFault}
-use Rattle.run_labels.specs.declared.faults.MeasureFault.TheVariants as run
 use Rattle.rv32im_asm.specs.declared.fault.AsmFault.{AsmFault}
 use Rattle.rv32im_asm.specs.declared.fault.AsmFault.TheVariants as source
 use Rattle.rv32im_asm.specs.Kinds.{number_of}
-use Rattle.flowcheck.specs.Texts.{fault_text}
 
 -- 0x and the two digits of a byte
 abbrev pub hex_byte : ℕ → List ℕ
@@ -51,14 +47,3 @@ source_fault_text (source.LabelTwice number) = codes "label-twice " ++ decimal n
 source_fault_text (source.LabelMissing number) = codes "label-missing " ++ decimal number
 source_fault_text (source.ImmediateRange number) = codes "range " ++ decimal number
 source_fault_text source.Memory = codes "memory"
-
--- why a run is not measured
-abbrev pub run_fault_text : MeasureFault → List ℕ
-run_fault_text (run.Guest fault) = fault_text fault
-run_fault_text (run.Region broken) = break_text broken
-run_fault_text (run.TurnLimit limit) = codes "turns " ++ decimal limit
-run_fault_text (run.SecretCode pc) = codes "secret-code " ++ hex_word pc
-run_fault_text (run.BaseSecret region register) =
-    codes "region " ++ (decimal region ++ (codes " base x" ++ (decimal register ++ codes " secret")))
-run_fault_text run.GraphLimit = codes "graph-limit"
-run_fault_text run.Memory = codes "memory"

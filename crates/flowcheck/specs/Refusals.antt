@@ -20,7 +20,8 @@ use Rattle.flowcheck.specs.declared.refusals.Refusal.TheVariants.{Usage, Program
 use Rattle.flowcheck.specs.declared.refusals.Refusal.TheVariants.{Certificate, Run, Memory}
 use Rattle.flowcheck.specs.declared.statuses.Status.{Status}
 use Rattle.flowcheck.specs.declared.statuses.Status.TheVariants as statuses
-use Rattle.flowcheck.specs.FaultTexts.{cut_fault_text, program_fault_text, run_fault_text, source_fault_text}
+use Rattle.flowcheck.specs.FaultTexts.{cut_fault_text, program_fault_text, source_fault_text}
+use Rattle.leak_report.specs.FaultTexts.{run_fault_text}
 
 abbrev pub refusal_status : Refusal → Status
 refusal_status Usage = statuses.Usage

@@ -6,11 +6,11 @@ use Rattle.flowcheck.specs.declared.refusals.Refusal.TheVariants.{Usage}
 use Rattle.flowcheck.specs.Answers.{Answer, told}
 use Rattle.flowcheck.specs.Assemblies.{AnswersSource, source_wants}
 use Rattle.flowcheck.specs.Checks.{AnswersCheck, check_wants}
-use Rattle.flowcheck.specs.CommandLines.{Command, Checks, Measures, Graphs, Assembles, Lists, Verifies, Migrates}
-use Rattle.flowcheck.specs.CommandLines.{IsCommand, IsNoCommand}
+use Rattle.flowcheck.specs.CommandLines.{Command, Checks, Measures, Graphs, Reports, Assembles, Lists, Verifies}
+use Rattle.flowcheck.specs.CommandLines.{Migrates, IsCommand, IsNoCommand}
 use Rattle.flowcheck.specs.Listings.{AnswersListing, listing_wants}
 use Rattle.flowcheck.specs.Loading.{Want, Leaves, LeavesPart, Loads}
-use Rattle.flowcheck.specs.Measurements.{AnswersRun, TellsCut, TellsGraph, run_wants}
+use Rattle.flowcheck.specs.Measurements.{AnswersRun, TellsCut, TellsGraph, TellsReport, run_wants}
 use Rattle.flowcheck.specs.Migrations.{AnswersMigration, migration_wants}
 use Rattle.flowcheck.specs.Statuses.{number_of}
 use Rattle.flowcheck.specs.Verifications.{AnswersVerification, verification_wants}
@@ -18,8 +18,9 @@ use Rattle.flowcheck.specs.Verifications.{AnswersVerification, verification_want
 -- the files that a command wants, in the order of its loads
 abbrev pub wants_of : Command → List Want
 wants_of (Checks check) = check_wants check
-wants_of (Measures run) = run_wants run
+wants_of (Measures version run) = run_wants run
 wants_of (Graphs run) = run_wants run
+wants_of (Reports json run) = run_wants run
 wants_of (Assembles source) = source_wants source
 wants_of (Lists program) = listing_wants program
 wants_of (Verifies certificate) = verification_wants certificate
@@ -28,8 +29,9 @@ wants_of (Migrates cut) = migration_wants cut
 -- the answer of a command to the files that it wants
 abbrev pub AnswersFiles : Command → List (List ℕ) → Answer → Type 0
 AnswersFiles (Checks check) files answer = AnswersCheck check files answer
-AnswersFiles (Measures run) files answer = AnswersRun TellsCut run files answer
+AnswersFiles (Measures version run) files answer = AnswersRun (TellsCut version) run files answer
 AnswersFiles (Graphs run) files answer = AnswersRun TellsGraph run files answer
+AnswersFiles (Reports json run) files answer = AnswersRun (TellsReport json) run files answer
 AnswersFiles (Assembles source) files answer = AnswersSource files answer
 AnswersFiles (Lists program) files answer = AnswersListing files answer
 AnswersFiles (Verifies certificate) files answer = AnswersVerification files answer

@@ -8,14 +8,17 @@ use Rattle.flowcheck.specs.declared.parts.OptionWords.{OptionWords}
 use Rattle.flowcheck.specs.declared.parts.Parts.{Parts as PartedWords}
 use Rattle.flowcheck.specs.declared.loads.Want.{Want as WantedFile}
 use Rattle.flowcheck.specs.Parts.{OptionValues, Parts}
-use Rattle.flowcheck.specs.CommandLines.{Check, Run, Command, Checks, Measures, Graphs, Assembles, Lists, Verifies}
-use Rattle.flowcheck.specs.CommandLines.{Migrates, highest_budget, highest_turns}
+use Rattle.flowcheck.specs.CommandLines.{Check, Run, Command, Checks, Measures, Graphs, Reports, Assembles, Lists}
+use Rattle.flowcheck.specs.CommandLines.{Verifies, Migrates, IsTable, highest_budget, highest_turns}
 use Rattle.flowcheck.specs.Loading.{Want}
 
 abbrev pub values_of : OptionWords → OptionValues
 values_of words = record {
   turns = option_map (λ word. word.now) words.turns;
   regions = option_map (λ word. word.now) words.regions;
+  rules = option_map (λ word. word.now) words.rules;
+  cut = option_map (λ word. word.now) words.cut;
+  json = words.json;
 }
 
 abbrev pub parts_in : PartedWords → Parts
@@ -42,22 +45,30 @@ run_of words = record {
   region_file = option_map (λ word. word.now) words.regions;
   secret = words.secret.now;
   turns = words.turns;
+  table = words.table;
 }
 
 abbrev pub command_of : CommandWords → Command
 command_of (words.Check check) = Checks (check_of check)
-command_of (words.Measure run) = Measures (run_of run)
+command_of (words.Measure version run) = Measures version (run_of run)
 command_of (words.Graph run) = Graphs (run_of run)
+command_of (words.Report json run) = Reports json (run_of run)
 command_of (words.Assemble source) = Assembles source.now
 command_of (words.List program) = Lists program.now
 command_of (words.Verify certificate) = Verifies certificate.now
 command_of (words.Migrate cut) = Migrates cut.now
 
--- the budget of a check and the turns of a measured run are within their limits
+-- the turns of a measured run are within their limit, and there is a book of its table
+pub record HasRunLimits (run : RunWords) : Type 0 where
+  pub turns : run.turns ≤ highest_turns
+  pub table : IsTable run.table
+
+-- the budget of a check, and what a measured run names, are within their limits
 abbrev pub HasLimits : CommandWords → Type 0
 HasLimits (words.Check check) = check.limits.budget ≤ highest_budget
-HasLimits (words.Measure run) = run.turns ≤ highest_turns
-HasLimits (words.Graph run) = run.turns ≤ highest_turns
+HasLimits (words.Measure version run) = HasRunLimits run
+HasLimits (words.Graph run) = HasRunLimits run
+HasLimits (words.Report json run) = HasRunLimits run
 HasLimits (words.Assemble source) = Unit {0}
 HasLimits (words.List program) = Unit {0}
 HasLimits (words.Verify certificate) = Unit {0}

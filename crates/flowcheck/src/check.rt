@@ -69,6 +69,9 @@ pub fn check_words<'a>(alloc: Global, parts: &Parts<'a>) -> Result<Option<CheckW
     if secrets.is_empty() || secrets.len() > 64 {
         return Ok(None);
     }
+    if parts.options.rules.is_some() || parts.options.cut.is_some() || parts.options.json {
+        return Ok(None);
+    }
     let Some(budget) = number_of(alloc, budget, 0, HIGHEST_BUDGET)? else {
         return Ok(None);
     };

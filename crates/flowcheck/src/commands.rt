@@ -1,8 +1,8 @@
-ghost use Rattle.std.specs.Prelude.{◌≡◌, ◌≢◌, ◌≤◌, ◌∷◌, [], ℕ, List as Seq, Err, None, Ok, codes, map, string_bytes};
+ghost use Rattle.std.specs.Prelude.{◌≡◌, ◌≢◌, ◌≤◌, ◌∷◌, [], ℕ, Bool, List as Seq, Err, None, Ok, codes, map, string_bytes};
 ghost use Rattle.std.specs.Prelude.{IfNone, IfOk, IfSome};
 ghost use Rattle.flow_base.specs.Counts.{Rose};
-ghost use Rattle.flowcheck.specs.CommandLines.{Check, Command, Run, IsCheck, IsCommand, IsNoCommand, IsOneFile};
-ghost use Rattle.flowcheck.specs.CommandLines.{IsOneRun, IsRow};
+ghost use Rattle.flowcheck.specs.CommandLines.{Check, Command, Run, IsCheck, IsCommand, IsGraph, IsMeasure};
+ghost use Rattle.flowcheck.specs.CommandLines.{IsNoCommand, IsOneFile, IsReport, IsRow};
 ghost use Rattle.flowcheck.specs.Loading.{AreWithin, Leaves, LeavesPart, want};
 ghost use Rattle.flowcheck.specs.Replies.{AnswersCommand, AnswersFiles, AnswersWords, LeavesWords, LeavesWordsPart};
 ghost use Rattle.flowcheck.specs.Replies.{wants_of as wants_of_of};
@@ -17,7 +17,8 @@ use crate::parts::{Parts, parts_of};
 use crate::refusals::Refusal;
 use crate::replies::Reply;
 use crate::runs::{self, RunWords, run_words};
-use crate::{asm, graph, list, measure, migrate, verify};
+use crate::shared::choice_of;
+use crate::{asm, graph, list, measure, migrate, report, verify};
 use flow_base::{Bytes, Files, List, NoMemory};
 use std::alloc::Global;
 use transfer_rules::RuleBook;
@@ -27,10 +28,12 @@ use transfer_rules::RuleBook;
 pub enum CommandWords<'a> {
     /// `check PROG PUBLIC CUT BUDGET SECRET.. [--turns N] [--regions FILE]`
     Check(CheckWords<'a>),
-    /// `measure PROG PUBLIC SECRET [--turns N] [--regions FILE]`
-    Measure(RunWords<'a>),
-    /// `graph PROG PUBLIC SECRET [--turns N] [--regions FILE]`
+    /// `measure PROG PUBLIC SECRET [--turns N] [--regions FILE] [--rules N] [--cut N]`
+    Measure { version: u32, run: RunWords<'a> },
+    /// `graph PROG PUBLIC SECRET [--turns N] [--regions FILE] [--rules N]`
     Graph(RunWords<'a>),
+    /// `report PROG PUBLIC SECRET [--turns N] [--regions FILE] [--rules N] [--json]`
+    Report { json: bool, run: RunWords<'a> },
     /// `asm SOURCE`
     Assemble { source: &'a str },
     /// `list PROG`
@@ -46,7 +49,7 @@ fn file_word<'a>(parts: &Parts<'a>) -> Option<&'a str>
     ensures is { IfSome result (λ file. IsOneFile (parts_in parts.now) file.now) }
     ensures none { IfNone result ((file : Seq ℕ) → ¬ IsOneFile (parts_in parts.now) file) }
 {
-    if parts.options.turns.is_some() || parts.options.regions.is_some() {
+    if parts.options.has_any() {
         return None;
     }
     match parts.plain.as_slice() {
@@ -60,6 +63,7 @@ fn file_row<'a>(name: &str, parts: &Parts<'a>) -> Option<CommandWords<'a>>
     ensures is { IfSome result (λ command. IsRow name.now (parts_in parts.now) (command_of command)) }
     ensures limits { IfSome result (λ command. HasLimits command) }
     ensures none { result ≡ None → name.now ≢ codes "check" → name.now ≢ codes "measure" → name.now ≢ codes "graph"
+        → name.now ≢ codes "report"
         → (command : Command) → ¬ IsRow name.now (parts_in parts.now) command }
 {
     let file = file_word(parts)?;
@@ -96,12 +100,18 @@ fn measure_row<'a>(alloc: Global, parts: &Parts<'a>) -> Result<Option<CommandWor
     ensures is { IfOk result (λ found. IfSome found (λ command. IsRow (codes "measure") (parts_in parts.now)
         (command_of command))) }
     ensures limits { IfOk result (λ found. IfSome found (λ command. HasLimits command)) }
-    ensures none { result ≡ Ok None → (run : Run) → ¬ IsOneRun (parts_in parts.now) run }
+    ensures none { result ≡ Ok None → (version : ℕ) → (run : Run) → ¬ IsMeasure (parts_in parts.now) version run }
 {
+    if parts.options.json {
+        return Ok(None);
+    }
+    let Some(version) = choice_of(alloc, parts.options.cut)? else {
+        return Ok(None);
+    };
     let Some(run) = run_words(alloc, parts)? else {
         return Ok(None);
     };
-    Ok(Some(CommandWords::Measure(run)))
+    Ok(Some(CommandWords::Measure { version, run }))
 }
 
 /// The certificate of the run that the words behind `graph` name; None exactly where they name none.
@@ -109,12 +119,34 @@ fn graph_row<'a>(alloc: Global, parts: &Parts<'a>) -> Result<Option<CommandWords
     ensures is { IfOk result (λ found. IfSome found (λ command. IsRow (codes "graph") (parts_in parts.now) (command_of
         command))) }
     ensures limits { IfOk result (λ found. IfSome found (λ command. HasLimits command)) }
-    ensures none { result ≡ Ok None → (run : Run) → ¬ IsOneRun (parts_in parts.now) run }
+    ensures none { result ≡ Ok None → (run : Run) → ¬ IsGraph (parts_in parts.now) run }
 {
+    if parts.options.json || parts.options.cut.is_some() {
+        return Ok(None);
+    }
     let Some(run) = run_words(alloc, parts)? else {
         return Ok(None);
     };
     Ok(Some(CommandWords::Graph(run)))
+}
+
+/// The report of the run that the words behind `report` name; None exactly where they name none.
+fn report_row<'a>(alloc: Global, parts: &Parts<'a>) -> Result<Option<CommandWords<'a>>, NoMemory>
+    ensures is { IfOk result (λ found. IfSome found (λ command. IsRow (codes "report") (parts_in parts.now) (command_of
+        command))) }
+    ensures limits { IfOk result (λ found. IfSome found (λ command. HasLimits command)) }
+    ensures none { result ≡ Ok None → (json : Bool) → (run : Run) → ¬ IsReport (parts_in parts.now) json run }
+{
+    if parts.options.cut.is_some() {
+        return Ok(None);
+    }
+    let Some(run) = run_words(alloc, parts)? else {
+        return Ok(None);
+    };
+    Ok(Some(CommandWords::Report {
+        json: parts.options.json,
+        run,
+    }))
 }
 
 /// The command of a name and the words behind it; None exactly where there is none.
@@ -136,6 +168,9 @@ fn row_of<'a>(
     }
     if name == "graph" {
         return graph_row(alloc, parts);
+    }
+    if name == "report" {
+        return report_row(alloc, parts);
     }
     Ok(file_row(name, parts))
 }
@@ -174,7 +209,9 @@ fn wants_of<'a>(alloc: Global, command: &CommandWords<'a>) -> Result<List<Want<'
 {
     match command {
         CommandWords::Check(check) => check::wants(alloc, check),
-        CommandWords::Measure(run) | CommandWords::Graph(run) => runs::wants(alloc, run),
+        CommandWords::Measure { run, .. }
+        | CommandWords::Graph(run)
+        | CommandWords::Report { run, .. } => runs::wants(alloc, run),
         CommandWords::Assemble { source } => one_want(alloc, *source, FileKind::Source),
         CommandWords::List { program } => one_want(alloc, *program, FileKind::Program),
         CommandWords::Verify { certificate } => {
@@ -189,9 +226,9 @@ fn answer_files(
     alloc: Global,
     command: &CommandWords,
     files: &[Bytes],
-    book: &RuleBook,
+    books: &[RuleBook],
 ) -> Result<Reply, Refusal>
-    requires table { book.now.table ≡ 1 }
+    requires books { map (λ book. book.table) books.now ≡ 1 ∷ 2 ∷ [] }
     requires limits { HasLimits command.now }
     requires within { AreWithin (wants_of_of (command_of command.now)) files.now }
     ensures answers { result ≢ Err Memory → AnswersFiles (command_of command.now) files.now result }
@@ -199,8 +236,11 @@ fn answer_files(
 {
     match command {
         CommandWords::Check(check) => check::answer(alloc, check, files),
-        CommandWords::Measure(run) => measure::answer(alloc, run, files, book),
-        CommandWords::Graph(run) => graph::answer(alloc, run, files, book),
+        CommandWords::Measure { version, run } => {
+            measure::answer(alloc, *version, run, files, books)
+        }
+        CommandWords::Graph(run) => graph::answer(alloc, run, files, books),
+        CommandWords::Report { json, run } => report::answer(alloc, *json, run, files, books),
         CommandWords::Assemble { .. } => asm::answer(alloc, files),
         CommandWords::List { .. } => list::answer(alloc, files),
         CommandWords::Verify { .. } => verify::answer(alloc, files),
@@ -213,9 +253,9 @@ fn answer_command<F: Files>(
     alloc: Global,
     files: &mut F,
     command: &CommandWords,
-    book: &RuleBook,
+    books: &[RuleBook],
 ) -> Result<Reply, Refusal>
-    requires table { book.now.table ≡ 1 }
+    requires books { map (λ book. book.table) books.now ≡ 1 ∷ 2 ∷ [] }
     requires limits { HasLimits command.now }
     ensures answers { result ≢ Err Memory → AnswersCommand (F.told files.old) (command_of command.now) result }
     ensures leaves { result ≢ Err Memory → Leaves (F.told files.old) (wants_of_of (command_of command.now))
@@ -226,7 +266,7 @@ fn answer_command<F: Files>(
 {
     let wants = wants_of(alloc, command)?;
     let loaded = load_all(alloc, files, wants.as_slice())?;
-    answer_files(alloc, command, loaded.as_slice(), book)
+    answer_files(alloc, command, loaded.as_slice(), books)
 }
 
 /// The answer to the words of a command line.
@@ -234,9 +274,9 @@ pub fn answer_words<F: Files>(
     alloc: Global,
     files: &mut F,
     words: &[String],
-    book: &RuleBook,
+    books: &[RuleBook],
 ) -> Result<Reply, Refusal>
-    requires table { book.now.table ≡ 1 }
+    requires books { map (λ book. book.table) books.now ≡ 1 ∷ 2 ∷ [] }
     ensures answers { result ≢ Err Memory → AnswersWords (F.told files.old) (map string_bytes words.now) result }
     ensures leaves { result ≢ Err Memory → LeavesWords (F.told files.old) (map string_bytes words.now) (F.told
         files.new) }
@@ -245,7 +285,7 @@ pub fn answer_words<F: Files>(
     ensures faults { F.faults files.old ≤ F.faults files.new }
 {
     match command_words(alloc, words)? {
-        Some(command) => answer_command(alloc, files, &command, book),
+        Some(command) => answer_command(alloc, files, &command, books),
         None => Err(Refusal::Usage),
     }
 }

@@ -1,13 +1,8 @@
-ghost use Rattle.std.specs.Prelude.{Some};
-ghost use Rattle.std.specs.Fmt.{DisplaysOnOk};
-ghost use Rattle.flow_base.specs.HexWords.{hex_word};
-
 use cut_file::CutFault;
 use elf32_loader::ElfFault;
 use flow_base::hex_digits;
-use run_labels::MeasureFault;
+use leak_report::Word;
 use rv32im_asm::AsmFault;
-use rv32im_machine::Fault;
 use std::fmt;
 
 /// A byte, which shows as `0x` and its two hexadecimal digits, in lower case.
@@ -25,29 +20,6 @@ impl fmt::Display for Byte {
         let high = char::from(high);
         let low = char::from(low);
         write!(f, "0x{high}{low}")
-    }
-}
-
-/// Writes a word.
-#[tactic(auto, using(crate::proofs::HexText::padded_word))]
-fn write_word<W: fmt::Write>(f: &mut fmt::Formatter<W>, word: u32) -> fmt::Result
-    ensures { DisplaysOnOk W.write_str_gives f.old result (Some (hex_word word)) f.new }
-{
-    write!(f, "0x{word:08x}")
-}
-
-/// A word, which shows as `0x` and its eight hexadecimal digits, in lower case.
-#[derive(Clone, Copy)]
-struct Word(u32);
-
-impl fmt::Display for Word {
-    ghost use Rattle.std.specs.Prelude.{Some};
-    ghost use Rattle.flow_base.specs.HexWords.{hex_word};
-
-    ghost output = { λ word. Some (hex_word word.0) };
-
-    fn fmt<W: fmt::Write>(&self, f: &mut fmt::Formatter<W>) -> fmt::Result {
-        write_word(f, self.0)
     }
 }
 
@@ -126,84 +98,6 @@ impl fmt::Display for SourceText<'_> {
             AsmFault::LabelMissing { number } => write!(f, "label-missing {number}"),
             AsmFault::ImmediateRange { number } => write!(f, "range {number}"),
             AsmFault::Memory => write!(f, "memory"),
-        }
-    }
-}
-
-/// Why a guest is stopped.
-#[derive(Clone, Copy)]
-pub struct StopText(pub Fault);
-
-impl fmt::Display for StopText {
-    ghost use Rattle.std.specs.Prelude.{Some};
-    ghost use Rattle.flowcheck.specs.Texts.{fault_text};
-
-    ghost output = { λ shown. Some (fault_text shown.0) };
-
-    fn fmt<W: fmt::Write>(&self, f: &mut fmt::Formatter<W>) -> fmt::Result {
-        match self.0 {
-            Fault::Illegal { pc, word } => {
-                let pc = Word(pc);
-                let word = Word(word);
-                write!(f, "illegal {pc} word {word}")
-            }
-            Fault::FetchOutside { pc } => {
-                let pc = Word(pc);
-                write!(f, "fetch-outside {pc}")
-            }
-            Fault::FetchUnaligned { pc } => {
-                let pc = Word(pc);
-                write!(f, "fetch-unaligned {pc}")
-            }
-            Fault::LoadOutside { pc, address } => {
-                let pc = Word(pc);
-                let address = Word(address);
-                write!(f, "load-outside {pc} address {address}")
-            }
-            Fault::StoreOutside { pc, address } => {
-                let pc = Word(pc);
-                let address = Word(address);
-                write!(f, "store-outside {pc} address {address}")
-            }
-            Fault::Breakpoint { pc } => {
-                let pc = Word(pc);
-                write!(f, "breakpoint {pc}")
-            }
-            Fault::OutputLimit { pc } => {
-                let pc = Word(pc);
-                write!(f, "output-limit {pc}")
-            }
-        }
-    }
-}
-
-/// Why a run is not measured.
-#[derive(Clone, Copy)]
-pub struct RunText<'a>(pub &'a MeasureFault);
-
-impl fmt::Display for RunText<'_> {
-    ghost use Rattle.std.specs.Prelude.{Some};
-    ghost use Rattle.flowcheck.specs.FaultTexts.{run_fault_text};
-
-    ghost output = { λ shown. Some (run_fault_text shown.0.now) };
-
-    fn fmt<W: fmt::Write>(&self, f: &mut fmt::Formatter<W>) -> fmt::Result {
-        match *self.0 {
-            MeasureFault::Guest(fault) => {
-                let stop = StopText(fault);
-                write!(f, "{stop}")
-            }
-            MeasureFault::Region(broken) => write!(f, "{broken}"),
-            MeasureFault::TurnLimit { limit } => write!(f, "turns {limit}"),
-            MeasureFault::SecretCode { pc } => {
-                let pc = Word(pc);
-                write!(f, "secret-code {pc}")
-            }
-            MeasureFault::BaseSecret { region, register } => {
-                write!(f, "region {region} base x{register} secret")
-            }
-            MeasureFault::GraphLimit => write!(f, "graph-limit"),
-            MeasureFault::Memory => write!(f, "memory"),
         }
     }
 }

@@ -30,8 +30,9 @@ fn words_of_form(alloc: Global, form: &str, more: &[&str]) -> Result<Vec<String>
 fn command_named<'a>(alloc: Global, words: &[String]) -> Result<Option<&'a str>, NoMemory> {
     let name = match command_words(alloc, words)? {
         Some(CommandWords::Check(_)) => "check",
-        Some(CommandWords::Measure(_)) => "measure",
+        Some(CommandWords::Measure { .. }) => "measure",
         Some(CommandWords::Graph(_)) => "graph",
+        Some(CommandWords::Report { .. }) => "report",
         Some(CommandWords::Assemble { .. }) => "asm",
         Some(CommandWords::List { .. }) => "list",
         Some(CommandWords::Verify { .. }) => "verify",
@@ -73,7 +74,7 @@ fn the_help_tells_the_command_lines(rt: HostRuntime) -> Result<(), Fail> {
         assert!(rt; is_form(alloc, form)?, "{form}");
         count = count.saturating_add(1);
     }
-    assert_eq!(rt; count, 7);
+    assert_eq!(rt; count, 8);
     Ok(())
 }
 

@@ -2,7 +2,7 @@
 //! line. What is a command line is decided by the words' own splitter alone.
 
 use clap::builder::ValueParser;
-use clap::{Arg, Command};
+use clap::{Arg, ArgAction, Command};
 use std::alloc::{AllocError, Global};
 
 const ABOUT: &str = "How many bits of its secret can a program's output have given away?";
@@ -47,6 +47,27 @@ fn regions<'a>(alloc: Global) -> Arg<'a> {
     option(alloc, "regions", "FILE", help)
 }
 
+/// The option `--rules`.
+fn rules<'a>(alloc: Global) -> Arg<'a> {
+    let help = "The table of the mask rules by which the run is measured, 1 or 2; 1 without it";
+    option(alloc, "rules", "N", help).value_parser(ValueParser::unsigned(1, 2))
+}
+
+/// The option `--cut`.
+fn cut<'a>(alloc: Global) -> Arg<'a> {
+    let help =
+        "The version of the cut's text, 1 or 2; 1 without it; in 2 masks that repeat are folded";
+    option(alloc, "cut", "N", help).value_parser(ValueParser::unsigned(1, 2))
+}
+
+/// The flag `--json`.
+fn json<'a>(alloc: Global) -> Arg<'a> {
+    Arg::new(alloc, "json")
+        .long("json")
+        .action(ArgAction::SetTrue)
+        .help("Write the report as JSON")
+}
+
 /// The form of `check`.
 fn check<'a>(alloc: Global) -> Result<Command<'a>, AllocError> {
     let about =
@@ -87,7 +108,23 @@ fn one_run<'a>(
         .arg(word(alloc, "PUBLIC", "The file of its public input"))?
         .arg(word(alloc, "SECRET", "The file of its secret input"))?
         .arg(turns(alloc))?
-        .arg(regions(alloc))
+        .arg(regions(alloc))?
+        .arg(rules(alloc))
+}
+
+/// The forms of the commands that measure a run.
+fn one_run_forms<'a>(alloc: Global) -> Result<Vec<Command<'a>>, AllocError> {
+    let mut forms = Vec::new(alloc);
+    let about =
+        "Measure how many bits of the secret the output of a run can have given away, and write the cut";
+    let measure = one_run(alloc, "flowcheck measure", "measure", about)?;
+    forms.push(measure.arg(cut(alloc))?)?;
+    let about = "Measure a run, and write the certificate of the maximum flow of its graph";
+    forms.push(one_run(alloc, "flowcheck graph", "graph", about)?)?;
+    let about = "Measure a run, and write a report of it";
+    let report = one_run(alloc, "flowcheck report", "report", about)?;
+    forms.push(report.arg(json(alloc))?)?;
+    Ok(forms)
 }
 
 /// The form of a command of one file.
@@ -123,11 +160,9 @@ fn one_file_forms<'a>(alloc: Global) -> Result<Vec<Command<'a>>, AllocError> {
 fn forms<'a>(alloc: Global) -> Result<Vec<Command<'a>>, AllocError> {
     let mut forms = Vec::new(alloc);
     forms.push(check(alloc)?)?;
-    let about =
-        "Measure how many bits of the secret the output of a run can have given away, and write the cut";
-    forms.push(one_run(alloc, "flowcheck measure", "measure", about)?)?;
-    let about = "Measure a run, and write the certificate of the maximum flow of its graph";
-    forms.push(one_run(alloc, "flowcheck graph", "graph", about)?)?;
+    for form in one_run_forms(alloc)? {
+        forms.push(form)?;
+    }
     for form in one_file_forms(alloc)? {
         forms.push(form)?;
     }

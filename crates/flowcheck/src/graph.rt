@@ -1,12 +1,12 @@
-ghost use Rattle.std.specs.Prelude.{◌≡◌, ◌≢◌, ◌≤◌, ℕ, List, Err, IfOk};
+ghost use Rattle.std.specs.Prelude.{◌≡◌, ◌≢◌, ◌∷◌, [], ℕ, List, Err, IfOk, map};
 ghost use Rattle.flow_certificate.specs.Certificates.{CertText};
 ghost use Rattle.flow_certificate.specs.Pictures.{picture_of};
-ghost use Rattle.flowcheck.specs.CommandLines.{highest_turns};
 ghost use Rattle.flowcheck.specs.Loading.{AreWithin};
 ghost use Rattle.flowcheck.specs.Measurements.{AnswersRun, TellsGraph, run_wants, solved_of};
-ghost use Rattle.flowcheck.specs.Words.{run_of};
+ghost use Rattle.flowcheck.specs.Words.{HasRunLimits, run_of};
 ghost use Rattle.flowcheck.specs.declared.refusals.Refusal.TheVariants.{Load, Memory};
 
+use crate::books::book_of;
 use crate::refusals::Refusal;
 use crate::replies::Reply;
 use crate::runs::{RunWords, files_of_run, measured};
@@ -39,15 +39,16 @@ pub fn answer(
     alloc: Global,
     run: &RunWords,
     files: &[Bytes],
-    book: &RuleBook,
+    books: &[RuleBook],
 ) -> Result<Reply, Refusal>
-    requires table { book.now.table ≡ 1 }
-    requires turns { run.now.turns ≤ highest_turns }
+    requires books { map (λ book. book.table) books.now ≡ 1 ∷ 2 ∷ [] }
+    requires limits { HasRunLimits run.now }
     requires within { AreWithin (run_wants (run_of run.now)) files.now }
     ensures answers { result ≢ Err Memory → AnswersRun TellsGraph (run_of run.now) files.now result }
     ensures cause { (name : List ℕ) → result ≢ Err (Load name) }
 {
     let files = files_of_run(run, files);
+    let book = book_of(books, run.table);
     let measured = measured(alloc, files, run.turns, book)?;
     let text = certificate_text(alloc, measured)?;
     Ok(Reply {

@@ -1,4 +1,4 @@
-ghost use Rattle.std.specs.Prelude.{◌≡◌, ◌==◌, ◌≤◌, length, IfOk, [], ◌∷◌, if◌then◌else◌};
+ghost use Rattle.std.specs.Prelude.{◌≡◌, ◌+◌, ◌==◌, ◌≤◌, length, IfOk, [], ◌∷◌, if◌then◌else◌};
 ghost use Rattle.elf32_loader.specs.Images.{picture_of};
 ghost use Rattle.cut_file.specs.Pictures.{picture_of as cut_of};
 ghost use Rattle.lockstep_replay.specs.Judgements.{judgement_of};
@@ -13,11 +13,12 @@ ghost use Rattle.flowcheck.specs.Texts.{accepted_count, verdict_lines};
 use crate::limits::Limits;
 use crate::replies::Reply;
 use crate::statuses::Status;
-use crate::texts::{counts_line, verdict_line};
+use crate::texts::counts_line;
 use cut_file::Cut;
 use elf32_loader::Image;
 use enclosure_regions::Regions;
 use flow_base::{Bytes, NoMemory};
+use leak_report::verdict_line;
 use lockstep_replay::{Lockstep, Verdict};
 use std::alloc::Global;
 
@@ -72,6 +73,13 @@ fn status_of(accepted: usize, checked: usize) -> Status
     }
 }
 
+/// The number of the next secret; the error is want of memory, which is answered too behind 2^32 secrets.
+fn next(number: u32) -> Result<u32, NoMemory>
+    ensures { IfOk result (λ after. after ≡ number + 1) }
+{
+    number.checked_add(1).ok_or(NoMemory)
+}
+
 /// The lines of secrets, and how many of them are accepted.
 #[derive(Drop)]
 struct Lines {
@@ -99,10 +107,10 @@ fn lines_of(
         secrets.now)) }
 {
     let mut text = Vec::new(alloc);
-    let mut number = 0;
+    let mut number: u32 = 0;
     let mut accepted = 0;
     for secret in secrets {
-        number += 1;
+        number = next(number)?;
         let verdict = judge(alloc, image, public_input, secret, regions, cut, limits)?;
         let line = verdict_line(alloc, number, &verdict)?;
         text.extend_from_slice(line.as_slice())?;

@@ -1,35 +1,51 @@
-ghost use Rattle.std.specs.Prelude.{◌≡◌, ◌≢◌, ◌≤◌, ℕ, List, Err};
-ghost use Rattle.flowcheck.specs.CommandLines.{highest_turns};
+ghost use Rattle.std.specs.Prelude.{◌≡◌, ◌≢◌, ◌∷◌, [], ℕ, List, Err, IfOk, map};
 ghost use Rattle.flowcheck.specs.Loading.{AreWithin};
-ghost use Rattle.flowcheck.specs.Measurements.{AnswersRun, TellsCut, run_wants};
-ghost use Rattle.flowcheck.specs.Words.{run_of};
+ghost use Rattle.flowcheck.specs.Measurements.{AnswersRun, IsCutText, TellsCut, run_wants};
+ghost use Rattle.flowcheck.specs.Words.{HasRunLimits, run_of};
 ghost use Rattle.flowcheck.specs.declared.refusals.Refusal.TheVariants.{Load, Memory};
 
+use crate::books::book_of;
 use crate::refusals::Refusal;
 use crate::replies::Reply;
 use crate::runs::{RunWords, files_of_run, measured};
 use crate::statuses::Status;
-use cut_file::write_cut;
-use flow_base::Bytes;
+use cut_file::{fold, write_cut};
+use flow_base::{Bytes, NoMemory};
+use measuring::Measured;
 use std::alloc::Global;
 use transfer_rules::RuleBook;
 
-/// The answer to the files of `measure PROG PUBLIC SECRET`: the text of the cut of the measured run.
+/// The text of the cut of a measured run: of its fold where version 2 is wanted.
+fn cut_text(alloc: Global, version: u32, measured: &Measured) -> Result<Bytes, NoMemory>
+    requires { measured.now.cut.version ≡ 1 }
+    ensures { IfOk result (λ text. IsCutText version measured.now text) }
+{
+    if version == 2 {
+        let folded = fold(alloc, &measured.cut)?;
+        return write_cut(alloc, &folded);
+    }
+    write_cut(alloc, &measured.cut)
+}
+
+/// The answer to the files of `measure PROG PUBLIC SECRET`: the text of the cut of the measured run, in the version that
+/// is wanted.
 pub fn answer(
     alloc: Global,
+    version: u32,
     run: &RunWords,
     files: &[Bytes],
-    book: &RuleBook,
+    books: &[RuleBook],
 ) -> Result<Reply, Refusal>
-    requires table { book.now.table ≡ 1 }
-    requires turns { run.now.turns ≤ highest_turns }
+    requires books { map (λ book. book.table) books.now ≡ 1 ∷ 2 ∷ [] }
+    requires limits { HasRunLimits run.now }
     requires within { AreWithin (run_wants (run_of run.now)) files.now }
-    ensures answers { result ≢ Err Memory → AnswersRun TellsCut (run_of run.now) files.now result }
+    ensures answers { result ≢ Err Memory → AnswersRun (TellsCut version) (run_of run.now) files.now result }
     ensures cause { (name : List ℕ) → result ≢ Err (Load name) }
 {
     let files = files_of_run(run, files);
+    let book = book_of(books, run.table);
     let measured = measured(alloc, files, run.turns, book)?;
-    let text = write_cut(alloc, &measured.cut)?;
+    let text = cut_text(alloc, version, &measured)?;
     Ok(Reply {
         status: Status::Done,
         text,

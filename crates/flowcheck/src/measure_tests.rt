@@ -5,18 +5,23 @@ use flow_base::Bytes;
 use std::alloc::Global;
 use std::test::Fail;
 
-/// The words of a command that measures the run on the secret 3, and the status and the text of the answer.
+/// The words of a command that measures a run, and the status and the text of the answer.
 #[derive(Clone, Copy)]
-struct Asked<'a> {
-    program: &'a [u8],
-    regions: &'a str,
-    words: &'a [&'a str],
-    status: u8,
-    text: &'a str,
+pub struct Asked<'a> {
+    /// The program file.
+    pub program: &'a [u8],
+    /// The region file.
+    pub regions: &'a str,
+    /// The words.
+    pub words: &'a [&'a str],
+    /// The status that is to be answered.
+    pub status: u8,
+    /// The text that is to be put.
+    pub text: &'a str,
 }
 
 /// Whether words are answered by their status and text.
-fn is_answered(alloc: Global, asked: &Asked) -> Result<bool, Fail> {
+pub fn is_answered(alloc: Global, asked: &Asked) -> Result<bool, Fail> {
     let answer = answered(alloc, asked.program, NO_BITS, asked.regions, asked.words)?;
     Ok(answer.status == asked.status && answer.text.as_slice() == asked.text.as_bytes())
 }

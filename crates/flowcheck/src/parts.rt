@@ -2,21 +2,43 @@ ghost use Rattle.std.specs.Prelude.{◌≡◌, true, false, map, string_bytes, o
 ghost use Rattle.std.specs.Prelude.{◌∷◌, []};
 ghost use Rattle.std.specs.List.{before_first, after_first};
 ghost use Rattle.flowcheck.specs.Parts.{after_word as after_word_of, has_equals, is_equals, is_name as is_name_of};
+ghost use Rattle.flowcheck.specs.Parts.{no_options};
 ghost use Rattle.flowcheck.specs.Parts.{parts_of as parts_of_of, set_behind as set_behind_of};
 ghost use Rattle.flowcheck.specs.Parts.{set_beside as set_beside_of, set_named as set_named_of};
-ghost use Rattle.flowcheck.specs.Parts.{set_regions as set_regions_of, set_turns as set_turns_of, with_options};
+ghost use Rattle.flowcheck.specs.Parts.{set_cut as set_cut_of, set_json as set_json_of, set_regions as set_regions_of};
+ghost use Rattle.flowcheck.specs.Parts.{set_rules as set_rules_of, set_turns as set_turns_of, with_options};
 ghost use Rattle.flowcheck.specs.Words.{parts_in, values_of};
 
 use flow_base::{List, NoMemory};
 use std::alloc::Global;
 
-/// The values of the options, where they are named.
+/// The values of the options, where they are named, and whether the flag is.
 #[derive(Clone, Copy)]
 pub struct OptionWords<'a> {
     /// That of `--turns`.
     pub turns: Option<&'a str>,
     /// That of `--regions`.
     pub regions: Option<&'a str>,
+    /// That of `--rules`.
+    pub rules: Option<&'a str>,
+    /// That of `--cut`.
+    pub cut: Option<&'a str>,
+    /// Whether `--json` is named.
+    pub json: bool,
+}
+
+impl OptionWords<'_> {
+    /// Whether any option or the flag is named.
+    pub fn has_any(&self) -> bool
+        ensures none { result ≡ false → values_of self.now ≡ no_options }
+        ensures some { values_of self.now ≡ no_options → result ≡ false }
+    {
+        self.turns.is_some()
+            || self.regions.is_some()
+            || self.rules.is_some()
+            || self.cut.is_some()
+            || self.json
+    }
 }
 
 /// The words behind a command, parted.
@@ -49,7 +71,7 @@ fn set_turns<'a>(before: OptionWords<'a>, value: &'a str) -> Option<OptionWords<
         Some(_) => None,
         None => Some(OptionWords {
             turns: Some(value),
-            regions: before.regions,
+            ..before
         }),
     }
 }
@@ -62,10 +84,51 @@ fn set_regions<'a>(before: OptionWords<'a>, value: &'a str) -> Option<OptionWord
     match before.regions {
         Some(_) => None,
         None => Some(OptionWords {
-            turns: before.turns,
             regions: Some(value),
+            ..before
         }),
     }
+}
+
+/// A table of mask rules; None exactly where one is named before.
+fn set_rules<'a>(before: OptionWords<'a>, value: &'a str) -> Option<OptionWords<'a>>
+    ensures { option_map values_of result ≡ set_rules_of (values_of before.entry) (values_of before.entry).rules
+        value.entry.now }
+{
+    match before.rules {
+        Some(_) => None,
+        None => Some(OptionWords {
+            rules: Some(value),
+            ..before
+        }),
+    }
+}
+
+/// A version of a cut's text; None exactly where one is named before.
+fn set_cut<'a>(before: OptionWords<'a>, value: &'a str) -> Option<OptionWords<'a>>
+    ensures { option_map values_of result ≡ set_cut_of (values_of before.entry) (values_of before.entry).cut
+        value.entry.now }
+{
+    match before.cut {
+        Some(_) => None,
+        None => Some(OptionWords {
+            cut: Some(value),
+            ..before
+        }),
+    }
+}
+
+/// The flag; None exactly where it is named before.
+fn set_json<'a>(before: OptionWords<'a>) -> Option<OptionWords<'a>>
+    ensures { option_map values_of result ≡ set_json_of (values_of before.entry) before.entry.json }
+{
+    if before.json {
+        return None;
+    }
+    Some(OptionWords {
+        json: true,
+        ..before
+    })
 }
 
 /// A value for the option of this name; None exactly where there is none of this name, or it has a value before.
@@ -77,6 +140,12 @@ fn set_named<'a>(before: OptionWords<'a>, name: &'a str, value: &'a str) -> Opti
     }
     if name == "--regions" {
         return set_regions(before, value);
+    }
+    if name == "--rules" {
+        return set_rules(before, value);
+    }
+    if name == "--cut" {
+        return set_cut(before, value);
     }
     None
 }
@@ -151,6 +220,10 @@ fn after_word<'a>(before: Parts<'a>, word: &'a str) -> Result<Option<Parts<'a>>,
     if is_name(word) {
         return Ok(Some(with_plain(before, word)?));
     }
+    if word == "--json" {
+        let options = set_json(before.options);
+        return Ok(with_these(before, options));
+    }
     if let Some((name, value)) = around_equals(word) {
         let options = set_behind(before.options, name, value);
         return Ok(with_these(before, options));
@@ -171,6 +244,9 @@ pub fn parts_of<'a>(alloc: Global, words: &'a [String]) -> Result<Option<Parts<'
         options: OptionWords {
             turns: None,
             regions: None,
+            rules: None,
+            cut: None,
+            json: false,
         },
         waiting: None,
     };

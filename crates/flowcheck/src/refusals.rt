@@ -1,7 +1,7 @@
 ghost use Rattle.std.specs.Prelude.{◌≡◌};
 ghost use Rattle.flowcheck.specs.Refusals.{refusal_status};
 
-use crate::fault_texts::{CutText, ProgramText, RunText, SourceText};
+use crate::fault_texts::{CutText, ProgramText, SourceText};
 use crate::names::Name;
 use crate::statuses::Status;
 use cut_file::CutFault;
@@ -9,6 +9,7 @@ use elf32_loader::ElfFault;
 use enclosure_regions::RegionFault;
 use flow_base::NoMemory;
 use flow_certificate::FormFault;
+use leak_report::RunText;
 use run_labels::MeasureFault;
 use rv32im_asm::AsmFault;
 use std::fmt;

@@ -1,4 +1,4 @@
-use crate::book_tests::answer_by_table_1;
+use crate::book_tests::answer_by_books;
 use crate::tests::{EXIT, HEAD, NO_BITS, TRAILING, hold, program};
 use flow_base::{Bytes, List, MemoryFiles, MemorySink, NoMemory};
 use std::alloc::Global;
@@ -48,6 +48,8 @@ pub fn answered(
     hold(alloc, &mut names, "r", regions.as_bytes())?;
     hold(alloc, &mut names, "-r", regions.as_bytes())?;
     hold(alloc, &mut names, "s3", &[3])?;
+    hold(alloc, &mut names, "s7", &[7])?;
+    hold(alloc, &mut names, "s7777", &[7, 7, 7, 7])?;
     let large = vec![in alloc; 0u8; 65_537]?;
     hold(alloc, &mut names, "large", large.as_slice())?;
     let mut files = MemoryFiles {
@@ -61,7 +63,7 @@ pub fn answered(
     for word in words {
         given.push(word.to_string(alloc)?).map_err(|_| NoMemory)?;
     }
-    let status = answer_by_table_1(alloc, given, &mut files, &mut sink);
+    let status = answer_by_books(alloc, given, &mut files, &mut sink);
     Ok(Answer {
         status,
         text: Bytes::from_slice(alloc, sink.taken())?,

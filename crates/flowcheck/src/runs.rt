@@ -7,14 +7,14 @@ ghost use Rattle.flowcheck.specs.CommandLines.{IsOneRun, Run, highest_turns};
 ghost use Rattle.flowcheck.specs.Loading.{AreWithin};
 ghost use Rattle.flowcheck.specs.Measurements.{Runs, RunsProgram, RunsRegions, run_wants};
 ghost use Rattle.flowcheck.specs.RunFiles.{files_of};
-ghost use Rattle.flowcheck.specs.Words.{parts_in, run_of, want_of};
+ghost use Rattle.flowcheck.specs.Words.{HasRunLimits, parts_in, run_of, want_of};
 ghost use Rattle.flowcheck.specs.declared.refusals.Refusal.TheVariants.{Load, Memory};
 
 use crate::kinds::FileKind;
 use crate::loads::Want;
 use crate::parts::Parts;
 use crate::refusals::Refusal;
-use crate::shared::{push_regions, regions_of, turns_of};
+use crate::shared::{choice_of, push_regions, regions_of, turns_of};
 use elf32_loader::{Image, load_image};
 use enclosure_regions::Regions;
 use flow_base::{Bytes, List, NoMemory};
@@ -35,6 +35,8 @@ pub struct RunWords<'a> {
     pub secret: &'a str,
     /// The number of turns within which the run exits.
     pub turns: u32,
+    /// The table of the mask rules by which it is measured, 1 or 2.
+    pub table: u32,
 }
 
 /// The files of a run.
@@ -53,7 +55,7 @@ pub struct RunFiles<'a> {
 /// The run that the words behind a command name; None exactly where they name none.
 pub fn run_words<'a>(alloc: Global, parts: &Parts<'a>) -> Result<Option<RunWords<'a>>, NoMemory>
     ensures is { IfOk result (λ found. IfSome found (λ run. IsOneRun (parts_in parts.now) (run_of run))) }
-    ensures few { IfOk result (λ found. IfSome found (λ run. run.turns ≤ highest_turns)) }
+    ensures few { IfOk result (λ found. IfSome found (λ run. HasRunLimits run)) }
     ensures none { result ≡ Ok None → (run : Run) → ¬ IsOneRun (parts_in parts.now) run }
 {
     let [program, public_input, secret] = parts.plain.as_slice() else {
@@ -62,12 +64,16 @@ pub fn run_words<'a>(alloc: Global, parts: &Parts<'a>) -> Result<Option<RunWords
     let Some(turns) = turns_of(alloc, parts.options.turns)? else {
         return Ok(None);
     };
+    let Some(table) = choice_of(alloc, parts.options.rules)? else {
+        return Ok(None);
+    };
     Ok(Some(RunWords {
         program: *program,
         public_input: *public_input,
         regions: parts.options.regions,
         secret: *secret,
         turns,
+        table,
     }))
 }
 
@@ -137,10 +143,9 @@ fn measured_image(
     turns: u32,
     book: &RuleBook,
 ) -> Result<Measured, Refusal>
-    requires table { book.now.table ≡ 1 }
     requires secret { length files.secret.now ≤ 65536 }
     requires turns { turns ≤ highest_turns }
-    ensures runs { result ≢ Err Memory → Runs (λ measured found. found ≡ Ok measured) files.entry.public_input.now
+    ensures runs { result ≢ Err Memory → Runs (λ measured found. found ≡ Ok measured) book.now.table files.entry.public_input.now
         files.entry.secret.now turns (picture_of image.now) regions.now.items result }
     ensures cause { (name : Seq ℕ) → result ≢ Err (Load name) }
 {
@@ -164,10 +169,9 @@ fn measured_regions(
     turns: u32,
     book: &RuleBook,
 ) -> Result<Measured, Refusal>
-    requires table { book.now.table ≡ 1 }
     requires secret { length files.secret.now ≤ 65536 }
     requires turns { turns ≤ highest_turns }
-    ensures runs { result ≢ Err Memory → RunsRegions (λ measured found. found ≡ Ok measured)
+    ensures runs { result ≢ Err Memory → RunsRegions (λ measured found. found ≡ Ok measured) book.now.table
         files.entry.public_input.now files.entry.secret.now turns
         (option_map (λ bytes. bytes.now) files.entry.regions) (picture_of image.now) result }
     ensures cause { (name : Seq ℕ) → result ≢ Err (Load name) }
@@ -184,12 +188,11 @@ pub fn measured(
     turns: u32,
     book: &RuleBook,
 ) -> Result<Measured, Refusal>
-    requires table { book.now.table ≡ 1 }
     requires program { length files.program.now ≤ 16777216 }
     requires secret { length files.secret.now ≤ 65536 }
     requires turns { turns ≤ highest_turns }
-    ensures runs { result ≢ Err Memory → RunsProgram (λ measured found. found ≡ Ok measured) files.entry.program.now
-        files.entry.public_input.now (option_map (λ bytes. bytes.now) files.entry.regions) files.entry.secret.now
+    ensures runs { result ≢ Err Memory → RunsProgram (λ measured found. found ≡ Ok measured) book.now.table
+        files.entry.program.now files.entry.public_input.now (option_map (λ bytes. bytes.now) files.entry.regions) files.entry.secret.now
         turns result }
     ensures cause { (name : Seq ℕ) → result ≢ Err (Load name) }
 {

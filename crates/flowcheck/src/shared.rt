@@ -1,9 +1,9 @@
-//! What the commands that run a guest share: the limit of turns, and the region file.
+//! What the commands that run a guest share: the limit of turns, the choices of 1 and 2, and the region file.
 
 ghost use Rattle.std.specs.Prelude.{◌≡◌, ◌≢◌, ◌≤◌, ◌++◌, ℕ, None, Ok, map, option_map, IfOk, IfErr, IfSome, OnOk};
 ghost use Rattle.enclosure_regions.specs.declared.region_faults.RegionFault.TheVariants.{Memory as NoRoomForRegions};
 ghost use Rattle.flowcheck.specs.Checks.{AreRegions, IsRegionFault, region_wants};
-ghost use Rattle.flowcheck.specs.CommandLines.{IsTurnLimit, highest_turns};
+ghost use Rattle.flowcheck.specs.CommandLines.{IsChoice, IsTurnLimit, highest_turns};
 ghost use Rattle.flowcheck.specs.Words.{want_of};
 
 use crate::kinds::FileKind;
@@ -27,6 +27,20 @@ pub fn turns_of(alloc: Global, value: Option<&str>) -> Result<Option<u32>, NoMem
     match value {
         Some(word) => number_of(alloc, word, 1, HIGHEST_TURNS),
         None => Ok(Some(DEFAULT_TURNS)),
+    }
+}
+
+/// The choice of 1 or 2 that a value names, 1 without a value; None exactly where it names none.
+pub fn choice_of(alloc: Global, value: Option<&str>) -> Result<Option<u32>, NoMemory>
+    ensures is { IfOk result (λ found. IfSome found (λ choice. IsChoice (option_map (λ word. word.now)
+        value.entry) choice)) }
+    ensures one { IfOk result (λ found. IfSome found (λ choice. 1 ≤ choice)) }
+    ensures two { IfOk result (λ found. IfSome found (λ choice. choice ≤ 2)) }
+    ensures none { result ≡ Ok None → (choice : ℕ) → ¬ IsChoice (option_map (λ word. word.now) value.entry) choice }
+{
+    match value {
+        Some(word) => number_of(alloc, word, 1, 2),
+        None => Ok(Some(1)),
     }
 }
 

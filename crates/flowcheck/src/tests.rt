@@ -1,4 +1,4 @@
-use crate::book_tests::answer_by_table_1;
+use crate::book_tests::answer_by_books;
 use flow_base::{Bytes, Held, List, MemoryFiles, MemorySink, NoMemory, SinkFail};
 use std::alloc::Global;
 use std::test::Fail;
@@ -124,7 +124,7 @@ fn answer(
     for word in words {
         given.push(word.to_string(alloc)?).map_err(|_| NoMemory)?;
     }
-    let status = answer_by_table_1(alloc, given, &mut files, &mut sink);
+    let status = answer_by_books(alloc, given, &mut files, &mut sink);
     Ok((status, Bytes::from_slice(alloc, sink.taken())?))
 }
 

@@ -20,9 +20,9 @@ fn reply_to<F: Files>(
     alloc: Global,
     files: &mut F,
     words: &[String],
-    book: &RuleBook,
+    books: &[RuleBook],
 ) -> Result<Reply, NoMemory>
-    requires table { book.now.table ≡ 1 }
+    requires books { map (λ book. book.table) books.now ≡ 1 ∷ 2 ∷ [] }
     ensures reply { IfOk result (λ reply. Replies (F.told files.old) (map string_bytes words.now) (record {
       status = number_of reply.status;
       text = reply.text;
@@ -37,7 +37,7 @@ fn reply_to<F: Files>(
     ensures line { IfOk result (λ reply. 2 ≤ number_of reply.status → IsOneLine reply.text) }
     ensures refused { IfOk result (λ reply. IsNoCommand (map string_bytes words.now) → number_of reply.status ≡ 2) }
 {
-    let answer = answer_words(alloc, files, words, book);
+    let answer = answer_words(alloc, files, words, books);
     reply_of(alloc, answer)
 }
 
@@ -48,7 +48,8 @@ fn reply_to<F: Files>(
 /// where it is verified, 1 where some secret or the certificate is rejected, 2 where the words are no command line, 3
 /// where a program, a region file, a cut, a source or a certificate is malformed, 4 where the run of a guest is not
 /// measured, 5 where a load failed, 6 where a file has more bytes than its limit, 7 where the put failed, and 8 for want
-/// of memory; then nothing is put. `books` has the book of the mask rules of table 1, by which runs are measured.
+/// of memory; then nothing is put. `books` has the books of the mask rules of table 1 and of table 2, by which runs are
+/// measured.
 pub fn flowcheck<F: Files, K: Sink>(
     alloc: Global,
     words: Vec<String>,
@@ -56,7 +57,7 @@ pub fn flowcheck<F: Files, K: Sink>(
     out: &mut K,
     books: &[RuleBook],
 ) -> u8
-    requires books { map (λ book. book.table) books.now ≡ 1 ∷ [] }
+    requires books { map (λ book. book.table) books.now ≡ 1 ∷ 2 ∷ [] }
     ensures known { IsTrue (is_one_of (0 ∷ 1 ∷ 2 ∷ 3 ∷ 4 ∷ 5 ∷ 6 ∷ 7 ∷ 8 ∷ []) result) }
     ensures usage { result ≡ 2 → IsNoCommand (map string_bytes words.items) }
     ensures refused { IsNoCommand (map string_bytes words.items) → result ≢ 7 → result ≢ 8 → result ≡ 2 }
@@ -79,7 +80,7 @@ pub fn flowcheck<F: Files, K: Sink>(
         × (count ≤ length reply.text)
         × (K.told out.new ≡ option_map (after_put (take count reply.text)) (K.told out.old)) }
 {
-    let Ok(reply) = reply_to(alloc, files, words.as_slice(), &books[0]) else {
+    let Ok(reply) = reply_to(alloc, files, words.as_slice(), books) else {
         return Status::NoMemory.number();
     };
     match out.put(reply.text.as_slice()) {

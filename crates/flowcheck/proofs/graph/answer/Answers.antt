@@ -23,9 +23,9 @@ returns-in_err-measured-clause-answers g c = λ known.
       named = is_some-mapped (λ bytes. bytes.now) files.regions ∙ c.files_of_run-files.ensures.named;
       runs =
           runs_program TellsGraph c.measured.result c.from_residual.result
-          (refused_on TellsGraph refusal c.measured.result c.from_residual.result found same) files.program.now
+          (refused_on TellsGraph refusal c.measured.result c.from_residual.result found same) c.args.run.now.table files.program.now
           files.public_input.now (option_map (λ bytes. bytes.now) files.regions) files.secret.now c.args.run.now.turns
-          (c.measured.ensures.runs apart);
+          (rw c.book_of-book.ensures at c.measured.ensures.runs apart);
     }
 
 pub returns-clause-answers : goal.returns-clause-answers
@@ -44,6 +44,6 @@ returns-clause-answers g c = λ known.
       runs =
           runs_program TellsGraph c.measured.result _
           (told_of TellsGraph measured c.measured.result _ found (c.in_ok-text.text, c.in_ok-text.ensures, refl))
-          files.program.now files.public_input.now (option_map (λ bytes. bytes.now) files.regions) files.secret.now
-          c.args.run.now.turns (c.measured.ensures.runs apart);
+          c.args.run.now.table files.program.now files.public_input.now (option_map (λ bytes. bytes.now) files.regions) files.secret.now
+          c.args.run.now.turns (rw c.book_of-book.ensures at c.measured.ensures.runs apart);
     }

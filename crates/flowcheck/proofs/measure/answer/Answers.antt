@@ -3,7 +3,7 @@ use Rattle.std.proofs.lemmas.Grind.{common_steps}
 use Rattle.flowcheck.specs.declared.refusals.Refusal.TheVariants.{Memory}
 use Rattle.flowcheck.specs.Measurements.{TellsCut}
 use Rattle.flowcheck.proofs.Files.{is_some-mapped}
-use Rattle.flowcheck.proofs.Tellings.{not_measured, refusal_of, refused_on, runs_program, told_of}
+use Rattle.flowcheck.proofs.Tellings.{first_version, not_measured, refusal_of, refused_on, runs_program, told_of}
 use Rattle.flowcheck.proofs.measure.answer.Goals as goal
 
 pub returns-in_err-measured-clause-answers : goal.returns-in_err-measured-clause-answers
@@ -22,10 +22,10 @@ returns-in_err-measured-clause-answers g c = λ known.
       are = c.files_of_run-files.ensures.files;
       named = is_some-mapped (λ bytes. bytes.now) files.regions ∙ c.files_of_run-files.ensures.named;
       runs =
-          runs_program TellsCut c.measured.result c.from_residual.result
-          (refused_on TellsCut refusal c.measured.result c.from_residual.result found same) files.program.now
+          runs_program (TellsCut c.args.version) c.measured.result c.from_residual.result
+          (refused_on (TellsCut c.args.version) refusal c.measured.result c.from_residual.result found same) c.args.run.now.table files.program.now
           files.public_input.now (option_map (λ bytes. bytes.now) files.regions) files.secret.now c.args.run.now.turns
-          (c.measured.ensures.runs apart);
+          (rw c.book_of-book.ensures at c.measured.ensures.runs apart);
     }
 
 pub returns-clause-answers : goal.returns-clause-answers
@@ -42,8 +42,18 @@ returns-clause-answers g c = λ known.
       are = c.files_of_run-files.ensures.files;
       named = is_some-mapped (λ bytes. bytes.now) files.regions ∙ c.files_of_run-files.ensures.named;
       runs =
-          runs_program TellsCut c.measured.result _
-          (told_of TellsCut measured c.measured.result _ found (c.in_ok-text.text, c.in_ok-text.ensures, refl))
-          files.program.now files.public_input.now (option_map (λ bytes. bytes.now) files.regions) files.secret.now
-          c.args.run.now.turns (c.measured.ensures.runs apart);
+          runs_program (TellsCut c.args.version) c.measured.result _
+          (told_of (TellsCut c.args.version) measured c.measured.result _ found (c.in_ok-text.text, c.in_ok-text.ensures, refl))
+          c.args.run.now.table files.program.now files.public_input.now (option_map (λ bytes. bytes.now) files.regions) files.secret.now
+          c.args.run.now.turns (rw c.book_of-book.ensures at c.measured.ensures.runs apart);
     }
+
+pub cut_text-requires : goal.cut_text-requires
+cut_text-requires g c =
+    let files = c.files_of_run-files.result in
+    let measured = c.in_ok-measured.measured in
+    let found : c.measured.result ≡ Ok measured = grind (arith, common_steps) in
+    let apart : c.measured.result ≢ Err Memory = λ e. not_measured Memory measured c.measured.result e found in
+    first_version measured c.measured.result found _ files.program.now files.public_input.now
+    (option_map (λ bytes. bytes.now) files.regions) files.secret.now c.args.run.now.turns
+    (c.measured.ensures.runs apart)

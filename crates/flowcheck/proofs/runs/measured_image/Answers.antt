@@ -10,13 +10,13 @@ returns-in_err-measured-clause-runs g c = λ known.
     let exit = err_from_is_err_and c.from_residual.result c.from_residual.ensures.1 in
     let fault = c.in_err-measured.field-0.0 in
     let told = told_fault NoRoomForRun (λ f. RunRefused f) fault exit.0 c.from_residual.result exit.1 exit.2 known in
-    inl (fault, rw c.requires.table at c.in_err-measured.ensures.err, told.0, told.1)
+    inl (fault, c.in_err-measured.ensures.err, told.0, told.1)
 
 pub returns-clause-runs : goal.returns-clause-runs
 returns-clause-runs g c = λ known.
     inr (
       c.in_ok-measured.measured,
-      rw c.requires.table at c.in_ok-measured.ensures.ok,
+      c.in_ok-measured.ensures.ok,
       c.in_ok-measured.ensures.accepted,
       c.in_ok-measured.ensures.few,
       refl,

@@ -1,0 +1,4 @@
+pub mod HexText
+pub mod LineLists
+pub mod Floats
+pub mod MappedLists

@@ -1,0 +1,17 @@
+use Rattle.std.proofs.Common.{◌≡◌, ◌∙◌, ap, rules}
+use Rattle.serde_json.specs.Data.{no_members, object}
+use Rattle.serde_json.specs.View.{members_view, view}
+use Rattle.serde_json.proofs.OnLiterals.{serde_json_on_literals}
+use Rattle.serde_json.proofs.Views.{view-Object}
+use Rattle.leak_report.specs.JsonReports.{report_data}
+use Rattle.leak_report.specs.Members.{with_first, with_last}
+use Rattle.leak_report.proofs.json_reports.report_value.Goals as goal
+
+pub returns : goal.returns
+unfolding serde_json_on_literals
+returns c =
+    let measured = c.args.measured.now in
+    let last = c.in_ok-put_last.ensures in
+    let none : members_view c.new-members.result.entries ≡ no_members = search rules in
+    view-Object c.put_first.new.members
+    ∙ ap object (c.in_ok-put_first.ensures ∙ ap (with_first measured) (last ∙ ap (with_last measured) none))

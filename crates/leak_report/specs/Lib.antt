@@ -1,0 +1,6 @@
+pub mod FaultTexts
+pub mod VerdictLines
+pub mod Capacities
+pub mod Reports
+pub mod JsonReports
+pub mod Members

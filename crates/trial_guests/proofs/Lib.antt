@@ -1,0 +1,2 @@
+pub mod SecretBytes
+pub mod Codes
