@@ -7,7 +7,6 @@ mod lines;
 mod point_texts;
 mod programs;
 mod texts;
-mod turns;
 mod words;
 
 use flow_graph::EventList;
@@ -18,7 +17,6 @@ use std::io;
 use texts::{AnswerText, EventText};
 use tracked_run::{Tracked, TrackedTurn};
 use transfer_rules::*;
-use turns::{Row, next_turn};
 
 /// Prints events.
 fn print_events(rt: &HostRuntime, events: &EventList) -> io::Result<()> {
@@ -30,26 +28,12 @@ fn print_events(rt: &HostRuntime, events: &EventList) -> io::Result<()> {
 }
 
 /// Prints what a turn answers, and before it the turn's events where it is not refused.
-fn print_row(rt: &HostRuntime, row: &Row) -> io::Result<()> {
-    if !matches!(row.answer, TrackedTurn::Refused(_)) {
-        print_events(rt, &row.events)?;
+fn print_row(rt: &HostRuntime, events: &EventList, answer: TrackedTurn) -> io::Result<()> {
+    if !matches!(answer, TrackedTurn::Refused(_)) {
+        print_events(rt, events)?;
     }
-    let answer = AnswerText(row.answer);
+    let answer = AnswerText(answer);
     println!(rt; "{answer}")
-}
-
-/// Prints the turns of a run up to its end, but at most so many.
-fn print_turns(rt: &HostRuntime, tracked: &mut Tracked<'_>, turns: u32) -> io::Result<()> {
-    for _ in 0..turns {
-        let Ok(row) = next_turn(rt.alloc(), tracked) else {
-            return println!(rt; "memory is short");
-        };
-        print_row(rt, &row)?;
-        if row.answer != TrackedTurn::Ran {
-            return Ok(());
-        }
-    }
-    Ok(())
 }
 
 fn main(rt: HostRuntime) -> io::Result<()> {
@@ -101,7 +85,17 @@ fn main(rt: HostRuntime) -> io::Result<()> {
                     println!(rt; "memory is short")?;
                     continue;
                 };
-                print_turns(&rt, &mut tracked, turns)?;
+                for _ in 0..turns {
+                    let mut events = EventList::new(rt.alloc());
+                    let Ok(answer) = tracked.turn(&mut events) else {
+                        println!(rt; "memory is short")?;
+                        break;
+                    };
+                    print_row(&rt, &events, answer)?;
+                    if answer != TrackedTurn::Ran {
+                        break;
+                    }
+                }
             }
             None => println!(rt; "no line of a table")?,
         }
