@@ -17,6 +17,7 @@ from secret_lists import Refused
 TRIES = 2
 WORKER = os.path.join("files", "batch.py")
 END_WITH_PARENT = 1
+JOBLOG = ("Seq", "Host", "Starttime", "JobRuntime", "Send", "Receive", "Exitval", "Signal", "Command")
 
 
 def end_with_the_sweep():
@@ -24,16 +25,18 @@ def end_with_the_sweep():
     ctypes.CDLL(None).prctl(END_WITH_PARENT, signal.SIGTERM)
 
 
-def forget(joblog, numbers):
-    """Takes the lines of these batches from a joblog, and what a kill left of a line, so that they are run again."""
-    if not os.path.exists(joblog):
-        return
-    again = {str(int(number)) for number in numbers}
-    with open(joblog, encoding="utf-8", errors="replace") as file:
-        head, *lines = file.read().split("\n")
-    kept = [line for line in lines if line.count("\t") >= 8 and line.split("\t")[0] not in again]
+def agree(joblog, judged):
+    """Lets a joblog have a line for each of these batches and for no other, so that all others are run.
+
+    A kill may leave a part of a line, an answer whose line is not there yet, or a line whose answer is not there."""
+    lines = {}
+    if os.path.exists(joblog):
+        with open(joblog, encoding="utf-8", errors="replace") as file:
+            lines = {line.split("\t")[0]: line for line in file.read().split("\n") if line.count("\t") >= 8}
     with open(f"{joblog}.new", "w", encoding="utf-8") as file:
-        file.write("\n".join([head, *kept]) + "\n")
+        file.write("\t".join(JOBLOG) + "\n")
+        for number in judged:
+            file.write(lines.get(str(int(number)), f"{int(number)}\t:\t0\t0\t0\t0\t0\t0\tanswered before a kill") + "\n")
     os.replace(f"{joblog}.new", joblog)
 
 
@@ -67,7 +70,8 @@ class Parallel:
         return words + ["python3", "-I", "-S", WORKER, ".", "{}"]
 
     def run(self, folder, sweep, missing, lock):
-        forget(os.path.join(folder, "joblog"), missing)
+        left = set(missing)
+        agree(os.path.join(folder, "joblog"), [number for number in sweep.numbers() if number not in left])
         numbers = "".join(f"{number}\n" for number in sweep.numbers())
         ended = subprocess.run(self.words(sweep), cwd=folder, input=numbers.encode(), stdout=sys.stderr,
                                preexec_fn=end_with_the_sweep, pass_fds=[lock])
