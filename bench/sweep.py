@@ -2,9 +2,10 @@
 """sweep.py EXECUTABLE [SECRETS SECRETS]
 
 Times `tools/sweep.py` with the built program, on one processor and on all, for a guest of 100 turns and one of 100,000,
-over so many random secrets each (100,000 and 5,000 without the words). Prints for each the secrets a second and the share
-of the time that is not `check` itself, by the clock (of the slots for batches) and by the processors. For comparison, the
-first line of each guest is a bare loop of the same calls, without any sweep. Linux, with GNU parallel (Debian parallel)."""
+over so many random secrets each (100,000 and 5,000 without the words). Prints for each the secrets a second and the
+share of the time that is not `check` itself: by the clock, of all slots for batches, and by what the processors worked.
+The first line of each guest is a bare loop of as many calls, without any sweep. Linux, with GNU parallel (Debian
+parallel)."""
 import json
 import os
 import pathlib
@@ -34,7 +35,7 @@ def assembled(executable, folder, turns):
     (folder / "cut").write_text(NO_CUT)
 
 
-def bare(executable, folder, secrets):
+def bare(executable, folder, secrets, turns):
     """The seconds of so many secrets in calls of check, on files that are there already."""
     calls = -(-secrets // 64)
     names = [f"s{number}" for number in range(64)]
@@ -42,18 +43,19 @@ def bare(executable, folder, secrets):
         (folder / name).write_bytes(os.urandom(4))
     begin = time.perf_counter()
     for _ in range(calls):
-        subprocess.run([executable, "check", "program", "public", "cut", "0", *names], cwd=folder, check=True,
-                       stdout=subprocess.PIPE)
+        words = [executable, "check", "program", "public", "cut", "0", *names, "--turns", str(turns)]
+        subprocess.run(words, cwd=folder, check=True, stdout=subprocess.PIPE)
     return (time.perf_counter() - begin) * secrets / (64 * calls)
 
 
-def swept(executable, folder, secrets, jobs):
+def swept(executable, folder, secrets, turns, jobs):
     """The seconds of a sweep, its processors' seconds, and both of its calls of check."""
     results = folder / f"results{jobs}"
-    words = [sys.executable, SWEEP, "program", "public", "cut", "0", "--random", str(secrets), "--size", "4", "--seed", "1"]
-    words += ["--flowcheck", executable, "--results", results, "--jobs", str(jobs)]
+    words = [sys.executable, SWEEP, "program", "public", "cut", "0", "--random", str(secrets), "--size", "4"]
+    words += ["--flowcheck", executable, "--results", results, "--jobs", str(jobs), "--turns", str(turns)]
     begin = time.perf_counter()
-    child = subprocess.Popen([str(word) for word in words], cwd=folder, stdout=subprocess.DEVNULL, stderr=subprocess.DEVNULL)
+    child = subprocess.Popen([str(word) for word in words], cwd=folder, stdout=subprocess.DEVNULL,
+                             stderr=subprocess.DEVNULL)
     _, status, usage = os.wait4(child.pid, 0)
     seconds = time.perf_counter() - begin
     if status != 0:
@@ -69,17 +71,19 @@ def main():
         return 2
     executable = os.path.abspath(sys.argv[1])
     counts = [int(word) for word in sys.argv[2:]] or [100_000, 5_000]
-    print(f"{'guest':>14} {'made by':12}{'secrets':>9}{'seconds':>9}{'a second':>10}   not check, by the clock and the processors")
+    print(f"{'guest':>14} {'made by':12}{'secrets':>9}{'seconds':>9}{'a second':>10}   not check: clock, processors")
     for turns, secrets in zip((100, 100_000), counts):
         with tempfile.TemporaryDirectory() as name:
             folder = pathlib.Path(name)
             assembled(executable, folder, turns)
-            seconds = bare(executable, folder, secrets)
-            print(f"{turns:>8} turns {'bare calls':12}{secrets:>9}{seconds:>9.2f}{secrets / seconds:>10.1f}", flush=True)
+            seconds = bare(executable, folder, secrets, turns)
+            print(f"{turns:>8} turns {'bare calls':12}{secrets:>9}{seconds:>9.2f}{secrets / seconds:>10.1f}",
+                  flush=True)
             for jobs in sorted({1, os.cpu_count() or 1}):
-                seconds, processors, checking, checked = swept(executable, folder, secrets, jobs)
+                seconds, processors, checking, checked = swept(executable, folder, secrets, turns, jobs)
+                idle, other = 1 - checking / (jobs * seconds), 1 - checked / processors
                 print(f"{turns:>8} turns {f'{jobs} at a time':12}{secrets:>9}{seconds:>9.2f}{secrets / seconds:>10.1f}"
-                      f"{100 * (1 - checking / (jobs * seconds)):>13.1f} %{100 * (1 - checked / processors):>7.1f} %", flush=True)
+                      f"{100 * idle:>13.1f} %{100 * other:>7.1f} %", flush=True)
     return 0
 
 

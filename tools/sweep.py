@@ -1,11 +1,11 @@
 #!/usr/bin/env python3
-"""Judges many secrets by calls of `check` with one program, public input, cut, regions, budget and limit of turns, so that
-one bound covers them all: at most 2^BUDGET different outputs. The calls are handed to GNU parallel, on this machine or
-over ssh, or to Slurm. Puts a report, and beside the answers three tables and a picture.
+"""Judges many secrets by calls of `check` with one program, public input, cut, regions, budget and limit of turns, so
+that one bound covers them all: those that are accepted have at most 2^BUDGET different outputs. The calls are handed to
+GNU parallel, on this machine or over ssh, or to Slurm. Puts a report, and beside it three tables and a picture.
 
-SECRETS is a folder whose files are the secrets, or a file with a secret a line in hexadecimal; else --digits or --random
-say which they are. Status 0: all secrets are accepted; 1: all are judged, and some rejected; 2: the words are no command
-line; 3: the sweep is refused; 4: some secrets are not judged; 5: the answers contradict the bound."""
+SECRETS is a folder whose files are the secrets, or a file with a secret a line in hexadecimal; else --digits or
+--random say which they are. Status 0: all secrets are accepted; 1: all are judged, and some rejected; 2: the words are
+no command line; 3: the sweep is refused; 4: some secrets are not judged; 5: the answers contradict the bound."""
 import argparse
 import fcntl
 import json
@@ -41,7 +41,7 @@ def words():
     parser = argparse.ArgumentParser(description=__doc__, formatter_class=argparse.RawDescriptionHelpFormatter)
     for name, text in [("prog", "the guest"), ("public", "the public input"), ("cut", "the cut")]:
         parser.add_argument(name, metavar=name.upper(), help=text)
-    parser.add_argument("budget", metavar="BUDGET", type=number(0, 1_048_576), help="how many bits may cross in one run")
+    parser.add_argument("budget", metavar="BUDGET", type=number(0, 1_048_576), help="how many bits may cross in a run")
     parser.add_argument("secrets", metavar="SECRETS", nargs="?", help="a folder, or a file of hexadecimal lines")
     parser.add_argument("--digits", metavar="N", type=number(1, 9), help="all strings of N decimal digits")
     parser.add_argument("--random", metavar="N", type=number(1, 10**9), help="N random secrets")
@@ -51,11 +51,13 @@ def words():
     parser.add_argument("--turns", metavar="N", type=number(1, 20_000_000), default=1_000_000,
                         help="the limit of turns (1000000)")
     engine = parser.add_mutually_exclusive_group()
-    engine.add_argument("--jobs", metavar="N", type=number(1, 65_536), help="batches at a time here (as many as processors)")
+    engine.add_argument("--jobs", metavar="N", type=number(1, 65_536),
+                        help="batches at a time here (as many as processors)")
     engine.add_argument("--hosts", metavar="FILE", help="the sshloginfile of GNU parallel")
     engine.add_argument("--slurm", action="store_true", help="a job array of Slurm")
-    parser.add_argument("--flowcheck", metavar="FILE", default=BUILT, help="the built program (that of this repository)")
-    parser.add_argument("--results", metavar="DIR", default="sweep-results", help="where the results go (sweep-results)")
+    parser.add_argument("--flowcheck", metavar="FILE", default=BUILT, help="the built program (the repository's)")
+    parser.add_argument("--results", metavar="DIR", default="sweep-results",
+                        help="where the results go (sweep-results)")
     parser.add_argument("--resume", action="store_true", help="go on with the sweep whose results are there")
     parser.add_argument("--calls", metavar="N", type=number(1, 1024), help="calls of check in a batch (4 to 16)")
     args = parser.parse_args()
@@ -95,7 +97,7 @@ def locked(folder):
 
 
 def try_first(folder, sweep):
-    """One call on the first secret, not counted: what check refuses for all secrets is told before the engine starts."""
+    """One call on the first secret, not counted: what check refuses for all is told before the engine starts."""
     scratch = tempfile.mkdtemp(prefix="sweep-")
     try:
         check = Check(os.path.join(folder, "files"), scratch, sweep.manifest["under"])

@@ -2,14 +2,15 @@
 from xml.sax.saxutils import escape
 
 WIDTH, LABEL, BAR, ROW, TOP = 900, 260, 480, 24, 34
+ACCEPTED, REJECTED, CROSSING = "#4878a8", "#c87848", "#58a068"
 MOST_BARS = 24
 
 
-def bars(title, rows, color, top):
+def bars(title, rows, top):
     """A block of bars, each as long as its count beside the greatest; one that counts is never without length."""
-    greatest = max((count for _, count in rows), default=1)
+    greatest = max((count for _, count, _ in rows), default=1)
     parts = [f'<text x="16" y="{top + 20}" font-weight="bold">{escape(title)}</text>']
-    for index, (label, count) in enumerate(rows):
+    for index, (label, count, color) in enumerate(rows):
         y = top + TOP + index * ROW
         length = max(BAR * count / max(greatest, 1), 2 if count else 0)
         parts.append(f'<text x="{LABEL - 8}" y="{y + 13}" text-anchor="end">{escape(label)}</text>')
@@ -23,18 +24,20 @@ def least_of(rows):
     if len(rows) <= MOST_BARS:
         return rows
     rest = rows[MOST_BARS:]
-    return rows[:MOST_BARS] + [(f"{len(rest)} others", sum(count for _, count in rest))]
+    return rows[:MOST_BARS] + [(f"{len(rest)} others", sum(count for _, count, _ in rest), rest[0][2])]
 
 
 def picture(merged, bound):
     """The whole picture, as bytes."""
-    verdicts = [(row, merged.counts.get(row, 0)) for row in merged.reasons()]
+    verdicts = [(row, merged.counts.get(row, 0), ACCEPTED if row == "accepted" else REJECTED)
+                for row in merged.reasons()]
     if merged.unjudged:
-        verdicts.append(("not judged", sum(last - first + 1 for _, first, last, _ in merged.unjudged)))
-    crossings = [(f"{crossing[:24]} ({bits} bits)", seen[1]) for (bits, crossing), seen in merged.crossings_by_count()]
-    parts, top = bars(f"Verdicts of {merged.judged():,} secrets", least_of(verdicts), "#4878a8", 8)
+        verdicts.append(("not judged", sum(last - first + 1 for _, first, last, _ in merged.unjudged), REJECTED))
+    crossings = [(f"{crossing[:24]} ({bits} bit{'s' * (bits != 1)})", seen[1], CROSSING)
+                 for (bits, crossing), seen in merged.crossings_by_count()]
+    parts, top = bars(f"Verdicts of {merged.judged():,} secrets", least_of(verdicts), 8)
     title = f"Crossings of the accepted: {len(merged.crossings)} different, of at most {bound}"
-    more, top = bars(title, least_of(crossings), "#58a068", top)
+    more, top = bars(title, least_of(crossings), top)
     head = (f'<svg xmlns="http://www.w3.org/2000/svg" width="{WIDTH}" height="{top}" viewBox="0 0 {WIDTH} {top}" '
             'font-family="sans-serif" font-size="13">')
     back = f'<rect width="{WIDTH}" height="{top}" fill="white"/>'

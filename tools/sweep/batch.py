@@ -4,8 +4,8 @@
 Makes the calls of `check` of the batches with these numbers, one after the other, and puts what each call answered to
 FOLDER/answers/NUMBER. It runs wherever an engine starts it, with Python 3 alone, and reads from FOLDER nothing but
 `manifest.json`, the files that the manifest has the hashes of, and the batch, a secret a line.
-The files are copied to a folder of this run, and the copies must have the hashes of the manifest: on other bytes no call
-is made, and the status is 3. The status is 1 where a call died each time that it was tried."""
+The files are copied to a folder of this run, and the copies must have the hashes of the manifest: on other bytes no
+call is made, and the status is 3. The status is 1 where a call died each time that it was tried."""
 import hashlib
 import json
 import os

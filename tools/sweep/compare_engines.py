@@ -21,6 +21,10 @@ from tests import HERE, SWEEP, TOP, hashes
 PROGRAM = [TOP / "crates/guest_runs/data/pin-gcc.elf", TOP / "examples/guests/typed", TOP / "examples/guests/cut", "3"]
 
 
+def files_in(folder):
+    return len(os.listdir(folder)) if folder.exists() else 0
+
+
 class Comparison:
     def __init__(self, flowcheck, pins, folder):
         self.flowcheck, self.folder = flowcheck, folder
@@ -44,7 +48,8 @@ class Comparison:
             self.wanted = self.wanted or found
             same = found == self.wanted
         self.failed += not same
-        print(f"{name}: {seconds:.1f} s, {'the same results' if same else 'OTHER RESULTS'}{self.places(name)}", flush=True)
+        told = "the same results" if same else "OTHER RESULTS"
+        print(f"{name}: {seconds:.1f} s, {told}{self.places(name)}", flush=True)
         if not same:
             print(ended.stdout + ended.stderr)
         return ended
@@ -64,8 +69,8 @@ class Comparison:
         with two_hosts.two_hosts() as (hosts, servers):
             self.run("two hosts", "--hosts", hosts)
             for name in two_hosts.HOSTS:
-                left = subprocess.run(["ssh", "-F", hosts.parent / "ssh_config", name, "find . -name 'flowcheck-sweep*'"],
-                                      capture_output=True, text=True, cwd="/").stdout.split()
+                look = ["ssh", "-F", hosts.parent / "ssh_config", name, "find . -name 'flowcheck-sweep*'"]
+                left = subprocess.run(look, capture_output=True, text=True, cwd="/").stdout.split()
                 print(f"  left on {name}: {left or 'nothing'}")
                 self.failed += bool(left)
             two_hosts.stop(servers[1])
@@ -86,11 +91,11 @@ class Comparison:
                                  stderr=subprocess.DEVNULL)
         answers = self.folder / name / "answers"
         batches = self.folder / name / "batches"
-        while not answers.exists() or not any(answers.iterdir()) or 2 * len(list(answers.iterdir())) < len(list(batches.iterdir())):
+        while not (0 < files_in(batches) <= 2 * files_in(answers)):
             time.sleep(0.05)
         begun.send_signal(signal.SIGKILL)
         begun.wait()
-        print(f"  killed after {len(list(answers.iterdir()))} of {len(list(batches.iterdir()))} batches")
+        print(f"  killed after {files_in(answers)} of {files_in(batches)} batches")
         self.run(name, "--slurm", "--resume", environment=environment)
 
 

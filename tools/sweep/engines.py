@@ -2,6 +2,7 @@
 
 Both start `batch.py` with the numbers of batches, and neither is told anything else: what a batch is called with stands
 in the manifest, and what it answered in its file. A sweep has no threads and keeps no processes of its own."""
+import contextlib
 import ctypes
 import os
 import re
@@ -36,7 +37,8 @@ def agree(joblog, judged):
     with open(f"{joblog}.new", "w", encoding="utf-8") as file:
         file.write("\t".join(JOBLOG) + "\n")
         for number in judged:
-            file.write(lines.get(str(int(number)), f"{int(number)}\t:\t0\t0\t0\t0\t0\t0\tanswered before a kill") + "\n")
+            unknown = f"{int(number)}\t:\t0\t0\t0\t0\t0\t0\tanswered before a kill"
+            file.write(lines.get(str(int(number)), unknown) + "\n")
     os.replace(f"{joblog}.new", joblog)
 
 
@@ -63,11 +65,17 @@ class Parallel:
         if self.hosts is None:
             return words + ["--jobs", str(self.jobs), sys.executable, "-I", "-S", WORKER, ".", "{}"]
         words += ["--sshloginfile", self.hosts, "--cleanup", "--transferfile", "batches/{}", "--return", "answers/{}"]
-        words += ["--workdir", f"flowcheck-sweep-{sweep.identity[:16]}-{os.getpid()}"]
+        words += ["--workdir", self.place(sweep)]
         files = [os.path.join("files", name) for name in FILES if name in sweep.contents]
         for path in ["manifest.json", WORKER, *files]:
             words += ["--basefile", path]
-        return words + ["python3", "-I", "-S", WORKER, ".", "{}"]
+        return words + [f"test -e {WORKER} || cd ..; python3 -I -S {WORKER} . {{}}"]
+
+    def place(self, sweep):
+        """The folder of the sweep on a host, in the home folder there.
+
+        For the host `:`, which is this machine, GNU parallel transfers nothing, and makes it below the results."""
+        return f"flowcheck-sweep-{sweep.identity[:16]}-{os.getpid()}"
 
     def run(self, folder, sweep, missing, lock):
         left = set(missing)
@@ -75,6 +83,8 @@ class Parallel:
         numbers = "".join(f"{number}\n" for number in sweep.numbers())
         ended = subprocess.run(self.words(sweep), cwd=folder, input=numbers.encode(), stdout=sys.stderr,
                                preexec_fn=end_with_the_sweep, pass_fds=[lock])
+        with contextlib.suppress(FileNotFoundError):
+            os.rmdir(os.path.join(folder, self.place(sweep)))
         if ended.returncode < 0 or ended.returncode > 101:
             print(f"parallel ended with status {ended.returncode}", file=sys.stderr)
 
@@ -121,8 +131,8 @@ class Slurm:
             if not missing:
                 return
             tasks, script = self.script(folder, missing)
-            words = ["sbatch", "--parsable", "--job-name", "flowcheck-sweep", "--array", f"1-{tasks}", "--chdir", folder]
-            words += ["--output", os.path.join(folder, "slurm.log"), "--open-mode", "append"]
+            words = ["sbatch", "--parsable", "--job-name", "flowcheck-sweep", "--array", f"1-{tasks}"]
+            words += ["--chdir", folder, "--output", os.path.join(folder, "slurm.log"), "--open-mode", "append"]
             ended = subprocess.run(words, input=script, stdout=subprocess.PIPE, text=True)
             if ended.returncode != 0:
                 raise Refused(f"sbatch ended with status {ended.returncode}")

@@ -30,7 +30,7 @@ class Sweep:
     """What is asked for: the bytes of the files, the list of secrets, and the manifest of both."""
 
     def __init__(self, paths, budget, turns, secrets, calls=None, earlier=None):
-        """With an earlier manifest: refused where it differs. Its calls make a batch where no number of them is asked."""
+        """Refused where an earlier manifest differs; batches are those of it where no number of calls is asked."""
         self.contents = {name: read(path) for name, path in paths.items() if path is not None}
         self.secrets = secrets
         count, lines = 0, hashlib.sha256()

@@ -8,7 +8,7 @@ import io
 import json
 import os
 
-from batch import ACCEPTED, REJECTED, cut_in, digest, is_whole, put, read
+from batch import ACCEPTED, FILES, REJECTED, cut_in, digest, is_whole, put, read
 from secret_lists import shown
 
 FIRST = 3
@@ -157,7 +157,7 @@ def report_of(merged):
     manifest, under = merged.sweep.manifest, merged.sweep.manifest["under"]
     accepted = merged.counts.get(ACCEPTED_ROW, 0)
     lines = [f"manifest {merged.sweep.identity}"]
-    lines += [f"{name} {under[name] or 'none'}" for name in sorted(name for name in under if name not in ("turns", "budget"))]
+    lines += [f"{name} {under[name] or 'none'}" for name in sorted(FILES)]
     lines += [f"budget {under['budget']} turns {under['turns']}"]
     lines += [f"under {digest(json.dumps(under, sort_keys=True).encode())}"]
     lines += [f"secrets {manifest['secrets']['count']} judged {merged.judged()} accepted {accepted}"
@@ -168,7 +168,8 @@ def report_of(merged):
         lines.append(f"  {row} {count}" + (f", first {firsts}" if firsts else ""))
     lines.append(f"crossings {len(merged.crossings)} of at most {power(merged.budget)}")
     for (bits, crossing), (output, count, number, name) in merged.crossings_by_count()[:16]:
-        lines.append(f"  bits {bits} crossing {crossing} output {output[0]} status {output[1]}: {count}, first {number} {name}")
+        lines.append(f"  bits {bits} crossing {crossing} output {output[0]} status {output[1]}: {count},"
+                     f" first {number} {name}")
     if len(merged.crossings) > 16:
         lines.append(f"  and {len(merged.crossings) - 16} more in crossings.csv")
     if accepted:
@@ -201,7 +202,8 @@ def write_tables(folder, merged):
                for row in merged.reasons()]
     crossings = [[bits, crossing, *output, count, number, name]
                  for (bits, crossing), (output, count, number, name) in merged.crossings_by_count()]
-    put(os.path.join(folder, "reasons.csv"), table(["verdict", "secrets"] + ["first", "second", "third"][:FIRST], reasons))
+    head = ["verdict", "secrets", "first", "second", "third"]
+    put(os.path.join(folder, "reasons.csv"), table(head, reasons))
     head = ["bits", "crossing", "output", "status", "secrets", "first", "secret"]
     put(os.path.join(folder, "crossings.csv"), table(head, crossings))
     put(os.path.join(folder, "report.txt"), report_of(merged).encode())

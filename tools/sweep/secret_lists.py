@@ -60,7 +60,8 @@ class Digits:
 
 
 class Random:
-    """So many secrets of so many bytes: secret i is the beginning of SHAKE-256 of the text `SEED i`. They may repeat."""
+    """So many secrets of so many bytes: the beginnings of SHAKE-256 of `SEED 0`, `SEED 1` and so on. They may repeat.
+    """
 
     names = None
 

@@ -1,10 +1,11 @@
 #!/usr/bin/env -S python3 -I -S
-"""A stand-in for the built program in the tests of the sweep: it answers a `check` by the bytes of the secrets alone.
+"""Stands in for the built program in the tests of the sweep: it answers a `check` by the bytes of the secrets alone.
 
-The first byte of a secret says what crosses, the second whether it is rejected, and for what; the third may let the call
-die: 1 the first time, 2 each time, 3 with the batch that makes it, the first time, 4 each time while the folder `ill`
-is there. What differs between calls is kept in the folder that STAND_IN names. A public input of `slow` lets each call
-take some time, and `liar` lets equal crossings have other outputs; a cut of `bad` is refused."""
+The first byte of a secret says what crosses, the second whether it is rejected, and for what; the third may let the
+call die: 1 the first time, 2 each time, 3 with the batch that makes it, the first time, 4 each time while the folder
+`ill` is there. What differs between calls is kept in the folder that STAND_IN names. A public input of `slow` lets each
+call take some time, `liar` lets equal crossings have other outputs, and `short` lets one have no bits; a cut of `bad` is
+refused."""
 import os
 import signal
 import sys

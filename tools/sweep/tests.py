@@ -139,6 +139,13 @@ class Lists(Sweeps):
         first = hashlib.shake_256(b"7 0").digest(40).hex()
         self.assertEqual(one[0][1], first[:64] + "...")
 
+    def test_hosts_may_name_this_machine(self):
+        self.put("hosts", b"2/:\n")
+        words = [sys.executable, *self.words(secrets=["--digits", "2"])][:-2]
+        subprocess.run([*words, "--hosts", "hosts"], cwd=self.folder, check=True, capture_output=True)
+        self.assertEqual(len(self.rows("verdicts.csv")), 100)
+        self.assertEqual([name for name in os.listdir(self.results) if name.startswith("flowcheck-sweep")], [])
+
     def test_bad_lists_are_refused(self):
         for content, told in [(b"00\n0\n", "line 2 is no secret"), (b"00\n\n01\n", "line 2 is no secret"),
                               (b"", "there are no secrets"), (b"00 01\n", "line 1 is no secret"),
@@ -272,7 +279,8 @@ class Deaths(Sweeps):
         self.put_many(_70=4, _639=4)
         out = self.sweep(status=4)
         self.assertIn("judged 512 ", out)
-        self.assertIn("not judged: secrets 577 to 640, in batch 000003: ended with status 1, and put 'half of an answ'\n", out)
+        self.assertIn("not judged: secrets 577 to 640, in batch 000003: ended with status 1, and put 'half of an answ'",
+                      out)
         (self.folder / "marks" / "ill").rmdir()
         self.assertIn("judged 640 accepted 640 ", self.sweep("--resume", status=0))
         healthy = self.folder / "healthy"

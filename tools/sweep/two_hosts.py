@@ -1,7 +1,8 @@
 """Two ssh hosts on this machine: network namespaces, each with its own address, sshd, home folder and /tmp.
 
-Linux, as root, with ip (Debian iproute2), sshd and ssh (openssh-server, openssh-client) and unshare (util-linux). Names of
-its own are used, so that nothing else on the machine is touched, and what was started is ended by its process."""
+Linux, as root, with ip (Debian iproute2), sshd and ssh (openssh-server, openssh-client), rsync and unshare
+(util-linux). Names of its own are used, so that nothing else on the machine is touched, and what was started is ended
+by its process."""
 import contextlib
 import os
 import pathlib
@@ -90,7 +91,8 @@ def serve(folder, index):
     """Starts the sshd of a host, in a home and a /tmp that are empty and its own."""
     server = folder / f"sshd_config{index}"
     server.write_text(SERVER.format(address=address_of(index), folder=folder))
-    hide = f"mount -t tmpfs none {pathlib.Path.home()} && mount -t tmpfs none /tmp && exec /usr/sbin/sshd -D -f {server}"
+    hide = f"mount -t tmpfs none {pathlib.Path.home()} && mount -t tmpfs none /tmp"
+    hide += f" && exec /usr/sbin/sshd -D -f {server}"
     begun = subprocess.Popen(["ip", "netns", "exec", HOSTS[index], "unshare", "-m", "sh", "-c", hide], cwd="/")
     for _ in range(200):
         with contextlib.suppress(OSError), socket.create_connection((address_of(index), 22), timeout=1):
