@@ -3,9 +3,9 @@
 
 The first byte of a secret says what crosses, the second whether it is rejected, and for what; the third may let the
 call die: 1 the first time, 2 each time, 3 with the batch that makes it, the first time, 4 each time while the folder
-`ill` is there. What differs between calls is kept in the folder that STAND_IN names. A public input of `slow` lets each
-call take some time, `liar` lets equal crossings have other outputs, and `short` lets one have no bits; a cut of `bad` is
-refused."""
+`ill` is there. What differs between calls is kept in the folder that STAND_IN names. A public input of `slow` lets
+each call take some time, `liar` lets equal crossings have other outputs, and `short` lets one have no bits; a cut of
+`bad` is refused."""
 import os
 import signal
 import sys

@@ -142,7 +142,8 @@ class Lists(Sweeps):
     def test_hosts_may_name_this_machine(self):
         self.put("hosts", b"2/:\n")
         words = [sys.executable, *self.words(secrets=["--digits", "2"])][:-2]
-        subprocess.run([*words, "--hosts", "hosts"], cwd=self.folder, check=True, capture_output=True)
+        ended = subprocess.run([*words, "--hosts", "hosts"], cwd=self.folder, capture_output=True)
+        self.assertEqual(ended.returncode, 1)
         self.assertEqual(len(self.rows("verdicts.csv")), 100)
         self.assertEqual([name for name in os.listdir(self.results) if name.startswith("flowcheck-sweep")], [])
 
