@@ -2,9 +2,10 @@
 """compare_engines.py FLOWCHECK [--pins N]
 
 Sweeps the first N PINs (10,000 without the option) of the example guest by each engine that can be had on this machine:
-one batch at a time, two at a time, over two ssh hosts that are network namespaces, over the same with the second one
-down, and as a job array on a Slurm cluster of one node, there once more killed at half and resumed. All must have the
-same report, tables and picture, by hash. As root, for the hosts and the cluster."""
+one batch at a time, two at a time, killed at half and resumed, over two ssh hosts that are network namespaces, over the
+same with the second one down, and as a job array on a Slurm cluster of one node, with a task for each batch, with four
+tasks, and killed at half and resumed. All must have the same report, tables and picture, by hash. As root, for the hosts
+and the cluster."""
 import argparse
 import os
 import pathlib
@@ -84,10 +85,11 @@ class Comparison:
             self.run("Slurm", "--slurm", environment=environment)
         with one_node.one_node(most=5) as environment:
             self.run("Slurm, four tasks", "--slurm", environment=environment)
-            self.killed("Slurm, killed at half", environment)
+            self.killed("Slurm, killed at half", "--slurm", environment=environment)
 
-    def killed(self, name, environment):
-        begun = subprocess.Popen(self.words(name, ["--slurm"]), env=environment, stdout=subprocess.DEVNULL,
+    def killed(self, name, *more, environment=None):
+        """Kills a sweep when half of its batches are answered, and resumes it."""
+        begun = subprocess.Popen(self.words(name, more), env=environment, stdout=subprocess.DEVNULL,
                                  stderr=subprocess.DEVNULL)
         answers = self.folder / name / "answers"
         batches = self.folder / name / "batches"
@@ -96,7 +98,7 @@ class Comparison:
         begun.send_signal(signal.SIGKILL)
         begun.wait()
         print(f"  killed after {files_in(answers)} of {files_in(batches)} batches")
-        self.run(name, "--slurm", "--resume", environment=environment)
+        self.run(name, *more, "--resume", environment=environment)
 
 
 def main():
@@ -109,6 +111,7 @@ def main():
         one = comparison.run("one at a time", "--jobs", "1")
         print(one.stdout, end="")
         comparison.run("two at a time", "--jobs", "2")
+        comparison.killed("killed at half", "--jobs", "1")
         comparison.hosts()
         comparison.slurm()
     print(f"{comparison.failed} failed")

@@ -6,6 +6,7 @@ import contextlib
 import ctypes
 import os
 import re
+import shlex
 import shutil
 import signal
 import subprocess
@@ -63,7 +64,7 @@ class Parallel:
         words = ["parallel", "--will-cite", "--plain", "--joblog", "joblog", "--resume", "--retries", str(TRIES)]
         words += ["--eta"] if sys.stderr.isatty() else []
         if self.hosts is None:
-            return words + ["--jobs", str(self.jobs), sys.executable, "-I", "-S", WORKER, ".", "{}"]
+            return words + ["--jobs", str(self.jobs), shlex.quote(sys.executable), "-I", "-S", WORKER, ".", "{}"]
         words += ["--sshloginfile", self.hosts, "--cleanup", "--transferfile", "batches/{}", "--return", "answers/{}"]
         words += ["--workdir", self.place(sweep)]
         files = [os.path.join("files", name) for name in FILES if name in sweep.contents]

@@ -302,7 +302,7 @@ class Kills(Sweeps):
     def setUp(self):
         super().setUp()
         self.put("public", b"slow")
-        self.put_secrets([bytes([i % 7, 0, i // 256 % 2 * 0, i % 256]) for i in range(40 * 64 + 11)])
+        self.put_secrets([bytes([i % 7, 0, 0, i % 256]) for i in range(40 * 64 + 11)])
         self.sweep("--calls", "1", status=0, results=self.folder / "one-go")
         self.wanted = hashes(self.folder / "one-go")
 
