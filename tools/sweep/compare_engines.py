@@ -4,8 +4,8 @@
 Sweeps the first N PINs (10,000 without the option) of the example guest by each engine that can be had on this machine:
 one batch at a time, two at a time, killed at half and resumed, over two ssh hosts that are network namespaces, over the
 same with the second one down, and as a job array on a Slurm cluster of one node, with a task for each batch, with four
-tasks, and killed at half and resumed. All must have the same report, tables and picture, by hash. As root, for the hosts
-and the cluster."""
+tasks, and killed at half and resumed. All must have the same report, tables and picture, by hash. Prints the seconds of
+each whole command. As root, for the hosts and the cluster."""
 import argparse
 import os
 import pathlib
