@@ -2,7 +2,7 @@
 """sweep.py EXECUTABLE [SECRETS SECRETS]
 
 Times `tools/sweep.py` with the built program, on one processor and on all, for a guest of 100 turns and one of 100,000,
-over so many random secrets each (100,000 and 5,000 without the words). Prints for each the secrets a second and the
+over so many random secrets each (20,000 and 5,000 without the words). Prints for each the secrets a second and the
 share of the time that is not `check` itself: by the clock, of all slots for batches, and by what the processors worked.
 The first line of each guest is a bare loop of as many calls, without any sweep. Linux, with GNU parallel (Debian
 parallel)."""
@@ -70,7 +70,7 @@ def main():
         print(__doc__, file=sys.stderr)
         return 2
     executable = os.path.abspath(sys.argv[1])
-    counts = [int(word) for word in sys.argv[2:]] or [100_000, 5_000]
+    counts = [int(word) for word in sys.argv[2:]] or [20_000, 5_000]
     print(f"{'guest':>14} {'made by':12}{'secrets':>9}{'seconds':>9}{'a second':>10}   not check: clock, processors")
     for turns, secrets in zip((100, 100_000), counts):
         with tempfile.TemporaryDirectory() as name:
