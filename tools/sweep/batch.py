@@ -12,6 +12,7 @@ import os
 import re
 import resource
 import shutil
+import signal
 import subprocess
 import sys
 import tempfile
@@ -140,6 +141,7 @@ def main():
     folder = sys.argv[1]
     content = read(os.path.join(folder, "manifest.json"))
     manifest = json.loads(content)
+    signal.signal(signal.SIGTERM, lambda *_: sys.exit(128 + signal.SIGTERM))
     scratch = tempfile.mkdtemp(prefix="sweep-")
     try:
         check = Check(os.path.join(folder, "files"), scratch, manifest["under"])

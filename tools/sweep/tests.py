@@ -220,6 +220,21 @@ class Manifests(Sweeps):
         self.assertEqual(subprocess.run(worker).returncode, 0)
         self.assertTrue((self.results / "answers" / "000001").exists())
 
+    def test_a_batch_that_is_ended_leaves_nothing(self):
+        self.put("slow", b"slow")
+        words = self.words("--calls", "1", results=self.folder / "slow-results")
+        words[2] = "slow"
+        subprocess.run([sys.executable, *words], cwd=self.folder, capture_output=True)
+        env = {**os.environ, "TMPDIR": str(self.folder / "marks")}
+        worker = [sys.executable, "-I", "-S", str(HERE / "batch.py"), str(self.folder / "slow-results")]
+        begun = subprocess.Popen([*worker, *["000001"] * 50], env=env)
+        while not os.listdir(self.folder / "marks"):
+            time.sleep(0.02)
+        time.sleep(0.3)
+        begun.terminate()
+        self.assertEqual(begun.wait(), 143)
+        self.assertEqual(os.listdir(self.folder / "marks"), [])
+
     def test_answers_that_are_not_whole_are_made_again(self):
         def change(edit):
             path = self.results / "answers" / "000002"
