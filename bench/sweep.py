@@ -1,11 +1,12 @@
 #!/usr/bin/env python3
-"""sweep.py EXECUTABLE [SECRETS SECRETS]
+"""sweep.py EXECUTABLE [--secrets N N] [--jobs N]
 
-Times `tools/sweep.py` with the built program, on one processor and on all, for a guest of 100 turns and one of 100,000,
-over so many random secrets each (20,000 and 5,000 without the words). Prints for each the secrets a second and the
+Times `tools/sweep.py` with the built program, on one processor and on all (or N), for a guest of 100 turns and one of
+100,000, over so many random secrets each (20,000 and 5,000 without the option). Prints for each the secrets a second and the
 share of the time that is not `check` itself: by the clock, of all slots for batches, and by what the processors worked.
 The first line of each guest is a bare loop of as many calls, without any sweep. Linux, with GNU parallel (Debian
 parallel)."""
+import argparse
 import json
 import os
 import pathlib
@@ -66,20 +67,21 @@ def swept(executable, folder, secrets, turns, jobs):
 
 
 def main():
-    if len(sys.argv) not in (2, 4):
-        print(__doc__, file=sys.stderr)
-        return 2
-    executable = os.path.abspath(sys.argv[1])
-    counts = [int(word) for word in sys.argv[2:]] or [20_000, 5_000]
+    parser = argparse.ArgumentParser(description=__doc__, formatter_class=argparse.RawDescriptionHelpFormatter)
+    parser.add_argument("executable", type=os.path.abspath)
+    parser.add_argument("--secrets", nargs=2, type=int, default=[20_000, 5_000])
+    parser.add_argument("--jobs", type=int, default=os.cpu_count() or 1)
+    args = parser.parse_args()
+    executable = args.executable
     print(f"{'guest':>14} {'made by':12}{'secrets':>9}{'seconds':>9}{'a second':>10}   not check: clock, processors")
-    for turns, secrets in zip((100, 100_000), counts):
+    for turns, secrets in zip((100, 100_000), args.secrets):
         with tempfile.TemporaryDirectory() as name:
             folder = pathlib.Path(name)
             assembled(executable, folder, turns)
             seconds = bare(executable, folder, secrets, turns)
             print(f"{turns:>8} turns {'bare calls':12}{secrets:>9}{seconds:>9.2f}{secrets / seconds:>10.1f}",
                   flush=True)
-            for jobs in sorted({1, os.cpu_count() or 1}):
+            for jobs in sorted({1, args.jobs}):
                 seconds, processors, checking, checked = swept(executable, folder, secrets, turns, jobs)
                 idle, other = 1 - checking / (jobs * seconds), 1 - checked / processors
                 print(f"{turns:>8} turns {f'{jobs} at a time':12}{secrets:>9}{seconds:>9.2f}{secrets / seconds:>10.1f}"
