@@ -2,8 +2,9 @@
 """sweep.py EXECUTABLE [--secrets N N] [--jobs N]
 
 Times `tools/sweep.py` with the built program, on one processor and on all (or N), for a guest of 100 turns and one of
-100,000, over so many random secrets each (20,000 and 5,000 without the option). Prints for each the secrets a second and the
-share of the time that is not `check` itself: by the clock, of all slots for batches, and by what the processors worked.
+100,000, over so many random secrets each (20,000 and 5,000 without the option). Prints for each the secrets a second
+and the share of the time that is not `check` itself: by the clock, of all slots for batches, and by what the processors
+worked.
 The first line of each guest is a bare loop of as many calls, without any sweep. Linux, with GNU parallel (Debian
 parallel)."""
 import argparse
