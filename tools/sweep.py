@@ -1,0 +1,154 @@
+#!/usr/bin/env python3
+"""Judges many secrets by calls of `check` with one program, public input, cut, regions, budget and limit of turns, so
+that one bound covers them all: those that are accepted have at most 2^BUDGET different outputs. The calls are handed to
+GNU parallel, on this machine or over ssh, or to Slurm. Puts a report, and beside it three tables and a picture.
+
+SECRETS is a folder whose files are the secrets, or a file with a secret a line in hexadecimal; else --digits or
+--random say which they are. Status 0: all secrets are accepted; 1: all are judged, and some rejected; 2: the words are
+no command line; 3: the sweep is refused; 4: some secrets are not judged; 5: the answers contradict the bound."""
+import argparse
+import fcntl
+import json
+import os
+import shutil
+import sys
+import tempfile
+import time
+
+HERE = os.path.dirname(os.path.abspath(__file__))
+sys.path.insert(0, os.path.join(HERE, "sweep"))
+
+from bars import picture
+from batch import Check, put, read
+from engines import Parallel, Slurm
+from manifest import Sweep, difference
+from merge import Contradiction, Merged, answer_of, is_judged, power, report_of, write_tables
+from secret_lists import Refused, lists_of
+
+BUILT = os.path.join(HERE, "..", "crates", "flowcheck", "out", "flowcheck")
+
+
+def number(lowest, highest):
+    def read_number(word):
+        if not (word.isascii() and word.isdigit() and lowest <= int(word) <= highest):
+            raise argparse.ArgumentTypeError(f"not a number from {lowest} to {highest}")
+        return int(word)
+
+    return read_number
+
+
+def words():
+    parser = argparse.ArgumentParser(description=__doc__, formatter_class=argparse.RawDescriptionHelpFormatter)
+    for name, text in [("prog", "the guest"), ("public", "the public input"), ("cut", "the cut")]:
+        parser.add_argument(name, metavar=name.upper(), help=text)
+    parser.add_argument("budget", metavar="BUDGET", type=number(0, 1_048_576), help="how many bits may cross in a run")
+    parser.add_argument("secrets", metavar="SECRETS", nargs="?", help="a folder, or a file of hexadecimal lines")
+    parser.add_argument("--digits", metavar="N", type=number(1, 9), help="all strings of N decimal digits")
+    parser.add_argument("--random", metavar="N", type=number(1, 10**9), help="N random secrets")
+    parser.add_argument("--size", metavar="S", type=number(0, 65_536), help="bytes of a random secret")
+    parser.add_argument("--seed", metavar="K", type=number(0, 2**64), default=1, help="seed of the random secrets (1)")
+    parser.add_argument("--regions", metavar="F", help="the region file")
+    parser.add_argument("--turns", metavar="N", type=number(1, 20_000_000), default=1_000_000,
+                        help="the limit of turns (1000000)")
+    engine = parser.add_mutually_exclusive_group()
+    engine.add_argument("--jobs", metavar="N", type=number(1, 65_536),
+                        help="batches at a time here (as many as processors)")
+    engine.add_argument("--hosts", metavar="FILE", help="the sshloginfile of GNU parallel")
+    engine.add_argument("--slurm", action="store_true", help="a job array of Slurm")
+    parser.add_argument("--flowcheck", metavar="FILE", default=BUILT, help="the built program (the repository's)")
+    parser.add_argument("--results", metavar="DIR", default="sweep-results",
+                        help="where the results go (sweep-results)")
+    parser.add_argument("--resume", action="store_true", help="go on with the sweep whose results are there")
+    parser.add_argument("--calls", metavar="N", type=number(1, 1024), help="calls of check in a batch (4 to 16)")
+    args = parser.parse_args()
+    if (args.secrets is not None) + (args.digits is not None) + (args.random is not None) != 1:
+        parser.error("one of SECRETS, --digits and --random says which the secrets are")
+    if (args.random is None) != (args.size is None):
+        parser.error("--random and --size go together")
+    return args
+
+
+def asked(args):
+    paths = {"flowcheck": args.flowcheck, "program": args.prog, "public": args.public, "cut": args.cut,
+             "regions": args.regions}
+    return Sweep(paths, args.budget, args.turns, lists_of(args), args.calls, earlier(args))
+
+
+def earlier(args):
+    """The manifest of the results that are there, if it is to be gone on with."""
+    path = os.path.join(args.results, "manifest.json")
+    if not os.path.exists(path):
+        return None
+    if not args.resume:
+        raise Refused(f"{args.results} has the results of a sweep; --resume goes on with it")
+    return json.loads(read(path))
+
+
+def locked(folder):
+    """A lock that this sweep and all that it starts keep: no two sweeps work in one folder."""
+    os.makedirs(folder, mode=0o700, exist_ok=True)
+    lock = os.open(os.path.join(folder, "lock"), os.O_WRONLY | os.O_CREAT, 0o600)
+    try:
+        fcntl.flock(lock, fcntl.LOCK_EX | fcntl.LOCK_NB)
+    except BlockingIOError:
+        print("waiting for the batches that an earlier run has under way", file=sys.stderr)
+        fcntl.flock(lock, fcntl.LOCK_EX)
+    return lock
+
+
+def try_first(folder, sweep):
+    """One call on the first secret, not counted: what check refuses for all is told before the engine starts."""
+    scratch = tempfile.mkdtemp(prefix="sweep-")
+    try:
+        check = Check(os.path.join(folder, "files"), scratch, sweep.manifest["under"])
+        answer = check.call([next(iter(sweep.secrets))])
+    finally:
+        shutil.rmtree(scratch, ignore_errors=True)
+    if "refused" in answer.get("died", ""):
+        raise Refused(f"check {answer['died']}")
+
+
+def merged_of(folder, sweep):
+    merged = Merged(folder, sweep).take_all()
+    write_tables(folder, merged)
+    put(os.path.join(folder, "sweep.svg"), picture(merged, power(merged.budget)))
+    return merged
+
+
+def sweep_all(args):
+    begin = time.perf_counter()
+    folder = os.path.abspath(args.results)
+    lock = locked(folder)
+    sweep = asked(args)
+    engine = Slurm() if args.slurm else Parallel(args.jobs or os.cpu_count() or 1, args.hosts)
+    sweep.write(folder)
+    missing = sweep.missing(folder)
+    if missing:
+        try_first(folder, sweep)
+        engine.run(folder, sweep, missing, lock)
+    merged = merged_of(folder, sweep)
+    sys.stdout.write(report_of(merged))
+    print(f"{time.perf_counter() - begin:.2f} s; calls of check {merged.seconds:.2f} s, {merged.processor:.2f} s of a"
+          " processor", file=sys.stderr)
+    if merged.unjudged:
+        return 4
+    return int(merged.counts.get("accepted", 0) < merged.judged())
+
+
+def main():
+    args = words()
+    try:
+        return sweep_all(args)
+    except Refused as fault:
+        print(f"refused: {fault}", file=sys.stderr)
+        return 3
+    except OSError as fault:
+        print(f"refused: {fault.filename}: {fault.strerror}", file=sys.stderr)
+        return 3
+    except Contradiction as fault:
+        print(f"contradiction: {fault}", file=sys.stderr)
+        return 5
+
+
+if __name__ == "__main__":
+    sys.exit(main())
