@@ -9,7 +9,6 @@ from flowcheck import Disk
 
 TOOLS = os.path.dirname(os.path.dirname(os.path.abspath(__file__)))
 BUILT = os.path.join(TOOLS, "..", "crates", "flowcheck", "out", "flowcheck")
-NO_COMMAND = 2
 
 
 class Program:
@@ -25,9 +24,8 @@ class Program:
         return "flowcheck" if self.words else "the model of tools/model"
 
     def answer(self, words):
-        """The status and the text. A command that the program does not know yet is answered by the model."""
-        if self.words:
-            done = subprocess.run(self.words + words, stdout=subprocess.PIPE, stderr=subprocess.DEVNULL, check=False)
-            if done.returncode != NO_COMMAND or words[0] != "report":
-                return done.returncode, done.stdout.decode("utf-8", "replace")
-        return answer_to(Disk(), words)
+        """The status and the text."""
+        if not self.words:
+            return answer_to(Disk(), words)
+        done = subprocess.run(self.words + words, stdout=subprocess.PIPE, stderr=subprocess.DEVNULL, check=False)
+        return done.returncode, done.stdout.decode("utf-8", "replace")
