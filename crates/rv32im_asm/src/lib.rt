@@ -24,5 +24,3 @@ pub use fault::{AsmFault, LineKind};
 pub use listing::list;
 pub use texts::instr_text;
 
-#[cfg(test)]
-mod tests;
