@@ -173,50 +173,106 @@ fn unlike(alloc: Global, rows: &[Row]) -> Result<String, NoMemory> {
 }
 
 #[test]
-fn checks_are_answered(rt: HostRuntime) -> Result<(), Fail> {
-    let names = unlike(rt.alloc(), &check_rows::ROWS)?;
+fn secrets_are_judged(rt: HostRuntime) -> Result<(), Fail> {
+    let names = unlike(rt.alloc(), &check_rows::JUDGED)?;
     assert!(rt; names.is_empty(), "{names}");
     Ok(())
 }
 
 #[test]
-fn sources_are_answered(rt: HostRuntime) -> Result<(), Fail> {
+fn secrets_are_rejected(rt: HostRuntime) -> Result<(), Fail> {
+    let names = unlike(rt.alloc(), &check_rows::REJECTED)?;
+    assert!(rt; names.is_empty(), "{names}");
+    Ok(())
+}
+
+#[test]
+fn checks_are_refused(rt: HostRuntime) -> Result<(), Fail> {
+    let names = unlike(rt.alloc(), &check_rows::REFUSED)?;
+    assert!(rt; names.is_empty(), "{names}");
+    Ok(())
+}
+
+#[test]
+fn sources_are_assembled_and_listed(rt: HostRuntime) -> Result<(), Fail> {
     let names = unlike(rt.alloc(), &source_rows::ROWS)?;
     assert!(rt; names.is_empty(), "{names}");
     Ok(())
 }
 
 #[test]
+fn regions_are_run_and_skipped(rt: HostRuntime) -> Result<(), Fail> {
+    let names = unlike(rt.alloc(), &break_rows::CROSSINGS)?;
+    assert!(rt; names.is_empty(), "{names}");
+    Ok(())
+}
+
+#[test]
 fn breaks_are_told(rt: HostRuntime) -> Result<(), Fail> {
-    let names = unlike(rt.alloc(), &break_rows::ROWS)?;
+    let names = unlike(rt.alloc(), &break_rows::BREAKS)?;
     assert!(rt; names.is_empty(), "{names}");
     Ok(())
 }
 
 #[test]
 fn region_files_are_read(rt: HostRuntime) -> Result<(), Fail> {
-    let names = unlike(rt.alloc(), &region_rows::ROWS)?;
+    let names = unlike(rt.alloc(), &region_rows::READ)?;
+    assert!(rt; names.is_empty(), "{names}");
+    Ok(())
+}
+
+#[test]
+fn region_files_are_refused(rt: HostRuntime) -> Result<(), Fail> {
+    let names = unlike(rt.alloc(), &region_rows::REFUSED)?;
     assert!(rt; names.is_empty(), "{names}");
     Ok(())
 }
 
 #[test]
 fn region_files_are_named(rt: HostRuntime) -> Result<(), Fail> {
-    let names = unlike(rt.alloc(), &region_word_rows::ROWS)?;
+    let names = unlike(rt.alloc(), &region_word_rows::NAMED)?;
+    assert!(rt; names.is_empty(), "{names}");
+    Ok(())
+}
+
+#[test]
+fn words_of_region_files_are_refused(rt: HostRuntime) -> Result<(), Fail> {
+    let names = unlike(rt.alloc(), &region_word_rows::REFUSED)?;
     assert!(rt; names.is_empty(), "{names}");
     Ok(())
 }
 
 #[test]
 fn runs_are_measured(rt: HostRuntime) -> Result<(), Fail> {
-    let names = unlike(rt.alloc(), &measure_rows::ROWS)?;
+    let names = unlike(rt.alloc(), &measure_rows::MEASURED)?;
+    assert!(rt; names.is_empty(), "{names}");
+    Ok(())
+}
+
+#[test]
+fn runs_are_refused(rt: HostRuntime) -> Result<(), Fail> {
+    let names = unlike(rt.alloc(), &measure_rows::REFUSED)?;
     assert!(rt; names.is_empty(), "{names}");
     Ok(())
 }
 
 #[test]
 fn runs_are_reported(rt: HostRuntime) -> Result<(), Fail> {
-    let names = unlike(rt.alloc(), &report_rows::ROWS)?;
+    let names = unlike(rt.alloc(), &report_rows::REPORTS)?;
+    assert!(rt; names.is_empty(), "{names}");
+    Ok(())
+}
+
+#[test]
+fn tables_are_chosen(rt: HostRuntime) -> Result<(), Fail> {
+    let names = unlike(rt.alloc(), &report_rows::TABLES)?;
+    assert!(rt; names.is_empty(), "{names}");
+    Ok(())
+}
+
+#[test]
+fn cuts_are_folded(rt: HostRuntime) -> Result<(), Fail> {
+    let names = unlike(rt.alloc(), &report_rows::FOLDS)?;
     assert!(rt; names.is_empty(), "{names}");
     Ok(())
 }

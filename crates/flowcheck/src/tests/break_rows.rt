@@ -19,7 +19,8 @@ const SKIPPED_ALONE: &str = "flowcheck-cut 1\nsecret 1\nbits 0\nskip 1\nend\n";
 pub const COUNTED: &str =
     r#"{"regions":[{"id":1,"enter":"0x10018","leave":"0x10034","outs":["t0","t1","t2"]}]}"#;
 
-pub const ROWS: [Row; 10] = [
+/// What crosses, and what a skip alone leaves.
+pub const CROSSINGS: [Row; 4] = [
     Row {
         name: "a decision crosses inside a region",
         words: "check prog public cut 1 s3 --regions r",
@@ -79,6 +80,10 @@ pub const ROWS: [Row; 10] = [
         status: 1,
         text: Text("rejected 1 output index 0 real 2 replay 0\nchecked 1 accepted 0 budget 0\n"),
     },
+];
+
+/// Each break, and a range of the replay that is outside of guest memory.
+pub const BREAKS: [Row; 6] = [
     Row {
         name: "a register that is not declared",
         words: "check prog public cut 0 s3 --regions r",
@@ -112,8 +117,7 @@ pub const ROWS: [Row; 10] = [
         loads: 5,
         status: 1,
         text: Text(
-            "rejected 1 region 1 undeclared 0x00011000 at 0x00010024\n\
-                    checked 1 accepted 0 budget 1\n",
+            "rejected 1 region 1 undeclared 0x00011000 at 0x00010024\nchecked 1 accepted 0 budget 1\n",
         ),
     },
     Row {
@@ -132,7 +136,7 @@ pub const ROWS: [Row; 10] = [
         status: 1,
         text: Text(
             "rejected 1 region 1 keep x6 before 0x00000000 after 0x00000059\n\
-                    checked 1 accepted 0 budget 1\n",
+                checked 1 accepted 0 budget 1\n",
         ),
     },
     Row {

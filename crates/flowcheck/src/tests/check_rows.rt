@@ -10,7 +10,8 @@ const LOW_ALL: [(&str, Content); 2] = [("prog", Code(&LOW)), ("cut", Text(ALL_BI
 
 const EXIT_NO: [(&str, Content); 2] = [("prog", Code(&EXIT)), ("cut", Text(NO_BITS))];
 
-pub const ROWS: [Row; 22] = [
+/// Secrets of one call are judged each by itself, and counted.
+pub const JUDGED: [Row; 4] = [
     Row {
         name: "all bits of the secret cross",
         words: "check prog public cut 8 s3",
@@ -31,8 +32,8 @@ pub const ROWS: [Row; 22] = [
         status: 0,
         text: Text(
             "accepted 1 bits 8 crossing 03 output 1 status 0\n\
-                    accepted 2 bits 8 crossing 05 output 1 status 0\n\
-                    accepted 3 bits 8 crossing 04 output 1 status 0\nchecked 3 accepted 3 budget 8\n",
+                accepted 2 bits 8 crossing 05 output 1 status 0\n\
+                accepted 3 bits 8 crossing 04 output 1 status 0\nchecked 3 accepted 3 budget 8\n",
         ),
     },
     Row {
@@ -44,7 +45,7 @@ pub const ROWS: [Row; 22] = [
         status: 0,
         text: Text(
             "accepted 1 bits 1 crossing 01 output 1 status 0\n\
-                    accepted 2 bits 1 crossing 00 output 1 status 0\nchecked 2 accepted 2 budget 1\n",
+                accepted 2 bits 1 crossing 00 output 1 status 0\nchecked 2 accepted 2 budget 1\n",
         ),
     },
     Row {
@@ -56,9 +57,13 @@ pub const ROWS: [Row; 22] = [
         status: 1,
         text: Text(
             "accepted 1 bits 8 crossing 03 output 1 status 0\n\
-                    rejected 2 secret-length cut 1 got 2\nchecked 2 accepted 1 budget 8\n",
+                rejected 2 secret-length cut 1 got 2\nchecked 2 accepted 1 budget 8\n",
         ),
     },
+];
+
+/// Each reason for which a secret is rejected is told in its line.
+pub const REJECTED: [Row; 7] = [
     Row {
         name: "more bits than the budget",
         words: "check prog public cut 7 s65",
@@ -86,7 +91,7 @@ pub const ROWS: [Row; 22] = [
         status: 1,
         text: Text(
             "rejected 1 guest load-outside 0x00010000 address 0x00000000\n\
-                    checked 1 accepted 0 budget 0\n",
+                checked 1 accepted 0 budget 0\n",
         ),
     },
     Row {
@@ -127,9 +132,13 @@ pub const ROWS: [Row; 22] = [
         status: 0,
         text: Text(
             "accepted 1 bits 0 crossing - output 0 status 0\n\
-                    accepted 2 bits 0 crossing - output 0 status 0\nchecked 2 accepted 2 budget 0\n",
+                accepted 2 bits 0 crossing - output 0 status 0\nchecked 2 accepted 2 budget 0\n",
         ),
     },
+];
+
+/// Words that are no command, files that are none, and loads and puts that fail.
+pub const REFUSED: [Row; 11] = [
     Row {
         name: "no secret",
         words: "check prog public cut 8",
@@ -141,9 +150,9 @@ pub const ROWS: [Row; 22] = [
     },
     Row {
         name: "65 secrets",
-        words: "check prog public cut 8 s3 s3 s3 s3 s3 s3 s3 s3 s3 s3 s3 s3 s3 s3 s3 s3 s3 s3 s3 \
-                   s3 s3 s3 s3 s3 s3 s3 s3 s3 s3 s3 s3 s3 s3 s3 s3 s3 s3 s3 s3 s3 s3 s3 s3 s3 s3 s3 \
-                   s3 s3 s3 s3 s3 s3 s3 s3 s3 s3 s3 s3 s3 s3 s3 s3 s3 s3 s3",
+        words: "check prog public cut 8 s3 s3 s3 s3 s3 s3 s3 s3 s3 s3 s3 s3 s3 s3 s3 s3 s3 s3 s3 s3 s3 s3 \
+            s3 s3 s3 s3 s3 s3 s3 s3 s3 s3 s3 s3 s3 s3 s3 s3 s3 s3 s3 s3 s3 s3 s3 s3 s3 s3 s3 s3 s3 s3 \
+            s3 s3 s3 s3 s3 s3 s3 s3 s3 s3 s3 s3 s3",
         files: &LOW_ALL,
         failing: Nothing,
         loads: 0,

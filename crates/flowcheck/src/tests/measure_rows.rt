@@ -23,7 +23,8 @@ const CERTIFICATE: &str =
         link p1 p2 flow 1\nlink p2 p3 flow 1\nlink p3 p4 flow 1\nlink p4 p5 flow 1\n\
         link p5 sink flow 1\nend\n";
 
-pub const ROWS: [Row; 11] = [
+/// Cuts of measured runs, and the certificate of a run, which is verified.
+pub const MEASURED: [Row; 5] = [
     Row {
         name: "a bit that is masked",
         words: "measure prog public s3",
@@ -51,6 +52,28 @@ pub const ROWS: [Row; 11] = [
         status: 0,
         text: Text(TWO_BITS),
     },
+    Row {
+        name: "the certificate of a run",
+        words: "graph prog public s3",
+        files: &[("prog", Code(&LOW))],
+        failing: Nothing,
+        loads: 3,
+        status: 0,
+        text: Text(CERTIFICATE),
+    },
+    Row {
+        name: "a certificate is verified",
+        words: "verify prog",
+        files: &[("prog", Text(CERTIFICATE))],
+        failing: Nothing,
+        loads: 1,
+        status: 0,
+        text: Text("verified 1\n"),
+    },
+];
+
+/// Runs that are not measured, and files that are none.
+pub const REFUSED: [Row; 6] = [
     Row {
         name: "a turn too few to measure",
         words: "measure prog public s3 --turns 2",
@@ -119,23 +142,5 @@ pub const ROWS: [Row; 11] = [
         loads: 0,
         status: 2,
         text: Text("refused 2 usage\n"),
-    },
-    Row {
-        name: "the certificate of a run",
-        words: "graph prog public s3",
-        files: &[("prog", Code(&LOW))],
-        failing: Nothing,
-        loads: 3,
-        status: 0,
-        text: Text(CERTIFICATE),
-    },
-    Row {
-        name: "a certificate is verified",
-        words: "verify prog",
-        files: &[("prog", Text(CERTIFICATE))],
-        failing: Nothing,
-        loads: 1,
-        status: 0,
-        text: Text("verified 1\n"),
     },
 ];

@@ -6,7 +6,8 @@ use super::Failing::Nothing;
 use super::Row;
 use super::region_rows::{WITH_BRACE, WITH_NONE};
 
-pub const ROWS: [Row; 18] = [
+/// A region file that is no JSON is named.
+pub const NAMED: [Row; 7] = [
     Row {
         name: "named by --regions r --turns 3",
         words: "check prog public cut 0 s3 --regions r --turns 3",
@@ -70,6 +71,10 @@ pub const ROWS: [Row; 18] = [
         status: 3,
         text: Text("refused 3 regions json\n"),
     },
+];
+
+/// The words are no command line.
+pub const REFUSED: [Row; 11] = [
     Row {
         name: "refused at --regions r --regions r",
         words: "check prog public cut 0 s3 --regions r --regions r",

@@ -31,7 +31,8 @@ const SKIPPED_JSON: &str =
     "{\"bits\":2,\"cut\":[{\"address\":\"0x00010034\",\"bits\":2,\"region\":0,\
     \"slot\":\"rs\"}],\"links\":25,\"output\":1,\"points\":17,\"secret\":1,\"skip\":[1],\"status\":0,\"turns\":30}\n";
 
-pub const ROWS: [Row; 18] = [
+/// Reports of the guest that writes the lowest bit, and of a run that skips a region.
+pub const REPORTS: [Row; 9] = [
     Row {
         name: "a report",
         words: "report prog public s3",
@@ -113,6 +114,10 @@ pub const ROWS: [Row; 18] = [
         status: 0,
         text: Text(SKIPPED_JSON),
     },
+];
+
+/// Two guests of which table 2 finds that nothing of the secret is given away.
+pub const TABLES: [Row; 5] = [
     Row {
         name: "a comparison by table 1",
         words: "measure prog public s7 --rules 1",
@@ -158,6 +163,10 @@ pub const ROWS: [Row; 18] = [
         status: 2,
         text: Text("refused 2 usage\n"),
     },
+];
+
+/// A cut whose masks repeat, in both versions.
+pub const FOLDS: [Row; 4] = [
     Row {
         name: "masks that repeat, listed",
         words: "measure prog public s7777",
