@@ -5,8 +5,6 @@ mod asm;
 #[cfg(test)]
 mod book_tests;
 mod books;
-#[cfg(test)]
-mod break_tests;
 mod check;
 mod commands;
 mod fault_texts;
@@ -20,19 +18,13 @@ mod limits;
 mod list;
 mod loads;
 mod measure;
-#[cfg(test)]
-mod measure_tests;
 mod migrate;
 mod names;
 mod numbers;
 mod parts;
 mod refusals;
-#[cfg(test)]
-mod region_tests;
 mod replies;
 mod report;
-#[cfg(test)]
-mod report_tests;
 mod runs;
 mod shared;
 mod statuses;
