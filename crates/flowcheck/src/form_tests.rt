@@ -4,7 +4,8 @@ use flow_base::NoMemory;
 use std::alloc::{AllocError, Global};
 use std::test::Fail;
 
-/// A word that fits a place of a form: any number of turns, any budget and the number of a trial are 5, and any file is named `f`.
+/// A word that fits a place of a form: any number of turns, any budget and the number of a trial are 5, and any file is
+/// named `f`.
 fn fitting<'a>(place: &'a str) -> &'a str {
     match place {
         "[OPTIONS]" => "--turns=5",
