@@ -4,7 +4,8 @@
 Runs random lists of words through an executable in an empty folder, and judges each as the definition of command lines
 does: its reading is written here once more, apart from the program. Words that are no command line must be answered by
 status 2 and `refused 2 usage`, and on standard error by what is wrong and a form; a command line by status 5 and the
-name of its first file, since the folder holds none, and by nothing on standard error.
+name of its first file, since the folder holds none, and by nothing on standard error; `trial`, which has no file, by
+status 0 and its line.
 COMMAND may be several words; they stand before a trial's words. Prints each list that differs, and last `N passed, M
 failed`; the status is 1 where one failed."""
 import argparse
@@ -17,7 +18,7 @@ from concurrent.futures import ThreadPoolExecutor
 RUN = ("--turns", "--regions")
 MEASURED = RUN + ("--rules",)
 OPTIONS = {"check": RUN, "measure": MEASURED + ("--cut",), "graph": MEASURED, "report": MEASURED, "asm": (), "list": (),
-           "verify": (), "migrate": ()}
+           "verify": (), "migrate": (), "trial": ()}
 FLAGS = {"report": ("--json",)}
 
 
@@ -55,6 +56,8 @@ def first_file(words):
         return None
     if not all(number(taken.get(name, "1"), 1, 2) for name in ("--rules", "--cut")):
         return None
+    if words[0] == "trial":
+        return "" if len(plain) == 1 and number(plain[0], 0, 4_294_967_295) else None
     if words[0] == "check":
         return plain[0] if 5 <= len(plain) <= 68 and number(plain[3], 0, 1_048_576) else None
     count = 3 if words[0] in ("measure", "graph", "report") else 1
@@ -89,6 +92,8 @@ def trial(rng):
         parts = [["prog"], ["public"], ["cut"], [budget]] + [["s%d" % i] for i in range(count)]
     elif command in ("measure", "graph", "report"):
         parts = [["prog"], ["public"], ["secret"], ["more"]][:rng.choice([3, 3, 3, 2, 4])]
+    elif command == "trial":
+        parts = [[rng.choice(["0", "6", "99", "06", "4294967296", "-1", "x"])]] * rng.choice([1, 1, 1, 0, 2])
     else:
         parts = [["file"]] * rng.choice([1, 1, 1, 0, 2])
     for _ in range(rng.choice([0, 0, 1, 1, 2, 2, 3])):
@@ -117,6 +122,8 @@ def judge(command, folder, words):
     error = run.stderr.decode(errors="replace")
     if error.startswith("error: ") and "\n\nUsage: flowcheck " in error:
         error = "told"
+    if name == "":
+        return None if run.returncode == 0 and run.stdout.startswith(b"trial ") else "%r: no trial" % (words,)
     seen = (run.returncode, run.stdout.decode(errors="replace"), error)
     return None if seen == wanted else "%r: %r, wanted %r" % (words, seen, wanted)
 

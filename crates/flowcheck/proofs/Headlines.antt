@@ -21,7 +21,7 @@ use Rattle.flowcheck.specs.declared.refusals.Refusal.{Refusal}
 use Rattle.flowcheck.specs.declared.statuses.Status.TheVariants.{Done, Rejected}
 use Rattle.flowcheck.specs.Answers.{Answer, told}
 use Rattle.flowcheck.specs.Checks.{AnswersCheck, AnswersCut, AnswersOthers, AnswersProgram, AnswersRegions, AreRegions, check_wants, judgements_of, limits_of, region_wants, secret_wants}
-use Rattle.flowcheck.specs.CommandLines.{Check, Command, Checks, Measures, Graphs, Reports, Assembles, Lists, Verifies, Migrates, IsCommand}
+use Rattle.flowcheck.specs.CommandLines.{Check, Command, Checks, Measures, Graphs, Reports, Assembles, Lists, Verifies, Migrates, Tries, IsCommand}
 use Rattle.flowcheck.specs.FileLimits.{limit_of}
 use Rattle.flowcheck.specs.Headline.{AreHeld, IsHeld, Says, AllSay, IsAmong, AreFewOfAll, AreFew, Headline}
 use Rattle.flowcheck.specs.Loading.{Want, AreWithin, IsLoadRefusal, Loads, and_load, loaded_from}
@@ -310,6 +310,8 @@ from-words source words answer check is (inr (Verifies certificate, named, h)) l
     absurd (other-row words check (codes "verify") (Verifies certificate) is named named.row.0 refl)
 from-words source words answer check is (inr (Migrates cut, named, h)) low =
     absurd (other-row words check (codes "migrate") (Migrates cut) is named named.row.0 refl)
+from-words source words answer check is (inr (Tries number, named, h)) low =
+    absurd (other-row words check (codes "trial") (Tries number) is named named.row.0 refl)
 
 pub headline_of : (source : Option Told) (words : List (List ℕ)) (status : ℕ) (text : List ℕ) (check : Check) →
     IsCommand words (Checks check) → Replies source words (record { status = status; text = text }) → status ≤ 1 →

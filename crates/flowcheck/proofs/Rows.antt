@@ -3,7 +3,7 @@ use Rattle.std.proofs.Common.{◌≡◌, ◌≢◌, ℕ, Bool, List, ◌∷◌, 
 use Rattle.std.proofs.lemmas.Bool.{false≢true}
 use Rattle.std.specs.Str.{bytes_eq}
 use Rattle.flowcheck.specs.Parts.{Parts, parts_of}
-use Rattle.flowcheck.specs.CommandLines.{Check, Run, Command, Checks, Measures, Graphs, Reports, Assembles, Lists, Verifies, Migrates, IsCheck, IsGraph, IsMeasure, IsOneFile, IsReport, IsRow, IsCommand}
+use Rattle.flowcheck.specs.CommandLines.{Check, Run, Command, Checks, Measures, Graphs, Reports, Assembles, Lists, Verifies, Migrates, Tries, IsCheck, IsGraph, IsMeasure, IsOneFile, IsReport, IsRow, IsTrial, IsCommand}
 
 -- two names that differ are not the same
 differs : (a b : List ℕ) → bytes_eq a a ≡ true → bytes_eq a b ≡ false → a ≡ b → ⊥
@@ -20,6 +20,7 @@ no_check name parts is none (Assembles source) = λ row. differs (codes "check")
 no_check name parts is none (Lists program) = λ row. differs (codes "check") (codes "list") refl refl (sym is ∙ row.0)
 no_check name parts is none (Verifies certificate) = λ row. differs (codes "check") (codes "verify") refl refl (sym is ∙ row.0)
 no_check name parts is none (Migrates cut) = λ row. differs (codes "check") (codes "migrate") refl refl (sym is ∙ row.0)
+no_check name parts is none (Tries number) = λ row. differs (codes "check") (codes "trial") refl refl (sym is ∙ row.0)
 
 -- no row of the names of measured runs
 pub no_measure : (name : List ℕ) (parts : Parts) → name ≡ codes "measure" →
@@ -33,6 +34,7 @@ no_measure name parts is none (Assembles source) = λ row. differs (codes "measu
 no_measure name parts is none (Lists program) = λ row. differs (codes "measure") (codes "list") refl refl (sym is ∙ row.0)
 no_measure name parts is none (Verifies certificate) = λ row. differs (codes "measure") (codes "verify") refl refl (sym is ∙ row.0)
 no_measure name parts is none (Migrates cut) = λ row. differs (codes "measure") (codes "migrate") refl refl (sym is ∙ row.0)
+no_measure name parts is none (Tries number) = λ row. differs (codes "measure") (codes "trial") refl refl (sym is ∙ row.0)
 
 pub no_graph : (name : List ℕ) (parts : Parts) → name ≡ codes "graph" → ((run : Run) → ¬ IsGraph parts run) →
     (command : Command) → ¬ IsRow name parts command
@@ -44,6 +46,7 @@ no_graph name parts is none (Assembles source) = λ row. differs (codes "graph")
 no_graph name parts is none (Lists program) = λ row. differs (codes "graph") (codes "list") refl refl (sym is ∙ row.0)
 no_graph name parts is none (Verifies certificate) = λ row. differs (codes "graph") (codes "verify") refl refl (sym is ∙ row.0)
 no_graph name parts is none (Migrates cut) = λ row. differs (codes "graph") (codes "migrate") refl refl (sym is ∙ row.0)
+no_graph name parts is none (Tries number) = λ row. differs (codes "graph") (codes "trial") refl refl (sym is ∙ row.0)
 
 pub no_report : (name : List ℕ) (parts : Parts) → name ≡ codes "report" →
     ((json : Bool) (run : Run) → ¬ IsReport parts json run) → (command : Command) → ¬ IsRow name parts command
@@ -55,33 +58,48 @@ no_report name parts is none (Assembles source) = λ row. differs (codes "report
 no_report name parts is none (Lists program) = λ row. differs (codes "report") (codes "list") refl refl (sym is ∙ row.0)
 no_report name parts is none (Verifies certificate) = λ row. differs (codes "report") (codes "verify") refl refl (sym is ∙ row.0)
 no_report name parts is none (Migrates cut) = λ row. differs (codes "report") (codes "migrate") refl refl (sym is ∙ row.0)
+no_report name parts is none (Tries number) = λ row. differs (codes "report") (codes "trial") refl refl (sym is ∙ row.0)
+
+pub no_trial : (name : List ℕ) (parts : Parts) → name ≡ codes "trial" →
+    ((number : ℕ) → ¬ IsTrial parts number) → (command : Command) → ¬ IsRow name parts command
+no_trial name parts is none (Checks check) = λ row. differs (codes "trial") (codes "check") refl refl (sym is ∙ row.0)
+no_trial name parts is none (Measures version run) = λ row. differs (codes "trial") (codes "measure") refl refl (sym is ∙ row.0)
+no_trial name parts is none (Graphs run) = λ row. differs (codes "trial") (codes "graph") refl refl (sym is ∙ row.0)
+no_trial name parts is none (Reports json run) = λ row. differs (codes "trial") (codes "report") refl refl (sym is ∙ row.0)
+no_trial name parts is none (Assembles source) = λ row. differs (codes "trial") (codes "asm") refl refl (sym is ∙ row.0)
+no_trial name parts is none (Lists program) = λ row. differs (codes "trial") (codes "list") refl refl (sym is ∙ row.0)
+no_trial name parts is none (Verifies certificate) = λ row. differs (codes "trial") (codes "verify") refl refl (sym is ∙ row.0)
+no_trial name parts is none (Migrates cut) = λ row. differs (codes "trial") (codes "migrate") refl refl (sym is ∙ row.0)
+no_trial name parts is none (Tries number) = λ row. none number row.1
 
 -- no row of another name whose parts name no file
 pub no_file : (name : List ℕ) (parts : Parts) → name ≢ codes "check" → name ≢ codes "measure" → name ≢ codes "graph" →
-    name ≢ codes "report" →
+    name ≢ codes "report" → name ≢ codes "trial" →
     ((file : List ℕ) → ¬ IsOneFile parts file) → (command : Command) → ¬ IsRow name parts command
-no_file name parts check measure graph report none (Checks c) = λ row. check row.0
-no_file name parts check measure graph report none (Measures version run) = λ row. measure row.0
-no_file name parts check measure graph report none (Graphs run) = λ row. graph row.0
-no_file name parts check measure graph report none (Reports json run) = λ row. report row.0
-no_file name parts check measure graph report none (Assembles source) = λ row. none source row.1
-no_file name parts check measure graph report none (Lists program) = λ row. none program row.1
-no_file name parts check measure graph report none (Verifies certificate) = λ row. none certificate row.1
-no_file name parts check measure graph report none (Migrates cut) = λ row. none cut row.1
+no_file name parts check measure graph report trial none (Checks c) = λ row. check row.0
+no_file name parts check measure graph report trial none (Measures version run) = λ row. measure row.0
+no_file name parts check measure graph report trial none (Graphs run) = λ row. graph row.0
+no_file name parts check measure graph report trial none (Reports json run) = λ row. report row.0
+no_file name parts check measure graph report trial none (Assembles source) = λ row. none source row.1
+no_file name parts check measure graph report trial none (Lists program) = λ row. none program row.1
+no_file name parts check measure graph report trial none (Verifies certificate) = λ row. none certificate row.1
+no_file name parts check measure graph report trial none (Migrates cut) = λ row. none cut row.1
+no_file name parts check measure graph report trial none (Tries number) = λ row. trial row.0
 
 -- no row of a name that no command has
 pub no_name : (name : List ℕ) (parts : Parts) → name ≢ codes "check" → name ≢ codes "measure" → name ≢ codes "graph" →
-    name ≢ codes "report" →
+    name ≢ codes "report" → name ≢ codes "trial" →
     name ≢ codes "asm" → name ≢ codes "list" → name ≢ codes "verify" → name ≢ codes "migrate" →
     (command : Command) → ¬ IsRow name parts command
-no_name name parts check measure graph report asm list verify migrate (Checks c) = λ row. check row.0
-no_name name parts check measure graph report asm list verify migrate (Measures version run) = λ row. measure row.0
-no_name name parts check measure graph report asm list verify migrate (Graphs run) = λ row. graph row.0
-no_name name parts check measure graph report asm list verify migrate (Reports json run) = λ row. report row.0
-no_name name parts check measure graph report asm list verify migrate (Assembles source) = λ row. asm row.0
-no_name name parts check measure graph report asm list verify migrate (Lists program) = λ row. list row.0
-no_name name parts check measure graph report asm list verify migrate (Verifies certificate) = λ row. verify row.0
-no_name name parts check measure graph report asm list verify migrate (Migrates cut) = λ row. migrate row.0
+no_name name parts check measure graph report trial asm list verify migrate (Checks c) = λ row. check row.0
+no_name name parts check measure graph report trial asm list verify migrate (Measures version run) = λ row. measure row.0
+no_name name parts check measure graph report trial asm list verify migrate (Graphs run) = λ row. graph row.0
+no_name name parts check measure graph report trial asm list verify migrate (Reports json run) = λ row. report row.0
+no_name name parts check measure graph report trial asm list verify migrate (Assembles source) = λ row. asm row.0
+no_name name parts check measure graph report trial asm list verify migrate (Lists program) = λ row. list row.0
+no_name name parts check measure graph report trial asm list verify migrate (Verifies certificate) = λ row. verify row.0
+no_name name parts check measure graph report trial asm list verify migrate (Migrates cut) = λ row. migrate row.0
+no_name name parts check measure graph report trial asm list verify migrate (Tries number) = λ row. trial row.0
 
 tails : (a c : List ℕ) (b d : List (List ℕ)) → a ∷ b ≡ c ∷ d → b ≡ d
 tails a c b d e = cc

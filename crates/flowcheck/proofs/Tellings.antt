@@ -1,7 +1,8 @@
 -- What is measured of a run, and what is told of it.
-use Rattle.std.proofs.Common.{◌≡◌, ◌∙◌, inl, inr, subst, sym, ℕ, List, Option, Result, Ok, Err}
+use Rattle.std.proofs.Common.{◌≡◌, ◌∙◌, ◌*◌, ◌≤◌, inl, inr, length, subst, sym, ℕ, List, Option, Result, Ok, Err}
 use Rattle.elf32_loader.specs.Pictures.{Picture}
 use Rattle.enclosure_regions.specs.declared.region_parts.Region.{Region}
+use Rattle.measuring.specs.Accepting.{IsAcceptedByItsCut}
 use Rattle.measuring.specs.declared.measured.Measured.{Measured}
 use Rattle.flowcheck.specs.declared.refusals.Refusal.{Refusal}
 use Rattle.flowcheck.specs.Answers.{Answer}
@@ -16,7 +17,7 @@ pub record Follows (Tells : Measured → Answer → Type 0) (found : Result Meas
   pub refused : (refusal : Refusal) → found ≡ Err refusal → answer ≡ Err refusal
   pub told : (measured : Measured) → found ≡ Ok measured → Tells measured answer
 
-runs : (Tells : Measured → Answer → Type 0) (found : Result Measured Refusal) (answer : Answer) → Follows Tells found answer →
+pub runs : (Tells : Measured → Answer → Type 0) (found : Result Measured Refusal) (answer : Answer) → Follows Tells found answer →
     (table : ℕ) (public_input secret : List ℕ) (turns : ℕ) (picture : Picture) (regions : List Region) →
     Runs Is table public_input secret turns picture regions found → Runs Tells table public_input secret turns picture regions answer
 runs Tells found answer law table public_input secret turns picture regions (inl (fault, cause, room, e)) =
@@ -92,3 +93,36 @@ first_version measured found is table program_file public_input region_file secr
     absurd (not_measured _ measured found e is)
 first_version measured found is table program_file public_input region_file secret turns (inr (picture, image, rest)) =
     version-regions measured found is table public_input secret turns region_file picture rest
+
+-- ---- what is measured is accepted
+
+pub record IsOwnCut (measured : Measured) (picture : Picture) (public_input secret : List ℕ) (regions : List Region)
+    (turns : ℕ) : Type 0 where
+  pub accepted : IsAcceptedByItsCut picture public_input regions secret turns measured
+  pub few : measured.value ≤ 8 * length secret
+  pub bits : measured.cut.bits ≡ measured.value
+
+pub own_cut : (measured : Measured) (found : Result Measured Refusal) → found ≡ Ok measured → (table : ℕ)
+    (public_input secret : List ℕ) (turns : ℕ) (picture : Picture) (regions : List Region) →
+    Runs Is table public_input secret turns picture regions found →
+    IsOwnCut measured picture public_input secret regions turns
+own_cut measured found is table public_input secret turns picture regions (inl (fault, cause, room, e)) =
+    absurd (not_measured _ measured found e is)
+own_cut measured found is table public_input secret turns picture regions (inr (other, m, accepted, few, e)) =
+    subst (λ (a : Measured). IsOwnCut a picture public_input secret regions turns) (measured-of other measured found e is)
+    (record { accepted = accepted; few = few; bits = m.measure.cut.bits })
+
+-- the same of values that are equal
+pub runs_as : (found : Result Measured Refusal) (table : ℕ) (public_input secret : List ℕ) (turns : ℕ)
+    (picture : Picture) (regions : List Region) (other_table : ℕ) (other_input other_secret : List ℕ)
+    (other_picture : Picture) (other_regions : List Region) → table ≡ other_table → public_input ≡ other_input →
+    secret ≡ other_secret → picture ≡ other_picture → regions ≡ other_regions →
+    Runs Is table public_input secret turns picture regions found →
+    Runs Is other_table other_input other_secret turns other_picture other_regions found
+runs_as found table public_input secret turns picture regions other_table other_input other_secret other_picture
+    other_regions a b c d e h =
+    subst (λ t. Runs Is t other_input other_secret turns other_picture other_regions found) a
+    (subst (λ p. Runs Is table p other_secret turns other_picture other_regions found) b
+    (subst (λ s. Runs Is table public_input s turns other_picture other_regions found) c
+    (subst (λ p. Runs Is table public_input secret turns p other_regions found) d
+    (subst (λ r. Runs Is table public_input secret turns picture r found) e h))))

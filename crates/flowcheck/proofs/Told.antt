@@ -16,11 +16,14 @@ use Rattle.flowcheck.specs.declared.statuses.Status.TheVariants.{Done, Rejected}
 use Rattle.flowcheck.specs.Answers.{Answer, told}
 use Rattle.flowcheck.specs.Assemblies.{AnswersSource, program_answer}
 use Rattle.flowcheck.specs.Checks.{AnswersCheck, AnswersCut, AnswersOthers, AnswersProgram, AnswersRegions}
-use Rattle.flowcheck.specs.CommandLines.{Check, Run, Command, Checks, Measures, Graphs, Reports, Assembles, Lists, Verifies, Migrates, IsNoCommand}
+use Rattle.flowcheck.specs.CommandLines.{Check, Run, Command, Checks, Measures, Graphs, Reports, Assembles, Lists, Verifies, Migrates, Tries, IsNoCommand}
 use Rattle.flowcheck.specs.Listings.{AnswersListed, AnswersListing}
 use Rattle.measuring.specs.declared.measured.Measured.{Measured}
 use Rattle.flowcheck.specs.Measurements.{AnswersRun, Runs, RunsProgram, RunsRegions, TellsCut, TellsGraph, TellsReport}
 use Rattle.flowcheck.specs.Migrations.{AnswersMigrated, AnswersMigration}
+use Rattle.flowcheck.specs.Trials.{TellsTrial, trial_turns}
+use Rattle.trial_guests.specs.Programs.{picture_of_number}
+use Rattle.trial_guests.specs.Secrets.{secret_of}
 use Rattle.flowcheck.specs.Verifications.{AnswersVerification, AnswersVerified, verdict_reply}
 use Rattle.flowcheck.specs.Loading.{Want, IsLoadRefusal, Loads}
 use Rattle.flowcheck.specs.Refusals.{refusal_text}
@@ -180,6 +183,9 @@ report-done json measured answer e = by answer _ e (done-text _)
 graph-done : TellsDone TellsGraph
 graph-done measured answer (text, is, e) = by answer _ e (done-text text)
 
+trial-done : (number : ℕ) → TellsDone (TellsTrial number)
+trial-done number measured answer e = by answer _ e (done-text _)
+
 files-status : (command : Command) (files : List (List ℕ)) (answer : Answer) → AnswersFiles command files answer → NoUsage answer
 files-status (Checks check) files answer h = check-status check files answer h
 files-status (Measures version run) files answer h = run-status (TellsCut version) (cut-done version) run files answer h
@@ -189,6 +195,9 @@ files-status (Assembles source) files answer h = source-status files answer h
 files-status (Lists program) files answer h = listing-status files answer h
 files-status (Verifies certificate) files answer h = verification-status files answer h
 files-status (Migrates cut) files answer h = migration-status files answer h
+files-status (Tries number) files answer h =
+    runs-status (TellsTrial number) (trial-done number) 1 [] (secret_of number) trial_turns (picture_of_number number) []
+    answer h
 
 refusal-status : (wants : List Want) (refusal : Refusal) → IsLoadRefusal wants refusal → NoUsage (Err refusal)
 refusal-status [] refusal is = absurd is

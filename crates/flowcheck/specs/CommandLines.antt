@@ -25,8 +25,8 @@ pub record Run : Type 0 where
   pub table : ℕ
 
 -- a command: a check of secrets, the cut of a run in a version, the certificate of its maximum flow or a report of it,
--- which may be JSON, the program file of a source, the listing of a program, the verdict on a certificate, or a cut in
--- version 2
+-- which may be JSON, the program file of a source, the listing of a program, the verdict on a certificate, a cut in
+-- version 2, or a trial of the tool by a number
 pub data Command : Type 0 where
   Checks : Check → Command
   Measures : ℕ → Run → Command
@@ -36,6 +36,7 @@ pub data Command : Type 0 where
   Lists : List ℕ → Command
   Verifies : List ℕ → Command
   Migrates : List ℕ → Command
+  Tries : ℕ → Command
 
 abbrev pub highest_budget : ℕ
 highest_budget = 1048576
@@ -60,6 +61,10 @@ IsTable table = (1 ≤ table) × (table ≤ 2)
 abbrev pub IsChoice : Option (List ℕ) → ℕ → Type 0
 IsChoice None choice = choice ≡ 1
 IsChoice (Some value) choice = (value ≡ decimal choice) × (1 ≤ choice) × (choice ≤ 2)
+
+-- the greatest number of a trial
+abbrev pub highest_number : ℕ
+highest_number = 4294967295
 
 -- PROG PUBLIC CUT BUDGET SECRET.., with 1 to 64 secrets and the budget in decimal without leading zeros
 pub record IsCheck (parts : Parts) (check : Check) : Type 0 where
@@ -99,6 +104,12 @@ pub record IsReport (parts : Parts) (json : Bool) (run : Run) : Type 0 where
   pub cut : parts.options.cut ≡ None
   pub flag : parts.options.json ≡ json
 
+-- a number in decimal without leading zeros, and no option
+pub record IsTrial (parts : Parts) (number : ℕ) : Type 0 where
+  pub plain : parts.plain ≡ decimal number ∷ []
+  pub options : parts.options ≡ no_options
+  pub few : number ≤ highest_number
+
 -- one file and no option
 abbrev pub IsOneFile : Parts → List ℕ → Type 0
 IsOneFile parts file = (parts.plain ≡ file ∷ []) × (parts.options ≡ no_options)
@@ -113,6 +124,7 @@ IsRow name parts (Assembles source) = (name ≡ codes "asm") × IsOneFile parts 
 IsRow name parts (Lists program) = (name ≡ codes "list") × IsOneFile parts program
 IsRow name parts (Verifies certificate) = (name ≡ codes "verify") × IsOneFile parts certificate
 IsRow name parts (Migrates cut) = (name ≡ codes "migrate") × IsOneFile parts cut
+IsRow name parts (Tries number) = (name ≡ codes "trial") × IsTrial parts number
 
 -- the words are this command line
 pub record IsCommand (words : List (List ℕ)) (command : Command) : Type 0 where

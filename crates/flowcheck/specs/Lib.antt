@@ -19,5 +19,6 @@ pub mod Assemblies
 pub mod Listings
 pub mod Verifications
 pub mod Migrations
+pub mod Trials
 pub mod Replies
 pub mod Headline

@@ -1,5 +1,5 @@
 -- The reply to a command line, command by command: words first, then loads, forms, and the run.
-use Rattle.std.specs.Prelude.{◌≡◌, ◌⊎◌, ℕ, List, Option, Result, Ok, Err}
+use Rattle.std.specs.Prelude.{◌≡◌, ◌⊎◌, ℕ, List, [], Option, Result, Ok, Err}
 use Rattle.flow_base.specs.Loads.{Told}
 use Rattle.flowcheck.specs.declared.refusals.Refusal.{Refusal}
 use Rattle.flowcheck.specs.declared.refusals.Refusal.TheVariants.{Usage}
@@ -7,12 +7,13 @@ use Rattle.flowcheck.specs.Answers.{Answer, told}
 use Rattle.flowcheck.specs.Assemblies.{AnswersSource, source_wants}
 use Rattle.flowcheck.specs.Checks.{AnswersCheck, check_wants}
 use Rattle.flowcheck.specs.CommandLines.{Command, Checks, Measures, Graphs, Reports, Assembles, Lists, Verifies}
-use Rattle.flowcheck.specs.CommandLines.{Migrates, IsCommand, IsNoCommand}
+use Rattle.flowcheck.specs.CommandLines.{Migrates, Tries, IsCommand, IsNoCommand}
 use Rattle.flowcheck.specs.Listings.{AnswersListing, listing_wants}
 use Rattle.flowcheck.specs.Loading.{Want, Leaves, LeavesPart, Loads}
 use Rattle.flowcheck.specs.Measurements.{AnswersRun, TellsCut, TellsGraph, TellsReport, run_wants}
 use Rattle.flowcheck.specs.Migrations.{AnswersMigration, migration_wants}
 use Rattle.flowcheck.specs.Statuses.{number_of}
+use Rattle.flowcheck.specs.Trials.{AnswersTrial}
 use Rattle.flowcheck.specs.Verifications.{AnswersVerification, verification_wants}
 
 -- the files that a command wants, in the order of its loads
@@ -25,6 +26,7 @@ wants_of (Assembles source) = source_wants source
 wants_of (Lists program) = listing_wants program
 wants_of (Verifies certificate) = verification_wants certificate
 wants_of (Migrates cut) = migration_wants cut
+wants_of (Tries number) = []
 
 -- the answer of a command to the files that it wants
 abbrev pub AnswersFiles : Command → List (List ℕ) → Answer → Type 0
@@ -36,6 +38,7 @@ AnswersFiles (Assembles source) files answer = AnswersSource files answer
 AnswersFiles (Lists program) files answer = AnswersListing files answer
 AnswersFiles (Verifies certificate) files answer = AnswersVerification files answer
 AnswersFiles (Migrates cut) files answer = AnswersMigration files answer
+AnswersFiles (Tries number) files answer = AnswersTrial number answer
 
 -- the answer of a command once its files are loaded, or a load is refused
 abbrev pub AnswersLoads : Command → Result (List (List ℕ)) Refusal → Answer → Type 0

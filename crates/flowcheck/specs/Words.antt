@@ -9,7 +9,7 @@ use Rattle.flowcheck.specs.declared.parts.Parts.{Parts as PartedWords}
 use Rattle.flowcheck.specs.declared.loads.Want.{Want as WantedFile}
 use Rattle.flowcheck.specs.Parts.{OptionValues, Parts}
 use Rattle.flowcheck.specs.CommandLines.{Check, Run, Command, Checks, Measures, Graphs, Reports, Assembles, Lists}
-use Rattle.flowcheck.specs.CommandLines.{Verifies, Migrates, IsTable, highest_budget, highest_turns}
+use Rattle.flowcheck.specs.CommandLines.{Verifies, Migrates, Tries, IsTable, highest_budget, highest_turns}
 use Rattle.flowcheck.specs.Loading.{Want}
 
 abbrev pub values_of : OptionWords → OptionValues
@@ -57,6 +57,7 @@ command_of (words.Assemble source) = Assembles source.now
 command_of (words.List program) = Lists program.now
 command_of (words.Verify certificate) = Verifies certificate.now
 command_of (words.Migrate cut) = Migrates cut.now
+command_of (words.Trial number) = Tries number
 
 -- the turns of a measured run are within their limit, and there is a book of its table
 pub record HasRunLimits (run : RunWords) : Type 0 where
@@ -73,6 +74,7 @@ HasLimits (words.Assemble source) = Unit {0}
 HasLimits (words.List program) = Unit {0}
 HasLimits (words.Verify certificate) = Unit {0}
 HasLimits (words.Migrate cut) = Unit {0}
+HasLimits (words.Trial number) = Unit {0}
 
 abbrev pub want_of : WantedFile → Want
 want_of want = record { name = want.name.now; kind = want.kind }

@@ -2,7 +2,7 @@ ghost use Rattle.std.specs.Prelude.{◌≡◌, ◌≢◌, ◌≤◌, ◌∷◌, 
 ghost use Rattle.std.specs.Prelude.{IfNone, IfOk, IfSome};
 ghost use Rattle.flow_base.specs.Counts.{Rose};
 ghost use Rattle.flowcheck.specs.CommandLines.{Check, Command, Run, IsCheck, IsCommand, IsGraph, IsMeasure};
-ghost use Rattle.flowcheck.specs.CommandLines.{IsNoCommand, IsOneFile, IsReport, IsRow};
+ghost use Rattle.flowcheck.specs.CommandLines.{IsNoCommand, IsOneFile, IsReport, IsRow, IsTrial};
 ghost use Rattle.flowcheck.specs.Loading.{AreWithin, Leaves, LeavesPart, want};
 ghost use Rattle.flowcheck.specs.Replies.{AnswersCommand, AnswersFiles, AnswersWords, LeavesWords, LeavesWordsPart};
 ghost use Rattle.flowcheck.specs.Replies.{wants_of as wants_of_of};
@@ -10,15 +10,17 @@ ghost use Rattle.flowcheck.specs.SingleLoads.{HasCause};
 ghost use Rattle.flowcheck.specs.Words.{HasLimits, command_of, parts_in, want_of};
 ghost use Rattle.flowcheck.specs.declared.refusals.Refusal.TheVariants.{Load, Memory};
 
+use crate::books::book_of;
 use crate::check::{self, CheckWords};
 use crate::kinds::FileKind;
 use crate::loads::{Want, load_all};
+use crate::numbers::number_of;
 use crate::parts::{Parts, parts_of};
 use crate::refusals::Refusal;
 use crate::replies::Reply;
 use crate::runs::{self, RunWords, run_words};
 use crate::shared::choice_of;
-use crate::{asm, graph, list, measure, migrate, report, verify};
+use crate::{asm, graph, list, measure, migrate, report, trial, verify};
 use flow_base::{Bytes, Files, List, NoMemory};
 use std::alloc::Global;
 use transfer_rules::RuleBook;
@@ -42,6 +44,8 @@ pub enum CommandWords<'a> {
     Verify { certificate: &'a str },
     /// `migrate CUT`
     Migrate { cut: &'a str },
+    /// `trial N`
+    Trial { number: u32 },
 }
 
 /// The file that the words behind a command of one file name; None exactly where they name none.
@@ -63,7 +67,7 @@ fn file_row<'a>(name: &str, parts: &Parts<'a>) -> Option<CommandWords<'a>>
     ensures is { IfSome result (λ command. IsRow name.now (parts_in parts.now) (command_of command)) }
     ensures limits { IfSome result (λ command. HasLimits command) }
     ensures none { result ≡ None → name.now ≢ codes "check" → name.now ≢ codes "measure" → name.now ≢ codes "graph"
-        → name.now ≢ codes "report"
+        → name.now ≢ codes "report" → name.now ≢ codes "trial"
         → (command : Command) → ¬ IsRow name.now (parts_in parts.now) command }
 {
     let file = file_word(parts)?;
@@ -149,6 +153,25 @@ fn report_row<'a>(alloc: Global, parts: &Parts<'a>) -> Result<Option<CommandWord
     }))
 }
 
+/// The trial that the words behind `trial` name; None exactly where they name none.
+fn trial_row<'a>(alloc: Global, parts: &Parts<'a>) -> Result<Option<CommandWords<'a>>, NoMemory>
+    ensures is { IfOk result (λ found. IfSome found (λ command. IsRow (codes "trial") (parts_in parts.now) (command_of
+        command))) }
+    ensures limits { IfOk result (λ found. IfSome found (λ command. HasLimits command)) }
+    ensures none { result ≡ Ok None → (number : ℕ) → ¬ IsTrial (parts_in parts.now) number }
+{
+    if parts.options.has_any() {
+        return Ok(None);
+    }
+    let [word] = parts.plain.as_slice() else {
+        return Ok(None);
+    };
+    let Some(number) = number_of(alloc, *word, 0, u32::MAX)? else {
+        return Ok(None);
+    };
+    Ok(Some(CommandWords::Trial { number }))
+}
+
 /// The command of a name and the words behind it; None exactly where there is none.
 fn row_of<'a>(
     alloc: Global,
@@ -171,6 +194,9 @@ fn row_of<'a>(
     }
     if name == "report" {
         return report_row(alloc, parts);
+    }
+    if name == "trial" {
+        return trial_row(alloc, parts);
     }
     Ok(file_row(name, parts))
 }
@@ -218,6 +244,7 @@ fn wants_of<'a>(alloc: Global, command: &CommandWords<'a>) -> Result<List<Want<'
             one_want(alloc, *certificate, FileKind::Certificate)
         }
         CommandWords::Migrate { cut } => one_want(alloc, *cut, FileKind::Cut),
+        CommandWords::Trial { .. } => Ok(List::new(alloc)),
     }
 }
 
@@ -245,6 +272,7 @@ fn answer_files(
         CommandWords::List { .. } => list::answer(alloc, files),
         CommandWords::Verify { .. } => verify::answer(alloc, files),
         CommandWords::Migrate { .. } => migrate::answer(alloc, files),
+        CommandWords::Trial { number } => trial::answer(alloc, *number, book_of(books, 1)),
     }
 }
 

@@ -4,11 +4,12 @@ use flow_base::NoMemory;
 use std::alloc::{AllocError, Global};
 use std::test::Fail;
 
-/// A word that fits a place of a form: any number of turns and any budget is 5, and any file is named `f`.
+/// A word that fits a place of a form: any number of turns, any budget and the number of a trial are 5, and any file is
+/// named `f`.
 fn fitting<'a>(place: &'a str) -> &'a str {
     match place {
         "[OPTIONS]" => "--turns=5",
-        "<BUDGET>" => "5",
+        "<BUDGET>" | "<N>" => "5",
         _ if place.starts_with("<") => "f",
         _ => place,
     }
@@ -37,6 +38,7 @@ fn command_named<'a>(alloc: Global, words: &[String]) -> Result<Option<&'a str>,
         Some(CommandWords::List { .. }) => "list",
         Some(CommandWords::Verify { .. }) => "verify",
         Some(CommandWords::Migrate { .. }) => "migrate",
+        Some(CommandWords::Trial { .. }) => "trial",
         None => return Ok(None),
     };
     Ok(Some(name))
@@ -74,7 +76,7 @@ fn the_help_tells_the_command_lines(rt: HostRuntime) -> Result<(), Fail> {
         assert!(rt; is_form(alloc, form)?, "{form}");
         count = count.saturating_add(1);
     }
-    assert_eq!(rt; count, 8);
+    assert_eq!(rt; count, 9);
     Ok(())
 }
 

@@ -156,6 +156,17 @@ fn one_file_forms<'a>(alloc: Global) -> Result<Vec<Command<'a>>, AllocError> {
     Ok(forms)
 }
 
+/// The form of `trial`.
+fn trial<'a>(alloc: Global) -> Result<Command<'a>, AllocError> {
+    let number = word(alloc, "N", "The number of the guest, 0 to 4294967295");
+    bare(alloc, "trial")
+        .bin_name("flowcheck trial")?
+        .about(
+            "Measure a guest that is made of a number, judge it by its own cut, and write a line of it",
+        )
+        .arg(number.value_parser(ValueParser::unsigned(0, 4_294_967_295)))
+}
+
 /// The form of each command.
 fn forms<'a>(alloc: Global) -> Result<Vec<Command<'a>>, AllocError> {
     let mut forms = Vec::new(alloc);
@@ -166,6 +177,7 @@ fn forms<'a>(alloc: Global) -> Result<Vec<Command<'a>>, AllocError> {
     for form in one_file_forms(alloc)? {
         forms.push(form)?;
     }
+    forms.push(trial(alloc)?)?;
     Ok(forms)
 }
 

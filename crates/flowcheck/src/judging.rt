@@ -23,7 +23,7 @@ use lockstep_replay::{Lockstep, Verdict};
 use std::alloc::Global;
 
 /// The verdict on a secret, from a fresh start of the program.
-fn judge(
+pub fn judge(
     alloc: Global,
     image: &Image,
     public_input: &Bytes,

@@ -32,6 +32,9 @@ mod statuses;
 mod tests;
 mod texts;
 mod top;
+mod trial;
+#[cfg(test)]
+mod trial_tests;
 mod verify;
 
 use flow_base::{DiskFiles, Sink, StandardOut};

@@ -135,7 +135,7 @@ pub fn files_of_run<'a>(run: &RunWords, files: &'a [Bytes]) -> RunFiles<'a>
 }
 
 /// What is measured of a run once program and regions are read.
-fn measured_image(
+pub fn measured_image(
     alloc: Global,
     image: &Image,
     regions: &Regions,
