@@ -11,14 +11,13 @@ use Rattle.flow_base.specs.Points.{is_slot}
 use Rattle.flow_base.specs.Words.{bit_count, bits_under}
 use Rattle.crossing_bits.proofs.Places.{length_bits_under}
 use Rattle.cut_file.specs.Cuts.{CutPicture, has_slot}
-use Rattle.cut_file.specs.Masks.{MaskAt}
 use Rattle.flow_graph.specs.EventGraphs.{is_same}
 use Rattle.flow_graph.specs.declared.events.Event.{Event}
 use Rattle.flow_graph.specs.declared.events.Event.TheVariants.{Pass, Link, FromSecret, Implicit, Out}
 use Rattle.flow_graph.proofs.Bits.{bit_count-zero}
 use Rattle.lockstep_replay.specs.Crossing.{crossing}
 use Rattle.region_machine.specs.Runs.{passed}
-use Rattle.replay_machine.specs.Runs.{times_passed, mask_at}
+use Rattle.replay_machine.specs.Runs.{Masks, times_passed, mask_at}
 use Rattle.rv32im_machine.specs.Language.{Walk, Looked, Passed, Moved, Saved, Restored, Ended, first_of}
 use Rattle.run_labels.specs.TurnLabels.{TurnLabels, put_label, save_labels, restore_labels}
 use Rattle.run_labels.specs.Masks.{mask_of, answers_after, labels_after, moved_label}
@@ -28,7 +27,7 @@ use Rattle.covered_runs.specs.RunCuts.{is_inner, names_point, mask_at_event, vis
 use Rattle.covered_runs.specs.ClosedEvents.{IsProperEvent, AreProperEvents}
 use Rattle.covered_runs.specs.GraphLaws.{split_bits}
 use Rattle.covered_runs.proofs.CutInner.{AreInnerEvents, events-elsewhere, flows-none}
-use Rattle.covered_runs.proofs.CutVisits.{visit_masks-append, visit_more, mask-missing, visit-exact}
+use Rattle.covered_runs.proofs.CutVisits.{IsLike, visit_masks-append, visit_more, like-exact}
 use Rattle.covered_runs.proofs.GraphEvents.{all-parts}
 use Rattle.covered_runs.proofs.Turns.{NoPass, NoPasses}
 
@@ -89,28 +88,28 @@ counts-inner skip past seen more inner counts =
 
 module _ (side : NamedSide) (cut : CutPicture)
     (points : (point : Point) → names_point cut.points point ≡ (is_split side point && not (is_inner cut.skip point)))
-    (slots : list_all has_slot cut.points ≡ true) where
+    (slots : list_all has_slot cut.points ≡ true) (masks : Masks) (like : IsLike cut.points masks) where
   -- the bits that cross at one visit
   visit-bits : (seen rest : List Event) (past : List Point) (point : Point) (mask value : ℕ) →
       AllByRecursion (HasVisitMasks (seen ++ (Pass point mask ∷ rest))) cut.points → IsProperEvent (Pass point mask) →
       CountsOutside cut.skip past seen →
-      length (bits_under value (mask_at (MaskAt cut.points) past point)) ≤ split_bits side (Pass point mask)
+      length (bits_under value (mask_at masks past point)) ≤ split_bits side (Pass point mask)
   visit-bits seen rest past point mask value have proper counts = elim (cases_Bool (names_point cut.points point)) [
     | inl named ↦
         let both = and_parts (is_split side point) (not (is_inner cut.skip point)) (sym (points point) ∙ named) in
         let outside : is_inner cut.skip point ≡ false = not-true (is_inner cut.skip point) both.1 in
-        let exact : mask_at (MaskAt cut.points) past point ≡ mask =
-        visit-exact cut.points seen rest past point mask have slots proper (counts point outside proper.1) named in
-        let bits : length (bits_under value (mask_at (MaskAt cut.points) past point)) ≡ bit_count mask =
-        length_bits_under value (mask_at (MaskAt cut.points) past point) ∙ ap (λ m. bit_count m) exact in
+        let exact : mask_at masks past point ≡ mask =
+        like-exact cut.points masks like seen rest past point mask have slots proper (counts point outside proper.1) named in
+        let bits : length (bits_under value (mask_at masks past point)) ≡ bit_count mask =
+        length_bits_under value (mask_at masks past point) ∙ ap (λ m. bit_count m) exact in
         let all : cond (is_split side point) (bit_count mask) 0 ≡ bit_count mask =
         cond-true (is_split side point) (bit_count mask) 0 both.0 in
         omega (arith, bits, all)
     | inr other ↦
-        let none : mask_at (MaskAt cut.points) past point ≡ 0 =
-        mask-missing cut.points point (suc (times_passed point past)) slots proper.1 other in
-        let bits : length (bits_under value (mask_at (MaskAt cut.points) past point)) ≡ 0 =
-        length_bits_under value (mask_at (MaskAt cut.points) past point) ∙ ap (λ m. bit_count m) none
+        let none : mask_at masks past point ≡ 0 =
+        like.missing point (suc (times_passed point past)) proper.1 other in
+        let bits : length (bits_under value (mask_at masks past point)) ≡ 0 =
+        length_bits_under value (mask_at masks past point) ∙ ap (λ m. bit_count m) none
         ∙ bit_count-zero in
         omega (arith, bits)
   ]
@@ -128,7 +127,7 @@ module _ (side : NamedSide) (cut : CutPicture)
 
   -- what holds of a turn, walked after these points and events
   pub record CrossesTurn (past : List Point) (seen : List Event) (walk : Walk) (events : List Event) : Type 0 where
-    pub bits : length (crossing (MaskAt cut.points) past walk) ≤ sum_by (split_bits side) events
+    pub bits : length (crossing masks past walk) ≤ sum_by (split_bits side) events
     pub counts : CountsOutside cut.skip (passed past walk) (seen ++ events)
 
   pub turn-crosses : (seen more : List Event) (past : List Point) (labels : TurnLabels) (answers : List ℕ)
@@ -165,12 +164,12 @@ module _ (side : NamedSide) (cut : CutPicture)
       let one : sum_by (split_bits side) here ≡ split_bits side (Pass point mask) + sum_by (split_bits side) flows =
       sum_by-cons (split_bits side) (Pass point mask) flows in
       let no = split-flows flows none in
-      let all : length (bits_under passing.value (mask_at (MaskAt cut.points) past point)
-      ++ crossing (MaskAt cut.points) (point ∷ past) (go passing.value))
-      ≡ length (bits_under passing.value (mask_at (MaskAt cut.points) past point))
-      + length (crossing (MaskAt cut.points) (point ∷ past) (go passing.value)) =
-      length-append (bits_under passing.value (mask_at (MaskAt cut.points) past point))
-      (crossing (MaskAt cut.points) (point ∷ past) (go passing.value)) in
+      let all : length (bits_under passing.value (mask_at masks past point)
+      ++ crossing masks (point ∷ past) (go passing.value))
+      ≡ length (bits_under passing.value (mask_at masks past point))
+      + length (crossing masks (point ∷ past) (go passing.value)) =
+      length-append (bits_under passing.value (mask_at masks past point))
+      (crossing masks (point ∷ past) (go passing.value)) in
       let later_bits = rest.bits in
       record {
         bits = omega (arith, sum, one, no, all, bits, later_bits);

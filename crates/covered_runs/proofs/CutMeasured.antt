@@ -27,7 +27,7 @@ points-slots version (first ∷ points) known =
     and_from (has_slot first) (list_all has_slot points)
     (slot-known first (and_parts (is_cut_point first) _ both.0).0) (points-slots version points both.1)
 
-valid-slots : (cut : CutPicture) → is_valid cut ≡ true → list_all has_slot cut.points ≡ true
+pub valid-slots : (cut : CutPicture) → is_valid cut ≡ true → list_all has_slot cut.points ≡ true
 valid-slots cut valid =
     let a = and_parts (is_version cut.version) _ valid in
     let b = and_parts (nat_le cut.secret_len 65536) _ a.1 in

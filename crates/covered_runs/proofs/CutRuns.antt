@@ -39,9 +39,19 @@ use Rattle.covered_runs.specs.Sides.{NamedSide, named_side, is_split}
 use Rattle.covered_runs.specs.RunCuts.{is_inner, names_point, HasVisitMasks, visit_masks}
 use Rattle.covered_runs.specs.ClosedEvents.{IsProperEvent, AreProperEvents}
 use Rattle.covered_runs.specs.CrossingLaws.{CrossingLaw}
+use Rattle.covered_runs.specs.Laws.{IsMeasured}
+use Rattle.covered_runs.specs.RunCuts.{IsCutOf}
+use Rattle.elf32_loader.specs.Pictures.{Picture}
+use Rattle.flow_base.specs.declared.outputs.Output.{Output}
+use Rattle.flow_graph.specs.declared.graphs.Graph.{Graph}
+use Rattle.flow_graph.specs.EventGraphs.{IsGraphOf}
+use Rattle.max_flow.specs.declared.answers.Half.{Half}
+use Rattle.max_flow.specs.Flows.{IsSideOf, side_capacity}
+use Rattle.replay_machine.specs.Runs.{Masks}
 use Rattle.covered_runs.specs.GraphLaws.{split_bits}
 use Rattle.covered_runs.specs.Proper.{IsGuest}
 use Rattle.covered_runs.proofs.CutBits.{CountsOutside, counts-inner, turn-crosses}
+use Rattle.covered_runs.proofs.CutVisits.{IsLike, like-itself}
 use Rattle.covered_runs.proofs.CutInner.{AreInnerEvents, turn-inner}
 use Rattle.covered_runs.proofs.GraphCapacities.{split-bits-within}
 use Rattle.covered_runs.proofs.GraphEvents.{all-parts}
@@ -149,19 +159,19 @@ kind-inner enclosures (Steps (Some region)) state labels answers guest known enc
 
 module _ (side : NamedSide) (cut : CutPicture)
     (points : (point : Point) → names_point cut.points point ≡ (is_split side point && not (is_inner cut.skip point)))
-    (slots : list_all has_slot cut.points ≡ true) where
+    (slots : list_all has_slot cut.points ≡ true) (masks : Masks) (like : IsLike cut.points masks) where
   either-crosses : (enclosed : Bool) (seen more : List Event) (past : List Point) (labels : TurnLabels)
       (answers : List ℕ) (walk : Walk) →
       AllByRecursion (HasVisitMasks (seen ++ (events_in labels answers walk ++ more))) cut.points →
       AreProperEvents (events_in labels answers walk) → CountsOutside cut.skip past seen →
       (enclosed ≡ true → AreInnerEvents cut.skip (events_in labels answers walk)) →
-      (length (crossing_unless enclosed (MaskAt cut.points) past walk)
+      (length (crossing_unless enclosed masks past walk)
       ≤ sum_by (split_bits side) (events_in labels answers walk))
       × CountsOutside cut.skip (visited enclosed past walk) (seen ++ events_in labels answers walk)
   either-crosses true seen more past labels answers walk have proper counts inner =
       (omega arith, counts-inner cut.skip past seen (events_in labels answers walk) (inner refl) counts)
   either-crosses false seen more past labels answers walk have proper counts inner =
-      let turn = turn-crosses side cut points slots seen more past labels answers walk have proper counts in
+      let turn = turn-crosses side cut points slots masks like seen more past labels answers walk have proper counts in
       (turn.bits, turn.counts)
 
   -- the real run with skipped regions beside the run with labels
@@ -173,7 +183,7 @@ module _ (side : NamedSide) (cut : CutPicture)
     pub counts : CountsOutside cut.skip
         (real_after (record { regions = regions; skip = cut.skip }) (length answers) start).past
         (run_after regions answers (unlabelled start)).events
-    pub bits : length (cross_after (record { regions = regions; skip = cut.skip }) (MaskAt cut.points) (length answers)
+    pub bits : length (cross_after (record { regions = regions; skip = cut.skip }) masks (length answers)
         start) ≤ sum_by (split_bits side) (run_after regions answers (unlabelled start)).events
 
   fault-none : (broken : Option Break) → broken_fault broken ≡ None → broken ≡ None
@@ -221,20 +231,20 @@ module _ (side : NamedSide) (cut : CutPicture)
       before.counts
       (λ enclosed. kind-inner enclosures (kind_of regions run.place.state.control) run.place.state (at_start run.labels)
       last guest (kind-entered run.place.state.control.mode regions run.place.state.control) enclosed) in
-      let cross : crossing_of enclosures (MaskAt cut.points) place
-      ≡ crossing_unless (is_enclosed enclosures run.place.state.control) (MaskAt cut.points) place.past walk =
-      ap (λ b. crossing_unbroken b enclosures (MaskAt cut.points) place) before.unbroken
-      ∙ ap (λ s. crossing_unless (is_enclosed enclosures s.control) (MaskAt cut.points) place.past
+      let cross : crossing_of enclosures masks place
+      ≡ crossing_unless (is_enclosed enclosures run.place.state.control) masks place.past walk =
+      ap (λ b. crossing_unbroken b enclosures masks place) before.unbroken
+      ∙ ap (λ s. crossing_unless (is_enclosed enclosures s.control) masks place.past
       (guest_walk regions s)) before.state in
-      let now : length (crossing_of enclosures (MaskAt cut.points) place)
-      ≡ length (crossing_unless (is_enclosed enclosures run.place.state.control) (MaskAt cut.points) place.past walk) =
+      let now : length (crossing_of enclosures masks place)
+      ≡ length (crossing_unless (is_enclosed enclosures run.place.state.control) masks place.past walk) =
       ap length cross in
-      let bits : length (cross_after enclosures (MaskAt cut.points) (length earlier) start
-      ++ crossing_of enclosures (MaskAt cut.points) place)
-      ≡ length (cross_after enclosures (MaskAt cut.points) (length earlier) start)
-      + length (crossing_of enclosures (MaskAt cut.points) place) =
-      length-append (cross_after enclosures (MaskAt cut.points) (length earlier) start)
-      (crossing_of enclosures (MaskAt cut.points) place) in
+      let bits : length (cross_after enclosures masks (length earlier) start
+      ++ crossing_of enclosures masks place)
+      ≡ length (cross_after enclosures masks (length earlier) start)
+      + length (crossing_of enclosures masks place) =
+      length-append (cross_after enclosures masks (length earlier) start)
+      (crossing_of enclosures masks place) in
       let sum : sum_by (split_bits side) (run.events ++ turn)
       ≡ sum_by (split_bits side) run.events + sum_by (split_bits side) turn =
       sum_by-append (split_bits side) run.events turn in
@@ -259,20 +269,37 @@ over Ran status e = absurd (cc)
 over (Exited other) status e = tt
 over (Stopped fault) status e = tt
 
-pub crossing_law : CrossingLaw
-crossing_law program public_input regions secret cut graph halves relays answers secret_len capacity turns output rules
-    measured enough is_graph is_side is_cut slots =
+-- under masks that are the cut's wherever it lists them no more bits cross than the side's capacity
+pub crossing_by : (program : Picture) (public_input : List ℕ) (regions : List Region) (secret : List ℕ)
+    (cut : CutPicture) (masks : Masks) (graph : Graph) (halves : List Half) (relays : List Bool)
+    (answers : List (List ℕ)) (secret_len capacity turns : ℕ) (output : Output) → are_regions regions ≡ true →
+    IsMeasured regions answers (guest program public_input secret) output → length answers ≤ turns →
+    IsGraphOf (run_after regions answers (unlabelled (guest program public_input secret))).events graph →
+    IsSideOf graph halves relays →
+    IsCutOf secret_len (run_after regions answers (unlabelled (guest program public_input secret))).events
+    (named_side graph halves relays) capacity cut →
+    list_all has_slot cut.points ≡ true → IsLike cut.points masks →
+    length (cross_after (record { regions = regions; skip = cut.skip }) masks turns
+    (guest program public_input secret)) ≤ side_capacity graph halves relays
+crossing_by program public_input regions secret cut masks graph halves relays answers secret_len capacity turns output
+    rules measured enough is_graph is_side is_cut slots like =
     let enclosures : Enclosures = record { regions = regions; skip = cut.skip } in
     let events = (run_after regions answers (unlabelled (guest program public_input secret))).events in
-    let run = run-crosses (named_side graph halves relays) cut is_cut.points slots regions answers
+    let run = run-crosses (named_side graph halves relays) cut is_cut.points slots masks like regions answers
     (guest program public_input secret) [] rules measured.guest refl refl measured.sound measured.unrefused
     (subst (λ es. AllByRecursion (HasVisitMasks es) cut.points) (sym (append-nil events)) is_cut.masks) in
     let ended = over _ output.status (ap (λ s. s.control.mode) run.state ∙ measured.exits.status) in
-    let same : cross_after enclosures (MaskAt cut.points) turns (guest program public_input secret)
-    ≡ cross_after enclosures (MaskAt cut.points) (length answers) (guest program public_input secret) =
-    cross_later enclosures (MaskAt cut.points) (guest program public_input secret) (length answers) turns enough
+    let same : cross_after enclosures masks turns (guest program public_input secret)
+    ≡ cross_after enclosures masks (length answers) (guest program public_input secret) =
+    cross_later enclosures masks (guest program public_input secret) (length answers) turns enough
     ended in
     let count = ap length same in
     let bits = run.bits in
     let within = split-bits-within events graph halves relays is_graph is_side in
     omega (arith, count, bits, within)
+
+pub crossing_law : CrossingLaw
+crossing_law program public_input regions secret cut graph halves relays answers secret_len capacity turns output rules
+    measured enough is_graph is_side is_cut slots =
+    crossing_by program public_input regions secret cut (MaskAt cut.points) graph halves relays answers secret_len
+    capacity turns output rules measured enough is_graph is_side is_cut slots (like-itself cut.points slots)

@@ -21,7 +21,8 @@ use Rattle.cut_file.specs.declared.points.CutPoint.{CutPoint}
 use Rattle.cut_file.specs.Cuts.{CutPicture, has_slot}
 use Rattle.cut_file.specs.Masks.{is_same_point, listed_masks, listed_mask, repeated, mask_of, MaskAt}
 use Rattle.cut_file.proofs.CutMasks.{same-width, same-slot}
-use Rattle.replay_machine.specs.Runs.{times_passed, mask_at}
+use Rattle.cut_file.specs.Folds.{listed_at}
+use Rattle.replay_machine.specs.Runs.{Masks, times_passed, mask_at}
 use Rattle.flow_graph.specs.EventGraphs.{is_same}
 use Rattle.flow_graph.specs.Graphs.{point_cmp}
 use Rattle.flow_graph.proofs.Points.{is_equal, point_total}
@@ -212,12 +213,70 @@ visit-exact cut_points seen rest past point mask have slots proper count named =
     ∙ ap (λ m. bit_and m (width_of point.slot)) (here (visit_masks point seen) (visit_masks point rest) mask)
     ∙ width-kept point.slot mask proper.0
 
+-- ---- masks that are those of a cut wherever it lists them
+
+-- they are the cut's at each visit that it lists, and 0 at a point that it does not name
+pub record IsLike (cut_points : List CutPoint) (masks : Masks) : Type 0 where
+  pub within : (point : Point) (visit : ℕ) → 1 ≤ visit → visit ≤ listed_at cut_points point →
+      masks point visit ≡ MaskAt cut_points point visit
+  pub missing : (point : Point) (visit : ℕ) → is_slot point.slot ≡ true → names_point cut_points point ≡ false →
+      masks point visit ≡ 0
+
+pub like-itself : (cut_points : List CutPoint) → list_all has_slot cut_points ≡ true →
+    IsLike cut_points (MaskAt cut_points)
+like-itself cut_points slots = record {
+  within = λ point visit one few. refl;
+  missing = λ point visit slot none. mask-missing cut_points point visit slots slot none;
+}
+
+-- a cut of a run lists a mask for each visit
+listed-found : (events : List Event) (points : List CutPoint) (point : Point) →
+    AllByRecursion (HasVisitMasks events) points → list_all has_slot points ≡ true → is_slot point.slot ≡ true →
+    names_point points point ≡ true → listed_at points point ≡ length (visit_masks point events)
+listed-found events [] point have slots slot named = absurd (cc)
+listed-found events (first ∷ points) point have slots slot named =
+    let both = and_parts (has_slot first) (list_all has_slot points) slots in
+    let alike = same_points first.point point both.0 slot in
+    elim (cases_Bool (is_same first.point point)) [
+      | inl same ↦
+          cond-true (is_same_point first.point point) (length (listed_masks first.runs)) (listed_at points point)
+          (alike ∙ same)
+          ∙ ap length (have.0.masks ∙ same-visits first.point point same events)
+      | inr other ↦
+          cond-false (is_same_point first.point point) (length (listed_masks first.runs)) (listed_at points point)
+          (alike ∙ other)
+          ∙ listed-found events points point have.1 both.1 slot
+          (later-named (is_same first.point point) (names_point points point) other named)
+    ]
+  where
+    later-named : (a b : Bool) → a ≡ false → (a || b) ≡ true → b ≡ true
+    later-named true b other is = absurd (cc)
+    later-named false b other is = is
+
+-- so they have the run's mask at its next visit too
+pub like-exact : (cut_points : List CutPoint) (masks : Masks) → IsLike cut_points masks →
+    (seen rest : List Event) (past : List Point) (point : Point) (mask : ℕ) →
+    AllByRecursion (HasVisitMasks (seen ++ (Pass point mask ∷ rest))) cut_points →
+    list_all has_slot cut_points ≡ true → IsProperEvent (Pass point mask) →
+    times_passed point past ≡ length (visit_masks point seen) →
+    names_point cut_points point ≡ true → mask_at masks past point ≡ mask
+like-exact cut_points masks like seen rest past point mask have slots proper count named =
+    let events = seen ++ (Pass point mask ∷ rest) in
+    let longer : length (visit_masks point events)
+    ≡ length (visit_masks point seen) + suc (length (visit_masks point rest)) =
+    ap length (visits-here point mask seen rest)
+    ∙ length-append (visit_masks point seen) (mask ∷ visit_masks point rest) in
+    let listed = listed-found events cut_points point have slots proper.1 named in
+    like.within point (suc (times_passed point past)) (omega arith) (omega (arith, count, longer, listed))
+    ∙ visit-exact cut_points seen rest past point mask have slots proper count named
+
 -- ---- a cut of the run has the masks of its visits
 
-module _ (side : NamedSide) (cut : CutPicture) (secret_len capacity : ℕ) where
+module _ (side : NamedSide) (cut : CutPicture) (secret_len capacity : ℕ) (masks : Masks)
+    (like : IsLike cut.points masks) where
   contained-from : (seen rest : List Event) (past : List Point) →
       IsCutOf secret_len (seen ++ rest) side capacity cut → list_all has_slot cut.points ≡ true →
-      AreProperEvents rest → Counts past seen → AreContained side cut.skip (MaskAt cut.points) past rest
+      AreProperEvents rest → Counts past seen → AreContained side cut.skip masks past rest
   unfolding AreContained
   contained-from seen [] past is slots proper counts = tt
   contained-from seen (event ∷ rest) past is slots proper counts = (
@@ -228,9 +287,9 @@ module _ (side : NamedSide) (cut : CutPicture) (secret_len capacity : ℕ) where
   )
     where
       contained-event : (event : Event) → IsCutOf secret_len (seen ++ (event ∷ rest)) side capacity cut →
-          IsProperEvent event → IsContained side cut.skip (MaskAt cut.points) past event
+          IsProperEvent event → IsContained side cut.skip masks past event
       contained-event (Pass point mask) is proper =
-          λ split inner i none. ap (λ m. bit_at m i) (sym (visit-exact cut.points seen rest past point mask is.masks
+          λ split inner i none. ap (λ m. bit_at m i) (sym (like-exact cut.points masks like seen rest past point mask is.masks
           slots proper (counts point proper.1) (is.points point ∙ and_from _ _ split (ap not inner)))) ∙ none
       contained-event (Link source target) is proper = tt
       contained-event (FromSecret point) is proper = tt
@@ -241,8 +300,14 @@ no-counts : Counts [] []
 unfolding visit_masks
 no-counts = λ point slot. refl
 
+pub like-contains : (side : NamedSide) (cut : CutPicture) (secret_len capacity : ℕ) (masks : Masks) →
+    IsLike cut.points masks → (events : List Event) → IsCutOf secret_len events side capacity cut →
+    list_all has_slot cut.points ≡ true → AreProperEvents events → AreContained side cut.skip masks [] events
+like-contains side cut secret_len capacity masks like events is slots proper =
+    contained-from side cut secret_len capacity masks like [] events [] is slots proper no-counts
+
 pub cut-contains : (side : NamedSide) (cut : CutPicture) (secret_len capacity : ℕ) (events : List Event) →
     IsCutOf secret_len events side capacity cut → list_all has_slot cut.points ≡ true → AreProperEvents events →
     AreContained side cut.skip (MaskAt cut.points) [] events
 cut-contains side cut secret_len capacity events is slots proper =
-    contained-from side cut secret_len capacity [] events [] is slots proper no-counts
+    like-contains side cut secret_len capacity (MaskAt cut.points) (like-itself cut.points slots) events is slots proper

@@ -15,6 +15,7 @@ pub mod CutInner
 pub mod CutBits
 pub mod CutRuns
 pub mod CutMeasured
+pub mod CutFolds
 pub mod ProperValues
 pub mod SecretSides
 pub mod ProperRows

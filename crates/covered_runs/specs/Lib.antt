@@ -11,3 +11,4 @@ pub mod SecretSides
 pub mod GuestLaws
 pub mod CrossingLaws
 pub mod MeasuredLaws
+pub mod FoldLaws

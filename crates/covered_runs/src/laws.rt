@@ -1,3 +1,4 @@
+ghost use Rattle.covered_runs.specs.FoldLaws.{FoldedLaw};
 ghost use Rattle.covered_runs.specs.Laws.{CoveredLaw};
 ghost use Rattle.covered_runs.specs.MeasuredLaws.{MeasuredLaw};
 ghost use Rattle.covered_runs.specs.ProperLaws.{ProperTurnsLaw};
@@ -17,4 +18,10 @@ pub fn covered_runs_are_accepted()
 /// is called.
 pub fn measured_runs_are_accepted()
     ensures measured { MeasuredLaw }
+{}
+
+/// A run is accepted with the fold of the cut of it and of a side of its graph, within the side's capacity. It does
+/// nothing when it is called.
+pub fn folded_cuts_are_accepted()
+    ensures folded { FoldedLaw }
 {}

@@ -10,5 +10,8 @@ pub use graph_laws::{
     cuts_of_runs_cover, cuts_of_runs_cross, guests_stay_guests, sides_are_closed_for_events,
     sides_are_closed_for_links,
 };
-pub use laws::{covered_runs_are_accepted, measured_runs_are_accepted, turns_are_proper};
+pub use laws::{
+    covered_runs_are_accepted, folded_cuts_are_accepted, measured_runs_are_accepted,
+    turns_are_proper,
+};
 pub use secret_laws::{least_sides_are_small, runs_read_their_secret};

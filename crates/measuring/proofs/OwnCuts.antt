@@ -17,11 +17,12 @@ use Rattle.covered_runs.specs.MeasuredLaws.{AreInputs, IsWholeRun}
 use Rattle.covered_runs.specs.RunCuts.{IsCutOf}
 use Rattle.covered_runs.specs.Sides.{named_side}
 use Rattle.covered_runs.proofs.CoveredRuns.{covered_law}
+use Rattle.covered_runs.proofs.CutFolds.{folded_law}
 use Rattle.covered_runs.proofs.CutMeasured.{measured_law}
 use Rattle.covered_runs.proofs.SecretRuns.{secret_bits_law}
 use Rattle.covered_runs.proofs.SecretSides.{least_bits_law}
 use Rattle.measuring.specs.declared.measured.Measured.{Measured}
-use Rattle.measuring.specs.Accepting.{IsAcceptedByItsCut}
+use Rattle.measuring.specs.Accepting.{IsAcceptedByFolds, IsAcceptedByItsCut}
 use Rattle.measuring.specs.Measures.{Measures}
 
 module _ (table : ℕ) (program : Picture) (public_input : List ℕ) (regions : List Region) (secret : List ℕ) (turns : ℕ)
@@ -49,6 +50,25 @@ module _ (table : ℕ) (program : Picture) (public_input : List ℕ) (regions : 
       (named_side measured.graph measured.side.points measured.side.relays) bits (picture_of measured.cut))
       (sym m.measure.capacity) m.measure.cut)
       (cut-valid measured.cut))
+
+  pub folds : AreInputs program public_input regions secret →
+      IsAcceptedByFolds program public_input regions secret turns measured
+  folds inputs folded fold =
+      let whole : IsWholeRun program public_input regions secret (m.exits.last ∷ m.exits.earlier) measured.output =
+      record {
+        sound = m.exits.is_run.sound;
+        unrefused = m.exits.is_run.unrefused;
+        exits = record { bytes = m.exits.written; status = m.exits.exited };
+      } in
+      subst (λ budget. Accept (task_of program public_input regions folded)
+      (record { budget = budget; turns = turns }) secret measured.output) m.measure.capacity
+      (folded_law covered_law program public_input regions secret (m.exits.last ∷ m.exits.earlier) measured.graph
+      measured.side.points measured.side.relays (picture_of measured.cut) folded turns measured.output inputs whole
+      (omega (arith, m.exits.is_run.counted, m.exits.within)) m.measure.graph m.measure.side.side
+      (subst (λ bits. IsCutOf (length secret) (run_after regions (m.exits.last ∷ m.exits.earlier) (unlabelled (guest program public_input secret))).events
+      (named_side measured.graph measured.side.points measured.side.relays) bits (picture_of measured.cut))
+      (sym m.measure.capacity) m.measure.cut)
+      (cut-valid measured.cut) fold)
 
   pub few : measured.value ≤ 8 * length secret
   few =

@@ -1,5 +1,7 @@
--- The measured run is accepted with the cut that was measured of it.
+-- The measured run is accepted with the cut that was measured of it, and with the fold of that cut.
 use Rattle.std.specs.Prelude.{ℕ, List}
+use Rattle.cut_file.specs.Cuts.{CutPicture}
+use Rattle.cut_file.specs.Folds.{IsFold}
 use Rattle.cut_file.specs.Pictures.{picture_of}
 use Rattle.elf32_loader.specs.Pictures.{Picture}
 use Rattle.enclosure_regions.specs.declared.region_parts.Region.{Region}
@@ -12,4 +14,11 @@ use Rattle.measuring.specs.declared.measured.Measured.{Measured}
 abbrev pub IsAcceptedByItsCut : Picture → List ℕ → List Region → List ℕ → ℕ → Measured → Type 0
 IsAcceptedByItsCut program public_input regions secret turns measured =
     Accept (task_of program public_input regions (picture_of measured.cut))
+    (record { budget = measured.value; turns = turns }) secret measured.output
+
+-- and so it is with the fold of that cut
+abbrev pub IsAcceptedByFolds : Picture → List ℕ → List Region → List ℕ → ℕ → Measured → Type 0
+IsAcceptedByFolds program public_input regions secret turns measured =
+    (folded : CutPicture) → IsFold (picture_of measured.cut) folded →
+    Accept (task_of program public_input regions folded)
     (record { budget = measured.value; turns = turns }) secret measured.output

@@ -18,6 +18,7 @@ returns-clause-runs g c = λ known.
       c.in_ok-measured.measured,
       c.in_ok-measured.ensures.ok,
       c.in_ok-measured.ensures.accepted,
+      c.in_ok-measured.ensures.folds,
       c.in_ok-measured.ensures.few,
       refl,
     )

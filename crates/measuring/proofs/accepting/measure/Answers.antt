@@ -1,13 +1,20 @@
 use Rattle.std.proofs.lemmas.Result.{IfOk-weaker}
 use Rattle.std.specs.Prelude.{length}
 use Rattle.elf32_loader.specs.Images.{picture_of}
-use Rattle.measuring.proofs.OwnCuts.{accepted, few}
+use Rattle.measuring.proofs.OwnCuts.{accepted, few, folds}
 use Rattle.measuring.proofs.accepting.measure.Goals as goal
 
 pub returns-clause-accepted : goal.returns-clause-accepted
 returns-clause-accepted g c =
     IfOk-weaker c.measure_run.result _ _
     (λ measured m. accepted c.args.book.now.table (picture_of c.args.image.now) c.args.public.now
+    c.args.regions.now.items c.args.secret.now c.args.turns measured m c.tell_inputs.ensures)
+    c.measure_run.ensures.ok
+
+pub returns-clause-folds : goal.returns-clause-folds
+returns-clause-folds g c =
+    IfOk-weaker c.measure_run.result _ _
+    (λ measured m. folds c.args.book.now.table (picture_of c.args.image.now) c.args.public.now
     c.args.regions.now.items c.args.secret.now c.args.turns measured m c.tell_inputs.ensures)
     c.measure_run.ensures.ok
 
