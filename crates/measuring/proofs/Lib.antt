@@ -11,3 +11,5 @@ pub mod Measuring
 pub mod NamedLinks
 pub mod Within
 pub mod OwnCuts
+pub mod Decided
+pub mod Excluded

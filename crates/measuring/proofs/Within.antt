@@ -166,6 +166,13 @@ within_limits events graph of none = record {
   capacities = is_true _ (small_capacities events graph of none);
 }
 
+-- what a recording has that is not full exceeds no limit
+pub recorded_exceeds_none : (recording : Recording) → recording.collapse.is_full ≡ false → (events : List Event) →
+    StandsFor recording.collapse events → ExceedsLimit events → ⊥
+recorded_exceeds_none recording within events keeps =
+    not_exceeding recording.collapse.points.capacities.entries recording.collapse.links.named.keys events keeps
+    (is_so _ recording.collapse.points.small) recording.collapse.points.few recording.collapse.links.few
+
 -- so is the graph of what a recording has that exceeds no limit
 pub recorded_within : (recording : Recording) → recording.collapse.is_full ≡ false → HasEvents recording →
     (graph : Graph) → ((events : List Event) → StandsFor recording.collapse events → IsGraphOf events graph) →
@@ -173,5 +180,4 @@ pub recorded_within : (recording : Recording) → recording.collapse.is_full ≡
 recorded_within recording within has graph of =
     let keeps = has.records.graph within in
     within_limits has.events graph (of has.events keeps)
-    (not_exceeding recording.collapse.points.capacities.entries recording.collapse.links.named.keys has.events keeps
-    (is_so _ recording.collapse.points.small) recording.collapse.points.few recording.collapse.links.few)
+    (recorded_exceeds_none recording within has.events keeps)

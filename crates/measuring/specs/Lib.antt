@@ -12,3 +12,4 @@ pub mod Limits
 pub mod Measures
 pub mod Weighing
 pub mod Accepting
+pub mod Deciding

@@ -17,9 +17,10 @@ use Rattle.measuring.specs.Following.{HasRunCause}
 use Rattle.measuring.specs.RunCauses.{Exits}
 use Rattle.flow_base.specs.declared.outputs.Output.{Output}
 
--- the graph of the events, a maximum flow of it, its least minimum side, and the cut of that side
+-- the graph of the events, which exceeds no limit, a maximum flow of it, its least minimum side, and the cut of that side
 pub record IsMeasureOf (secret_len : ℕ) (events : List Event) (measured : Measured) : Type 0 where
   pub graph : IsGraphOf events measured.graph
+  pub within : ¬ ExceedsLimit events
   pub flow : IsFlowOf measured.graph measured.flow.points measured.flow.links
   pub value : flow_value measured.graph measured.flow.points measured.flow.links ≡ measured.value
   pub greatest : HasNoGreater measured.graph measured.value

@@ -8,6 +8,7 @@ mod cutting;
 mod following;
 mod inputs;
 mod kept_visits;
+mod laws;
 mod measured;
 mod point_visits;
 mod recordings;
@@ -21,6 +22,7 @@ pub use accepting::measure;
 pub use following::{Exit, RunEnd};
 #[doc(hidden)]
 pub use kept_visits::KeptVisits;
+pub use laws::measured_runs_have_no_cause;
 pub use measured::Measured;
 #[doc(hidden)]
 pub use point_visits::{PointVisits, VisitRun};

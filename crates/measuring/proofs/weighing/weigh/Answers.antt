@@ -2,7 +2,7 @@ use Rattle.std.proofs.Common.{refl}
 use Rattle.cut_file.proofs.Following.{is_true}
 use Rattle.measuring.proofs.RunCut.{cut_is}
 use Rattle.measuring.proofs.CutNames.{cut_is_in}
-use Rattle.measuring.proofs.Within.{recorded_within}
+use Rattle.measuring.proofs.Within.{recorded_within, recorded_exceeds_none}
 use Rattle.measuring.proofs.weighing.weigh.Goals as goal
 
 pub solve-requires : goal.solve-requires
@@ -26,6 +26,7 @@ returns c = record {
   output = refl;
   measure = λ events records. record {
     graph = c.in_ok-graph.ensures events (records.graph c.requires.within);
+    within = recorded_exceeds_none c.args.exit.recording c.requires.within events (records.graph c.requires.within);
     flow = c.in_ok-value.ensures.flow;
     value = c.in_ok-value.ensures.value;
     greatest = c.in_ok-value.ensures.greatest;
