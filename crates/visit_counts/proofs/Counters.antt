@@ -1,5 +1,5 @@
 -- What is written into the counters.
-use Rattle.std.proofs.Common.{◌≡◌, ℕ, ◌+◌, ◌*◌, ◌/◌, ◌%◌, add-zero, ◌<◌, ◌≤◌, ◌==◌, ◌&&◌, Bool, true, false, List, [], ◌∷◌, Option, Some, None, refl, sym, ap}
+use Rattle.std.proofs.Common.{◌≡◌, ℕ, ◌+◌, ◌*◌, ◌/◌, ◌%◌, add-zero, ◌<◌, ◌≤◌, ◌==◌, ◌&&◌, Bool, true, false, List, [], Option, Some, None, refl, sym, ap}
 use Rattle.std.proofs.Common.{◌∙◌, cond, replicate, length, ⊎_elim, arith, subst}
 use Rattle.std.specs.Map.{lookup, values_of}
 use Rattle.std.specs.List.{IsDistinct}

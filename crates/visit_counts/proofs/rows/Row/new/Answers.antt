@@ -1,4 +1,4 @@
-use Rattle.std.proofs.Common.{ap, ◌∙◌, ◌++◌, ◌-◌, [], take, replicate, vec_len}
+use Rattle.std.proofs.Common.{ap, ◌∙◌, ◌++◌, ◌-◌, take, replicate, vec_len}
 use Rattle.visit_counts.proofs.rows.Row.new.Goals as goal
 
 pub returns-in-Ok : goal.returns-in-Ok
