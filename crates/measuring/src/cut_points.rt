@@ -122,7 +122,7 @@ fn clean_runs(alloc: Global, count: u32) -> Result<List<Run>, NoMemory>
 /// The masks of the visits of a point, and then so many visits with mask 0, as runs of a cut.
 /// `NoMemory` where there is not enough, or where a run has 2^32 visits or more.
 fn runs_with(alloc: Global, visits: Option<&PointVisits>, count: u32) -> Result<List<Run>, NoMemory>
-    ensures masks { IfOk result (λ runs. listed_masks runs ≡ masks_if_any (option_copied visits) ++ replicate count 0) }
+    ensures masks { IfOk result (λ runs. listed_masks runs ≡ masks_if_any (option_copied visits.entry) ++ replicate count 0) }
     ensures valid { IfOk result (λ runs. are_runs runs ≡ true) }
 {
     match visits {
