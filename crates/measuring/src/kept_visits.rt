@@ -151,7 +151,7 @@ impl KeptVisits {
     fn settle(&mut self, point: Point) -> Result<(), NoMemory>
         ensures { OnOk result (Settles self.old self.new point) }
     {
-        let count = self.counts.clear(&point);
+        let count = self.counts.clear(&point)?;
         if count == 0 {
             return Ok(());
         }

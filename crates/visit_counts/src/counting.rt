@@ -21,7 +21,7 @@ impl VisitCounts {
     {
         VisitCounts {
             rows: IndexMap::new(alloc),
-            latest: [0; 16],
+            latest: [0; 112],
             alloc,
         }
     }
@@ -187,19 +187,18 @@ impl VisitCounts {
         count
     }
 
-    /// The counter of a point becomes 0. It gives how often the point was counted.
+    /// The counter of a point becomes 0. It gives how often the point was counted. The row of its page is made where there
+    /// is none: it is found at once when the point is visited again.
     #[inline(always)]
-    pub fn clear(&mut self, point: &Point) -> u32
-        ensures counted { result ≡ count_of self.old point.now }
-        ensures cleared { Clears self.old self.new point.now }
+    pub fn clear(&mut self, point: &Point) -> Result<u32, NoMemory>
+        ensures counted { IfOk result (λ count. count ≡ count_of self.old point.now) }
+        ensures cleared { OnOk result (Clears self.old self.new point.now) }
     {
         if !is_counted(point) {
-            return 0;
+            return Ok(0);
         }
-        match self.find(&page_of(point)) {
-            Some(index) => self.clear_at(index, point),
-            None => 0,
-        }
+        let index = self.row_of(page_of(point))?;
+        Ok(self.clear_at(index, point))
     }
 
     /// How often a point was counted.

@@ -35,7 +35,7 @@ pub(crate) fn column_of(point: &Point) -> usize
 /// A small number by which slots are told apart, those of one instruction at least.
 #[inline(always)]
 pub(crate) fn lane_of(slot: Slot) -> usize
-    ensures { result < 16 }
+    ensures { result < 112 }
 {
     match slot {
         Slot::First => 1,
@@ -50,7 +50,7 @@ pub(crate) fn lane_of(slot: Slot) -> usize
         Slot::SecretIn => 10,
         Slot::ByteOut => 11,
         Slot::Status => 12,
-        Slot::OutReg(_) => 13,
-        Slot::OutRange(_) => 14,
+        Slot::OutReg(register) => 16 + (register % 32) as usize,
+        Slot::OutRange(range) => 48 + (range % 64) as usize,
     }
 }

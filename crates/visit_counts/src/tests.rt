@@ -30,8 +30,8 @@ fn each_point_is_counted_by_itself(rt: HostRuntime) -> Result<(), Fail> {
         assert_eq!(rt; counts.count(&other), 1);
     }
     assert_eq!(rt; counts.count(&first), 3);
-    assert_eq!(rt; counts.clear(&first), 3);
-    assert_eq!(rt; counts.clear(&first), 0);
+    assert_eq!(rt; counts.clear(&first).ok(), Some(3));
+    assert_eq!(rt; counts.clear(&first).ok(), Some(0));
     assert_eq!(rt;
         counts.more(&point(0, 0x1fffd, Slot::First)).ok(),
         Some(false)

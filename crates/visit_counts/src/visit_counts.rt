@@ -14,6 +14,6 @@ pub struct VisitCounts {
     /// The rows, each by its slot at the start of its page.
     pub rows: IndexMap<Point, Row>,
     /// Where the latest row of each slot stands.
-    pub latest: [usize; 16],
+    pub latest: [usize; 112],
     pub alloc: Global,
 }

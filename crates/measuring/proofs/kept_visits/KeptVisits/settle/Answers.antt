@@ -7,14 +7,14 @@ use Rattle.measuring.proofs.kept_visits.KeptVisits.settle.Goals as goal
 pub returns-then-count-eq0 : goal.returns-then-count-eq0
 returns-then-count-eq0 c =
     settled c.args.self.now _ c.args.point (record { count = 0; mask = 0 }) (sym c.if-count-eq0.true
-    ∙ c.clear-count.ensures.counted) refl (adds_none c.args.self.now.points.entries c.args.point)
-    c.clear-count.ensures.cleared
+    ∙ c.in_ok-count.ensures.counted) refl (adds_none c.args.self.now.points.entries c.args.point)
+    c.in_ok-count.ensures.cleared
 
 pub returns-else-count-eq0 : goal.returns-else-count-eq0
 returns-else-count-eq0 c =
     on_ok_weaker c.put.result
     (λ adds. settled c.args.self.now c.put.new.self c.args.point (record { count = c.from.result; mask = 0 })
-    (c.from.ensures ∙ c.clear-count.ensures.counted) refl adds
+    (c.from.ensures ∙ c.in_ok-count.ensures.counted) refl adds
     (subst (λ counts. Clears c.args.self.now.counts counts c.args.point) (sym c.put.ensures.counts)
-    c.clear-count.ensures.cleared))
+    c.in_ok-count.ensures.cleared))
     c.put.ensures.ok
