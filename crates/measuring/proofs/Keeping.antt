@@ -21,6 +21,7 @@ use Rattle.measuring.specs.declared.kept_visits.KeptVisits.{KeptVisits}
 use Rattle.measuring.specs.PointMasks.{point_masks}
 use Rattle.measuring.specs.KeptMasks.{Adds, StandsAt, kept_masks, masks_if_any}
 use Rattle.measuring.specs.Visits.{AddsVisit, HasVisits, Settles, all_masks}
+use Rattle.visit_counts.specs.declared.visit_counts.VisitCounts.{VisitCounts}
 use Rattle.visit_counts.specs.Counts.{Clears, CountsMore, count_of}
 use Rattle.visit_counts.proofs.Counters.{count_alike}
 
@@ -94,11 +95,10 @@ none_for visits none q = none q ∙ sym (no_visits q)
 
 -- ---- visits that are counted
 
-pub starts_empty : (visits : KeptVisits) → visits.points.entries ≡ [] → ((q : Point) → count_of visits.counts q ≡ 0) →
-    (q : Point) → all_masks visits q ≡ []
-starts_empty visits none zero q =
-    ap (λ entries. kept_masks entries q ++ replicate (count_of visits.counts q) 0) none
-    ∙ ap (λ n. replicate n 0) (zero q)
+pub starts_empty : (counts : VisitCounts) (entries : List (Point × PointVisits)) → entries ≡ [] →
+    ((q : Point) → count_of counts q ≡ 0) → (q : Point) → kept_masks entries q ++ replicate (count_of counts q) 0 ≡ []
+starts_empty counts entries none zero q =
+    ap (λ list. kept_masks list q ++ replicate (count_of counts q) 0) none ∙ ap (λ n. replicate n 0) (zero q)
 
 pub adds_none : (entries : List (Point × PointVisits)) (p : Point) → Adds entries entries p (record {
   count = 0;

@@ -6,12 +6,17 @@ use Rattle.measuring.proofs.kept_visits.KeptVisits.settle.Goals as goal
 
 pub returns-then-count-eq0 : goal.returns-then-count-eq0
 returns-then-count-eq0 c =
-    settled c.args.self.now _ c.args.point (record { count = 0; mask = 0 }) (sym c.if-count-eq0.true
+    settled c.args.self.now (record {
+      counts = c.clear.new.self;
+      points = c.args.self.now.points;
+      alloc = c.args.self.now.alloc;
+      latest = c.args.self.now.latest;
+    }) c.args.point (record { count = 0; mask = 0 }) (sym c.if-count-eq0.true
     ∙ c.in_ok-count.ensures.counted) refl (adds_none c.args.self.now.points.entries c.args.point)
     c.in_ok-count.ensures.cleared
 
-pub returns-else-count-eq0 : goal.returns-else-count-eq0
-returns-else-count-eq0 c =
+pub returns : goal.returns
+returns c =
     on_ok_weaker c.put.result
     (λ adds. settled c.args.self.now c.put.new.self c.args.point (record { count = c.from.result; mask = 0 })
     (c.from.ensures ∙ c.in_ok-count.ensures.counted) refl adds

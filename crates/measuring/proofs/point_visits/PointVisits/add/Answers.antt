@@ -20,4 +20,4 @@ returns-in-Some-clause-ok c =
       count = c.in-Some.count;
       mask = c.args.self.now.latest.mask;
     }) c.args.run.count c.in-Some.ensures.1 refl
-    ∙ ap (λ mask. point_masks c.args.self.now ++ replicate c.args.run.count mask) c.if-self-mask.false
+    ∙ ap (λ mask. point_masks c.args.self.now ++ replicate c.args.run.count mask) c.if-self-run.false
