@@ -1,5 +1,5 @@
 -- Runs of visits, one visit more at a time.
-use Rattle.std.proofs.Common.{◌≡◌, ℕ, ◌+◌, ◌<◌, ◌==◌, false, List, [], ◌∷◌, ◌++◌, refl, sym, ap, ◌∙◌}
+use Rattle.std.proofs.Common.{◌≡◌, ℕ, ◌+◌, ◌<◌, ◌==◌, ◌&&◌, false, true, List, [], ◌∷◌, ◌++◌, refl, sym, ap, ◌∙◌}
 use Rattle.std.proofs.Common.{IsTrue, append_assoc, replicate, not}
 use Rattle.std.specs.List.{list_all}
 use Rattle.std.proofs.lemmas.Bool.{and_parts, and_from, lt-ltb}
@@ -29,21 +29,16 @@ pub masks-push : (runs : List VisitRun) (run : VisitRun) → run_masks (runs ++ 
     run.count run.mask
 masks-push runs run = masks-append runs (run ∷ []) ∙ ap (λ masks. run_masks runs ++ masks) (masks-one run)
 
--- one visit more in the latest run
-pub masks-again : (runs : List VisitRun) (latest more : VisitRun) → more.count ≡ latest.count + 1 → more.mask ≡
-    latest.mask → run_masks (runs ++ more ∷ []) ≡ run_masks (runs ++ latest ∷ []) ++ latest.mask ∷ []
-masks-again runs latest more count mask =
+-- visits more in the latest run
+pub masks-again : (runs : List VisitRun) (latest more : VisitRun) (n : ℕ) → more.count ≡ latest.count + n → more.mask ≡
+    latest.mask → run_masks (runs ++ more ∷ []) ≡ run_masks (runs ++ latest ∷ []) ++ replicate n latest.mask
+masks-again runs latest more n count mask =
     masks-push runs more
-    ∙ (ap (λ n. run_masks runs ++ replicate n more.mask) count
-    ∙ (ap (λ m. run_masks runs ++ replicate (latest.count + 1) m) mask
-    ∙ (ap (λ masks. run_masks runs ++ masks) (sym (replicate-append-replicate latest.count 1 latest.mask))
-    ∙ (sym (append_assoc (run_masks runs) (replicate latest.count latest.mask) (latest.mask ∷ []))
-    ∙ ap (λ masks. masks ++ latest.mask ∷ []) (sym (masks-push runs latest))))))
-
--- one visit in a run of its own
-pub masks-begin : (runs : List VisitRun) (mask : ℕ) → run_masks (runs ++ (record { count = 1; mask = mask }) ∷ []) ≡
-    run_masks runs ++ mask ∷ []
-masks-begin runs mask = masks-push runs (record { count = 1; mask = mask })
+    ∙ (ap (λ k. run_masks runs ++ replicate k more.mask) count
+    ∙ (ap (λ m. run_masks runs ++ replicate (latest.count + n) m) mask
+    ∙ (ap (λ masks. run_masks runs ++ masks) (sym (replicate-append-replicate latest.count n latest.mask))
+    ∙ (sym (append_assoc (run_masks runs) (replicate latest.count latest.mask) (replicate n latest.mask))
+    ∙ ap (λ masks. masks ++ replicate n latest.mask) (sym (masks-push runs latest))))))
 
 follows-alike : (runs : List VisitRun) (latest more : VisitRun) → more.mask ≡ latest.mask →
     may_follow have_other_masks runs more ≡ may_follow have_other_masks runs latest
@@ -71,10 +66,13 @@ follows-last (run ∷ []) latest next = refl
 follows-last (run ∷ (other ∷ runs)) latest next = follows-last (other ∷ runs) latest next
 
 -- a run with another mask stands behind the latest
-pub sound-begin : (runs : List VisitRun) (latest : VisitRun) (mask : ℕ) → IsTrue (are_visit_runs
-    (runs ++ latest ∷ [])) → (latest.mask == mask) ≡ false →
-    IsTrue (are_visit_runs ((runs ++ latest ∷ []) ++ (record { count = 1; mask = mask }) ∷ []))
-sound-begin runs latest mask known other =
-    let next : VisitRun = record { count = 1; mask = mask } in
-    is_true _ (list-push is_visit_run have_other_masks (runs ++ latest ∷ []) next (is_so _ known) refl
+pub sound-begin : (runs : List VisitRun) (latest next : VisitRun) → IsTrue (are_visit_runs (runs ++ latest ∷ [])) →
+    is_visit_run next ≡ true → (latest.mask == next.mask) ≡ false →
+    IsTrue (are_visit_runs ((runs ++ latest ∷ []) ++ next ∷ []))
+sound-begin runs latest next known some other =
+    is_true _ (list-push is_visit_run have_other_masks (runs ++ latest ∷ []) next (is_so _ known) some
     (follows-last runs latest next ∙ ap not other))
+
+-- one run stands by itself
+pub sound-one : (run : VisitRun) → is_visit_run run ≡ true → IsTrue (are_visit_runs (run ∷ []))
+sound-one run some = is_true _ (and_from (is_visit_run run && true) true (and_from (is_visit_run run) true some refl) refl)

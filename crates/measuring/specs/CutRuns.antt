@@ -7,7 +7,7 @@ use Rattle.cut_file.specs.Masks.{listed_masks}
 use Rattle.covered_runs.specs.RunCuts.{united}
 use Rattle.measuring.specs.declared.kept_visits.KeptVisits.{KeptVisits}
 use Rattle.measuring.specs.declared.point_visits.VisitRun.{VisitRun}
-use Rattle.measuring.specs.KeptMasks.{kept_masks}
+use Rattle.measuring.specs.Visits.{all_masks}
 
 abbrev pub as_run : VisitRun → Run
 as_run run = record { count = run.count; mask = run.mask }
@@ -26,8 +26,8 @@ once mask = record { count = 1; mask = mask } ∷ []
 
 -- a point of the cut has the masks that are kept of its visits, and behind them their union
 pub record HasKeptMasks (visits : KeptVisits) (cut_point : CutPoint) : Type 0 where
-  pub masks : listed_masks cut_point.runs ≡ kept_masks visits.points.entries cut_point.point
-  pub rest : cut_point.rest ≡ once (united (kept_masks visits.points.entries cut_point.point))
+  pub masks : listed_masks cut_point.runs ≡ all_masks visits cut_point.point
+  pub rest : cut_point.rest ≡ once (united (all_masks visits cut_point.point))
 
 abbrev pub points_of : List CutPoint → List Point
 points_of [] = []

@@ -7,6 +7,7 @@ use Rattle.enclosure_regions.specs.declared.region_parts.Region.{Region}
 use Rattle.flow_graph.specs.declared.events.Event.{Event}
 use Rattle.flow_graph.specs.EventGraphs.{IsGraphOf}
 use Rattle.location_collapse.specs.Limits.{ExceedsLimit}
+use Rattle.max_flow.specs.Networks.{AreAtMost}
 use Rattle.max_flow.specs.Flows.{HasNoGreater, IsFlowOf, Least, flow_value, side_capacity}
 use Rattle.run_labels.specs.Runs.{LabelledRun, run_after}
 use Rattle.run_labels.specs.declared.faults.MeasureFault.{MeasureFault}
@@ -17,13 +18,16 @@ use Rattle.measuring.specs.Following.{HasRunCause}
 use Rattle.measuring.specs.RunCauses.{Exits}
 use Rattle.flow_base.specs.declared.outputs.Output.{Output}
 
--- the graph of the events, which exceeds no limit, a maximum flow of it, its least minimum side, and the cut of that side
+-- the graph of the events, which exceeds no limit, a maximum flow of it, no part of which exceeds its value, its least
+-- minimum side, and the cut of that side
 pub record IsMeasureOf (secret_len : ℕ) (events : List Event) (measured : Measured) : Type 0 where
   pub graph : IsGraphOf events measured.graph
   pub within : ¬ ExceedsLimit events
   pub flow : IsFlowOf measured.graph measured.flow.points measured.flow.links
   pub value : flow_value measured.graph measured.flow.points measured.flow.links ≡ measured.value
   pub greatest : HasNoGreater measured.graph measured.value
+  pub points_most : AreAtMost measured.value measured.flow.points
+  pub links_most : AreAtMost measured.value measured.flow.links
   pub side : Least measured.graph measured.side.points measured.side.relays
   pub capacity : side_capacity measured.graph measured.side.points measured.side.relays ≡ measured.value
   pub cut : IsCutOf secret_len events (named_side measured.graph measured.side.points measured.side.relays)

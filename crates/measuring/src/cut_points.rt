@@ -1,4 +1,5 @@
-ghost use Rattle.std.specs.Prelude.{◌≡◌, ◌<◌, ◌++◌, ◌∷◌, [], true, IfOk, OnOk, IfSome, IfNone, None, Some};
+ghost use Rattle.std.specs.Prelude.{◌≡◌, ◌<◌, ◌++◌, ◌∷◌, [], true, replicate, IfOk, OnOk, IfSome, IfNone, None, Some};
+ghost use Rattle.std.specs.Option.{option_copied};
 ghost use Rattle.std.specs.List.{AllByRecursion, list_all};
 ghost use Rattle.std.specs.Map.{lookup};
 ghost use Rattle.flow_base.specs.Points.{is_slot};
@@ -7,7 +8,8 @@ ghost use Rattle.cut_file.specs.Cuts.{are_runs, is_point, is_point_of, is_run};
 ghost use Rattle.cut_file.specs.Masks.{listed_masks};
 ghost use Rattle.covered_runs.specs.RunCuts.{united};
 ghost use Rattle.measuring.specs.CutRuns.{HasKeptMasks, as_run, as_runs, once, points_of, united_runs};
-ghost use Rattle.measuring.specs.KeptMasks.{kept_masks};
+ghost use Rattle.measuring.specs.KeptMasks.{masks_if_any};
+ghost use Rattle.measuring.specs.Visits.{all_masks};
 ghost use Rattle.measuring.specs.PointMasks.{all_runs, point_masks};
 ghost use Rattle.measuring.specs.VisitRuns.{is_visit_run};
 
@@ -61,16 +63,94 @@ fn runs_of(alloc: Global, visits: &PointVisits) -> Result<List<Run>, NoMemory>
     Ok(runs)
 }
 
+/// The same runs of visits.
+fn copied(alloc: Global, runs: &[VisitRun]) -> Result<List<VisitRun>, NoMemory>
+    ensures { IfOk result (λ copy. copy ≡ runs.now) }
+{
+    let mut copy = List::new(alloc);
+    let mut rest = runs;
+    while let [run, more @ ..] = rest {
+        copy.push(*run)?;
+        rest = more;
+    }
+    Ok(copy)
+}
+
+/// The visits of a point.
+fn copied_visits(alloc: Global, visits: &PointVisits) -> Result<PointVisits, NoMemory>
+    ensures { IfOk result (λ copy. point_masks copy ≡ point_masks visits.now) }
+{
+    let earlier = copied(alloc, visits.earlier.as_slice())?;
+    Ok(PointVisits {
+        earlier,
+        latest: visits.latest,
+    })
+}
+
+/// The masks of the visits of a point, and then so many visits with mask 0, 1 or more, as runs of a cut.
+/// `NoMemory` where there is not enough, or where a run has 2^32 visits or more.
+fn runs_and_clean(alloc: Global, visits: &PointVisits, count: u32) -> Result<List<Run>, NoMemory>
+    requires { 0 < count }
+    ensures masks { IfOk result (λ runs. listed_masks runs ≡ point_masks visits.now ++ replicate count 0) }
+    ensures valid { IfOk result (λ runs. are_runs runs ≡ true) }
+{
+    let mut all = copied_visits(alloc, visits)?;
+    all.add(VisitRun {
+        count: u64::from(count),
+        mask: 0,
+    })?;
+    runs_of(alloc, &all)
+}
+
+/// So many visits with mask 0, 1 or more, as runs of a cut.
+/// `NoMemory` where there is not enough.
+fn clean_runs(alloc: Global, count: u32) -> Result<List<Run>, NoMemory>
+    requires { 0 < count }
+    ensures masks { IfOk result (λ runs. listed_masks runs ≡ replicate count 0) }
+    ensures valid { IfOk result (λ runs. are_runs runs ≡ true) }
+{
+    let all = PointVisits::first(
+        alloc,
+        VisitRun {
+            count: u64::from(count),
+            mask: 0,
+        },
+    );
+    runs_of(alloc, &all)
+}
+
+/// The masks of the visits of a point, and then so many visits with mask 0, as runs of a cut.
+/// `NoMemory` where there is not enough, or where a run has 2^32 visits or more.
+fn runs_with(alloc: Global, visits: Option<&PointVisits>, count: u32) -> Result<List<Run>, NoMemory>
+    ensures masks { IfOk result (λ runs. listed_masks runs ≡ masks_if_any (option_copied visits.entry) ++ replicate count 0) }
+    ensures valid { IfOk result (λ runs. are_runs runs ≡ true) }
+{
+    match visits {
+        Some(kept) => {
+            if count == 0 {
+                runs_of(alloc, kept)
+            } else {
+                runs_and_clean(alloc, kept, count)
+            }
+        }
+        None => {
+            if count == 0 {
+                Ok(List::new(alloc))
+            } else {
+                clean_runs(alloc, count)
+            }
+        }
+    }
+}
+
 /// The masks that are kept of a point's visits as runs of a cut; none where it was not visited.
 /// `NoMemory` where there is not enough, or where a run has 2^32 visits or more.
 fn runs_at(alloc: Global, visits: &KeptVisits, point: &Point) -> Result<List<Run>, NoMemory>
-    ensures masks { IfOk result (λ runs. listed_masks runs ≡ kept_masks visits.now.points.entries point.now) }
+    ensures masks { IfOk result (λ runs. listed_masks runs ≡ all_masks visits.now point.now) }
     ensures valid { IfOk result (λ runs. are_runs runs ≡ true) }
 {
-    match visits.points.get(point) {
-        Some(kept) => runs_of(alloc, kept),
-        None => Ok(List::new(alloc)),
-    }
+    let count = visits.counts.count(point);
+    runs_with(alloc, visits.points.get(point), count)
 }
 
 /// The bits that the masks of some of the runs have.

@@ -1,4 +1,4 @@
-ghost use Rattle.std.specs.Prelude.{◌≡◌, ◌<◌, ◌++◌, ◌∷◌, [], cond};
+ghost use Rattle.std.specs.Prelude.{◌≡◌, ◌<◌, ◌++◌, ◌∷◌, [], true};
 ghost use Rattle.std.specs.Prelude.{length, None, List as Seq, OnOk, OnErr, IfSome, IfNone};
 ghost use Rattle.std.specs.Bool.{OnTrue};
 ghost use Rattle.std.specs.List.{IsDistinct};
@@ -6,22 +6,26 @@ ghost use Rattle.std.specs.Map.{keys_of, lookup};
 ghost use Rattle.flow_base.specs.declared.points.Point.{Point as ThePoint};
 ghost use Rattle.flow_graph.specs.declared.events.Event.{Event as AnEvent};
 ghost use Rattle.flow_graph.specs.EventGraphs.{is_same};
-ghost use Rattle.measuring.specs.KeptMasks.{StandsAt, kept_masks};
-ghost use Rattle.measuring.specs.Visits.{HasVisits};
+ghost use Rattle.measuring.specs.KeptMasks.{Adds, StandsAt};
+ghost use Rattle.measuring.specs.Visits.{AddsVisit, HasVisits, Settles, all_masks};
+ghost use Rattle.measuring.specs.VisitRuns.{is_visit_run};
 
-use crate::point_visits::PointVisits;
+use crate::point_visits::{PointVisits, VisitRun};
 use flow_base::{NoMemory, Point};
 use flow_graph::Event;
 use indexmap::IndexMap;
 use std::alloc::Global;
+use visit_counts::VisitCounts;
 
-/// The masks of the visits of each point that was visited, those of mask 0 too, as runs of equal masks; the points in
-/// the order in which they were first visited.
+/// The masks of the visits of each point that was visited, those of mask 0 too. Visits of mask 0 that are the latest of
+/// their point are counted; all before them are kept as runs of equal masks, the points in the order in which they first
+/// had such a run.
 ///
 /// A run visits much the same points in much the same order again and again. So a point is first looked for where the
 /// latest one stands, and behind it.
 #[derive(Drop)]
 pub struct KeptVisits {
+    pub counts: VisitCounts,
     pub points: IndexMap<Point, PointVisits>,
     pub alloc: Global,
     /// Where the latest point stands that was visited again.
@@ -31,9 +35,10 @@ pub struct KeptVisits {
 impl KeptVisits {
     /// No visits. It takes no memory.
     pub fn new(alloc: Global) -> KeptVisits
-        ensures { result.points.entries ≡ [] }
+        ensures { (q : ThePoint) → all_masks result q ≡ [] }
     {
         KeptVisits {
+            counts: VisitCounts::new(alloc),
             points: IndexMap::new(alloc),
             alloc,
             latest: 0,
@@ -98,44 +103,98 @@ impl KeptVisits {
         }
     }
 
-    /// The first visit of a point.
+    /// The first run of a point.
     #[inline(never)]
-    fn start(&mut self, point: Point, mask: u32) -> Result<(), NoMemory>
-        requires { lookup (is_same point) self.old.points.entries ≡ None }
-        ensures ok { OnOk result ((q : ThePoint) → kept_masks self.new.points.entries q ≡ kept_masks
-            self.old.points.entries q ++ cond (is_same q point) (mask ∷ []) []) }
-        ensures err { OnErr result (self.new.points.entries ≡ self.old.points.entries) }
+    fn start(&mut self, point: Point, run: VisitRun) -> Result<(), NoMemory>
+        requires unknown { lookup (is_same point) self.old.points.entries ≡ None }
+        requires some { is_visit_run run ≡ true }
+        ensures ok { OnOk result (Adds self.old.points.entries self.new.points.entries point run) }
+        ensures counts { self.new.counts ≡ self.old.counts }
     {
-        let visits = PointVisits::first(self.alloc, mask);
+        let visits = PointVisits::first(self.alloc, run);
         match self.points.insert(point, visits) {
             Ok(_) => Ok(()),
             Err(_) => Err(NoMemory),
         }
     }
 
-    /// One visit more of the point at an index.
+    /// A run more of the point at an index.
     #[inline(always)]
-    fn again(&mut self, index: usize, mask: u32) -> Result<(), NoMemory>
+    fn again(&mut self, index: usize, run: VisitRun) -> Result<(), NoMemory>
         requires within { index < length self.old.points.entries }
         requires differ { IsDistinct is_same (keys_of self.old.points.entries) }
-        ensures ok { OnOk result ((p : ThePoint) → StandsAt self.old.points.entries p index → (q : ThePoint) →
-            kept_masks self.new.points.entries q ≡ kept_masks self.old.points.entries q ++ cond (is_same q p)
-            (mask ∷ []) []) }
+        requires some { is_visit_run run ≡ true }
+        ensures ok { OnOk result ((p : ThePoint) → StandsAt self.old.points.entries p index →
+            Adds self.old.points.entries self.new.points.entries p run) }
+        ensures counts { self.new.counts ≡ self.old.counts }
     {
         self.latest = index;
-        self.points[index].add(mask)
+        self.points[index].add(run)
+    }
+
+    /// A run more of a point.
+    #[inline(always)]
+    fn put(&mut self, point: Point, run: VisitRun) -> Result<(), NoMemory>
+        requires { is_visit_run run ≡ true }
+        ensures ok { OnOk result (Adds self.old.points.entries self.new.points.entries point run) }
+        ensures counts { self.new.counts ≡ self.old.counts }
+    {
+        self.tell_differ();
+        match self.find(&point) {
+            Some(index) => self.again(index, run),
+            None => self.start(point, run),
+        }
+    }
+
+    /// The visits of a point that are counted become a run. The masks stay.
+    #[inline(always)]
+    fn settle(&mut self, point: Point) -> Result<(), NoMemory>
+        ensures { OnOk result (Settles self.old self.new point) }
+    {
+        let count = self.counts.clear(&point)?;
+        if count == 0 {
+            return Ok(());
+        }
+        self.put(
+            point,
+            VisitRun {
+                count: u64::from(count),
+                mask: 0,
+            },
+        )
+    }
+
+    /// One visit more of a point, which is kept in a run.
+    #[inline(always)]
+    fn visit_in_runs(&mut self, point: Point, mask: u32) -> Result<(), NoMemory>
+        ensures { OnOk result (AddsVisit self.old self.new point mask) }
+    {
+        self.settle(point)?;
+        self.put(point, VisitRun { count: 1, mask })
+    }
+
+    /// One visit more of a point, with mask 0.
+    #[inline(always)]
+    fn visit_clean(&mut self, point: Point) -> Result<(), NoMemory>
+        ensures { OnOk result (AddsVisit self.old self.new point 0) }
+    {
+        let counted = self.counts.more(&point)?;
+        if counted {
+            Ok(())
+        } else {
+            self.visit_in_runs(point, 0)
+        }
     }
 
     /// One visit more of a point.
     #[inline(always)]
     fn visit(&mut self, point: Point, mask: u32) -> Result<(), NoMemory>
-        ensures { OnOk result ((q : ThePoint) → kept_masks self.new.points.entries q ≡ kept_masks
-            self.old.points.entries q ++ cond (is_same q point) (mask ∷ []) []) }
+        ensures { OnOk result (AddsVisit self.old self.new point mask) }
     {
-        self.tell_differ();
-        match self.find(&point) {
-            Some(index) => self.again(index, mask),
-            None => self.start(point, mask),
+        if mask == 0 {
+            self.visit_clean(point)
+        } else {
+            self.visit_in_runs(point, mask)
         }
     }
 

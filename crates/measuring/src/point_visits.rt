@@ -24,30 +24,33 @@ pub struct PointVisits {
 }
 
 impl PointVisits {
-    ghost use Rattle.std.specs.Prelude.{◌≡◌, ◌==◌, ◌++◌, ◌∷◌, [], OnOk, OnErr, false};
+    ghost use Rattle.std.specs.Prelude.{◌≡◌, ◌==◌, ◌++◌, replicate, true, false, OnOk, OnErr};
     ghost use Rattle.measuring.specs.PointMasks.{point_masks};
+    ghost use Rattle.measuring.specs.VisitRuns.{is_visit_run};
 
-    /// One visit with this mask. It takes no memory.
-    pub fn first(alloc: Global, mask: u32) -> PointVisits
-        ensures { point_masks result ≡ mask ∷ [] }
+    /// The visits of one run. It takes no memory.
+    pub fn first(alloc: Global, run: VisitRun) -> PointVisits
+        requires { is_visit_run run ≡ true }
+        ensures { point_masks result ≡ replicate run.count run.mask }
     {
         PointVisits {
             earlier: List::new(alloc),
-            latest: VisitRun { count: 1, mask },
+            latest: run,
         }
     }
 
-    /// One visit more. Where memory is short, or there are 2^64 visits with one mask, it answers want of memory and
-    /// the visits stay.
+    /// The visits of a run more. Where memory is short, or there are 2^64 visits with one mask, it answers want of memory
+    /// and the visits stay.
     #[inline(always)]
-    pub fn add(&mut self, mask: u32) -> Result<(), NoMemory>
-        ensures ok { OnOk result (point_masks self.new ≡ point_masks self.old ++ mask ∷ []) }
+    pub fn add(&mut self, run: VisitRun) -> Result<(), NoMemory>
+        requires { is_visit_run run ≡ true }
+        ensures ok { OnOk result (point_masks self.new ≡ point_masks self.old ++ replicate run.count run.mask) }
         ensures err { OnErr result (self.new ≡ self.old) }
     {
-        if self.latest.mask != mask {
-            return self.begin(mask);
+        if self.latest.mask != run.mask {
+            return self.begin(run);
         }
-        match self.latest.count.checked_add(1) {
+        match self.latest.count.checked_add(run.count) {
             Some(count) => {
                 self.latest.count = count;
                 Ok(())
@@ -56,17 +59,18 @@ impl PointVisits {
         }
     }
 
-    /// The first visit of a new run, whose mask is another than that of the latest.
+    /// A new run, whose mask is another than that of the latest.
     #[inline(never)]
-    fn begin(&mut self, mask: u32) -> Result<(), NoMemory>
-        requires { (self.old.latest.mask == mask) ≡ false }
-        ensures ok { OnOk result (point_masks self.new ≡ point_masks self.old ++ mask ∷ []) }
+    fn begin(&mut self, run: VisitRun) -> Result<(), NoMemory>
+        requires some { is_visit_run run ≡ true }
+        requires other { (self.old.latest.mask == run.mask) ≡ false }
+        ensures ok { OnOk result (point_masks self.new ≡ point_masks self.old ++ replicate run.count run.mask) }
         ensures err { OnErr result (self.new ≡ self.old) }
     {
         let latest = self.latest;
         match self.earlier.push(latest) {
             Ok(()) => {
-                self.latest = VisitRun { count: 1, mask };
+                self.latest = run;
                 Ok(())
             }
             Err(_) => Err(NoMemory),

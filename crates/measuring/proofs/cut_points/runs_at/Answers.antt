@@ -1,19 +1,15 @@
-use Rattle.std.proofs.Common.{ap, ◌∙◌}
+use Rattle.std.proofs.Common.{ap, ◌∙◌, ◌++◌, replicate}
 use Rattle.std.specs.Map.{lookup}
 use Rattle.std.proofs.lemmas.Result.{IfOk-weaker}
+use Rattle.flow_graph.specs.EventGraphs.{is_same}
 use Rattle.location_collapse.proofs.Same.{points_same}
 use Rattle.measuring.specs.KeptMasks.{masks_if_any}
-use Rattle.cut_file.specs.Masks.{listed_masks}
-use Rattle.measuring.proofs.CutRuns.{masks-none}
 use Rattle.measuring.proofs.cut_points.runs_at.Goals as goal
 
-pub returns-in-Some-clause-masks : goal.returns-in-Some-clause-masks
-returns-in-Some-clause-masks c =
-    IfOk-weaker c.runs_of.result _ _ (λ runs masks. masks ∙ ap masks_if_any (c.in-Some.ensures.value
-    ∙ ap (λ e. lookup (e c.args.point.now) c.args.visits.now.points.entries) points_same)) c.runs_of.ensures.masks
-
-pub returns-in-None-clause-masks : goal.returns-in-None-clause-masks
-returns-in-None-clause-masks c =
-    ap listed_masks c.new.ensures ∙ (masks-none
-    ∙ ap masks_if_any (c.in-None.ensures.value ∙ ap (λ e. lookup (e c.args.point.now) c.args.visits.now.points.entries)
-    points_same))
+pub returns-clause-masks : goal.returns-clause-masks
+returns-clause-masks c =
+    IfOk-weaker c.runs_with.result _ _ (λ runs masks. masks
+    ∙ (ap (λ o. masks_if_any o ++ replicate c.count-count.result 0) (c.get.ensures.value
+    ∙ ap (λ e. lookup (e c.args.point.now) c.args.visits.now.points.entries) points_same)
+    ∙ ap (λ n. masks_if_any (lookup (is_same c.args.point.now) c.args.visits.now.points.entries) ++ replicate n 0) c.count-count.ensures))
+    c.runs_with.ensures.masks

@@ -1,4 +1,4 @@
-use Rattle.std.proofs.Common.{sym, ap, ◌∙◌, cond, Some, [], ◌∷◌, ◌++◌}
+use Rattle.std.proofs.Common.{sym, ap, ◌∙◌, cond, Some, ◌++◌, replicate}
 use Rattle.std.specs.Map.{lookup}
 use Rattle.location_collapse.proofs.Same.{points_same}
 use Rattle.measuring.specs.KeptMasks.{masks_if_any}
@@ -7,9 +7,10 @@ use Rattle.measuring.proofs.kept_visits.KeptVisits.start.Goals as goal
 
 pub returns-in-Ok-clause-ok : goal.returns-in-Ok-clause-ok
 returns-in-Ok-clause-ok c =
-    adds c.args.self.now.points.entries c.insert.new.self.entries c.args.point c.first-visits.result c.args.mask
+    adds c.args.self.now.points.entries c.insert.new.self.entries c.args.point c.first-visits.result c.args.run
     (λ q. ap (λ e. lookup (e q) c.insert.new.self.entries) (sym points_same)
     ∙ (c.in-Ok.ensures.updates.0 q
     ∙ ap (λ e. cond (e c.args.point q) (Some c.first-visits.result) (lookup (e q) c.args.self.now.points.entries))
     points_same))
-    (c.first-visits.ensures ∙ ap (λ o. masks_if_any o ++ c.args.mask ∷ []) (sym c.requires))
+    (c.first-visits.ensures ∙ ap (λ o. masks_if_any o ++ replicate c.args.run.count c.args.run.mask)
+    (sym c.requires.unknown))

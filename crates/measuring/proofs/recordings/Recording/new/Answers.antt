@@ -6,6 +6,6 @@ use Rattle.measuring.proofs.recordings.Recording.new.Goals as goal
 pub returns : goal.returns
 returns c = record {
   graph = λ same. c.in_ok-collapse.ensures.stands;
-  visits = λ same. none_for _ c.new-2.ensures;
+  visits = λ same. none_for c.new-2.result c.new-2.ensures;
   exceeds = λ other. absurd (false≢true (sym c.in_ok-collapse.ensures.full ∙ other));
 }

@@ -1,0 +1,46 @@
+-- What is counted of points.
+use Rattle.std.specs.Prelude.{◌≡◌, ℕ, ◌+◌, ◌*◌, ◌/◌, ◌%◌, ◌==◌, Bool, true, cond, List, [], Option, Some, None, slice_get}
+use Rattle.std.specs.Prelude.{slice_index_or}
+use Rattle.std.specs.Map.{lookup}
+use Rattle.flow_base.specs.declared.points.Point.{Point}
+use Rattle.flow_graph.specs.EventGraphs.{is_same}
+use Rattle.visit_counts.specs.declared.rows.Row.{Row}
+use Rattle.visit_counts.specs.declared.visit_counts.VisitCounts.{VisitCounts}
+
+abbrev pub row_counts : Option Row → List ℕ
+row_counts None = []
+row_counts (Some row) = row.counts.items
+
+-- a counter of the row of a page
+abbrev pub count_at : List (Point × Row) → Point → ℕ → ℕ
+count_at entries page column = slice_index_or (row_counts (lookup (is_same page) entries)) column 0
+
+-- the slot at the start of the page
+abbrev pub page_of : Point → Point
+page_of point = record { region = point.region; address = point.address / 4096 * 4096; slot = point.slot }
+
+abbrev pub column_of : Point → ℕ
+column_of point = point.address % 4096 / 4
+
+abbrev pub is_counted : Point → Bool
+is_counted point = point.address % 4 == 0
+
+-- how often a point was counted; a point at an address that is no multiple of 4 never is
+unfoldable pub count_of : VisitCounts → Point → ℕ
+count_of counts point = cond (is_counted point) (count_at counts.rows.entries (page_of point) (column_of point)) 0
+
+-- the row of the page stands at this index
+pub record StandsAt (entries : List (Point × Row)) (page : Point) (index : ℕ) : Type 0 where
+  pub key : Point
+  pub row : Row
+  pub same : is_same page key ≡ true
+  pub at : slice_get entries index ≡ Some (key, row)
+  pub found : lookup (is_same page) entries ≡ Some row
+
+-- so many visits more of a point are counted
+abbrev pub CountsMore : VisitCounts → VisitCounts → Point → ℕ → Type 0
+CountsMore old new point more = (q : Point) → count_of new q ≡ count_of old q + cond (is_same point q) more 0
+
+-- what is counted of a point is forgotten
+abbrev pub Clears : VisitCounts → VisitCounts → Point → Type 0
+Clears old new point = (q : Point) → count_of new q ≡ cond (is_same point q) 0 (count_of old q)

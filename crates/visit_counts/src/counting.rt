@@ -1,0 +1,216 @@
+ghost use Rattle.std.specs.Prelude.{◌≡◌, ◌+◌, ◌<◌, ◌==◌, ◌&&◌, cond, length, None, ℕ, true, IfOk, OnOk, IfSome, IfNone};
+ghost use Rattle.std.specs.Bool.{OnTrue};
+ghost use Rattle.std.specs.List.{IsDistinct};
+ghost use Rattle.std.specs.Map.{keys_of, lookup};
+ghost use Rattle.flow_base.specs.declared.points.Point.{Point as ThePoint};
+ghost use Rattle.flow_graph.specs.EventGraphs.{is_same};
+ghost use Rattle.visit_counts.specs.Counts.{Clears, CountsMore, StandsAt, count_at, count_of};
+ghost use Rattle.visit_counts.specs.Counts.{is_counted as counts_there, page_of as the_page_of};
+
+use crate::places::{column_of, is_counted, lane_of, page_of};
+use crate::rows::Row;
+use crate::visit_counts::VisitCounts;
+use flow_base::{NoMemory, Point};
+use indexmap::IndexMap;
+use std::alloc::Global;
+
+impl VisitCounts {
+    /// All counters are 0. It takes no memory.
+    pub fn new(alloc: Global) -> VisitCounts
+        ensures { (q : ThePoint) → count_of result q ≡ 0 }
+    {
+        VisitCounts {
+            rows: IndexMap::new(alloc),
+            latest: [0; 112],
+            alloc,
+        }
+    }
+
+    /// Tells that rows differ. It does nothing when it is called.
+    #[inline(always)]
+    fn tell_differ(&self)
+        ensures { IsDistinct is_same (keys_of self.now.rows.entries) }
+    {
+        let _count = self.rows.len();
+    }
+
+    /// Whether the row of a page stands at an index.
+    #[inline(always)]
+    fn stands_at(&self, index: usize, page: &Point) -> bool
+        ensures { OnTrue result (StandsAt self.now.rows.entries page.now index) }
+    {
+        match self.rows.get_index(index) {
+            Some((key, _)) => key == page,
+            None => false,
+        }
+    }
+
+    /// The index of the row of a page, wherever it stands; None exactly where there is none.
+    #[inline(never)]
+    fn find_anywhere(&self, page: &Point) -> Option<usize>
+        ensures at { IfSome result (λ index. StandsAt self.now.rows.entries page.now index) }
+        ensures none { IfNone result (lookup (is_same page.now) self.now.rows.entries ≡ None) }
+    {
+        match self.rows.get_full(page) {
+            Some((index, _, _)) => Some(index),
+            None => None,
+        }
+    }
+
+    /// The index of the row of a page; None exactly where there is none.
+    #[inline(always)]
+    fn find(&self, page: &Point) -> Option<usize>
+        ensures at { IfSome result (λ index. StandsAt self.now.rows.entries page.now index) }
+        ensures none { IfNone result (lookup (is_same page.now) self.now.rows.entries ≡ None) }
+    {
+        let near = self.latest[lane_of(page.slot)];
+        if self.stands_at(near, page) {
+            Some(near)
+        } else {
+            self.find_anywhere(page)
+        }
+    }
+
+    /// A counter of the row at an index.
+    #[inline(always)]
+    fn value(&self, index: usize, column: usize) -> u32
+        requires within { index < length self.now.rows.entries }
+        requires column { column < 1024 }
+        ensures { (page : ThePoint) → StandsAt self.now.rows.entries page index →
+            result ≡ count_at self.now.rows.entries page column }
+    {
+        self.rows[index].get(column)
+    }
+
+    /// Writes a counter of the row at an index.
+    #[inline(always)]
+    fn write(&mut self, index: usize, column: usize, count: u32)
+        requires within { index < length self.old.rows.entries }
+        requires column { column < 1024 }
+        requires differ { IsDistinct is_same (keys_of self.old.rows.entries) }
+        ensures { (page : ThePoint) → StandsAt self.old.rows.entries page index → (q : ThePoint) (other : ℕ) →
+            count_at self.new.rows.entries q other ≡ cond (is_same page q && (column == other)) count
+            (count_at self.old.rows.entries q other) }
+    {
+        self.rows[index].set(column, count)
+    }
+
+    /// Makes the row of a page that has none.
+    #[inline(never)]
+    fn start(&mut self, page: Point) -> Result<(), NoMemory>
+        requires { lookup (is_same page) self.old.rows.entries ≡ None }
+        ensures { OnOk result ((q : ThePoint) (column : ℕ) →
+            count_at self.new.rows.entries q column ≡ count_at self.old.rows.entries q column) }
+    {
+        let row = Row::new(self.alloc)?;
+        self.latest[lane_of(page.slot)] = self.rows.len();
+        match self.rows.insert(page, row) {
+            Ok(_) => Ok(()),
+            Err(_) => Err(NoMemory),
+        }
+    }
+
+    /// The index of the row of a page, which is made where there is none.
+    #[inline(always)]
+    fn row_of(&mut self, page: Point) -> Result<usize, NoMemory>
+        ensures at { IfOk result (λ index. StandsAt self.new.rows.entries page index) }
+        ensures counts { OnOk result ((q : ThePoint) (column : ℕ) →
+            count_at self.new.rows.entries q column ≡ count_at self.old.rows.entries q column) }
+    {
+        match self.find(&page) {
+            Some(index) => {
+                self.latest[lane_of(page.slot)] = index;
+                Ok(index)
+            }
+            None => self.made_row(page),
+        }
+    }
+
+    /// The index of the row of a page that has none, which is made.
+    #[inline(never)]
+    fn made_row(&mut self, page: Point) -> Result<usize, NoMemory>
+        requires { lookup (is_same page) self.old.rows.entries ≡ None }
+        ensures at { IfOk result (λ index. StandsAt self.new.rows.entries page index) }
+        ensures counts { OnOk result ((q : ThePoint) (column : ℕ) →
+            count_at self.new.rows.entries q column ≡ count_at self.old.rows.entries q column) }
+    {
+        self.start(page)?;
+        match self.find_anywhere(&page) {
+            Some(index) => Ok(index),
+            None => Err(NoMemory),
+        }
+    }
+
+    /// One visit more of a point whose row stands at an index; false where its counter is at its end.
+    #[inline(always)]
+    fn raise(&mut self, index: usize, point: &Point) -> bool
+        requires counted { counts_there point.now ≡ true }
+        requires row { StandsAt self.old.rows.entries (the_page_of point.now) index }
+        ensures { CountsMore self.old self.new point.now (cond result 1 0) }
+    {
+        self.tell_differ();
+        let column = column_of(point);
+        match self.value(index, column).checked_add(1) {
+            Some(count) => {
+                self.write(index, column, count);
+                true
+            }
+            None => false,
+        }
+    }
+
+    /// One visit more of a point. False where it is not counted: its address is no multiple of 4, or its counter is at
+    /// its end.
+    #[inline(always)]
+    pub fn more(&mut self, point: &Point) -> Result<bool, NoMemory>
+        ensures { IfOk result (λ done. CountsMore self.old self.new point.now (cond done 1 0)) }
+    {
+        if !is_counted(point) {
+            return Ok(false);
+        }
+        let index = self.row_of(page_of(point))?;
+        Ok(self.raise(index, point))
+    }
+
+    /// The counter of a point whose row stands at an index becomes 0. It gives what was counted.
+    #[inline(always)]
+    fn clear_at(&mut self, index: usize, point: &Point) -> u32
+        requires counted { counts_there point.now ≡ true }
+        requires row { StandsAt self.old.rows.entries (the_page_of point.now) index }
+        ensures counted { result ≡ count_of self.old point.now }
+        ensures cleared { Clears self.old self.new point.now }
+    {
+        self.tell_differ();
+        let column = column_of(point);
+        let count = self.value(index, column);
+        self.write(index, column, 0);
+        count
+    }
+
+    /// The counter of a point becomes 0. It gives how often the point was counted. The row of its page is made where there
+    /// is none: it is found at once when the point is visited again.
+    #[inline(always)]
+    pub fn clear(&mut self, point: &Point) -> Result<u32, NoMemory>
+        ensures counted { IfOk result (λ count. count ≡ count_of self.old point.now) }
+        ensures cleared { OnOk result (Clears self.old self.new point.now) }
+    {
+        if !is_counted(point) {
+            return Ok(0);
+        }
+        let index = self.row_of(page_of(point))?;
+        Ok(self.clear_at(index, point))
+    }
+
+    /// How often a point was counted.
+    pub fn count(&self, point: &Point) -> u32
+        ensures { result ≡ count_of self.now point.now }
+    {
+        if !is_counted(point) {
+            return 0;
+        }
+        match self.find(&page_of(point)) {
+            Some(index) => self.value(index, column_of(point)),
+            None => 0,
+        }
+    }
+}
