@@ -176,11 +176,36 @@ def keep(folder, seed, files, words, texts):
     (place / "wrong.txt").write_text("\n".join(texts) + "\n")
 
 
+class Narrowing:
+    """How much less table 2 lets flow than table 1."""
+
+    def __init__(self):
+        self.both, self.fewer, self.wide_bits, self.saved, self.most, self.alone = 0, 0, 0, 0, 0, 0
+
+    def add(self, wide, narrow):
+        """Counts a run by what each table measures, or the text of its refusal."""
+        if isinstance(narrow, str):
+            return
+        if isinstance(wide, str):
+            self.alone += 1
+            return
+        saved = wide.bits - narrow.bits
+        self.both, self.fewer = self.both + 1, self.fewer + (saved > 0)
+        self.wide_bits, self.saved, self.most = self.wide_bits + wide.bits, self.saved + saved, max(self.most, saved)
+
+    def show(self):
+        """Prints the counts."""
+        print(f"of {self.both} runs that both tables measure, table 2 gives fewer bits to {self.fewer}: "
+              f"{self.saved} of {self.wide_bits} bits less, at most {self.most} of one run; "
+              f"it alone measures {self.alone}")
+
+
 class Comparison:
     """A comparison of trials."""
 
     def __init__(self, words):
         self.words, self.counts, self.differing, self.folder = words, {1: Counts(), 2: Counts()}, 0, None
+        self.narrowing = Narrowing()
 
     def options_of(self, seed, options):
         """The options of a trial, perhaps with those that are asked for."""
@@ -208,6 +233,7 @@ class Comparison:
             if not isinstance(measured, str):
                 texts += [f"table {table}: {text}" for text in wrongs(guest, measured, seed % THOROUGH_EACH == 0)]
         texts += narrowing_wrongs(results[1], results[2])
+        self.narrowing.add(results[1], results[2])
         if self.words.executable:
             measured = results[int(dict(options).get("--rules", 1))]
             with tempfile.TemporaryDirectory() as path:
@@ -235,6 +261,7 @@ class Comparison:
         for table, counts in self.counts.items():
             print(f"by table {table}:")
             counts.show()
+        self.narrowing.show()
         if self.folder:
             print(f"the trials that differ are in {self.folder}")
         print(f"{1000 * (time.monotonic() - begin) / max(count, 1):.0f} milliseconds for each trial")
