@@ -8,8 +8,6 @@ mod marking;
 mod marks;
 mod outsides;
 mod playing;
-#[cfg(test)]
-mod region_tests;
 mod replay_turns;
 mod replaying;
 mod replays;

@@ -28,6 +28,4 @@ pub use stepping::{Arguments, CallPlan, Fault, Stepped};
 pub use walker::turn_by;
 
 #[cfg(test)]
-mod part_tests;
-#[cfg(test)]
 mod tests;
