@@ -16,8 +16,10 @@ GNU as gets the same text without comments and with other blanks, but for these 
     la a0, label           always LUI and ADDI: `lui a0, %hi(label)` and `addi a0, a0, %lo(label)`
 
 The numbers of li are such that GNU as makes LUI and ADDI of it, as this assembler always does: neither the lower 12
-bits are 0 nor does the number fit these 12 bits. No number has leading zeros, which GNU as reads in base 8. Sources
-that are refused are not in the table. Needs riscv64-unknown-elf-as, -ld and -objcopy."""
+bits are 0 nor does the number fit these 12 bits. No number has leading zeros, which GNU as reads in base 8.
+
+At the end stand rows whose words were found by hand, and rows `SOURCE => FAULT` of sources that are refused. Needs
+riscv64-unknown-elf-as, -ld and -objcopy."""
 import re
 import struct
 import subprocess
@@ -38,6 +40,49 @@ SHIFTS = "slli srli srai".split()
 OPERATIONS = (
     "add sub sll slt sltu xor srl sra or and mul mulh mulhsu mulhu div divu rem remu".split()
 )
+
+# A label of 64 bytes.
+LONGEST = "a23456789_123456789_123456789_123456789_123456789_123456789_1234"
+
+# The rows whose words or fault were found by hand.
+BY_HAND = [
+    "li a0, 0x12345fff -> 12346537 fff50513",
+    "loop: j loop -> 0000006f",
+    "addi a0, x0, 0;addi a7, x0, 93;ecall; -> 00000513 05d00893 00000073",
+    " \t a: \t .word\t-0x00000000001 \t# \u00e9 -> ffffffff",
+    ".byte -128;.byte 255;.zero 2;la x1,b;b: -> 0000ff80 000100b7 00c08093",
+    "sw fp,-4(sp);ret -> fe812e23 00008067",
+    f"{LONGEST}: j {LONGEST} -> 0000006f",
+    f"{LONGEST}5: nop => line 1 kind 1",
+    " => line 0 kind 4",
+    "a: => line 0 kind 4",
+    "addi a0, x0, 4096 => range 1",
+    "addi a0,a0,4294967296 => line 1 kind 1",
+    "addi a0,a0,4294967295 => range 1",
+    "addi a0,a0,99999999999999999999999999999999999999999999 => line 1 kind 1",
+    "a:nop => line 1 kind 1",
+    "a : nop => line 1 kind 1",
+    "a: b: nop => line 1 kind 1",
+    "lw a0, 4 (sp) => line 1 kind 1",
+    "lw a0, 4( sp ) => line 1 kind 1",
+    "lw a0, (sp) => line 1 kind 1",
+    "nop\r; => line 1 kind 1",
+    "li a0, x => line 1 kind 1",
+    "la a0, 5 => line 1 kind 1",
+    "a:;a: nop => label-twice 2",
+    "j nowhere => label-missing 1",
+    ".byte 1;nop => line 2 kind 2",
+    ".zero 1048577 => range 1",
+    ".zero 1048576;nop => line 2 kind 3",
+    ".zero 1048576;.byte 1 => line 2 kind 3",
+    "j far;far: bad => line 2 kind 1",
+    "beq x0,x0,far;.zero 8000;bad;far: => line 3 kind 1",
+    "beq x0,x0,far;.zero 8000;far: nop => range 1",
+    "beq x0,x0,odd;.byte 1;odd: => range 1",
+    "a:;.byte 1;a: nop => line 3 kind 2",
+    "beq a0, a1, b;.zero 1;j a;;b: => line 3 kind 2",
+    "b: beq x0,x0,far;.zero 8000;beq x0,x0,b;far: => range 3",
+]
 
 
 def instructions():
@@ -150,6 +195,8 @@ def main():
         for source in [*instructions(), *programs()]:
             words = words_of(source, Path(name))
             print(source, "->", " ".join(f"{word:08x}" for word in words))
+    for row in BY_HAND:
+        print(row)
     return 0
 
 

@@ -1,13 +1,18 @@
 -- What is counted: the sources that assemble to the bytes of their words.
-use Rattle.std.specs.Prelude.{◌≡◌, ℕ, ◌==◌, ◌&&◌, Bool, false, List, [], ◌∷◌, Ok}
+use Rattle.std.specs.Prelude.{◌≡◌, ℕ, ◌==◌, ◌&&◌, Bool, false, List, [], ◌∷◌, Ok, Err}
 use Rattle.std.specs.Str.{bytes_eq}
 use Rattle.elf32_loader.specs.Pictures.{Picture}
 use Rattle.elf32_loader.specs.declared.segments.Segment.{Segment}
 use Rattle.rv32im_asm.specs.Assembling.{assembled, one_segment}
+use Rattle.rv32im_asm.specs.declared.fault.AsmFault.{AsmFault}
 
 -- a source assembles to these bytes: they are the one segment, whose address is the entry
 abbrev pub IsAssembledTo : List ℕ → List ℕ → Type 0
 IsAssembledTo source bytes = assembled source ≡ Ok (one_segment bytes)
+
+-- a source is refused with a fault
+abbrev pub IsRefused : List ℕ → Type 0
+IsRefused source = (fault : AsmFault) × (assembled source ≡ Err fault)
 
 -- the segments are one, at the start, of these bytes
 abbrev pub has_segment : List Segment → List ℕ → Bool

@@ -1,5 +1,5 @@
 ghost use Rattle.std.specs.Prelude.{◌≡◌, ◌<◌, ◌^◌, ◌↔◌, IfSome, IsTrue, length};
-ghost use Rattle.assembler_words.specs.Words.{IsAssembledTo, has_bytes as shows};
+ghost use Rattle.assembler_words.specs.Words.{IsAssembledTo, IsRefused, has_bytes as shows};
 ghost use Rattle.elf32_loader.specs.Images.{picture_of};
 
 use elf32_loader::Image;
@@ -33,5 +33,20 @@ pub fn assembles_to(alloc: Global, source: &[u8], bytes: &[u8]) -> Option<bool>
         Ok(image) => Some(has_bytes(&image, bytes)),
         Err(AsmFault::Memory) => None,
         Err(_) => Some(false),
+    }
+}
+
+/// Whether a source is refused, and with a fault of this text; None where memory is short.
+pub fn is_refused_with(alloc: Global, source: &[u8], text: &str) -> Option<bool>
+    requires { length source.now < 2 ^ 32 }
+    ensures { IfSome result (λ agreed. IsTrue agreed → IsRefused source.now) }
+{
+    match assemble(alloc, source) {
+        Ok(_) => Some(false),
+        Err(AsmFault::Memory) => None,
+        Err(fault) => {
+            let shown = format!(in alloc; "{fault}").ok()?;
+            Some(shown.as_str() == text)
+        }
     }
 }

@@ -1,5 +1,5 @@
-//! Assembles each source of a table that another assembler of RV32IM made, and prints each source whose words come out
-//! otherwise, and how many agree.
+//! Assembles each source of a table that another assembler of RV32IM made, or whose words or fault were found by hand,
+//! and prints each whose words or fault come out otherwise, and how many agree.
 #![tactic(auto)]
 
 mod agreeing;
@@ -15,7 +15,7 @@ fn main(rt: HostRuntime) -> io::Result<()> {
         count = count.saturating_add(1);
         match rows::agrees(rt.alloc(), line.as_str()) {
             Some(true) => agreed = agreed.saturating_add(1),
-            Some(false) => println!(rt; "line {count} has other words")?,
+            Some(false) => println!(rt; "line {count} comes out otherwise")?,
             None => println!(rt; "line {count} is no row, or memory is short")?,
         }
     }

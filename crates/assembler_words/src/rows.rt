@@ -1,16 +1,25 @@
-use crate::agreeing::assembles_to;
-use std::alloc::{AllocError, Global};
+ghost use Rattle.std.specs.Prelude.{◌<◌, ◌^◌, IfSome, length};
+
+use crate::agreeing::{assembles_to, is_refused_with};
+use std::alloc::Global;
 
 /// The most bytes that a row may have.
 const LONGEST: usize = 1_048_576;
 
-/// The bytes of a source in which a semicolon stands for the end of a line.
-fn source(alloc: Global, text: &str) -> Result<Vec<u8>, AllocError> {
+/// The bytes of a source in which a semicolon stands for the end of a line; None where it is too long or memory is
+/// short.
+fn source(alloc: Global, text: &str) -> Option<Vec<u8>>
+    ensures { IfSome result (λ source. length source.items < 2 ^ 32) }
+{
     let mut source = Vec::new(alloc);
     for byte in text.as_bytes() {
-        source.push(if *byte == b';' { b'\n' } else { *byte })?;
+        let byte = if *byte == b';' { b'\n' } else { *byte };
+        source.push(byte).ok()?;
     }
-    Ok(source)
+    if source.len() > LONGEST {
+        return None;
+    }
+    Some(source)
 }
 
 /// The bytes of words in hexadecimal digits, the lowest of each first; None where a text is no such words.
@@ -23,16 +32,14 @@ fn bytes(alloc: Global, text: &str) -> Option<Vec<u8>> {
     Some(bytes)
 }
 
-/// Whether the source of a row `SOURCE -> WORD WORD ..` assembles to its words; None where it is no such row or memory
-/// is short.
+/// Whether the source of a row `SOURCE -> WORD WORD ..` assembles to its words, or that of a row `SOURCE => FAULT` is
+/// refused with its fault; None where it is no such row or memory is short.
 pub fn agrees(alloc: Global, row: &str) -> Option<bool> {
-    let (text, words) = row.split_once(" -> ")?;
-    let source = source(alloc, text).ok()?;
-    let bytes = bytes(alloc, words)?;
-    if source.len() > LONGEST {
-        return None;
+    if let Some((text, fault)) = row.split_once(" => ") {
+        return is_refused_with(alloc, &source(alloc, text)?, fault);
     }
-    assembles_to(alloc, &source, &bytes)
+    let (text, words) = row.split_once(" -> ")?;
+    assembles_to(alloc, &source(alloc, text)?, &bytes(alloc, words)?)
 }
 
 #[cfg(test)]
@@ -46,6 +53,9 @@ mod tests {
             ("a: nop; j a -> 00000013 ffdff06e", Some(false)),
             ("a: nop; j a -> 00000013", Some(false)),
             ("j b -> 00000013", Some(false)),
+            ("j b => label-missing 1", Some(true)),
+            ("j b => label-missing 2", Some(false)),
+            ("nop => label-missing 1", Some(false)),
             ("nop", None),
             ("nop -> 0000001g", None),
         ] {

@@ -23,6 +23,3 @@ pub use assembling::assemble;
 pub use fault::{AsmFault, LineKind};
 pub use listing::list;
 pub use texts::instr_text;
-
-#[cfg(test)]
-mod tests;
