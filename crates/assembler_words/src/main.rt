@@ -1,5 +1,5 @@
-//! Assembles each source of a table that another assembler of RV32IM made, or whose words or fault were found by hand, and
-//! prints each whose words or fault come out otherwise, and how many agree.
+//! Assembles each source of a table that another assembler of RV32IM made, or whose words or fault were found by hand,
+//! and prints each whose words or fault come out otherwise, and how many agree.
 #![tactic(auto)]
 
 mod agreeing;

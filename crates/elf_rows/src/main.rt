@@ -1,5 +1,5 @@
-//! Loads each line of a table as the hexadecimal digits of a program file, and prints its image, or its first fault. What
-//! must be printed was found by hand.
+//! Loads each line of a table as the hexadecimal digits of a program file, and prints its image, or its first fault.
+//! What must be printed was found by hand.
 #![tactic(auto)]
 
 mod files;

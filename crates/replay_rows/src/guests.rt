@@ -19,6 +19,7 @@ pub struct Guest {
     image: Option<Image>,
     regions: Regions,
     cut: Option<Cut>,
+    machine: Option<Machine>,
 }
 
 /// The program of words in hexadecimal digits, which is entered at its first; None where there is none, or memory is
@@ -62,22 +63,27 @@ fn cut_of(alloc: Global, text: &str) -> Option<Cut> {
 }
 
 impl Guest {
-    /// A guest without a program and without a cut.
+    /// A guest without a program, a cut and a machine.
     pub fn new(alloc: Global) -> Guest {
         Guest {
             image: None,
             regions: Regions::none(alloc),
             cut: None,
+            machine: None,
         }
     }
 
-    /// Puts a part in place of the one before: `code WORD ..`, `regions JSON` or `cut LINE;LINE;..`; None where it is
-    /// no part or memory is short.
+    /// Puts a part in place of the one before: `code WORD ..`, `regions JSON`, `cut LINE;LINE;..`, or `machine LIMIT`,
+    /// the machine of the code with room for so many bytes of output; None where it is no part or memory is short.
     pub fn put(&mut self, alloc: Global, part: &str, text: &str) -> Option<()> {
         match part {
             "code" => self.image = Some(image_of(alloc, text)?),
             "regions" => self.regions = read_regions(alloc, text.as_bytes()).ok()?,
             "cut" => self.cut = Some(cut_of(alloc, text)?),
+            "machine" => {
+                let image = self.image.as_ref()?;
+                self.machine = Some(machine_of(alloc, image, text.parse().ok()?)?);
+            }
             _ => return None,
         }
         Some(())
@@ -89,8 +95,9 @@ impl Guest {
         let cut = self.cut.as_ref()?;
         Replay::new(alloc, image, &Bytes::new(alloc), &self.regions, cut).ok()
     }
-    /// A machine of the guest with room for so many bytes of output, a decimal number.
-    pub fn machine(&self, alloc: Global, output_limit: &str) -> Option<Machine> {
-        machine_of(alloc, self.image.as_ref()?, output_limit.parse().ok()?)
+
+    /// The guest's machine.
+    pub fn machine(&mut self) -> Option<&mut Machine> {
+        self.machine.as_mut()
     }
 }

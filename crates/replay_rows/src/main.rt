@@ -9,7 +9,7 @@ mod strings;
 
 use guests::Guest;
 use outcomes::{Outcome, outcome_after};
-use rv32im_machine::Machine;
+use rv32im_machine::{Machine, Stepped};
 use std::io;
 use stepping::{set_all, stepped};
 use strings::string_of;
@@ -21,36 +21,33 @@ fn row_of<'a>(text: &'a str) -> Option<(u32, &'a str, &'a str)> {
     Some((count.parse().ok()?, name, words))
 }
 
-/// Makes the replay of a line `replay TURNS NAME VALUE/MASK ..` and prints where it then stands.
-fn print_replay(rt: &HostRuntime, guest: &Guest, text: &str) -> io::Result<()> {
-    let Some((turns, name, words)) = row_of(text) else {
-        return println!(rt; "no replay");
-    };
-    let (Some(mut bits), Some(mut replay)) = (
-        string_of(rt.alloc(), words),
-        guest.replay(rt.alloc()),
-    ) else {
-        return println!(rt; "{name}: no replay, or memory is short");
-    };
-    let Outcome { answer, mark, left } = outcome_after(&mut replay, &mut bits, turns);
-    let output = replay.output();
+/// Prints where a replay stands that has written these bytes.
+fn print_outcome(rt: &HostRuntime, name: &str, outcome: Outcome, output: &[u8]) -> io::Result<()> {
+    let Outcome { answer, mark, left } = outcome;
     println!(rt;
         "{name}: {answer:?} at {:x}, exited {}, took {}, left {left}, wrote {output:?}",
         mark.address, mark.exited, mark.bits
     )
 }
 
-/// Sets a machine as a line `step STEPS NAME pc=VALUE xNUMBER=VALUE ..` says, makes the steps and prints where the machine
-/// then stands: its program counter, x5 and x10, how much is left of its public input and of its secret, how many bytes
-/// it has written, and the last of them.
-fn print_steps(rt: &HostRuntime, machine: &mut Machine, text: &str) -> io::Result<()> {
-    let Some((steps, name, words)) = row_of(text) else {
-        return println!(rt; "no steps");
+/// Makes the replay of a line `replay TURNS NAME VALUE/MASK ..` and prints where it then stands.
+fn print_replay(rt: &HostRuntime, guest: &Guest, text: &str) -> io::Result<()> {
+    let Some((turns, name, words)) = row_of(text) else {
+        return println!(rt; "no replay");
     };
-    if set_all(machine, words).is_none() {
-        return println!(rt; "{name}: no place or value");
-    }
-    let mode = stepped(machine, steps);
+    let Some(mut bits) = string_of(rt.alloc(), words) else {
+        return println!(rt; "{name}: no bits, or memory is short");
+    };
+    let Some(mut replay) = guest.replay(rt.alloc()) else {
+        return println!(rt; "{name}: no replay, or memory is short");
+    };
+    let outcome = outcome_after(&mut replay, &mut bits, turns);
+    print_outcome(rt, name, outcome, replay.output())
+}
+
+/// Prints where a machine stands: its program counter, x5 and x10, how much is left of its public input and of its
+/// secret, how many bytes it has written, and the last of them.
+fn print_machine(rt: &HostRuntime, name: &str, mode: Stepped, machine: &Machine) -> io::Result<()> {
     let registers = machine.registers();
     let (public, secret) = (machine.public_left(), machine.secret_left());
     println!(rt;
@@ -63,21 +60,39 @@ fn print_steps(rt: &HostRuntime, machine: &mut Machine, text: &str) -> io::Resul
     )
 }
 
+/// Sets the guest's machine as a line `step STEPS NAME pc=VALUE xNUMBER=VALUE ..` says, makes the steps and prints where
+/// it then stands.
+fn print_steps(rt: &HostRuntime, guest: &mut Guest, text: &str) -> io::Result<()> {
+    let Some((steps, name, words)) = row_of(text) else {
+        return println!(rt; "no steps");
+    };
+    let Some(machine) = guest.machine() else {
+        return println!(rt; "{name}: no machine");
+    };
+    if set_all(machine, words).is_none() {
+        return println!(rt; "{name}: no place or value");
+    }
+    let mode = stepped(machine, steps);
+    print_machine(rt, name, mode, machine)
+}
+
+/// Does what a line of the table says.
+fn follow(rt: &HostRuntime, guest: &mut Guest, line: &str) -> io::Result<()> {
+    match line.split_once(' ') {
+        Some(("replay", text)) => print_replay(rt, guest, text),
+        Some(("step", text)) => print_steps(rt, guest, text),
+        Some((part, text)) => match guest.put(rt.alloc(), part, text) {
+            Some(()) => Ok(()),
+            None => println!(rt; "no line of a table, or memory is short"),
+        },
+        None => println!(rt; "no line of a table"),
+    }
+}
+
 fn main(rt: HostRuntime) -> io::Result<()> {
     let mut guest = Guest::new(rt.alloc());
-    let mut machine: Option<Machine> = None;
     for line in rt.lines(rt.alloc()) {
-        let line = line?;
-        match line.as_str().split_once(' ') {
-            Some(("replay", text)) => print_replay(&rt, &guest, text)?,
-            Some(("machine", text)) => machine = guest.machine(rt.alloc(), text),
-            Some(("step", text)) => match machine.as_mut() {
-                Some(machine) => print_steps(&rt, machine, text)?,
-                None => println!(rt; "no machine")?,
-            },
-            Some((part, text)) if guest.put(rt.alloc(), part, text).is_some() => {}
-            _ => println!(rt; "no line of a table, or memory is short")?,
-        }
+        follow(&rt, &mut guest, line?.as_str())?;
     }
     Ok(())
 }

@@ -6,7 +6,7 @@ use crossing_bits::Bits;
 use replay_machine::{Mark, Replay, ReplayTurn};
 
 /// Where a replay stands, and how many bits are left of its string.
-#[derive(Clone, Copy, Debug)]
+#[derive(Clone, Copy)]
 pub struct Outcome {
     pub answer: ReplayTurn,
     pub mark: Mark,
@@ -19,12 +19,11 @@ pub fn outcome_after(replay: &mut Replay, bits: &mut Bits, turns: u32) -> Outcom
     ensures mark { result.mark ≡ mark_of replay.new }
     ensures left { result.left ≡ length (left_of bits.new) }
 {
-    let mut answer = replay.answer();
     for _ in 0..turns {
-        answer = replay.turn(bits);
+        replay.turn(bits);
     }
     Outcome {
-        answer,
+        answer: replay.answer(),
         mark: replay.mark(),
         left: bits.left(),
     }

@@ -1,4 +1,4 @@
-use crossing_bits::Bits;
+use crossing_bits::{Bits, bit_count};
 use std::alloc::Global;
 
 /// The value and the mask of a text `VALUE/MASK` in hexadecimal digits.
@@ -17,7 +17,7 @@ pub fn string_of(alloc: Global, text: &str) -> Option<Bits> {
     }
     for part in text.split(' ') {
         let (value, mask) = pair_of(part)?;
-        if bits.count() > 65_504 {
+        if bits.count() > 65_504 || bit_count(mask) > 32 {
             return None;
         }
         bits.push_masked(value, mask).ok()?;
