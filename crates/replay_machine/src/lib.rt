@@ -12,8 +12,6 @@ mod replay_turns;
 mod replaying;
 mod replays;
 mod search;
-#[cfg(test)]
-mod tests;
 mod turns;
 mod visit_masks;
 

@@ -26,6 +26,3 @@ pub use passing::Passer;
 pub use plain::Plain;
 pub use stepping::{Arguments, CallPlan, Fault, Stepped};
 pub use walker::turn_by;
-
-#[cfg(test)]
-mod tests;
