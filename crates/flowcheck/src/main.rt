@@ -33,8 +33,6 @@ mod tests;
 mod texts;
 mod top;
 mod trial;
-#[cfg(test)]
-mod trial_tests;
 mod verify;
 
 use flow_base::{DiskFiles, Sink, StandardOut};

@@ -9,6 +9,7 @@ mod region_rows;
 mod region_word_rows;
 mod report_rows;
 mod source_rows;
+mod trial_rows;
 
 use crate::book_tests::answer_by_books;
 use flow_base::{Bytes, Held, List, MemoryFiles, MemorySink, NoMemory, SinkFail};
@@ -273,6 +274,13 @@ fn tables_are_chosen(rt: HostRuntime) -> Result<(), Fail> {
 #[test]
 fn cuts_are_folded(rt: HostRuntime) -> Result<(), Fail> {
     let names = unlike(rt.alloc(), &report_rows::FOLDS)?;
+    assert!(rt; names.is_empty(), "{names}");
+    Ok(())
+}
+
+#[test]
+fn trials_are_told(rt: HostRuntime) -> Result<(), Fail> {
+    let names = unlike(rt.alloc(), &trial_rows::ROWS)?;
     assert!(rt; names.is_empty(), "{names}");
     Ok(())
 }
