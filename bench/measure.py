@@ -85,13 +85,19 @@ def prepare(executable, folder, guest):
     return paths, options
 
 
+def measured_run(words, folder):
+    """The seconds and the most memory of a `measure`, and the cut."""
+    seconds, memory, status, cut = timed(words, folder)
+    if status != 0:
+        raise SystemExit(f"{words}: status {status}:\n{cut.decode()[:300]}")
+    return seconds, memory, cut
+
+
 def measure_and_check(executable, folder, guest):
     """Seconds and most memory of both commands, and the number."""
     paths, options = prepare(executable, folder, guest)
     words = [executable, "measure", paths["program"], paths["public"], paths["secret"]] + options
-    measured, measure_memory, status, cut = timed(words, folder)
-    if status != 0:
-        raise SystemExit(f"{words}: status {status}:\n{cut.decode()[:300]}")
+    measured, measure_memory, cut = measured_run(words, folder)
     pathlib.Path(paths["cut"]).write_bytes(cut)
     bits = cut.split(b"\nbits ")[1].split(b"\n")[0].decode()
     words = [executable, "check", paths["program"], paths["public"], paths["cut"], bits, paths["secret"]] + options
@@ -104,11 +110,7 @@ def measure_and_check(executable, folder, guest):
 def measure_alone(executable, folder, guest):
     """Seconds and most memory of `measure`, and the cut."""
     paths, options = prepare(executable, folder, guest)
-    words = [executable, "measure", paths["program"], paths["public"], paths["secret"]] + options
-    measured, memory, status, cut = timed(words, folder)
-    if status != 0:
-        raise SystemExit(f"{words}: status {status}:\n{cut.decode()[:300]}")
-    return measured, memory, cut
+    return measured_run([executable, "measure", paths["program"], paths["public"], paths["secret"]] + options, folder)
 
 
 def main():
