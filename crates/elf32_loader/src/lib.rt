@@ -22,6 +22,3 @@ pub use laws::{
 pub use loading::load_image;
 pub use segments::Segment;
 pub use writing::write_image;
-
-#[cfg(test)]
-mod tests;

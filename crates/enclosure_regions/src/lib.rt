@@ -36,6 +36,3 @@ pub use region_files::read_regions;
 pub use region_lists::Regions;
 pub use region_parts::{Range, Region};
 pub use turn_kinds::TurnKind;
-
-#[cfg(test)]
-mod tests;

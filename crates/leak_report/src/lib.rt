@@ -15,6 +15,3 @@ pub use json_reports::report_json;
 pub use reports::report_text;
 pub use verdict_lines::verdict_line;
 pub use word_texts::Word;
-
-#[cfg(test)]
-mod tests;

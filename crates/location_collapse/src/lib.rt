@@ -9,8 +9,6 @@ mod kept_links;
 mod kept_points;
 mod laws;
 mod sorting;
-#[cfg(test)]
-mod tests;
 
 pub use collapses::Collapse;
 pub use faults::CollapseFault;

@@ -14,8 +14,6 @@ mod scanning;
 mod searching;
 mod sides;
 mod solving;
-#[cfg(test)]
-mod tests;
 
 pub use answers::{Flow, Half, Side, Solved};
 pub use building::{head_number, tail_number};

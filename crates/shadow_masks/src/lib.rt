@@ -10,8 +10,6 @@ mod page_points;
 mod page_slots;
 mod pages;
 mod shadows;
-#[cfg(test)]
-mod tests;
 
 pub use labels::Label;
 pub use laws::shadow_reads_as_a_map;

@@ -17,6 +17,3 @@ mod turns;
 
 pub use outcomes::{Spent, TrackedTurn};
 pub use tracked::Tracked;
-
-#[cfg(test)]
-mod tests;

@@ -9,8 +9,6 @@ mod rule;
 mod rules;
 mod table_1;
 mod table_2;
-#[cfg(test)]
-mod tests;
 
 pub use book::RuleBook;
 pub use classes::{Class, class_of, class_of_branch, class_of_operation};
