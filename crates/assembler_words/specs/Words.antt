@@ -1,14 +1,19 @@
--- What is counted: the sources that assemble to the bytes of their words.
+-- What is counted: the sources that assemble to the bytes of their words, are listed so, or are refused.
 use Rattle.std.specs.Prelude.{◌≡◌, ℕ, ◌==◌, ◌&&◌, Bool, false, List, [], ◌∷◌, Ok, Err}
 use Rattle.std.specs.Str.{bytes_eq}
 use Rattle.elf32_loader.specs.Pictures.{Picture}
 use Rattle.elf32_loader.specs.declared.segments.Segment.{Segment}
 use Rattle.rv32im_asm.specs.Assembling.{assembled, one_segment}
+use Rattle.rv32im_asm.specs.Listing.{listing}
 use Rattle.rv32im_asm.specs.declared.fault.AsmFault.{AsmFault}
 
 -- a source assembles to these bytes: they are the one segment, whose address is the entry
 abbrev pub IsAssembledTo : List ℕ → List ℕ → Type 0
 IsAssembledTo source bytes = assembled source ≡ Ok (one_segment bytes)
+
+-- a source assembles, and this is the listing of its image
+abbrev pub IsListed : List ℕ → List ℕ → Type 0
+IsListed source text = (picture : Picture) × (assembled source ≡ Ok picture) × (listing picture.segments ≡ text)
 
 -- a source is refused with a fault
 abbrev pub IsRefused : List ℕ → Type 0

@@ -1,9 +1,9 @@
 ghost use Rattle.std.specs.Prelude.{◌≡◌, ◌<◌, ◌^◌, ◌↔◌, IfSome, IsTrue, length};
-ghost use Rattle.assembler_words.specs.Words.{IsAssembledTo, IsRefused, has_bytes as shows};
+ghost use Rattle.assembler_words.specs.Words.{IsAssembledTo, IsListed, IsRefused, has_bytes as shows};
 ghost use Rattle.elf32_loader.specs.Images.{picture_of};
 
 use elf32_loader::Image;
-use rv32im_asm::{AsmFault, assemble};
+use rv32im_asm::{AsmFault, assemble, list};
 use std::alloc::Global;
 
 /// Where a program stands, and where it is entered.
@@ -31,6 +31,21 @@ pub fn assembles_to(alloc: Global, source: &[u8], bytes: &[u8]) -> Option<bool>
 {
     match assemble(alloc, source) {
         Ok(image) => Some(has_bytes(&image, bytes)),
+        Err(AsmFault::Memory) => None,
+        Err(_) => Some(false),
+    }
+}
+
+/// Whether a source assembles, and the listing of its image is this text; None where memory is short.
+pub fn is_listed_as(alloc: Global, source: &[u8], text: &[u8]) -> Option<bool>
+    requires { length source.now < 2 ^ 32 }
+    ensures { IfSome result (λ agreed. IsTrue agreed → IsListed source.now text.now) }
+{
+    match assemble(alloc, source) {
+        Ok(image) => {
+            let listing = list(alloc, &image).ok()?;
+            Some(listing.as_slice() == text)
+        }
         Err(AsmFault::Memory) => None,
         Err(_) => Some(false),
     }

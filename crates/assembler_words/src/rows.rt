@@ -1,6 +1,6 @@
 ghost use Rattle.std.specs.Prelude.{◌<◌, ◌^◌, IfSome, length};
 
-use crate::agreeing::{assembles_to, is_refused_with};
+use crate::agreeing::{assembles_to, is_listed_as, is_refused_with};
 use std::alloc::Global;
 
 /// The most bytes that a row may have.
@@ -32,11 +32,15 @@ fn bytes(alloc: Global, text: &str) -> Option<Vec<u8>> {
     Some(bytes)
 }
 
-/// Whether the source of a row `SOURCE -> WORD WORD ..` assembles to its words, or that of a row `SOURCE => FAULT` is
-/// refused with its fault; None where it is no such row or memory is short.
+/// Whether the source of a row `SOURCE -> WORD WORD ..` assembles to its words, that of a row `SOURCE == LISTING` is
+/// listed so, or that of a row `SOURCE => FAULT` is refused with its fault; None where it is no such row or memory is
+/// short.
 pub fn agrees(alloc: Global, row: &str) -> Option<bool> {
     if let Some((text, fault)) = row.split_once(" => ") {
         return is_refused_with(alloc, &source(alloc, text)?, fault);
+    }
+    if let Some((text, listing)) = row.split_once(" == ") {
+        return is_listed_as(alloc, &source(alloc, text)?, &source(alloc, listing)?);
     }
     let (text, words) = row.split_once(" -> ")?;
     assembles_to(alloc, &source(alloc, text)?, &bytes(alloc, words)?)
@@ -56,6 +60,8 @@ mod tests {
             ("j b => label-missing 1", Some(true)),
             ("j b => label-missing 2", Some(false)),
             ("nop => label-missing 1", Some(false)),
+            ("nop == 0x00010000 00000013 addi x0, x0, 0;", Some(true)),
+            ("nop == 0x00010000 00000013 nop;", Some(false)),
             ("nop", None),
             ("nop -> 0000001g", None),
         ] {
