@@ -13,3 +13,5 @@ pub mod OneLine
 pub mod Told
 pub mod Tellings
 pub mod Counted
+pub mod OneCommand
+pub mod Complete

@@ -22,3 +22,4 @@ pub mod Migrations
 pub mod Trials
 pub mod Replies
 pub mod Headline
+pub mod Completeness

@@ -1,8 +1,9 @@
-ghost use Rattle.std.specs.Prelude.{◌≡◌, ◌≢◌, ◌≤◌, ◌∷◌, [], ℕ, List as Seq, length, take, map, string_bytes};
+ghost use Rattle.std.specs.Prelude.{◌≡◌, ◌≢◌, ◌⊎◌, ◌≤◌, ◌∷◌, [], ℕ, List as Seq, length, take, map, string_bytes};
 ghost use Rattle.std.specs.Prelude.{option_map, IfOk, IsTrue};
 ghost use Rattle.flow_base.specs.Counts.{Rose};
 ghost use Rattle.flow_base.specs.Puts.{after_put};
-ghost use Rattle.flowcheck.specs.CommandLines.{Check, Checks, IsCommand, IsNoCommand};
+ghost use Rattle.flowcheck.specs.CommandLines.{Check, Checks, Command, IsCommand, IsNoCommand};
+ghost use Rattle.flowcheck.specs.Completeness.{AreLoaded, Completes};
 ghost use Rattle.flowcheck.specs.Headline.{Headline};
 ghost use Rattle.flowcheck.specs.Lines.{IsOneLine};
 ghost use Rattle.flowcheck.specs.Replies.{LeavesWords, LeavesWordsPart, Replies, Reply as WholeReply};
@@ -11,6 +12,7 @@ ghost use Rattle.flowcheck.specs.Statuses.{is_one_of, number_of};
 use crate::commands::answer_words;
 use crate::replies::{Reply, reply_of};
 use crate::statuses::Status;
+use enclosure_regions::region_files_are_one;
 use flow_base::{Files, NoMemory, Sink};
 use std::alloc::Global;
 use transfer_rules::RuleBook;
@@ -75,11 +77,15 @@ pub fn flowcheck<F: Files, K: Sink>(
     ensures headline { (check : Check) → IsCommand (map string_bytes words.items) (Checks check) → result ≤ 1 →
         (text : Seq ℕ) × Headline (F.told files.old) (map string_bytes words.items) result text
         × (K.told out.new ≡ option_map (after_put text) (K.told out.old)) }
+    ensures complete { (command : Command) (loaded : Seq (Seq ℕ)) → IsCommand (map string_bytes words.items) command
+        → AreLoaded (F.told files.old) command loaded → ¬ Rose (K.faults out.old) (K.faults out.new)
+        → (result ≡ 8) ⊎ Completes command loaded result }
     ensures failed_put { result ≡ 7 →
         (reply : WholeReply) × (count : ℕ) × Replies (F.told files.old) (map string_bytes words.items) reply
         × (count ≤ length reply.text)
         × (K.told out.new ≡ option_map (after_put (take count reply.text)) (K.told out.old)) }
 {
+    region_files_are_one();
     let Ok(reply) = reply_to(alloc, files, words.as_slice(), books) else {
         return Status::NoMemory.number();
     };

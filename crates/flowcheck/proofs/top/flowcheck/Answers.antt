@@ -1,6 +1,7 @@
-use Rattle.std.proofs.Common.{◌≡◌, ◌∙◌, ◌≤◌, ℕ, sym, subst, map, string_bytes, arith}
+use Rattle.std.proofs.Common.{◌≡◌, ◌∙◌, ◌≤◌, ℕ, inr, sym, subst, map, string_bytes, arith}
 use Rattle.flowcheck.specs.Replies.{Replies}
 use Rattle.flowcheck.specs.Statuses.{number_of}
+use Rattle.flowcheck.proofs.Complete.{complete_of}
 use Rattle.flowcheck.proofs.Headlines.{headline_of}
 use Rattle.flowcheck.proofs.top.flowcheck.Goals as goal
 
@@ -59,3 +60,13 @@ returns-in-Ok-put-clause-line g c = λ two. λ six. (
   c.in-Ok.ensures.line (subst (λ n. 2 ≤ n) c.number-in-Ok-put.ensures two),
   rw c.as_slice-2.ensures at c.in-Ok-put.ensures.puts,
 )
+
+pub returns-in-Ok-put-clause-complete : goal.returns-in-Ok-put-clause-complete
+returns-in-Ok-put-clause-complete g c = λ command. λ loaded. λ is. λ are. λ stays.
+    let replies = rw c.as_slice.ensures.value at c.in-Ok.ensures.reply in
+    let text = c.in-Ok.reply.text in
+    let laws = c.region_files_are_one.ensures in
+    inr (complete_of (record { one = laws.regions; none = laws.neither }) (g.F.Files.told c.args.files.now)
+    (map string_bytes c.args.words.items) loaded command c.number-in-Ok-put.result text is are
+    (subst (λ n. Replies (g.F.Files.told c.args.files.now) (map string_bytes c.args.words.items) (record { status = n; text = text }))
+    (sym c.number-in-Ok-put.ensures) replies))
