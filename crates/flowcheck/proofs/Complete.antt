@@ -21,6 +21,7 @@ use Rattle.flow_certificate.specs.declared.verdicts.CertVerdict.{CertVerdict}
 use Rattle.flow_certificate.specs.declared.verdicts.CertVerdict.TheVariants.{Verified, Rejected as RejectedBy}
 use Rattle.flow_certificate.specs.Certificates.{CertText, IsFormFault}
 use Rattle.flow_certificate.specs.Pictures.{picture_of as certificate_of}
+use Rattle.flow_certificate.specs.Verdicts.{IsVerified}
 use Rattle.flow_graph.specs.declared.graphs.Graph.{Graph}
 use Rattle.max_flow.specs.declared.answers.Solved.{Solved}
 use Rattle.lockstep_replay.specs.Tasks.{Task, Limits as CheckLimits, task_of}
@@ -42,7 +43,7 @@ use Rattle.flowcheck.specs.Assemblies.{AnswersSource, program_answer}
 use Rattle.flowcheck.specs.CheckFiles.{and_others}
 use Rattle.flowcheck.specs.Checks.{AnswersCheck, AnswersCut, AnswersOthers, AnswersProgram, AnswersRegions, AreRegions, IsRegionFault, judgements_of, limits_of}
 use Rattle.flowcheck.specs.CommandLines.{Check, Run, Command, Checks, Measures, Graphs, Reports, Assembles, Lists, Verifies, Migrates, Tries, IsChoice, IsCommand}
-use Rattle.flowcheck.specs.Completeness.{AreLoaded, IsCheckOf, HasAccepted, CompletesCheck, IsRunOf, HasNoCause, CompletesRun, CompletesFiles, Completes}
+use Rattle.flowcheck.specs.Completeness.{AreLoaded, IsCheckOf, HasAccepted, CompletesCheck, IsRunOf, CompletesRun, CompletesFiles, CompletesVerdict, Completes}
 use Rattle.flowcheck.specs.Listings.{AnswersListing}
 use Rattle.flowcheck.specs.Loading.{loaded_from}
 use Rattle.flowcheck.specs.Measurements.{AnswersRun, Runs, RunsProgram, RunsRegions, TellsCut, TellsGraph, TellsReport, start_of}
@@ -51,7 +52,8 @@ use Rattle.flowcheck.specs.Replies.{AnswersFiles, AnswersLoads, AnswersWords, Re
 use Rattle.flowcheck.specs.Statuses.{number_of}
 use Rattle.flowcheck.specs.Texts.{accepted_count}
 use Rattle.flowcheck.specs.Trials.{TellsTrial, trial_turns}
-use Rattle.flowcheck.specs.Verifications.{AnswersVerification, IsCertificate, verdict_reply}
+use Rattle.flowcheck.specs.Verifications.{AnswersVerification, IsCertificate, IsExactVerdict, verdict_reply}
+use Rattle.flowcheck.proofs.OneCertificate.{one_certificate}
 use Rattle.flowcheck.proofs.OneCommand.{one_command}
 
 -- the status that an answer is told with
@@ -302,9 +304,18 @@ decides (Some value) table is =
 
 -- ---- the other commands
 
-verdict-status : (verdict : CertVerdict) → status_of (Ok (verdict_reply verdict)) ≤ 1
-verdict-status (Verified value) = omega arith
-verdict-status (RejectedBy fault) = omega arith
+verdict-status : (graph : Graph) (solved : Solved) (verdict : CertVerdict) → IsExactVerdict graph solved verdict →
+    CompletesVerdict graph solved (status_of (Ok (verdict_reply verdict)))
+verdict-status graph solved (Verified value) is = record {
+  known = omega arith;
+  verified = λ zero. subst (λ v. IsVerified graph solved v) is.shows.named is.shows;
+  done = λ verified. refl;
+}
+verdict-status graph solved (RejectedBy fault) is = record {
+  known = omega arith;
+  verified = λ zero. absurd (omega (arith, zero));
+  done = λ verified. ap (λ v. status_of (Ok (verdict_reply v))) (is.verified verified);
+}
 
 no-form-fault : (file : List ℕ) (graph : Graph) (solved : Solved) (fault : FormFault) → IsCertificate file graph solved →
     IsFormFault file fault → (fault ≡ NoRoomForCertificate → ⊥) → ⊥
@@ -313,14 +324,19 @@ no-form-fault file graph solved (Line line) is first room =
 no-form-fault file graph solved NoRoomForCertificate is first room = room refl
 
 verified-status : (files : List (List ℕ)) (answer : Answer) (file : List ℕ) (graph : Graph) (solved : Solved) →
-    files ≡ file ∷ [] → IsCertificate file graph solved → AnswersVerification files answer → status_of answer ≤ 1
+    files ≡ file ∷ [] → IsCertificate file graph solved → AnswersVerification files answer →
+    CompletesVerdict graph solved (status_of answer)
 verified-status files answer file graph solved are is h =
     by (subst (λ all. AnswersVerification all answer) are h)
   where
-    by : AnswersVerification (file ∷ []) answer → status_of answer ≤ 1
+    by : AnswersVerification (file ∷ []) answer → CompletesVerdict graph solved (status_of answer)
     by (inl (fault, first, room, e)) = absurd (no-form-fault file graph solved fault is first room)
-    by (inr (other, found, verdict, text, shows, e)) =
-        subst (λ s. s ≤ 1) (ap status_of (sym e)) (verdict-status verdict)
+    by (inr (other, another, verdict, text, shows, e)) =
+        let same = one_certificate file other graph another solved text is in
+        let status : status_of (Ok (verdict_reply verdict)) ≡ status_of answer = ap status_of (sym e) in
+        subst (λ g. CompletesVerdict g solved (status_of answer)) same.graphs
+        (subst (λ s. CompletesVerdict other s (status_of answer)) same.solutions
+        (subst (λ s. CompletesVerdict other another s) status (verdict-status other another verdict shows)))
 
 assembled-status : (files : List (List ℕ)) (answer : Answer) (file : List ℕ) (picture : Picture) →
     files ≡ file ∷ [] → assembled file ≡ Ok picture → AnswersSource files answer → status_of answer ≡ 0

@@ -14,4 +14,5 @@ pub mod Told
 pub mod Tellings
 pub mod Counted
 pub mod OneCommand
+pub mod OneCertificate
 pub mod Complete

@@ -4,6 +4,7 @@ use Rattle.std.specs.Prelude.{◌≡◌, ◌⊎◌, ℕ, ◌≤◌, List, [], �
 use Rattle.std.specs.List.{AllByRecursion}
 use Rattle.flow_base.specs.declared.outputs.Output.{Output}
 use Rattle.flow_base.specs.Loads.{Told}
+use Rattle.flow_certificate.specs.Verdicts.{IsVerified}
 use Rattle.flow_graph.specs.declared.graphs.Graph.{Graph}
 use Rattle.max_flow.specs.declared.answers.Solved.{Solved}
 use Rattle.elf32_loader.specs.Pictures.{Picture}
@@ -95,8 +96,14 @@ CompletesFiles run files status =
 
 -- ---- every command
 
--- By the files that a command wants, where they are well formed. The verdict on a certificate is 0 or 1, and a source
--- that is assembled, a program that is listed and a cut that is migrated are done.
+-- 0 exactly where the certificate shows a maximum flow, and else 1
+pub record CompletesVerdict (graph : Graph) (solved : Solved) (status : ℕ) : Type 0 where
+  pub known : status ≤ 1
+  pub verified : status ≡ 0 → IsVerified graph solved solved.value
+  pub done : IsVerified graph solved solved.value → status ≡ 0
+
+-- By the files that a command wants, where they are well formed. A source that is assembled, a program that is listed
+-- and a cut that is migrated are done.
 abbrev pub Completes : Command → List (List ℕ) → ℕ → Type 0
 Completes (Checks check) files status =
     (task : Task) (secrets : List (List ℕ)) → IsCheckOf check files task secrets
@@ -108,7 +115,7 @@ Completes (Tries number) files status =
     CompletesRun 1 [] (start_of (picture_of_number number) [] (secret_of number)) trial_turns status
 Completes (Verifies certificate) files status =
     (file : List ℕ) (graph : Graph) (solved : Solved) → files ≡ file ∷ [] → IsCertificate file graph solved
-    → status ≤ 1
+    → CompletesVerdict graph solved status
 Completes (Assembles source) files status =
     (file : List ℕ) (picture : Picture) → files ≡ file ∷ [] → assembled file ≡ Ok picture → status ≡ 0
 Completes (Lists program) files status =

@@ -9,7 +9,7 @@ use Rattle.flow_certificate.specs.declared.verdicts.CertVerdict.TheVariants as v
 use Rattle.flow_certificate.specs.Certificates.{CertText, IsFormFault}
 use Rattle.flow_certificate.specs.Pictures.{have_counts, picture_of}
 use Rattle.flow_certificate.specs.VerdictTexts.{verdict_text}
-use Rattle.flow_certificate.specs.Verdicts.{IsVerdict}
+use Rattle.flow_certificate.specs.Verdicts.{IsVerdict, IsVerified}
 use Rattle.flowcheck.specs.declared.kinds.FileKind.TheVariants as kinds
 use Rattle.flowcheck.specs.declared.refusals.Refusal.TheVariants.{Certificate}
 use Rattle.flowcheck.specs.declared.replies.Reply.{Reply}
@@ -36,13 +36,18 @@ pub record IsCertificate (file : List ℕ) (graph : Graph) (solved : Solved) : T
   pub text : CertText file (picture_of graph solved)
   pub counts : have_counts graph solved ≡ true
 
+-- a verdict on a certificate, which is that it is verified exactly where it is
+pub record IsExactVerdict (graph : Graph) (solved : Solved) (verdict : CertVerdict) : Type 0 where
+  pub shows : IsVerdict graph solved verdict
+  pub verified : IsVerified graph solved solved.value → verdict ≡ verdicts.Verified solved.value
+
 -- the first line of the file that fails, or the verdict on the certificate of which it is the text
 abbrev pub AnswersVerified : List ℕ → Answer → Type 0
 AnswersVerified file answer =
     ((fault : FormFault) × IsFormFault file fault × (fault ≢ NoRoomForCertificate)
     × (answer ≡ Err (Certificate fault)))
     ⊎ ((graph : Graph) × (solved : Solved) × (verdict : CertVerdict) × IsCertificate file graph solved
-    × IsVerdict graph solved verdict × (answer ≡ Ok (verdict_reply verdict)))
+    × IsExactVerdict graph solved verdict × (answer ≡ Ok (verdict_reply verdict)))
 
 abbrev pub AnswersVerification : List (List ℕ) → Answer → Type 0
 AnswersVerification [] answer = ⊥

@@ -23,6 +23,6 @@ returns-clause-answers c = λ known.
       certificate.solved,
       c.verify.result,
       record { text = rw c.as_slice.ensures at c.in_ok-certificate.ensures.text; counts = counts },
-      c.verify.ensures.verdict,
+      record { shows = c.verify.ensures.verdict; verified = c.verify.ensures.verified },
       ap (λ r. Ok r) c.in_ok-reply.ensures,
     )
