@@ -57,7 +57,7 @@ use Rattle.flowcheck.proofs.OneCertificate.{one_certificate}
 use Rattle.flowcheck.proofs.OneCommand.{one_command}
 
 -- the status that an answer is told with
-abbrev status_of : Answer → ℕ
+abbrev pub status_of : Answer → ℕ
 status_of answer = number_of (told answer).status
 
 -- ---- region files
@@ -67,12 +67,12 @@ pub record RegionLaws : Type 0 where
   pub one : FilesAreOne
   pub none : SpelledHaveNoFault
 
-same-regions : RegionLaws → (file : Option (List ℕ)) (first second : List Region) → AreRegions file first →
+pub same-regions : RegionLaws → (file : Option (List ℕ)) (first second : List Region) → AreRegions file first →
     AreRegions file second → first ≡ second
 same-regions laws None first second one other = one ∙ sym other
 same-regions laws (Some file) first second one other = laws.one file first second one other
 
-no-region-fault : RegionLaws → (file : Option (List ℕ)) (regions : List Region) (fault : RegionFault) →
+pub no-region-fault : RegionLaws → (file : Option (List ℕ)) (regions : List Region) (fault : RegionFault) →
     AreRegions file regions → IsRegionFault file fault → ⊥
 no-region-fault laws None regions fault are is = is
 no-region-fault laws (Some file) regions fault are is = laws.none file regions fault are is.0
@@ -202,19 +202,19 @@ check-status laws check files answer task secrets is h =
 -- ---- a measured run
 
 -- what is told of a measured run is told with status 0
-abbrev TellsDone : (Measured → Answer → Type 0) → Type 0
+abbrev pub TellsDone : (Measured → Answer → Type 0) → Type 0
 TellsDone Tells = (measured : Measured) (answer : Answer) → Tells measured answer → status_of answer ≡ 0
 
-cut-done : (version : ℕ) → TellsDone (TellsCut version)
+pub cut-done : (version : ℕ) → TellsDone (TellsCut version)
 cut-done version measured answer (text, is, e) = ap status_of e
 
-report-done : (json : Bool) → TellsDone (TellsReport json)
+pub report-done : (json : Bool) → TellsDone (TellsReport json)
 report-done json measured answer e = ap status_of e
 
-graph-done : TellsDone TellsGraph
+pub graph-done : TellsDone TellsGraph
 graph-done measured answer (text, is, e) = ap status_of e
 
-trial-done : (number : ℕ) → TellsDone (TellsTrial number)
+pub trial-done : (number : ℕ) → TellsDone (TellsTrial number)
 trial-done number measured answer e = ap status_of e
 
 runs-status : (Tells : Measured → Answer → Type 0) → TellsDone Tells → (table : ℕ) (public_input secret : List ℕ)
@@ -264,14 +264,14 @@ runs-program-status laws Tells done table program_file public_input region_file 
     (subst (λ p. RunsRegions Tells table public_input secret turns region_file p answer) same rest)
 
 -- the files of a run are these, each by what it is for
-record SameFiles (program other_program public_input other_public secret other_secret : List ℕ)
+pub record SameFiles (program other_program public_input other_public secret other_secret : List ℕ)
     (region_file other_file : Option (List ℕ)) : Type 0 where
-  program_same : program ≡ other_program
-  public_same : public_input ≡ other_public
-  secret_same : secret ≡ other_secret
-  region_same : region_file ≡ other_file
+  pub program_same : program ≡ other_program
+  pub public_same : public_input ≡ other_public
+  pub secret_same : secret ≡ other_secret
+  pub region_same : region_file ≡ other_file
 
-same-files : (p q u v s t : List ℕ) (a b : Option (List ℕ)) → is_some a ≡ is_some b →
+pub same-files : (p q u v s t : List ℕ) (a b : Option (List ℕ)) → is_some a ≡ is_some b →
     p ∷ u ∷ and_others a (s ∷ []) ≡ q ∷ v ∷ and_others b (t ∷ []) → SameFiles p q u v s t a b
 same-files p q u v s t None None e are =
     record { program_same = cc; public_same = cc; secret_same = cc; region_same = refl }
@@ -296,7 +296,7 @@ run-status laws Tells done run files answer deciding h picture public_input regi
     runs-program-status laws Tells done run.table is.program_file public_input is.region_file secret run.turns answer
     picture regions deciding is.image is.are_regions here
 
-decides : (value : Option (List ℕ)) (table : ℕ) → IsChoice value table → IsDeciding table
+pub decides : (value : Option (List ℕ)) (table : ℕ) → IsChoice value table → IsDeciding table
 decides None table is = inl is
 decides (Some value) table is =
     ⊎_elim (λ (more : 1 < table). inr (omega (arith, more, is.2))) (λ (few : table ≤ 1). inl (omega (arith, few, is.1)))
@@ -317,13 +317,13 @@ verdict-status graph solved (RejectedBy fault) is = record {
   done = λ verified. ap (λ v. status_of (Ok (verdict_reply v))) (is.verified verified);
 }
 
-no-form-fault : (file : List ℕ) (graph : Graph) (solved : Solved) (fault : FormFault) → IsCertificate file graph solved →
+pub no-form-fault : (file : List ℕ) (graph : Graph) (solved : Solved) (fault : FormFault) → IsCertificate file graph solved →
     IsFormFault file fault → (fault ≡ NoRoomForCertificate → ⊥) → ⊥
 no-form-fault file graph solved (Line line) is first room =
     first.no_text (certificate_of graph solved) is.text
 no-form-fault file graph solved NoRoomForCertificate is first room = room refl
 
-verified-status : (files : List (List ℕ)) (answer : Answer) (file : List ℕ) (graph : Graph) (solved : Solved) →
+pub verified-status : (files : List (List ℕ)) (answer : Answer) (file : List ℕ) (graph : Graph) (solved : Solved) →
     files ≡ file ∷ [] → IsCertificate file graph solved → AnswersVerification files answer →
     CompletesVerdict graph solved (status_of answer)
 verified-status files answer file graph solved are is h =

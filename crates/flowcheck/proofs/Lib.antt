@@ -16,3 +16,4 @@ pub mod Counted
 pub mod OneCommand
 pub mod OneCertificate
 pub mod Complete
+pub mod OneStatus

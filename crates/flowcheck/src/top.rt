@@ -1,4 +1,5 @@
 ghost use Rattle.std.specs.Prelude.{◌≡◌, ◌≢◌, ◌⊎◌, ◌≤◌, ◌∷◌, [], ℕ, List as Seq, length, take, map, string_bytes};
+ghost use Rattle.std.specs.Prelude.{is_some, true};
 ghost use Rattle.std.specs.Prelude.{option_map, IfOk, IsTrue};
 ghost use Rattle.flow_base.specs.Counts.{Rose};
 ghost use Rattle.flow_base.specs.Puts.{after_put};
@@ -77,6 +78,9 @@ pub fn flowcheck<F: Files, K: Sink>(
     ensures headline { (check : Check) → IsCommand (map string_bytes words.items) (Checks check) → result ≤ 1 →
         (text : Seq ℕ) × Headline (F.told files.old) (map string_bytes words.items) result text
         × (K.told out.new ≡ option_map (after_put text) (K.told out.old)) }
+    ensures only { (reply : WholeReply) → is_some (F.told files.old) ≡ true
+        → Replies (F.told files.old) (map string_bytes words.items) reply → result ≢ 7 → result ≢ 8
+        → result ≡ reply.status }
     ensures complete { (command : Command) (loaded : Seq (Seq ℕ)) → IsCommand (map string_bytes words.items) command
         → AreLoaded (F.told files.old) command loaded → ¬ Rose (K.faults out.old) (K.faults out.new)
         → (result ≡ 8) ⊎ Completes command loaded result }

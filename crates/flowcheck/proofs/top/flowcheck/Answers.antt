@@ -3,6 +3,7 @@ use Rattle.flowcheck.specs.Replies.{Replies}
 use Rattle.flowcheck.specs.Statuses.{number_of}
 use Rattle.flowcheck.proofs.Complete.{complete_of}
 use Rattle.flowcheck.proofs.Headlines.{headline_of}
+use Rattle.flowcheck.proofs.OneStatus.{one_status}
 use Rattle.flowcheck.proofs.top.flowcheck.Goals as goal
 
 not-eight : (n m : ℕ) → n ≡ m → m ≤ 6 → n ≡ 8 → ⊥
@@ -70,3 +71,13 @@ returns-in-Ok-put-clause-complete g c = λ command. λ loaded. λ is. λ are. λ
     (map string_bytes c.args.words.items) loaded command c.number-in-Ok-put.result text is are
     (subst (λ n. Replies (g.F.Files.told c.args.files.now) (map string_bytes c.args.words.items) (record { status = n; text = text }))
     (sym c.number-in-Ok-put.ensures) replies))
+
+pub returns-in-Ok-put-clause-only : goal.returns-in-Ok-put-clause-only
+returns-in-Ok-put-clause-only g c = λ reply. λ tells. λ other. λ seven. λ eight.
+    let replies = rw c.as_slice.ensures.value at c.in-Ok.ensures.reply in
+    let text = c.in-Ok.reply.text in
+    let laws = c.region_files_are_one.ensures in
+    one_status (record { one = laws.regions; none = laws.neither }) (g.F.Files.told c.args.files.now)
+    (map string_bytes c.args.words.items) c.number-in-Ok-put.result text reply tells
+    (subst (λ n. Replies (g.F.Files.told c.args.files.now) (map string_bytes c.args.words.items) (record { status = n; text = text }))
+    (sym c.number-in-Ok-put.ensures) replies) other
