@@ -1,6 +1,6 @@
 -- Which status a command has where its files are loaded and well formed: a file has one reading and no fault beside it,
 -- and a run that is measured has no cause to be refused.
-use Rattle.std.proofs.Common.{◌≡◌, ◌⊎◌, ◌≤◌, ◌<◌, ◌+◌, ◌∙◌, ◌==◌, inl, inr, ℕ, List, [], ◌∷◌, length, Bool, true, false, Option, Some, None, is_some, Result, Ok, Err, refl, sym, ap, subst, arith, ⊎_elim, if◌then◌else◌}
+use Rattle.std.proofs.Common.{◌≡◌, ◌≤◌, ◌<◌, ◌∙◌, ◌==◌, inl, inr, ℕ, List, [], ◌∷◌, length, Bool, true, false, Option, Some, None, is_some, Result, Ok, refl, sym, ap, subst, arith, ⊎_elim, if◌then◌else◌}
 use Rattle.std.proofs.lemmas.Bool.{cases_lt, false≢true}
 use Rattle.std.proofs.lemmas.Bool.Decides.{nat_tests}
 use Rattle.std.specs.List.{AllByRecursion}
@@ -19,7 +19,7 @@ use Rattle.flow_certificate.specs.declared.faults.FormFault.{FormFault}
 use Rattle.flow_certificate.specs.declared.faults.FormFault.TheVariants.{Line, Memory as NoRoomForCertificate}
 use Rattle.flow_certificate.specs.declared.verdicts.CertVerdict.{CertVerdict}
 use Rattle.flow_certificate.specs.declared.verdicts.CertVerdict.TheVariants.{Verified, Rejected as RejectedBy}
-use Rattle.flow_certificate.specs.Certificates.{CertText, IsFormFault}
+use Rattle.flow_certificate.specs.Certificates.{IsFormFault}
 use Rattle.flow_certificate.specs.Pictures.{picture_of as certificate_of}
 use Rattle.flow_certificate.specs.Verdicts.{IsVerified}
 use Rattle.flow_graph.specs.declared.graphs.Graph.{Graph}
@@ -31,7 +31,6 @@ use Rattle.lockstep_replay.proofs.Judging.{rejected_law}
 use Rattle.measuring.specs.declared.measured.Measured.{Measured}
 use Rattle.measuring.specs.Deciding.{IsDeciding}
 use Rattle.measuring.proofs.Excluded.{measured_have_no_cause}
-use Rattle.rv32im_asm.specs.declared.fault.AsmFault.{AsmFault}
 use Rattle.rv32im_asm.specs.Assembling.{assembled}
 use Rattle.trial_guests.specs.Programs.{picture_of_number}
 use Rattle.trial_guests.specs.Secrets.{secret_of}
@@ -43,7 +42,7 @@ use Rattle.flowcheck.specs.Assemblies.{AnswersSource, program_answer}
 use Rattle.flowcheck.specs.CheckFiles.{and_others}
 use Rattle.flowcheck.specs.Checks.{AnswersCheck, AnswersCut, AnswersOthers, AnswersProgram, AnswersRegions, AreRegions, IsRegionFault, judgements_of, limits_of}
 use Rattle.flowcheck.specs.CommandLines.{Check, Run, Command, Checks, Measures, Graphs, Reports, Assembles, Lists, Verifies, Migrates, Tries, IsChoice, IsCommand}
-use Rattle.flowcheck.specs.Completeness.{AreLoaded, IsCheckOf, HasAccepted, CompletesCheck, IsRunOf, CompletesRun, CompletesFiles, CompletesVerdict, Completes}
+use Rattle.flowcheck.specs.Completeness.{AreLoaded, IsCheckOf, HasAccepted, CompletesCheck, CompletesRun, CompletesFiles, CompletesVerdict, Completes}
 use Rattle.flowcheck.specs.Listings.{AnswersListing}
 use Rattle.flowcheck.specs.Loading.{loaded_from}
 use Rattle.flowcheck.specs.Measurements.{AnswersRun, Runs, RunsProgram, RunsRegions, TellsCut, TellsGraph, TellsReport, start_of}
@@ -191,7 +190,7 @@ check-status : RegionLaws → (check : Check) (files : List (List ℕ)) (answer 
     CompletesCheck task (limits_of check.limits) secrets (status_of answer)
 check-status laws check files answer task secrets is h =
     let here : AnswersOthers check.limits is.program_file is.public_input is.cut_file check.region_file
-        (and_others is.region_file secrets) answer =
+    (and_others is.region_file secrets) answer =
     subst (λ all. AnswersCheck check all answer) is.are h in
     subst (λ t. CompletesCheck t (limits_of check.limits) secrets (status_of answer)) (sym is.task_is)
     (program-status laws check.limits is.program_file is.public_input is.cut_file is.region_file secrets answer

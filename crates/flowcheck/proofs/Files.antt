@@ -1,13 +1,10 @@
 -- The answers to files, from those to each of them.
-use Rattle.std.proofs.Common.{◌≡◌, ◌≤◌, ◌∙◌, ℕ, List, [], ◌∷◌, length, get_or, Option, Some, None, is_some, option_map, refl, sym, subst, arith}
+use Rattle.std.proofs.Common.{◌≡◌, ℕ, List, [], ◌∷◌, length, get_or, Option, Some, None, is_some, option_map, refl, sym, subst}
 use Rattle.flowcheck.specs.declared.limits.Limits.{Limits}
 use Rattle.flowcheck.specs.Answers.{Answer}
-use Rattle.flowcheck.specs.Assemblies.{AnswersSource, program_answer}
 use Rattle.flowcheck.specs.CheckFiles.{and_others}
 use Rattle.flowcheck.specs.Checks.{AnswersCheck, AnswersOthers, AnswersProgram}
 use Rattle.flowcheck.specs.CommandLines.{Check}
-use Rattle.flowcheck.specs.Listings.{AnswersListed, AnswersListing}
-use Rattle.rv32im_asm.specs.Assembling.{assembled}
 
 pub one_file : (files : List (List ℕ)) (file : List ℕ) → length files ≡ 1 → file ≡ get_or files 0 file → files ≡ file ∷ []
 one_file [] file e is = absurd cc

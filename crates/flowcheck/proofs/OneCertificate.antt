@@ -1,14 +1,12 @@
 -- A certificate file is of one graph, one flow and one side, and its verdict has one status.
-use Rattle.std.proofs.Common.{◌≡◌, ◌∙◌, ◌<◌, ◌^◌, ℕ, List, [], ◌∷◌, Bool, true, IsTrue, length, map, refl, sym, ap, subst, arith}
+use Rattle.std.proofs.Common.{◌≡◌, ◌∙◌, ℕ, List, [], ◌∷◌, Bool, true, IsTrue, length, map, refl, sym, ap, subst, arith}
 use Rattle.std.proofs.lemmas.Bool.Decides.{nat_tests}
 use mathlib.Core.Bool.{Bool-set}
 use Rattle.flow_graph.specs.declared.ends.Arc.{Arc}
 use Rattle.flow_graph.specs.declared.graphs.Graph.{Graph}
 use Rattle.flow_graph.specs.declared.nodes.Node.{Node}
 use Rattle.flow_graph.specs.Graphs.{are_arcs, are_links, are_points, are_relays}
-use Rattle.max_flow.specs.declared.answers.Flow.{Flow}
 use Rattle.max_flow.specs.declared.answers.Half.{Half}
-use Rattle.max_flow.specs.declared.answers.Side.{Side}
 use Rattle.max_flow.specs.declared.answers.Solved.{Solved}
 use Rattle.flow_certificate.specs.Certificates.{Picture, arc_of, node_of, region_of}
 use Rattle.flow_certificate.specs.Pictures.{flow_at_link, flow_at_point, half_at, have_counts, inside_at, link_lines, picture_of, point_lines, relay_lines}

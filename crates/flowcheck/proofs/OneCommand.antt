@@ -1,5 +1,5 @@
 -- Words are one command line at most: its kind is by their name, and its fields by the words behind it.
-use Rattle.std.proofs.Common.{◌≡◌, ◌∙◌, ◌≤◌, ℕ, List, [], ◌∷◌, Bool, Option, Some, None, codes, sym, ap, subst, refl, arith}
+use Rattle.std.proofs.Common.{◌≡◌, ◌∙◌, ℕ, List, [], ◌∷◌, Bool, Option, Some, None, codes, sym, ap, subst, refl, arith}
 use Rattle.std.proofs.Common.{if◌then◌else◌}
 use Rattle.std.proofs.lemmas.Fmt.{decimal_injective}
 use Rattle.std.specs.Fmt.{decimal}
@@ -36,8 +36,8 @@ made-check program public_input cut region_file secrets budget turns = record {
 same-check : (parts : Parts) (a b : Check) → IsCheck parts a → IsCheck parts b → a ≡ b
 same-check parts a b one other =
     let plain :
-        a.program ∷ a.public_input ∷ a.cut ∷ decimal a.limits.budget ∷ a.secrets
-        ≡ b.program ∷ b.public_input ∷ b.cut ∷ decimal b.limits.budget ∷ b.secrets =
+    a.program ∷ a.public_input ∷ a.cut ∷ decimal a.limits.budget ∷ a.secrets
+    ≡ b.program ∷ b.public_input ∷ b.cut ∷ decimal b.limits.budget ∷ b.secrets =
     sym one.plain ∙ other.plain in
     let program : a.program ≡ b.program = cc in
     let public_input : a.public_input ≡ b.public_input = cc in

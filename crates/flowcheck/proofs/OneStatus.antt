@@ -1,5 +1,5 @@
 -- Words and what a source tells have one status: so each status comes exactly where the reply has it.
-use Rattle.std.proofs.Common.{◌≡◌, ◌≤◌, ◌<◌, ◌∙◌, inl, inr, ℕ, zero, suc, List, [], ◌∷◌, length, true, Option, Some, None, is_some, Result, Ok, Err, refl, sym, ap, subst, arith}
+use Rattle.std.proofs.Common.{◌≡◌, ◌≤◌, ◌∙◌, inl, inr, ℕ, zero, suc, List, [], ◌∷◌, length, true, Option, Some, None, is_some, Result, Ok, Err, refl, sym, ap, subst, arith}
 use Rattle.std.proofs.lemmas.Bool.{false≢true}
 use Rattle.flow_base.specs.Loads.{Told}
 use Rattle.elf32_loader.specs.Pictures.{Picture}
@@ -159,7 +159,7 @@ run-one laws Tells done run files first second deciding one other =
     let same = same-files one.program_file other.program_file one.public_input other.public_input one.secret
     other.secret one.region_file other.region_file (one.named ∙ sym other.named) (sym one.are ∙ other.are) in
     let here : RunsProgram Tells run.table other.program_file other.public_input other.region_file other.secret
-        run.turns first =
+    run.turns first =
     subst (λ p. RunsProgram Tells run.table p other.public_input other.region_file other.secret run.turns first)
     same.program_same
     (subst (λ u. RunsProgram Tells run.table one.program_file u other.region_file other.secret run.turns first)

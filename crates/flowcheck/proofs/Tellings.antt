@@ -1,5 +1,5 @@
 -- What is measured of a run, and what is told of it.
-use Rattle.std.proofs.Common.{◌≡◌, ◌∙◌, ◌*◌, ◌≤◌, inl, inr, length, subst, sym, ℕ, List, Option, Result, Ok, Err}
+use Rattle.std.proofs.Common.{◌≡◌, ◌*◌, ◌≤◌, inl, inr, length, subst, ℕ, List, Option, Result, Ok, Err}
 use Rattle.elf32_loader.specs.Pictures.{Picture}
 use Rattle.enclosure_regions.specs.declared.region_parts.Region.{Region}
 use Rattle.measuring.specs.Accepting.{IsAcceptedByItsCut}

@@ -1,5 +1,5 @@
 -- What a command is answered by: a reply, or a refusal, which is told by one line.
-use Rattle.std.specs.Prelude.{ℕ, List, ◌++◌, codes, Result, Ok, Err}
+use Rattle.std.specs.Prelude.{◌++◌, codes, Result, Ok, Err}
 use Rattle.flowcheck.specs.declared.refusals.Refusal.{Refusal}
 use Rattle.flowcheck.specs.declared.replies.Reply.{Reply}
 use Rattle.flowcheck.specs.Refusals.{refusal_status, refusal_text}

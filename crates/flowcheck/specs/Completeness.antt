@@ -1,6 +1,6 @@
 -- What a command answers where its words are a command line, its files are loaded and well formed, and the put does not
 -- fail: which of its statuses, both ways.
-use Rattle.std.specs.Prelude.{◌≡◌, ◌⊎◌, ℕ, ◌≤◌, List, [], ◌∷◌, Option, None, Some, is_some, Result, Ok}
+use Rattle.std.specs.Prelude.{◌≡◌, ◌⊎◌, ℕ, ◌≤◌, List, [], ◌∷◌, Option, None, Some, is_some, Ok}
 use Rattle.std.specs.List.{AllByRecursion}
 use Rattle.flow_base.specs.declared.outputs.Output.{Output}
 use Rattle.flow_base.specs.Loads.{Told}

@@ -4,7 +4,6 @@ use Rattle.flow_base.specs.declared.loading.LoadFault.{LoadFault}
 use Rattle.flow_base.specs.declared.loading.LoadFault.TheVariants as faults
 use Rattle.flow_base.specs.Loads.{Told, after_load, next_answer}
 use Rattle.flowcheck.specs.declared.kinds.FileKind.{FileKind}
-use Rattle.flowcheck.specs.declared.kinds.FileKind.TheVariants.{Program, PublicInput, Cut, Regions, Secret, Source}
 use Rattle.flowcheck.specs.declared.refusals.Refusal.{Refusal}
 use Rattle.flowcheck.specs.declared.refusals.Refusal.TheVariants.{Load, TooLarge, Memory}
 use Rattle.flowcheck.specs.FileLimits.{limit_of}

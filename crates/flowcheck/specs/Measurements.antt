@@ -26,7 +26,6 @@ use Rattle.run_labels.specs.Runs.{LabelledRun, unlabelled}
 use Rattle.flowcheck.specs.declared.kinds.FileKind.TheVariants as kinds
 use Rattle.flowcheck.specs.declared.refusals.Refusal.{Refusal}
 use Rattle.flowcheck.specs.declared.refusals.Refusal.TheVariants.{Program, Regions, Run as RunRefused}
-use Rattle.flowcheck.specs.declared.replies.Reply.{Reply}
 use Rattle.flowcheck.specs.declared.statuses.Status.TheVariants.{Done}
 use Rattle.flowcheck.specs.Answers.{Answer}
 use Rattle.flowcheck.specs.CheckFiles.{and_others}

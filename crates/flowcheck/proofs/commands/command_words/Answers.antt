@@ -1,8 +1,7 @@
-use Rattle.std.proofs.Common.{◌≡◌, ◌∷◌, ◌-◌, Some, IfSome, arith, length, map, take, drop, option_map, string_bytes}
+use Rattle.std.proofs.Common.{◌≡◌, ◌∷◌, ◌-◌, Some, arith, length, map, take, drop, string_bytes}
 use Rattle.std.proofs.lemmas.Grind.{common_steps}
 use Rattle.std.proofs.lemmas.Result.{IfOk-weaker}
 use Rattle.flowcheck.specs.Parts.{parts_of}
-use Rattle.flowcheck.specs.CommandLines.{IsRow, IsCommand}
 use Rattle.flowcheck.specs.Words.{command_of, parts_in}
 use Rattle.flowcheck.proofs.Lists.{one-mapped}
 use Rattle.flowcheck.proofs.Rows.{row_command, if_some}

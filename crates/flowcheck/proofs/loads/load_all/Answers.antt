@@ -1,13 +1,10 @@
-use Rattle.std.proofs.Common.{◌≡◌, ◌≢◌, ◌++◌, ◌∷◌, [], ◌+◌, ◌<◌, ap, sym, ◌∙◌, Ok, Err, Result, ℕ, List, arith, subst, get_or, length, map, take, drop, option_map, take_all}
+use Rattle.std.proofs.Common.{◌≡◌, ◌≢◌, [], ◌+◌, ap, ◌∙◌, Err, arith, get_or, map, take, drop, take_all}
 use Rattle.std.proofs.lemmas.Grind.{common_steps}
-use Rattle.flow_base.specs.Loads.{after_load}
 use Rattle.flowcheck.specs.declared.kinds.FileKind.TheVariants.{Program}
 use Rattle.flowcheck.specs.declared.loads.Want.{Want}
-use Rattle.flowcheck.specs.declared.refusals.Refusal.{Refusal}
 use Rattle.flowcheck.specs.declared.refusals.Refusal.TheVariants.{Memory}
-use Rattle.flowcheck.specs.Loading.{AreWithin, Leaves, LeavesPart, Loads}
 use Rattle.flowcheck.specs.Words.{want_of}
-use Rattle.flowcheck.proofs.LoadSteps.{Gave, gave-none, gave-more, refused-loads, part-loads, all-loads, all-part, within-more, refusal-among, wants-around, wants-up-to}
+use Rattle.flowcheck.proofs.LoadSteps.{gave-more, refused-loads, part-loads, all-loads, all-part, within-more, refusal-among, wants-around, wants-up-to}
 use Rattle.flowcheck.proofs.loads.load_all.Goals as goal
 
 -- where an item is looked up outside of a list

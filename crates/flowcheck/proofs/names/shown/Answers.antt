@@ -1,8 +1,8 @@
-use Rattle.std.proofs.Common.{◌≡◌, ◌++◌, ◌<◌, ◌-◌, true, false, length, get_or, take, drop, rules, arith, ap, sym, ◌∙◌}
+use Rattle.std.proofs.Common.{◌≡◌, ◌++◌, ◌<◌, true, false, length, get_or, arith, ap}
 use Rattle.std.proofs.lemmas.Grind.{common_steps}
-use Rattle.std.proofs.lemmas.Str.{IsCharBoundary-start, IsCharBoundary-after_ascii, IsCharBoundary-before_ascii}
+use Rattle.std.proofs.lemmas.Str.{IsCharBoundary-start, IsCharBoundary-after_ascii}
 use Rattle.flowcheck.specs.Names.{is_control, shown}
-use Rattle.flowcheck.proofs.Shown.{control-ascii, keep_byte, spell_byte, shown-end}
+use Rattle.flowcheck.proofs.Shown.{control-ascii, keep_byte, spell_byte}
 use Rattle.flowcheck.proofs.names.shown.Goals as goal
 use Rattle.flowcheck.proofs.names.shown.Goals.{then-is_control+in_ok-push_str+in_ok-push_escape, else-is_control}
 

@@ -1,4 +1,4 @@
-use Rattle.std.proofs.Common.{◌≡◌, ◌∙◌, sym}
+use Rattle.std.proofs.Common.{◌∙◌, sym}
 use Rattle.flowcheck.specs.Words.{run_of}
 use Rattle.flowcheck.proofs.Files.{is_some-mapped}
 use Rattle.flowcheck.proofs.runs.files_of_run.Goals as goal

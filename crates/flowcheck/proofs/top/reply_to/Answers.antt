@@ -1,4 +1,4 @@
-use Rattle.std.proofs.Common.{◌≡◌, ap, map, string_bytes}
+use Rattle.std.proofs.Common.{map, string_bytes}
 use Rattle.std.proofs.lemmas.Result.{IfOk-weaker}
 use Rattle.flowcheck.proofs.Told.{usage_words, words_usage, load_cause, low_status, one_line, reply_shown}
 use Rattle.flowcheck.proofs.top.reply_to.Goals as goal

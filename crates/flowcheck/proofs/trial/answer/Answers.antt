@@ -5,7 +5,7 @@ use Rattle.trial_guests.specs.Programs.{picture_of_number}
 use Rattle.trial_guests.specs.Secrets.{secret_of}
 use Rattle.flowcheck.specs.declared.refusals.Refusal.TheVariants.{Memory}
 use Rattle.flowcheck.specs.Measurements.{done_by}
-use Rattle.flowcheck.specs.Trials.{TellsTrial, crossing_count, trial_line, trial_turns}
+use Rattle.flowcheck.specs.Trials.{TellsTrial, trial_line, trial_turns}
 use Rattle.flowcheck.proofs.Tellings.{not_measured, own_cut, refusal_of, refused_on, runs, runs_as, told_of}
 use Rattle.flowcheck.proofs.trial.answer.Goals as goal
 

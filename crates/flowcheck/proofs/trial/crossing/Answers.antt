@@ -1,11 +1,9 @@
-use Rattle.std.proofs.Common.{◌≡◌, ◌∙◌, ◌≤◌, ℕ, List, [], length, subst, sym}
+use Rattle.std.proofs.Common.{◌≡◌, ◌∙◌, ℕ, List, [], length, subst, sym}
 use Rattle.cut_file.specs.Pictures.{picture_of as cut_of}
 use Rattle.elf32_loader.specs.Images.{picture_of}
 use Rattle.elf32_loader.specs.Pictures.{Picture}
 use Rattle.lockstep_replay.specs.Acceptance.{Accept}
-use Rattle.lockstep_replay.specs.Judgements.{judgement_of}
 use Rattle.lockstep_replay.specs.Tasks.{Cross, task_of}
-use Rattle.lockstep_replay.specs.Verdicts.{Accepts}
 use Rattle.lockstep_replay.proofs.Judging.{accepts_law}
 use Rattle.trial_guests.specs.Secrets.{secret_of}
 use Rattle.flowcheck.specs.Trials.{trial_turns}
