@@ -18,8 +18,9 @@ GNU as gets the same text without comments and with other blanks, but for these 
 The numbers of li are such that GNU as makes LUI and ADDI of it, as this assembler always does: neither the lower 12
 bits are 0 nor does the number fit these 12 bits. No number has leading zeros, which GNU as reads in base 8.
 
-At the end stand rows whose words were found by hand, and rows `SOURCE => FAULT` of sources that are refused. Needs
-riscv64-unknown-elf-as, -ld and -objcopy."""
+Behind them stand rows whose words were found by hand, and rows `SOURCE => FAULT` of sources that are refused; last rows
+`SOURCE == LISTING`, a line of each mnemonic as listings print it, with the word that GNU as makes of it, and what must
+be listed. Needs riscv64-unknown-elf-as, -ld and -objcopy."""
 import re
 import struct
 import subprocess
@@ -82,6 +83,25 @@ BY_HAND = [
     "a:;.byte 1;a: nop => line 3 kind 2",
     "beq a0, a1, b;.zero 1;j a;;b: => line 3 kind 2",
     "b: beq x0,x0,far;.zero 8000;beq x0,x0,b;far: => range 3",
+]
+
+LISTED = [
+    "add x1, x2, x31", "sub x2, x3, x30", "sll x3, x4, x29", "slt x4, x5, x28", "sltu x5, x6, x27",
+    "xor x6, x7, x26", "srl x7, x8, x25", "sra x8, x9, x24", "or x9, x10, x23", "and x10, x11, x22",
+    "mul x11, x12, x21", "mulh x12, x13, x20", "mulhsu x13, x14, x19", "mulhu x14, x15, x18", "div x15, x16, x17",
+    "divu x16, x17, x16", "rem x17, x18, x15", "remu x18, x19, x14", "addi x5, x6, -2048", "slti x5, x6, 2047",
+    "sltiu x5, x6, -1", "xori x5, x6, 1", "ori x5, x6, 1000", "andi x5, x6, -1000", "slli x7, x8, 0",
+    "srli x7, x8, 31", "srai x7, x8, 7", "lb x9, -2048(x10)", "lh x9, 2047(x10)", "lw x9, 0(x10)", "lbu x9, 4(x10)",
+    "lhu x9, -4(x10)", "sb x11, -2048(x12)", "sh x11, 2047(x12)", "sw x11, 8(x12)", "beq x13, x0, -4096",
+    "bne x13, x0, 4094", "blt x13, x0, 8", "bge x13, x0, -8", "bltu x13, x0, 12", "bgeu x13, x0, 0",
+    "lui x14, 1048575", "auipc x15, 0", "jal x1, -1048576", "jal x0, 1048574", "jalr x0, 0(x1)", "fence x0, x0, 255",
+    "ecall", "ebreak",
+]
+"""A line of each mnemonic, as listings print it."""
+
+LISTED_BY_HAND = [
+    "addi a0, x0, 0;.zero 5 == 0x00010000 00000513 addi x10, x0, 0;0x00010004 00000000 -;",
+    "nop;nop == 0x00010000 00000013 addi x0, x0, 0;0x00010004 00000013 addi x0, x0, 0;",
 ]
 
 
@@ -195,7 +215,12 @@ def main():
         for source in [*instructions(), *programs()]:
             words = words_of(source, Path(name))
             print(source, "->", " ".join(f"{word:08x}" for word in words))
+        listed = [(line, *words_of(line, Path(name))) for line in LISTED]
     for row in BY_HAND:
+        print(row)
+    for line, word in listed:
+        print(f"{line} == 0x00010000 {word:08x} {line};")
+    for row in LISTED_BY_HAND:
         print(row)
     return 0
 
