@@ -1,0 +1,63 @@
+#!/usr/bin/env python3
+"""file_times.py CRATE [LEAST]
+
+Prints how many seconds the prover takes for each file of specs/ and proofs/ of a crate, longest first, down to LEAST
+seconds (0.1 without the word), and how many lines each has. The crate is checked at one job; then, file by file, what
+was kept of the file is taken away and the crate is checked again: the stage `session` of that check, less that of a
+check with nothing to do, is the file's time. What a file keeps for others does not change, so no other is checked.
+
+It works in the crate's out/ folder. Python 3 and the kit's `rt` on the PATH."""
+import pathlib
+import subprocess
+import sys
+import tempfile
+
+TOP = pathlib.Path(__file__).resolve().parent.parent
+
+
+def session(crate, file):
+    """The seconds of the stage `session` of a check of a crate."""
+    done = subprocess.run(["rt", "check", "--jobs", "1", "--stage-times", file.name], cwd=TOP / "crates" / crate,
+                          capture_output=True, text=True)
+    if done.returncode != 0:
+        sys.exit(done.stdout + done.stderr)
+    for line in pathlib.Path(file.name).read_text().splitlines():
+        words = line.split()
+        if words[:2] == ["stage", "session"]:
+            return float(words[2])
+    sys.exit("the check told no time")
+
+
+def files_of(crate):
+    """Each file of specs/ and proofs/ of a crate with its lines, by the name of what is kept of it."""
+    for folder in "specs", "proofs":
+        root = TOP / "crates" / crate / folder
+        for path in sorted(root.rglob("*.antt")):
+            module = ".".join(path.relative_to(root).with_suffix("").parts)
+            name = f"Rattle-{crate}.{folder}" + ("" if module == "Lib" else f".{module}")
+            yield f"{name}.oantt", f"{folder}/{path.relative_to(root)}", len(path.read_text().splitlines())
+
+
+def main():
+    crate, least = sys.argv[1], float(sys.argv[2]) if len(sys.argv) > 2 else 0.1
+    with tempfile.NamedTemporaryFile() as file:
+        first = session(crate, file)
+        none = session(crate, file)
+        times = []
+        for name, path, lines in files_of(crate):
+            kept = list((TOP / "crates" / crate / "out/incremental").rglob(name))
+            for one in kept:
+                one.unlink()
+            if kept:
+                times.append((session(crate, file) - none, path, lines))
+    print(f"{crate}: {first:.1f} s for all that was not kept, {none:.1f} s for nothing; {len(times)} files")
+    for seconds, path, lines in sorted(times, reverse=True):
+        if seconds >= least:
+            print(f"{seconds:7.1f} s {lines:5} lines  {path}")
+    rest = [one for one in times if one[0] < least]
+    print(f"{sum(one[0] for one in rest):7.1f} s {sum(one[2] for one in rest):5} lines  in {len(rest)} others")
+    return 0
+
+
+if __name__ == "__main__":
+    sys.exit(main())
