@@ -1,31 +1,29 @@
 #!/usr/bin/env python3
 """file_times.py CRATE [LEAST]
 
-Prints how many seconds the prover takes for each file of specs/ and proofs/ of a crate, longest first, down to LEAST
-seconds (0.1 without the word), and how many lines each has. The crate is checked at one job; then, file by file, what
-was kept of the file is taken away and the crate is checked again: the stage `session` of that check, less that of a
-check with nothing to do, is the file's time. What a file keeps for others does not change, so no other is checked.
+Prints how many processor seconds the prover takes for each file of specs/ and proofs/ of a crate, longest first, down
+to LEAST seconds (0.5 without the word), and how many lines each has. The crate is checked at one job; then, file by
+file, what was kept of the file is taken away and the crate is checked again: what that check takes, less what a check
+with nothing to do takes, is the file's time. What a file keeps for others does not change, so no other is checked. The
+front end takes some tenths of a second more or less each time, and so is each time wrong by as much.
 
 It works in the crate's out/ folder. Python 3 and the kit's `rt` on the PATH."""
 import pathlib
+import resource
 import subprocess
 import sys
-import tempfile
 
 TOP = pathlib.Path(__file__).resolve().parent.parent
 
 
-def session(crate, file):
-    """The seconds of the stage `session` of a check of a crate."""
-    done = subprocess.run(["rt", "check", "--jobs", "1", "--stage-times", file.name], cwd=TOP / "crates" / crate,
-                          capture_output=True, text=True)
+def spent(crate):
+    """The processor seconds of a check of a crate at one job."""
+    before = resource.getrusage(resource.RUSAGE_CHILDREN)
+    done = subprocess.run(["rt", "check", "--jobs", "1"], cwd=TOP / "crates" / crate, capture_output=True, text=True)
     if done.returncode != 0:
         sys.exit(done.stdout + done.stderr)
-    for line in pathlib.Path(file.name).read_text().splitlines():
-        words = line.split()
-        if words[:2] == ["stage", "session"]:
-            return float(words[2])
-    sys.exit("the check told no time")
+    after = resource.getrusage(resource.RUSAGE_CHILDREN)
+    return after.ru_utime + after.ru_stime - before.ru_utime - before.ru_stime
 
 
 def files_of(crate):
@@ -34,22 +32,21 @@ def files_of(crate):
         root = TOP / "crates" / crate / folder
         for path in sorted(root.rglob("*.antt")):
             module = ".".join(path.relative_to(root).with_suffix("").parts)
-            name = f"Rattle-{crate}.{folder}" + ("" if module == "Lib" else f".{module}")
+            name = f"Rattle-{crate}-{folder}" + ("" if module == "Lib" else f".{module}")
             yield f"{name}.oantt", f"{folder}/{path.relative_to(root)}", len(path.read_text().splitlines())
 
 
 def main():
-    crate, least = sys.argv[1], float(sys.argv[2]) if len(sys.argv) > 2 else 0.1
-    with tempfile.NamedTemporaryFile() as file:
-        first = session(crate, file)
-        none = session(crate, file)
-        times = []
-        for name, path, lines in files_of(crate):
-            kept = list((TOP / "crates" / crate / "out/incremental").rglob(name))
-            for one in kept:
-                one.unlink()
-            if kept:
-                times.append((session(crate, file) - none, path, lines))
+    crate, least = sys.argv[1], float(sys.argv[2]) if len(sys.argv) > 2 else 0.5
+    first = spent(crate)
+    none = min(spent(crate) for _ in range(3))
+    times = []
+    for name, path, lines in files_of(crate):
+        kept = list((TOP / "crates" / crate / "out/incremental").rglob(name))
+        for one in kept:
+            one.unlink()
+        if kept:
+            times.append((max(0, spent(crate) - none), path, lines))
     print(f"{crate}: {first:.1f} s for all that was not kept, {none:.1f} s for nothing; {len(times)} files")
     for seconds, path, lines in sorted(times, reverse=True):
         if seconds >= least:
