@@ -8,20 +8,24 @@ Each answer must be one of the statuses, within the time limit and by no signal;
 and the text are those of the model for every command that it knows (all but `asm` and `list`; `list` must refuse what
 the model's table of program files refuses, and what `asm` makes must be listed).
 
-Prints how often each command had each kind of answer, and last how many calls agree and differ. The files and words of
-those that differ are kept in a folder that is named; then the status is 1. Python 3 only."""
+Prints how often each command had each kind of answer, how many calls were too long for the model, and last how many
+agree and differ. The files and words of those that differ are kept in a folder that is named; then the status is 1.
+Python 3 on Linux."""
 import argparse
 import collections
 import json
 import os
 import pathlib
+import pickle
 import random
 import re
+import resource
 import struct
 import subprocess
 import sys
 import tempfile
 import time
+import traceback
 
 HERE = pathlib.Path(__file__).resolve().parent
 sys.path.insert(0, str(HERE / "model"))
@@ -33,10 +37,38 @@ from trials import random_trial  # noqa: E402
 from words import LOAD, JALR, ECALL, immediate_word, store_word, upper_word  # noqa: E402
 
 SECONDS, TURNS = 120, 400
+MODEL_SECONDS, MODEL_BYTES = 30, 2_000_000_000
+"""What the model may take for one call: where words name many turns it is slow, and keeps much of each."""
 NUMBERS = [0, 1, 2, 3, 4, 7, 8, 15, 16, 31, 32, 33, 63, 64, 65, 127, 128, 255, 256, 4095, 4096, 65535, 65536, 65537,
            0x10000, 0x1000000, 0x7FFFFFFF, 0x80000000, 0xFFFFFFFC, 0xFFFFFFFF, 0x100000000, 2**64 - 1, 2**64]
 """Numbers at which something changes: widths, pages, limits and ends."""
 STORES, LOADS, CALLS = (0, 1, 2), (0, 1, 2, 4, 5), (63, 64, 93, 214)
+
+
+def in_time(made, *given):
+    """What a function gives, found by a process of its own; None where that takes too long, or too much memory."""
+    read_end, write_end = os.pipe()
+    child = os.fork()
+    if child == 0:
+        os.close(read_end)
+        resource.setrlimit(resource.RLIMIT_CPU, (MODEL_SECONDS, MODEL_SECONDS))
+        resource.setrlimit(resource.RLIMIT_AS, (MODEL_BYTES, MODEL_BYTES))
+        try:
+            with os.fdopen(write_end, "wb") as pipe:
+                pickle.dump(made(*given), pipe)
+            os._exit(0)
+        except MemoryError:
+            os._exit(3)
+        except BaseException:
+            traceback.print_exc()
+            os._exit(4)
+    os.close(write_end)
+    with os.fdopen(read_end, "rb") as pipe:
+        told = pipe.read()
+    status = os.waitstatus_to_exitcode(os.waitpid(child, 0)[1])
+    if status == 4:
+        sys.exit("the model failed")
+    return pickle.loads(told) if status == 0 else None
 
 
 class Dice(random.Random):
@@ -226,6 +258,7 @@ class Program:
 
     def __init__(self, executable):
         self.executable = executable
+        self.unjudged = 0
 
     def run(self, files, words):
         """The status and the bytes that are put; no status where there is no answer in time."""
@@ -257,7 +290,10 @@ class Program:
             fault = program_fault(files[words[1]]) if words[1] in files else None
             is_wrong = words[1] in files and (f"refused 3 program {fault}\n".encode() != text if fault else status != 0)
             return f"the model has {fault}" if is_wrong else None
-        given = answer_to({name: data for name, data in files.items()}, words)
+        given = in_time(answer_to, dict(files), words)
+        if given is None:
+            self.unjudged += 1
+            return None
         if words[0] == "graph" and given[0] == status == 0:
             verified = self.run({"certificate": text}, ["verify", "certificate"])
             return None if verified[0] == 0 and text.split()[3] == given[1].encode().split()[3] else "not verified"
@@ -295,6 +331,7 @@ def main():
     for (command, status, what), count in sorted(kinds.items(), key=lambda kind: [str(part) for part in kind[0]]):
         print(f"{command} {status} {what}".rstrip(), count)
     print(f"seeds {args.first} to {seed - 1}, the longest call {longest:.1f} s with the model's answer")
+    print(f"{program.unjudged} too long for the model, whose status and form alone were looked at")
     print(f"{seed - args.first - differ} agree, {differ} differ" + (f": {kept}" if kept else ""))
     return int(differ > 0)
 
