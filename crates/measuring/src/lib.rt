@@ -13,6 +13,8 @@ mod measured;
 mod point_visits;
 mod recordings;
 mod splitting;
+#[cfg(test)]
+mod tests;
 mod weighing;
 
 pub use accepting::measure;
