@@ -39,7 +39,7 @@ pub fn assembles_to(alloc: Global, source: &[u8], bytes: &[u8]) -> Option<bool>
 /// Whether a source assembles, and the listing of its image is this text; None where memory is short.
 pub fn is_listed_as(alloc: Global, source: &[u8], text: &[u8]) -> Option<bool>
     requires { length source.now < 2 ^ 32 }
-    ensures { IfSome result (λ agreed. IsTrue agreed → IsListed source.now text.now) }
+    ensures { IfSome result (λ agreed. IsTrue agreed ↔ IsListed source.now text.now) }
 {
     match assemble(alloc, source) {
         Ok(image) => {

@@ -2,8 +2,10 @@
 //! implementation of the format and of its table of refusals found of the same files.
 #![tactic(auto)]
 
+mod judging;
+
 use flow_base::{DiskFiles, Files};
-use flow_certificate::{read_certificate, verify};
+use judging::verdict_on;
 use std::io;
 
 /// How many bytes a certificate may have: 64 MiB.
@@ -17,11 +19,8 @@ fn main(rt: HostRuntime) -> io::Result<()> {
             println!(rt; "{line}: no file")?;
             continue;
         };
-        match read_certificate(rt.alloc(), file.as_slice()) {
-            Ok(certificate) => {
-                let verdict = verify(&certificate);
-                println!(rt; "{line}: {verdict}")?;
-            }
+        match verdict_on(rt.alloc(), file.as_slice()) {
+            Ok(verdict) => println!(rt; "{line}: {verdict}")?,
             Err(fault) => println!(rt; "{line}: {fault}")?,
         }
     }

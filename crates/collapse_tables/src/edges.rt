@@ -1,3 +1,6 @@
+ghost use Rattle.std.specs.Prelude.{◌≡◌};
+ghost use Rattle.collapse_tables.specs.Words.{fault_word as word_of_fault};
+
 use crate::loads::Load;
 use flow_graph::Event;
 use location_collapse::{Collapse, CollapseFault};
@@ -14,12 +17,21 @@ pub enum Edge {
 
 pub const EDGES: [Edge; 4] = [Edge::Points, Edge::Links, Edge::Both, Edge::BothByLink];
 
+/// Why an event was not taken, as a word.
+fn fault_word(fault: CollapseFault) -> &'static str
+    ensures { result.now ≡ word_of_fault fault }
+{
+    match fault {
+        CollapseFault::Limit => "limit",
+        CollapseFault::Memory => "memory",
+    }
+}
+
 /// An answer as a word.
 fn word_of(answer: Result<(), CollapseFault>) -> &'static str {
     match answer {
         Ok(()) => "taken",
-        Err(CollapseFault::Limit) => "limit",
-        Err(CollapseFault::Memory) => "memory",
+        Err(fault) => fault_word(fault),
     }
 }
 
