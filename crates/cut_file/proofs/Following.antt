@@ -83,7 +83,7 @@ slot-last points last known some =
     slot-of (get_or points (length points - 1) last) (all-last is_cut_point points last (and_parts _ _
     (is_so _ known)).0 some)
 
-points-all : (version : ℕ) (points : List CutPoint) → list_all (is_point_of version) points ≡ true →
+pub points-all : (version : ℕ) (points : List CutPoint) → list_all (is_point_of version) points ≡ true →
     list_all is_cut_point points ≡ true
 points-all version [] all = refl
 points-all version (point ∷ points) all =

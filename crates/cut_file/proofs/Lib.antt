@@ -16,3 +16,5 @@ pub mod FileTexts
 pub mod LineDrafts
 pub mod Answering
 pub mod CutMasks
+pub mod TextLengths
+pub mod FoldLengths

@@ -8,3 +8,4 @@ pub mod Pictures
 pub mod Reading
 pub mod Writing
 pub mod CutLaws
+pub mod TextLengths

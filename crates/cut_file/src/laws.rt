@@ -1,6 +1,7 @@
 ghost use Rattle.cut_file.specs.Folds.{FoldsKeepMasks};
 ghost use Rattle.cut_file.specs.CutLaws.{FaultsAreOne, MasksAreOfTheirPoints, MasksAreWithinWidths, TextsAreOne};
 ghost use Rattle.cut_file.specs.CutLaws.{TextsHaveNoFault};
+ghost use Rattle.cut_file.specs.TextLengths.{FoldsAreShort, TextsAreShort};
 
 /// Each text is that of one cut at most, and each cut has one text. It does nothing when it is called.
 pub fn texts_are_one()
@@ -24,4 +25,12 @@ pub fn masks_are_of_their_points()
 /// called.
 pub fn folds_keep_masks()
     ensures { FoldsKeepMasks }
+{}
+
+/// The text of a cut of version 1 has at most 64 bytes, 32 more for each region to be skipped, 64 for each point and 22
+/// for each run that a point lists; and the text of its [`fold`](crate::fold) has no more than that. It does nothing
+/// when it is called.
+pub fn texts_are_short()
+    ensures text { TextsAreShort }
+    ensures fold { FoldsAreShort }
 {}

@@ -20,7 +20,9 @@ mod writing;
 pub use cuts::Cut;
 pub use faults::CutFault;
 pub use folding::fold;
-pub use laws::{faults_are_first, folds_keep_masks, masks_are_of_their_points, texts_are_one};
+pub use laws::{
+    faults_are_first, folds_keep_masks, masks_are_of_their_points, texts_are_one, texts_are_short,
+};
 pub use masks::mask_at;
 pub use migrating::migrate;
 pub use points::{CutPoint, Run};
