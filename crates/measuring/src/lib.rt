@@ -13,8 +13,6 @@ mod measured;
 mod point_visits;
 mod recordings;
 mod splitting;
-#[cfg(test)]
-mod tests;
 mod weighing;
 
 pub use accepting::measure;
