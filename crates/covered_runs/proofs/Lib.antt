@@ -1,6 +1,9 @@
 pub mod SecretTurns
 pub mod SecretRows
 pub mod SecretRuns
+pub mod VisitTurns
+pub mod VisitRows
+pub mod VisitRuns
 pub mod Agreeing
 pub mod Beside
 pub mod Makings

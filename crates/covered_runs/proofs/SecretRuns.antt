@@ -1,12 +1,11 @@
 -- How many bits of its secret a run reads.
-use Rattle.std.proofs.Common.{◌≡◌, ℕ, ◌+◌, ◌*◌, ◌≤◌, ◌&&◌, Bool, true, false, List, [], ◌∷◌, ◌++◌, length, refl, sym, ap, ap₂, subst, ◌∙◌, arith}
+use Rattle.std.proofs.Common.{◌≡◌, ℕ, ◌*◌, ◌≤◌, ◌&&◌, Bool, true, List, [], ◌∷◌, length, refl, ap, ap₂, subst, ◌∙◌, arith}
 use Rattle.std.specs.Prelude.{Option, Some, None}
-use Rattle.std.specs.List.{list_all, sum_by}
+use Rattle.std.specs.List.{list_all}
 use Rattle.std.proofs.lemmas.List.Sums.{sum_by-append}
 use Rattle.std.proofs.lemmas.List.Folds.{list_all-append}
 use Rattle.enclosure_regions.specs.declared.break_kinds.Break.{Break}
 use Rattle.enclosure_regions.specs.declared.region_parts.Region.{Region}
-use Rattle.flow_graph.specs.declared.events.Event.{Event}
 use Rattle.rv32im_machine.specs.State.{State}
 use Rattle.rv32im_machine.specs.Language.{none_held}
 use Rattle.rv32im_machine.specs.Folds.{real_end}
@@ -20,7 +19,7 @@ use Rattle.run_labels.specs.TurnLabels.{TurnLabels, at_start}
 use Rattle.run_labels.specs.Flowing.{events_in}
 use Rattle.run_labels.specs.Looking.{first_fault, secret_look}
 use Rattle.run_labels.specs.Runs.{IsUnrefused, LabelledRun, broken_fault, enclosing, entered_number, next_run, next_walk, run_after, stopped_fault, turn_events, turn_fault, unlabelled}
-use Rattle.covered_runs.specs.SecretBits.{ReadsSecret, SecretBitsLaw, is_from_secret, secret_bits, secret_bits_of}
+use Rattle.covered_runs.specs.SecretBits.{SecretBitsLaw, is_from_secret, secret_bits, secret_bits_of}
 use Rattle.covered_runs.proofs.SecretTurns.{Counted, turn_counted}
 use Rattle.covered_runs.proofs.SecretRows.{reads_enter, reads_leave, reads_step}
 
@@ -28,7 +27,7 @@ some_none : {A : Type 0} (x : A) → Some x ≡ None → ⊥
 some_none x e = subst (λ o. elim o as (λ _. Type 0) [ None ↦ ⊥ | Some y ↦ Unit {0} ]) e tt
 
 -- a turn that does not refuse the run breaks no region
-unbroken : (broken : Option Break) (look stop : Option MeasureFault) →
+pub unbroken : (broken : Option Break) (look stop : Option MeasureFault) →
     first_fault look (first_fault (broken_fault broken) stop) ≡ None → broken ≡ None
 unbroken None look stop e = refl
 unbroken (Some b) None stop e = absurd (some_none _ e)
@@ -56,11 +55,11 @@ kind_counted limit (Steps region) state labels answers e w =
     turn_counted limit state.setting state.secret _ state.control.secret_at state.store none_held labels answers
     (reads_step limit state.control.secret_at state.control.mode state.setting state.control e (refl, w))
 
-next_state : (regions : List Region) (place : Place) → place.broken ≡ None →
+pub next_state : (regions : List Region) (place : Place) → place.broken ≡ None →
     (real_turn (enclosing regions) place).state ≡ real_end (guest_walk regions place.state)
 next_state regions place e = ap (λ b. (turn_unless b (enclosing regions) place).state) e
 
-next_broken : (regions : List Region) (place : Place) → place.broken ≡ None →
+pub next_broken : (regions : List Region) (place : Place) → place.broken ≡ None →
     (real_turn (enclosing regions) place).broken ≡ Breaks regions place.state
 next_broken regions place e = ap (λ b. (turn_unless b (enclosing regions) place).broken) e
 
