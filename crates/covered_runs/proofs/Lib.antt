@@ -1,8 +1,8 @@
+pub mod RowCounts
+pub mod CountedRows
 pub mod SecretTurns
-pub mod SecretRows
 pub mod SecretRuns
 pub mod VisitTurns
-pub mod VisitRows
 pub mod VisitRuns
 pub mod Agreeing
 pub mod Beside

@@ -44,9 +44,10 @@ use Rattle.covered_runs.proofs.PointOrders.{slot_cmp}
 use Rattle.covered_runs.proofs.ProperRuns.{LeavesRegion, kind-leaves}
 use Rattle.covered_runs.proofs.SecretRuns.{next_broken, next_state, unbroken}
 use Rattle.covered_runs.proofs.TurnKinds.{all_rules, rules_of}
-use Rattle.covered_runs.proofs.VisitTurns.{Has, Limits, Tallied, inner_visit, inner_visits, is_whole, one_unless}
+use Rattle.covered_runs.proofs.RowCounts.{Has, Limits}
+use Rattle.covered_runs.proofs.VisitTurns.{Tallied, inner_visit, inner_visits, is_whole, one_unless}
 use Rattle.covered_runs.proofs.VisitTurns.{turn_tallied}
-use Rattle.covered_runs.proofs.VisitRows.{few_entry, few_leave, few_step}
+use Rattle.covered_runs.proofs.CountedRows.{counts_entry, counts_leave, counts_step}
 
 -- ---- points that are the same have slots of one kind
 
@@ -167,20 +168,25 @@ ranges_known region rules =
 module _ (Known : Type 0) (limits : Limits) where
   kind_tallied : (used : ℕ) (kind : Kind) (state : State) (labels : TurnLabels) (answers : List ℕ) →
       (Known → LeavesRegion kind) → state.setting.secret_length ≡ limits.secret →
-      state.setting.output_limit ≡ limits.output → Has limits (used + 5) state.control →
+      state.setting.output_limit ≤ limits.output → Has limits (used + 5) state.control →
       Tallied Known limits state.setting used (events_in labels answers (kind_walk kind state))
       (real_end (kind_walk kind state))
   kind_tallied used (Enters region) state labels answers known e o h =
-      turn_tallied Known limits state.setting state.secret (entry region state.control) used state.store none_held
-      labels answers (few_entry Known limits used region state.control (omega (arith, h.0), h.1, h.2))
+      turn_tallied Known limits state.setting state.secret (entry region state.control) state.control.secret_at
+      used state.store none_held labels answers
+      (counts_entry Known limits state.control.secret_at used region state.control
+      (refl, (omega (arith, h.0), h.1, h.2)))
   kind_tallied used (Leaves region) state labels answers known e o h =
-      turn_tallied Known limits state.setting state.secret (leave region state.store.kept state.control) used
-      state.store none_held labels answers
-      (few_leave Known limits used region state.store.kept state.control (λ k. (rules_of region (known k)).outs)
-      (λ k. ranges_known region (known k)) (omega (arith, h.0), h.1, h.2))
+      turn_tallied Known limits state.setting state.secret (leave region state.store.kept state.control)
+      state.control.secret_at used state.store none_held labels answers
+      (counts_leave Known limits state.control.secret_at used region state.store.kept state.control
+      (λ k. (rules_of region (known k)).outs)
+      (λ k. ranges_known region (known k)) (refl, (omega (arith, h.0), h.1, h.2)))
   kind_tallied used (Steps region) state labels answers known e o h =
-      turn_tallied Known limits state.setting state.secret _ used state.store none_held labels answers
-      (few_step Known limits used state.control.mode state.setting state.control e o h)
+      turn_tallied Known limits state.setting state.secret _ state.control.secret_at used state.store none_held
+      labels answers
+      (counts_step Known limits state.control.secret_at used state.control.mode state.setting state.control e o
+      (refl, h))
 
 -- ---- a run
 
@@ -212,7 +218,7 @@ module _ (secret : List ℕ) (regions : List Region) where
       kind_tallied AreKnown limits (inner_visits run.events) (kind_of regions run.place.state.control) run.place.state
       (at_start run.labels) answers
       (λ k. kind-leaves run.place.state.control.mode regions run.place.state.control (all_rules regions k))
-      r.long r.most room in
+      r.long (omega (arith, r.most)) room in
       let s : (real_turn (enclosing regions) run.place).state ≡ real_end (next_walk regions run) =
       next_state regions run.place r.unbroken in
       let sum : inner_visits (run.events ++ events) ≡ inner_visits run.events + inner_visits events =

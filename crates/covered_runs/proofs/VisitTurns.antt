@@ -1,5 +1,5 @@
 -- How many points a turn passes, and at which slots, from what its row says.
-use Rattle.std.proofs.Common.{◌≡◌, ℕ, ◌+◌, ◌≤◌, ◌==◌, cond, Bool, true, false, List, [], ◌∷◌, ◌++◌, length}
+use Rattle.std.proofs.Common.{◌≡◌, ℕ, ◌+◌, ◌==◌, cond, Bool, true, false, List, [], ◌∷◌, ◌++◌}
 use Rattle.std.proofs.Common.{refl, ap, ◌∙◌, arith}
 use Rattle.std.specs.Prelude.{if◌then◌else◌}
 use Rattle.std.specs.List.{list_all, sum_by}
@@ -22,7 +22,7 @@ use Rattle.rv32im_machine.specs.declared.language.Source.TheVariants.{At, Consta
 use Rattle.rv32im_machine.specs.declared.language.Sources.{Sources}
 use Rattle.rv32im_machine.specs.declared.language.Sources.TheVariants.{One, Two, Byte as BytesOne, Half as BytesTwo}
 use Rattle.rv32im_machine.specs.declared.language.Sources.TheVariants.{Word as BytesFour}
-use Rattle.rv32im_machine.specs.State.{State, Setting, Control, Store, saved}
+use Rattle.rv32im_machine.specs.State.{State, Setting, Store, saved}
 use Rattle.rv32im_machine.specs.Language.{Turn, Looks, Passes, Decides, Gives, Moves, Saves, Restores, Ends, Shaped}
 use Rattle.rv32im_machine.specs.Language.{Held, first_of, hold, passing, put, seen_value, shaped, value_of, values_of}
 use Rattle.rv32im_machine.specs.Language.{at_place, walked}
@@ -33,36 +33,9 @@ use Rattle.run_labels.specs.Masks.{answers_after, labels_after, mask_of, moved_l
 use Rattle.run_labels.specs.Flowing.{aim_events, byte_events, events_in, flow_events, link_from, passing_events}
 use Rattle.run_labels.specs.Flowing.{source_events, sources_events}
 use Rattle.covered_runs.specs.RunCuts.{is_output_slot}
+use Rattle.covered_runs.specs.SecretBits.{is_secret_slot}
 use Rattle.covered_runs.specs.VisitLaws.{is_at_slot}
-
--- ---- what a row says of its passings
-
--- how many bytes are read and written at most, and how many other passings there may be
-pub record Limits : Type 0 where
-  pub secret : ℕ
-  pub output : ℕ
-  pub others : ℕ
-
--- of so many passings each has read a byte of the secret, written one of the output, or is one of the others
-abbrev pub Has : Limits → ℕ → Control → Type 0
-Has limits used control =
-    (used ≤ control.secret_at + length control.output + limits.others)
-    × (control.secret_at ≤ limits.secret) × (length control.output ≤ limits.output)
-
--- where so many points were passed before, outputs of regions left out, each end has no more than it may; what is
--- given out is an output, at a slot of turns if so much is known
-unfoldable pub Few : Type 0 → Limits → ℕ → Turn → Type 0
-Few Known limits used (Looks seen go) = (value : ℕ) → Few Known limits used (go value)
-Few Known limits used (Passes point place making sources turn) =
-    (is_output_slot point.slot ≡ false) × Few Known limits (used + 1) turn
-Few Known limits used (Decides point making sources go) =
-    (is_output_slot point.slot ≡ false) × ((value : ℕ) → Few Known limits (used + 1) (go value))
-Few Known limits used (Gives point place turn) =
-    (is_output_slot point.slot ≡ true) × (Known → is_slot point.slot ≡ true) × Few Known limits used turn
-Few Known limits used (Moves place shape source turn) = Few Known limits used turn
-Few Known limits used (Saves turn) = Few Known limits used turn
-Few Known limits used (Restores registers turn) = Few Known limits used turn
-Few Known limits used (Ends control) = Has limits used control
+use Rattle.covered_runs.proofs.RowCounts.{Counts, Has, Limits}
 
 -- ---- what events say of passings
 
@@ -244,38 +217,39 @@ tallied_still Known limits setting used es fs after a t =
     }
 
 module _ (Known : Type 0) (limits : Limits) (setting : Setting) (secret : List ℕ) where
-  pub turn_tallied : (turn : Turn) (used : ℕ) (store : Store) (held : Held) (labels : TurnLabels) (answers : List ℕ) →
-      Few Known limits used turn →
+  pub turn_tallied : (turn : Turn) (count used : ℕ) (store : Store) (held : Held) (labels : TurnLabels)
+      (answers : List ℕ) → Counts Known limits count used turn →
       Tallied Known limits setting used (events_in labels answers (walked setting secret turn store held))
       (real_end (walked setting secret turn store held))
-  unfolding Few walked events_in real_end
-  turn_tallied (Looks seen go) used store held labels answers f =
-      turn_tallied (go (seen_value setting.base store seen)) used store held labels answers
+  unfolding Counts walked events_in real_end
+  turn_tallied (Looks seen go) count used store held labels answers f =
+      turn_tallied (go (seen_value setting.base store seen)) count used store held labels answers
       (f (seen_value setting.base store seen))
-  turn_tallied (Passes point place making sources turn) used store held labels answers f =
+  turn_tallied (Passes point place making sources turn) count used store held labels answers f =
       let p = passing point (Put place) making sources (values_of setting secret store held sources) in
       tallied_more Known limits setting used 1 _ _ _ (adds_inner Known labels (first_of answers) p f.0)
-      (turn_tallied turn (used + 1) (put setting.base place p.value store) (hold place p.value held)
-      (labels_after labels (first_of answers) p) (answers_after p.work answers) f.1)
-  turn_tallied (Decides point making sources go) used store held labels answers f =
+      (turn_tallied turn (cond (is_secret_slot point.slot) (count + 1) count) (used + 1)
+      (put setting.base place p.value store) (hold place p.value held)
+      (labels_after labels (first_of answers) p) (answers_after p.work answers) f.2)
+  turn_tallied (Decides point making sources go) count used store held labels answers f =
       let p = passing point Decide making sources (values_of setting secret store held sources) in
       tallied_more Known limits setting used 1 _ _ _ (adds_inner Known labels (first_of answers) p f.0)
-      (turn_tallied (go p.value) (used + 1) store held (labels_after labels (first_of answers) p)
-      (answers_after p.work answers) (f.1 p.value))
-  turn_tallied (Gives point place turn) used store held labels answers f =
+      (turn_tallied (go p.value) count (used + 1) store held (labels_after labels (first_of answers) p)
+      (answers_after p.work answers) (f.3 p.value))
+  turn_tallied (Gives point place turn) count used store held labels answers f =
       let values = at_place setting.base store held place ∷ [] in
       let p = passing point (Give place) (Shaped Copied) (One (At place)) values in
       tallied_still Known limits setting used _ _ _
-      (adds_output Known labels (first_of answers) point place values f.0 f.1)
-      (turn_tallied turn used (put setting.base place p.value store) (hold place p.value held)
-      (labels_after labels (first_of answers) p) (answers_after p.work answers) f.2)
-  turn_tallied (Moves place shape source turn) used store held labels answers f =
+      (adds_output Known labels (first_of answers) point place values f.0 f.2)
+      (turn_tallied turn count used (put setting.base place p.value store) (hold place p.value held)
+      (labels_after labels (first_of answers) p) (answers_after p.work answers) f.3)
+  turn_tallied (Moves place shape source turn) count used store held labels answers f =
       let value = shaped shape (value_of setting secret store held source ∷ []) in
-      turn_tallied turn used (put setting.base place value store) (hold place value held)
+      turn_tallied turn count used (put setting.base place value store) (hold place value held)
       (put_label place (moved_label labels shape source) labels) answers f
-  turn_tallied (Saves turn) used store held labels answers f =
-      turn_tallied turn used (saved store) held (save_labels labels) answers f
-  turn_tallied (Restores registers turn) used store held labels answers f =
-      turn_tallied turn used store held (restore_labels registers labels) answers f
-  turn_tallied (Ends control) used store held labels answers f =
-      record { has = (omega (arith, f.0), f.1, f.2); known = λ k. refl; whole = refl; stays = refl }
+  turn_tallied (Saves turn) count used store held labels answers f =
+      turn_tallied turn count used (saved store) held (save_labels labels) answers f
+  turn_tallied (Restores registers turn) count used store held labels answers f =
+      turn_tallied turn count used store held (restore_labels registers labels) answers f
+  turn_tallied (Ends control) count used store held labels answers f =
+      record { has = (omega (arith, f.1.0), f.1.1, f.1.2); known = λ k. refl; whole = refl; stays = refl }
