@@ -1,6 +1,9 @@
+pub mod RowCounts
+pub mod CountedRows
 pub mod SecretTurns
-pub mod SecretRows
 pub mod SecretRuns
+pub mod VisitTurns
+pub mod VisitRuns
 pub mod Agreeing
 pub mod Beside
 pub mod Makings

@@ -137,7 +137,7 @@ found-region test (first ∷ regions) region rules e =
           (sym (cond-false (test first) (Some first) (find test regions) fails) ∙ e)
     ]
 
-abbrev LeavesRegion : Kind → Type 0
+abbrev pub LeavesRegion : Kind → Type 0
 LeavesRegion (Enters region) = Unit {0}
 LeavesRegion (Leaves region) = is_region region ≡ true
 LeavesRegion (Steps region) = Unit {0}
@@ -167,7 +167,7 @@ numbered-region regions number region rules e = elim (cases_Bool (number == 0)) 
       (sym (cond-false (number == 0) None (find (λ other. other.id == number) regions) some) ∙ e)
 ]
 
-kind-leaves : (mode : Stepped) (regions : List Region) (control : Control) → list_all is_region regions ≡ true →
+pub kind-leaves : (mode : Stepped) (regions : List Region) (control : Control) → list_all is_region regions ≡ true →
     LeavesRegion (kind_in mode regions control)
 kind-leaves Ran regions control rules =
     within-leaves regions (region_numbered regions control.region) control.pc

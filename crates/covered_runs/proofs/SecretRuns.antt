@@ -1,12 +1,12 @@
 -- How many bits of its secret a run reads.
-use Rattle.std.proofs.Common.{◌≡◌, ℕ, ◌+◌, ◌*◌, ◌≤◌, ◌&&◌, Bool, true, false, List, [], ◌∷◌, ◌++◌, length, refl, sym, ap, ap₂, subst, ◌∙◌, arith}
+use Rattle.std.proofs.Common.{◌≡◌, ℕ, ◌+◌, ◌*◌, ◌≤◌, ◌&&◌, Bool, true, List, [], ◌∷◌, length, refl, ap, ap₂, subst}
+use Rattle.std.proofs.Common.{◌∙◌, arith}
 use Rattle.std.specs.Prelude.{Option, Some, None}
-use Rattle.std.specs.List.{list_all, sum_by}
+use Rattle.std.specs.List.{list_all}
 use Rattle.std.proofs.lemmas.List.Sums.{sum_by-append}
 use Rattle.std.proofs.lemmas.List.Folds.{list_all-append}
 use Rattle.enclosure_regions.specs.declared.break_kinds.Break.{Break}
 use Rattle.enclosure_regions.specs.declared.region_parts.Region.{Region}
-use Rattle.flow_graph.specs.declared.events.Event.{Event}
 use Rattle.rv32im_machine.specs.State.{State}
 use Rattle.rv32im_machine.specs.Language.{none_held}
 use Rattle.rv32im_machine.specs.Folds.{real_end}
@@ -19,16 +19,18 @@ use Rattle.run_labels.specs.declared.faults.MeasureFault.{MeasureFault}
 use Rattle.run_labels.specs.TurnLabels.{TurnLabels, at_start}
 use Rattle.run_labels.specs.Flowing.{events_in}
 use Rattle.run_labels.specs.Looking.{first_fault, secret_look}
-use Rattle.run_labels.specs.Runs.{IsUnrefused, LabelledRun, broken_fault, enclosing, entered_number, next_run, next_walk, run_after, stopped_fault, turn_events, turn_fault, unlabelled}
-use Rattle.covered_runs.specs.SecretBits.{ReadsSecret, SecretBitsLaw, is_from_secret, secret_bits, secret_bits_of}
+use Rattle.run_labels.specs.Runs.{IsUnrefused, LabelledRun, broken_fault, enclosing, entered_number, next_run}
+use Rattle.run_labels.specs.Runs.{next_walk, run_after, stopped_fault, turn_events, turn_fault, unlabelled}
+use Rattle.covered_runs.specs.SecretBits.{SecretBitsLaw, is_from_secret, secret_bits, secret_bits_of}
 use Rattle.covered_runs.proofs.SecretTurns.{Counted, turn_counted}
-use Rattle.covered_runs.proofs.SecretRows.{reads_enter, reads_leave, reads_step}
+use Rattle.covered_runs.proofs.RowCounts.{Limits}
+use Rattle.covered_runs.proofs.CountedRows.{counts_entry, counts_leave, counts_step}
 
 some_none : {A : Type 0} (x : A) → Some x ≡ None → ⊥
 some_none x e = subst (λ o. elim o as (λ _. Type 0) [ None ↦ ⊥ | Some y ↦ Unit {0} ]) e tt
 
 -- a turn that does not refuse the run breaks no region
-unbroken : (broken : Option Break) (look stop : Option MeasureFault) →
+pub unbroken : (broken : Option Break) (look stop : Option MeasureFault) →
     first_fault look (first_fault (broken_fault broken) stop) ≡ None → broken ≡ None
 unbroken None look stop e = refl
 unbroken (Some b) None stop e = absurd (some_none _ e)
@@ -41,26 +43,44 @@ pub record RunCounts (secret : List ℕ) (run : LabelledRun) : Type 0 where
   pub long : run.place.state.setting.secret_length ≡ length secret
   pub whole : run.place.broken ≡ None
 
+-- room for all that a turn may write, and for its other passings
+abbrev turn_limits : ℕ → State → Limits
+turn_limits limit state = record {
+  secret = limit;
+  output = length state.control.output + state.setting.output_limit;
+  others = 5;
+}
+
 kind_counted : (limit : ℕ) (kind : Kind) (state : State) (labels : TurnLabels) (answers : List ℕ) →
     state.setting.secret_length ≡ limit → state.control.secret_at ≤ limit →
     Counted limit state.setting state.control.secret_at (events_in labels answers (kind_walk kind state))
     (real_end (kind_walk kind state))
-kind_counted limit (Enters region) state labels answers e w =
-    turn_counted limit state.setting state.secret (entry region state.control) state.control.secret_at state.store
-    none_held labels answers (reads_enter limit state.control.secret_at region state.control (refl, w))
-kind_counted limit (Leaves region) state labels answers e w =
-    turn_counted limit state.setting state.secret (leave region state.store.kept state.control)
-    state.control.secret_at state.store none_held labels answers
-    (reads_leave limit state.control.secret_at region state.store.kept state.control (refl, w))
-kind_counted limit (Steps region) state labels answers e w =
-    turn_counted limit state.setting state.secret _ state.control.secret_at state.store none_held labels answers
-    (reads_step limit state.control.secret_at state.control.mode state.setting state.control e (refl, w))
+kind_counted limit kind state labels answers e w = pick kind
+  where
+    pick : (kind : Kind) →
+        Counted limit state.setting state.control.secret_at (events_in labels answers (kind_walk kind state))
+        (real_end (kind_walk kind state))
+    pick (Enters region) =
+        turn_counted ⊥ (turn_limits limit state) state.setting state.secret (entry region state.control)
+        state.control.secret_at 0 state.store none_held labels answers
+        (counts_entry ⊥ (turn_limits limit state) state.control.secret_at 0 region state.control
+        (refl, (omega arith, w, omega arith)))
+    pick (Leaves region) =
+        turn_counted ⊥ (turn_limits limit state) state.setting state.secret
+        (leave region state.store.kept state.control) state.control.secret_at 0 state.store none_held labels answers
+        (counts_leave ⊥ (turn_limits limit state) state.control.secret_at 0 region state.store.kept state.control
+        (λ k. absurd k) (λ k. absurd k) (refl, (omega arith, w, omega arith)))
+    pick (Steps region) =
+        turn_counted ⊥ (turn_limits limit state) state.setting state.secret _ state.control.secret_at 0 state.store
+        none_held labels answers
+        (counts_step ⊥ (turn_limits limit state) state.control.secret_at 0 state.control.mode state.setting
+        state.control e (omega arith) (refl, (omega arith, w, omega arith)))
 
-next_state : (regions : List Region) (place : Place) → place.broken ≡ None →
+pub next_state : (regions : List Region) (place : Place) → place.broken ≡ None →
     (real_turn (enclosing regions) place).state ≡ real_end (guest_walk regions place.state)
 next_state regions place e = ap (λ b. (turn_unless b (enclosing regions) place).state) e
 
-next_broken : (regions : List Region) (place : Place) → place.broken ≡ None →
+pub next_broken : (regions : List Region) (place : Place) → place.broken ≡ None →
     (real_turn (enclosing regions) place).broken ≡ Breaks regions place.state
 next_broken regions place e = ap (λ b. (turn_unless b (enclosing regions) place).broken) e
 

@@ -1,7 +1,8 @@
 -- How many bits of the secret a turn reads, from what its row says.
-use Rattle.std.proofs.Common.{◌≡◌, ℕ, ◌+◌, ◌*◌, ◌≤◌, ◌==◌, ◌&&◌, cond, Bool, true, false, List, [], ◌∷◌, ◌++◌, refl, sym, ap, ap₂, ◌∙◌, arith}
+use Rattle.std.proofs.Common.{◌≡◌, ℕ, ◌+◌, ◌*◌, ◌≤◌, ◌==◌, ◌&&◌, cond, Bool, true, false, List, [], ◌∷◌, ◌++◌, refl}
+use Rattle.std.proofs.Common.{ap, ap₂, ◌∙◌, arith}
 use Rattle.std.specs.Prelude.{if◌then◌else◌}
-use Rattle.std.specs.List.{list_all, sum_by}
+use Rattle.std.specs.List.{list_all}
 use Rattle.std.proofs.lemmas.List.Sums.{sum_by-append, sum_by-cons}
 use Rattle.std.proofs.lemmas.List.Folds.{list_all-append}
 use Rattle.flow_base.specs.declared.points.Point.{Point}
@@ -16,48 +17,20 @@ use Rattle.rv32im_machine.specs.declared.language.Shape.TheVariants.{Copied}
 use Rattle.rv32im_machine.specs.declared.language.Source.{Source}
 use Rattle.rv32im_machine.specs.declared.language.Source.TheVariants.{At, Constant, Secret}
 use Rattle.rv32im_machine.specs.declared.language.Sources.{Sources}
-use Rattle.rv32im_machine.specs.declared.language.Sources.TheVariants.{One, Two, Byte as BytesOne, Half as BytesTwo, Word as BytesFour}
-use Rattle.rv32im_machine.specs.State.{State, Setting, Control, Store, saved}
-use Rattle.rv32im_machine.specs.Language.{Turn, Looks, Passes, Decides, Gives, Moves, Saves, Restores, Ends, Making, Shaped, Held, first_of, hold, passing, put, seen_value, shaped, value_of, values_of, at_place, walked}
+use Rattle.rv32im_machine.specs.declared.language.Sources.TheVariants.{One, Two, Byte as BytesOne, Half as BytesTwo}
+use Rattle.rv32im_machine.specs.declared.language.Sources.TheVariants.{Word as BytesFour}
+use Rattle.rv32im_machine.specs.State.{State, Setting, Store, saved}
+use Rattle.rv32im_machine.specs.Language.{Turn, Looks, Passes, Decides, Gives, Moves, Saves, Restores, Ends, Making}
+use Rattle.rv32im_machine.specs.Language.{Shaped, Held, first_of, hold, passing, put, seen_value, shaped, value_of}
+use Rattle.rv32im_machine.specs.Language.{values_of, at_place, walked}
 use Rattle.rv32im_machine.specs.Folds.{real_end}
 use Rattle.shadow_masks.specs.declared.labels.Label.{Label}
 use Rattle.run_labels.specs.TurnLabels.{TurnLabels, label_at, put_label, restore_labels, save_labels}
 use Rattle.run_labels.specs.Masks.{answers_after, labels_after, mask_of, moved_label}
-use Rattle.run_labels.specs.Flowing.{aim_events, byte_events, events_in, flow_events, link_from, passing_events, source_events, sources_events}
+use Rattle.run_labels.specs.Flowing.{aim_events, byte_events, events_in, flow_events, link_from, passing_events}
+use Rattle.run_labels.specs.Flowing.{source_events, sources_events}
 use Rattle.covered_runs.specs.SecretBits.{is_from_secret, is_secret_slot, secret_bits, secret_bits_of}
-
--- ---- what a row says of the secret
-
-abbrev pub NoSecret : Source → Type 0
-NoSecret (At place) = Unit {0}
-NoSecret (Constant value) = Unit {0}
-NoSecret (Secret index) = ⊥
-
-abbrev pub NoSecrets : Sources → Type 0
-NoSecrets (One source) = NoSecret source
-NoSecrets (Two first second) = NoSecret first × NoSecret second
-NoSecrets (BytesOne address) = Unit {0}
-NoSecrets (BytesTwo address) = Unit {0}
-NoSecrets (BytesFour address) = Unit {0}
-
--- what passes slot `in` is a byte of the secret, what passes another is none
-abbrev pub Takes : Bool → Making → Sources → Type 0
-Takes true making sources = (making ≡ Shaped Copied) × ((index : ℕ) × (sources ≡ One (Secret index)))
-Takes false making sources = NoSecrets sources
-
--- where so many bytes were read before, each end has counted those that pass, which are at most the limit
-unfoldable pub Reads : ℕ → ℕ → Turn → Type 0
-Reads limit count (Looks seen go) = (value : ℕ) → Reads limit count (go value)
-Reads limit count (Passes point place making sources turn) =
-    Takes (is_secret_slot point.slot) making sources
-    × Reads limit (cond (is_secret_slot point.slot) (count + 1) count) turn
-Reads limit count (Decides point making sources go) =
-    (is_secret_slot point.slot ≡ false) × NoSecrets sources × ((value : ℕ) → Reads limit count (go value))
-Reads limit count (Gives point place turn) = (is_secret_slot point.slot ≡ false) × Reads limit count turn
-Reads limit count (Moves place shape source turn) = Reads limit count turn
-Reads limit count (Saves turn) = Reads limit count turn
-Reads limit count (Restores registers turn) = Reads limit count turn
-Reads limit count (Ends control) = (control.secret_at ≡ count) × (count ≤ limit)
+use Rattle.covered_runs.proofs.RowCounts.{Counts, Limits, NoSecret, NoSecrets, Takes}
 
 -- ---- the events of a passing
 
@@ -191,44 +164,45 @@ module _ (limit : ℕ) (setting : Setting) (count : ℕ) (labels : TurnLabels) (
       counted_none limit setting count _ rest after
       (passed_none labels answer (passing point (Put place) making sources values) e takes) c
 
-pub turn_counted : (limit : ℕ) (setting : Setting) (secret : List ℕ) (turn : Turn) (count : ℕ) (store : Store) (held : Held)
-    (labels : TurnLabels) (answers : List ℕ) → Reads limit count turn →
-    Counted limit setting count (events_in labels answers (walked setting secret turn store held))
-    (real_end (walked setting secret turn store held))
-unfolding Reads walked events_in real_end
-turn_counted limit setting secret (Looks seen go) count store held labels answers r =
-    turn_counted limit setting secret (go (seen_value setting.base store seen)) count store held labels answers
-    (r (seen_value setting.base store seen))
-turn_counted limit setting secret (Passes point place making sources turn) count store held labels answers r =
-    let values = values_of setting secret store held sources in
-    let p = passing point (Put place) making sources values in
-    passes_counted limit setting count labels (first_of answers) point _ _ place making sources values
-    (is_secret_slot point.slot) refl r.0
-    (turn_counted limit setting secret turn (cond (is_secret_slot point.slot) (count + 1) count)
-    (put setting.base place p.value store) (hold place p.value held) (labels_after labels (first_of answers) p)
-    (answers_after p.work answers) r.1)
-turn_counted limit setting secret (Decides point making sources go) count store held labels answers r =
-    let values = values_of setting secret store held sources in
-    let p = passing point Decide making sources values in
-    counted_none limit setting count _ _ _ (passed_none labels (first_of answers) p r.0 r.1)
-    (turn_counted limit setting secret (go p.value) count store held (labels_after labels (first_of answers) p)
-    (answers_after p.work answers) (r.2 p.value))
-turn_counted limit setting secret (Gives point place turn) count store held labels answers r =
-    let p = passing point (Give place) (Shaped Copied) (One (At place)) (at_place setting.base store held place ∷ []) in
-    counted_none limit setting count _ _ _ (passed_none labels (first_of answers) p r.0 tt)
-    (turn_counted limit setting secret turn count (put setting.base place p.value store) (hold place p.value held)
-    (labels_after labels (first_of answers) p) (answers_after p.work answers) r.1)
-turn_counted limit setting secret (Moves place shape source turn) count store held labels answers r =
-    let value = shaped shape (value_of setting secret store held source ∷ []) in
-    turn_counted limit setting secret turn count (put setting.base place value store) (hold place value held)
-    (put_label place (moved_label labels shape source) labels) answers r
-turn_counted limit setting secret (Saves turn) count store held labels answers r =
-    turn_counted limit setting secret turn count (saved store) held (save_labels labels) answers r
-turn_counted limit setting secret (Restores registers turn) count store held labels answers r =
-    turn_counted limit setting secret turn count store held (restore_labels registers labels) answers r
-turn_counted limit setting secret (Ends control) count store held labels answers r = record {
-  bits = omega (arith, r.0);
-  within = omega (arith, r.0, r.1);
-  sources = refl;
-  stays = refl;
-}
+module _ (Known : Type 0) (limits : Limits) (setting : Setting) (secret : List ℕ) where
+  pub turn_counted : (turn : Turn) (count used : ℕ) (store : Store) (held : Held) (labels : TurnLabels)
+      (answers : List ℕ) → Counts Known limits count used turn →
+      Counted limits.secret setting count (events_in labels answers (walked setting secret turn store held))
+      (real_end (walked setting secret turn store held))
+  unfolding Counts walked events_in real_end
+  turn_counted (Looks seen go) count used store held labels answers r =
+      turn_counted (go (seen_value setting.base store seen)) count used store held labels answers
+      (r (seen_value setting.base store seen))
+  turn_counted (Passes point place making sources turn) count used store held labels answers r =
+      let values = values_of setting secret store held sources in
+      let p = passing point (Put place) making sources values in
+      passes_counted limits.secret setting count labels (first_of answers) point _ _ place making sources values
+      (is_secret_slot point.slot) refl r.1
+      (turn_counted turn (cond (is_secret_slot point.slot) (count + 1) count) (used + 1)
+      (put setting.base place p.value store) (hold place p.value held) (labels_after labels (first_of answers) p)
+      (answers_after p.work answers) r.2)
+  turn_counted (Decides point making sources go) count used store held labels answers r =
+      let p = passing point Decide making sources (values_of setting secret store held sources) in
+      counted_none limits.secret setting count _ _ _ (passed_none labels (first_of answers) p r.1 r.2)
+      (turn_counted (go p.value) count (used + 1) store held (labels_after labels (first_of answers) p)
+      (answers_after p.work answers) (r.3 p.value))
+  turn_counted (Gives point place turn) count used store held labels answers r =
+      let values = at_place setting.base store held place ∷ [] in
+      let p = passing point (Give place) (Shaped Copied) (One (At place)) values in
+      counted_none limits.secret setting count _ _ _ (passed_none labels (first_of answers) p r.1 tt)
+      (turn_counted turn count used (put setting.base place p.value store) (hold place p.value held)
+      (labels_after labels (first_of answers) p) (answers_after p.work answers) r.3)
+  turn_counted (Moves place shape source turn) count used store held labels answers r =
+      let value = shaped shape (value_of setting secret store held source ∷ []) in
+      turn_counted turn count used (put setting.base place value store) (hold place value held)
+      (put_label place (moved_label labels shape source) labels) answers r
+  turn_counted (Saves turn) count used store held labels answers r =
+      turn_counted turn count used (saved store) held (save_labels labels) answers r
+  turn_counted (Restores registers turn) count used store held labels answers r =
+      turn_counted turn count used store held (restore_labels registers labels) answers r
+  turn_counted (Ends control) count used store held labels answers r = record {
+    bits = omega (arith, r.0);
+    within = r.1.1;
+    sources = refl;
+    stays = refl;
+  }

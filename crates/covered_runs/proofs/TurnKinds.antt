@@ -124,7 +124,7 @@ found_id (first ∷ regions) number region e =
         subst (λ (r : Region). r.id ≡ number) same (eqb-true first.id number is)
     pick false is there later = later there
 
-rules_of : (region : Region) → is_region region ≡ true → HasRules region
+pub rules_of : (region : Region) → is_region region ≡ true → HasRules region
 rules_of region rules =
     let one = and_parts (is_region_number region.id) _ rules in
     let two = and_parts (is_place region.enter) _ one.1 in
@@ -137,7 +137,7 @@ rules_of region rules =
       keeps = (and_parts (list_all is_register region.keep) _ six.0).0;
     }
 
-all_rules : (regions : List Region) → are_regions regions ≡ true → list_all is_region regions ≡ true
+pub all_rules : (regions : List Region) → are_regions regions ≡ true → list_all is_region regions ≡ true
 all_rules regions rules = (and_parts _ _ (and_parts _ _ rules).1).0
 
 numbered_found : (regions : List Region) (number : ℕ) (region : Region) → region_numbered regions number ≡ Some region →

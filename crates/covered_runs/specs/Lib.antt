@@ -3,6 +3,7 @@ pub mod RunCuts
 pub mod ClosedEvents
 pub mod GraphLaws
 pub mod SecretBits
+pub mod VisitLaws
 pub mod Covers
 pub mod Proper
 pub mod ProperLaws

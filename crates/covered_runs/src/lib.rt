@@ -5,6 +5,7 @@
 mod graph_laws;
 mod laws;
 mod secret_laws;
+mod visit_laws;
 
 pub use graph_laws::{
     cuts_of_runs_cover, cuts_of_runs_cross, guests_stay_guests, sides_are_closed_for_events,
@@ -15,3 +16,4 @@ pub use laws::{
     turns_are_proper,
 };
 pub use secret_laws::{least_sides_are_small, runs_read_their_secret};
+pub use visit_laws::{outputs_have_their_visits, runs_pass_known_slots, runs_visit_points_seldom};
