@@ -11,7 +11,7 @@ pub use graph_laws::{
     sides_are_closed_for_links,
 };
 pub use laws::{
-    covered_runs_are_accepted, folded_cuts_are_accepted, measured_runs_are_accepted,
-    turns_are_proper,
+    covered_runs_are_accepted, cuts_have_few_runs, folded_cuts_are_accepted,
+    measured_runs_are_accepted, turns_are_proper,
 };
 pub use secret_laws::{least_sides_are_small, runs_read_their_secret};
