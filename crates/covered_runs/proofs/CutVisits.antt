@@ -44,7 +44,7 @@ visit_masks-append point (event ∷ events) more =
     ap (λ masks. mask_at_event point event ++ masks) (visit_masks-append point events more)
     ∙ sym (append_assoc (mask_at_event point event) (visit_masks point events) (visit_masks point more))
 
-same-left : (a b q : Point) → is_same a b ≡ true → is_same a q ≡ is_same b q
+pub same-left : (a b q : Point) → is_same a b ≡ true → is_same a q ≡ is_same b q
 same-left a b q same = ap is_eq (point_total.congr a b q (is_equal (point_cmp a b) same))
 
 same-event : (a b : Point) → is_same a b ≡ true → (event : Event) → mask_at_event a event ≡ mask_at_event b event

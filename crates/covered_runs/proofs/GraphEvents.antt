@@ -66,7 +66,7 @@ knows_more before more point known =
     let some : 0 < passed before point = not-some (passed before point) known in
     some-not (passed (before ++ more) point) (omega (arith, all, some))
 
-count-some : (mask : ℕ) → 0 < mask → mask < 2 ^ 32 → 0 < bit_count mask
+pub count-some : (mask : ℕ) → 0 < mask → mask < 2 ^ 32 → 0 < bit_count mask
 count-some mask some word = omega (arith, bit_count-ones mask word, ones_some mask some)
 
 pub knows_pass : (before : List Event) (point : Point) (mask : ℕ) → 0 < mask → mask < 2 ^ 32 →

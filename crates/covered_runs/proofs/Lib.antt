@@ -19,6 +19,8 @@ pub mod CutBits
 pub mod CutRuns
 pub mod CutMeasured
 pub mod CutFolds
+pub mod MaskRuns
+pub mod FewRuns
 pub mod ProperValues
 pub mod SecretSides
 pub mod ProperRows

@@ -9,6 +9,7 @@ pub mod Proper
 pub mod ProperLaws
 pub mod Laws
 pub mod SecretSides
+pub mod RunLaws
 pub mod GuestLaws
 pub mod CrossingLaws
 pub mod MeasuredLaws

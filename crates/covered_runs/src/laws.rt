@@ -2,6 +2,7 @@ ghost use Rattle.covered_runs.specs.FoldLaws.{FoldedLaw};
 ghost use Rattle.covered_runs.specs.Laws.{CoveredLaw};
 ghost use Rattle.covered_runs.specs.MeasuredLaws.{MeasuredLaw};
 ghost use Rattle.covered_runs.specs.ProperLaws.{ProperTurnsLaw};
+ghost use Rattle.covered_runs.specs.RunLaws.{FewRunsLaw};
 
 /// The turn of each instruction is proper. It does nothing when it is called.
 pub fn turns_are_proper()
@@ -24,4 +25,10 @@ pub fn measured_runs_are_accepted()
 /// nothing when it is called.
 pub fn folded_cuts_are_accepted()
     ensures folded { FoldedLaw }
+{}
+
+/// The cut of a run and a side of its graph has at most one point for each bit of the side's capacity, and two runs
+/// of masks for each bit beside one for each point. It does nothing when it is called.
+pub fn cuts_have_few_runs()
+    ensures few { FewRunsLaw }
 {}

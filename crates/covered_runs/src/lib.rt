@@ -12,8 +12,8 @@ pub use graph_laws::{
     sides_are_closed_for_links,
 };
 pub use laws::{
-    covered_runs_are_accepted, folded_cuts_are_accepted, measured_runs_are_accepted,
-    turns_are_proper,
+    covered_runs_are_accepted, cuts_have_few_runs, folded_cuts_are_accepted,
+    measured_runs_are_accepted, turns_are_proper,
 };
 pub use secret_laws::{least_sides_are_small, runs_read_their_secret};
 pub use visit_laws::{outputs_have_their_visits, runs_pass_known_slots, runs_visit_points_seldom};

@@ -1,28 +1,27 @@
 -- A measured run is accepted with its own cut, within its own number of bits, which are at most eight for each byte of
--- its secret.
-use Rattle.std.proofs.Common.{◌≡◌, ℕ, ◌*◌, ◌≤◌, List, ◌∷◌, length, subst, sym, ◌∙◌, arith}
-use Rattle.std.specs.Prelude.{Result, Ok, Err, IfOk}
+-- its secret; and that cut is small.
+use Rattle.std.proofs.Common.{ℕ, ◌*◌, ◌≤◌, List, ◌∷◌, length, subst, sym, arith}
 use Rattle.cut_file.proofs.Following.{cut-valid}
 use Rattle.cut_file.specs.Pictures.{picture_of}
 use Rattle.elf32_loader.specs.Pictures.{Picture}
 use Rattle.enclosure_regions.specs.declared.region_parts.Region.{Region}
-use Rattle.flow_base.specs.declared.outputs.Output.{Output}
 use Rattle.lockstep_replay.specs.Acceptance.{Accept}
 use Rattle.lockstep_replay.specs.Tasks.{task_of}
 use Rattle.max_flow.specs.Flows.{side_capacity}
 use Rattle.region_machine.specs.Starts.{guest}
-use Rattle.run_labels.specs.declared.faults.MeasureFault.{MeasureFault}
-use Rattle.run_labels.specs.Runs.{LabelledRun, run_after, unlabelled}
+use Rattle.run_labels.specs.Runs.{run_after, unlabelled}
 use Rattle.covered_runs.specs.MeasuredLaws.{AreInputs, IsWholeRun}
 use Rattle.covered_runs.specs.RunCuts.{IsCutOf}
+use Rattle.covered_runs.specs.RunLaws.{HasFewRuns}
 use Rattle.covered_runs.specs.Sides.{named_side}
 use Rattle.covered_runs.proofs.CoveredRuns.{covered_law}
 use Rattle.covered_runs.proofs.CutFolds.{folded_law}
 use Rattle.covered_runs.proofs.CutMeasured.{measured_law}
+use Rattle.covered_runs.proofs.FewRuns.{few_runs_law}
 use Rattle.covered_runs.proofs.SecretRuns.{secret_bits_law}
 use Rattle.covered_runs.proofs.SecretSides.{least_bits_law}
 use Rattle.measuring.specs.declared.measured.Measured.{Measured}
-use Rattle.measuring.specs.Accepting.{IsAcceptedByFolds, IsAcceptedByItsCut}
+use Rattle.measuring.specs.Accepting.{HasSmallCut, IsAcceptedByFolds, IsAcceptedByItsCut}
 use Rattle.measuring.specs.Measures.{Measures}
 
 module _ (table : ℕ) (program : Picture) (public_input : List ℕ) (regions : List Region) (secret : List ℕ) (turns : ℕ)
@@ -79,3 +78,14 @@ module _ (table : ℕ) (program : Picture) (public_input : List ℕ) (regions : 
       let bits = reads.bits in
       let capacity = m.measure.capacity in
       omega (arith, bits, least, capacity)
+
+  pub small : HasSmallCut measured
+  small =
+      let start = unlabelled (guest program public_input secret) in
+      let events = (run_after regions (m.exits.last ∷ m.exits.earlier) start).events in
+      subst (λ bits. HasFewRuns bits (picture_of measured.cut)) m.measure.capacity
+      (few_runs_law (length secret) events measured.graph measured.side.points measured.side.relays
+      (picture_of measured.cut) m.measure.graph m.measure.side.side
+      (subst (λ bits. IsCutOf (length secret) events (named_side measured.graph measured.side.points
+      measured.side.relays) bits (picture_of measured.cut)) (sym m.measure.capacity) m.measure.cut)
+      (cut-valid measured.cut))

@@ -1,5 +1,6 @@
--- The measured run is accepted with the cut that was measured of it, and with the fold of that cut.
+-- The measured run is accepted with the cut that was measured of it, and with the fold of that cut, and the cut is small.
 use Rattle.std.specs.Prelude.{ℕ, List}
+use Rattle.covered_runs.specs.RunLaws.{HasFewRuns}
 use Rattle.cut_file.specs.Cuts.{CutPicture}
 use Rattle.cut_file.specs.Folds.{IsFold}
 use Rattle.cut_file.specs.Pictures.{picture_of}
@@ -22,3 +23,8 @@ IsAcceptedByFolds program public_input regions secret turns measured =
     (folded : CutPicture) → IsFold (picture_of measured.cut) folded →
     Accept (task_of program public_input regions folded)
     (record { budget = measured.value; turns = turns }) secret measured.output
+
+-- the measured cut has at most one point for each measured bit, and two runs of masks for each bit beside one for
+-- each point
+abbrev pub HasSmallCut : Measured → Type 0
+HasSmallCut measured = HasFewRuns measured.value (picture_of measured.cut)

@@ -1,7 +1,6 @@
 use Rattle.std.proofs.lemmas.Result.{IfOk-weaker}
-use Rattle.std.specs.Prelude.{length}
 use Rattle.elf32_loader.specs.Images.{picture_of}
-use Rattle.measuring.proofs.OwnCuts.{accepted, few, folds}
+use Rattle.measuring.proofs.OwnCuts.{accepted, few, folds, small}
 use Rattle.measuring.proofs.accepting.measure.Goals as goal
 
 pub returns-clause-accepted : goal.returns-clause-accepted
@@ -23,4 +22,11 @@ returns-clause-few g c =
     IfOk-weaker c.measure_run.result _ _
     (λ measured m. few c.args.book.now.table (picture_of c.args.image.now) c.args.public.now c.args.regions.now.items
     c.args.secret.now c.args.turns measured m)
+    c.measure_run.ensures.ok
+
+pub returns-clause-runs : goal.returns-clause-runs
+returns-clause-runs g c =
+    IfOk-weaker c.measure_run.result _ _
+    (λ measured m. small c.args.book.now.table (picture_of c.args.image.now) c.args.public.now
+    c.args.regions.now.items c.args.secret.now c.args.turns measured m)
     c.measure_run.ensures.ok
