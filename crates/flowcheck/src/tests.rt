@@ -4,6 +4,7 @@ mod break_rows;
 mod check_rows;
 mod cuts;
 mod guests;
+mod hostile_rows;
 mod measure_rows;
 mod region_rows;
 mod region_word_rows;
@@ -281,6 +282,15 @@ fn cuts_are_folded(rt: HostRuntime) -> Result<(), Fail> {
 #[test]
 fn trials_are_told(rt: HostRuntime) -> Result<(), Fail> {
     let names = unlike(rt.alloc(), &trial_rows::ROWS)?;
+    assert!(rt; names.is_empty(), "{names}");
+    Ok(())
+}
+
+#[test]
+fn hostile_use_is_answered(rt: HostRuntime) -> Result<(), Fail> {
+    let mut names = unlike(rt.alloc(), &hostile_rows::FAILING)?;
+    names.push_str(unlike(rt.alloc(), &hostile_rows::FILES)?.as_str())?;
+    names.push_str(unlike(rt.alloc(), &hostile_rows::GUESTS)?.as_str())?;
     assert!(rt; names.is_empty(), "{names}");
     Ok(())
 }
