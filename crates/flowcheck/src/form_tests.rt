@@ -1,5 +1,5 @@
-use crate::commands::{CommandWords, command_words};
 use crate::forms;
+use command_words::{CommandWords, command_words};
 use flow_base::NoMemory;
 use std::alloc::{AllocError, Global};
 use std::test::Fail;

@@ -1,46 +1,16 @@
 //! How many bits of its secret can a program's output have given away?
 #![tactic(auto)]
 
-mod asm;
-#[cfg(test)]
-mod book_tests;
-mod books;
-mod check;
-mod commands;
-mod fault_texts;
 #[cfg(test)]
 mod form_tests;
 mod forms;
-mod graph;
-mod judging;
-mod kinds;
-mod limits;
-mod list;
-mod loads;
-mod measure;
-mod migrate;
-mod names;
-mod numbers;
-mod parts;
-mod refusals;
-mod replies;
-mod report;
-mod runs;
-mod shared;
-mod statuses;
-#[cfg(test)]
-mod tests;
-mod texts;
-mod top;
-mod trial;
-mod verify;
 
+use command_answers::flowcheck;
 use flow_base::{DiskFiles, Sink, StandardOut};
 use std::alloc::{AllocError, Global};
 use std::env;
 use std::io::ErrorKind;
 use std::process::ExitCode;
-pub use top::flowcheck;
 use transfer_rules::*;
 
 const VERSION: &str = "flowcheck 0.1.0\n";

@@ -1,0 +1,15 @@
+pub mod OneSegment
+pub mod Judgements
+pub mod LoadSteps
+pub mod Shown
+pub mod Refusing
+pub mod Others
+pub mod Headlines
+pub mod Files
+pub mod OneLine
+pub mod Told
+pub mod Tellings
+pub mod Counted
+pub mod OneCertificate
+pub mod Complete
+pub mod OneStatus

@@ -1,0 +1,28 @@
+-- The files behind the cut.
+use Rattle.std.proofs.Common.{◌≡◌, ◌≤◌, ◌-◌, ℕ, List, [], ◌∷◌, ◌++◌, true, false, length, take, drop, Option, Some, None, is_some, sym, subst, arith}
+use Rattle.std.proofs.Math.Seq.{take-length}
+use Rattle.std.proofs.lemmas.Grind.{common_steps}
+use Rattle.std.proofs.lemmas.List.Elements.{All-cons, All-nil}
+use Rattle.command_answers.specs.Checks.{region_wants, secret_wants}
+use Rattle.command_answers.specs.CheckFiles.{AreShort}
+use Rattle.command_answers.specs.Loading.{AreWithin}
+
+pub short-secrets : (names files : List (List ℕ)) → AreWithin (secret_wants names) files → AreShort files
+short-secrets [] [] within = All-nil (λ secret. length secret ≤ 65536)
+short-secrets [] (file ∷ files) within = absurd within
+short-secrets (name ∷ names) [] within = absurd within
+short-secrets (name ∷ names) (file ∷ files) within =
+    All-cons (λ secret. length secret ≤ 65536) file files within.0 (short-secrets names files within.1)
+
+pub short-others : (name : Option (List ℕ)) (names files : List (List ℕ)) → is_some name ≡ false →
+    AreWithin (region_wants name ++ secret_wants names) files → AreShort files
+short-others None names files e within = short-secrets names files within
+short-others (Some name) names files e within = absurd cc
+
+pub short-behind : (name : Option (List ℕ)) (names files : List (List ℕ)) → is_some name ≡ true →
+    AreWithin (region_wants name ++ secret_wants names) files → AreShort (take (length files - 1) (drop 1 files))
+short-behind None names files e within = absurd cc
+short-behind (Some name) names [] e within = absurd within
+short-behind (Some name) names (first ∷ rest) e within =
+    let same : take (length (first ∷ rest) - 1) rest ≡ rest = grind (arith, common_steps, take-length rest) in
+    subst (λ files. AreShort files) (sym same) (short-secrets names rest within.1)

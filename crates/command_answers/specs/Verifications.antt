@@ -1,0 +1,55 @@
+-- The verdict on a certificate: the load of the certificate, and the answer to the certificate file that is loaded.
+use Rattle.std.specs.Prelude.{◌≡◌, ◌≢◌, ◌⊎◌, ℕ, true, List, [], ◌∷◌, ◌++◌, codes, Ok, Err}
+use Rattle.flow_graph.specs.declared.graphs.Graph.{Graph}
+use Rattle.max_flow.specs.declared.answers.Solved.{Solved}
+use Rattle.flow_certificate.specs.declared.faults.FormFault.{FormFault}
+use Rattle.flow_certificate.specs.declared.faults.FormFault.TheVariants.{Memory as NoRoomForCertificate}
+use Rattle.flow_certificate.specs.declared.verdicts.CertVerdict.{CertVerdict}
+use Rattle.flow_certificate.specs.declared.verdicts.CertVerdict.TheVariants as verdicts
+use Rattle.flow_certificate.specs.Certificates.{CertText, IsFormFault}
+use Rattle.flow_certificate.specs.Pictures.{have_counts, picture_of}
+use Rattle.flow_certificate.specs.VerdictTexts.{verdict_text}
+use Rattle.flow_certificate.specs.Verdicts.{IsVerdict, IsVerified}
+use Rattle.command_answers.specs.declared.kinds.FileKind.TheVariants as kinds
+use Rattle.command_answers.specs.declared.refusals.Refusal.TheVariants.{Certificate}
+use Rattle.command_answers.specs.declared.replies.Reply.{Reply}
+use Rattle.command_answers.specs.declared.statuses.Status.{Status}
+use Rattle.command_answers.specs.declared.statuses.Status.TheVariants.{Done, Rejected}
+use Rattle.command_answers.specs.Answers.{Answer}
+use Rattle.command_answers.specs.Loading.{Want, want}
+
+abbrev pub verification_wants : List ℕ → List Want
+verification_wants certificate = want certificate kinds.Certificate ∷ []
+
+-- done where the certificate is verified
+abbrev pub verdict_status : CertVerdict → Status
+verdict_status (verdicts.Verified value) = Done
+verdict_status (verdicts.Rejected fault) = Rejected
+
+-- a verdict is told by one line
+abbrev pub verdict_reply : CertVerdict → Reply
+verdict_reply verdict = record { status = verdict_status verdict; text = verdict_text verdict ++ codes "\n" }
+
+-- the file is the text of this graph with this flow and side, which has a flow for each point and each link, and an
+-- answer for each point and each relay
+pub record IsCertificate (file : List ℕ) (graph : Graph) (solved : Solved) : Type 0 where
+  pub text : CertText file (picture_of graph solved)
+  pub counts : have_counts graph solved ≡ true
+
+-- a verdict on a certificate, which is that it is verified exactly where it is
+pub record IsExactVerdict (graph : Graph) (solved : Solved) (verdict : CertVerdict) : Type 0 where
+  pub shows : IsVerdict graph solved verdict
+  pub verified : IsVerified graph solved solved.value → verdict ≡ verdicts.Verified solved.value
+
+-- the first line of the file that fails, or the verdict on the certificate of which it is the text
+abbrev pub AnswersVerified : List ℕ → Answer → Type 0
+AnswersVerified file answer =
+    ((fault : FormFault) × IsFormFault file fault × (fault ≢ NoRoomForCertificate)
+    × (answer ≡ Err (Certificate fault)))
+    ⊎ ((graph : Graph) × (solved : Solved) × (verdict : CertVerdict) × IsCertificate file graph solved
+    × IsExactVerdict graph solved verdict × (answer ≡ Ok (verdict_reply verdict)))
+
+abbrev pub AnswersVerification : List (List ℕ) → Answer → Type 0
+AnswersVerification [] answer = ⊥
+AnswersVerification (file ∷ []) answer = AnswersVerified file answer
+AnswersVerification (file ∷ (other ∷ files)) answer = ⊥

@@ -1,0 +1,4 @@
+pub mod Equals
+pub mod Lists
+pub mod Rows
+pub mod OneCommand

@@ -1,0 +1,39 @@
+//! What the value of an option names: a limit of turns, or a choice of 1 and 2.
+
+ghost use Rattle.std.specs.Prelude.{◌≡◌, ◌≤◌, ℕ, None, Ok, option_map, IfOk, IfSome};
+ghost use Rattle.command_words.specs.CommandLines.{IsChoice, IsTurnLimit, highest_turns};
+
+use crate::numbers::number_of;
+use flow_base::NoMemory;
+use std::alloc::Global;
+
+const DEFAULT_TURNS: u32 = 1_000_000;
+
+const HIGHEST_TURNS: u32 = 20_000_000;
+
+/// The limit of turns that a value names, or the one without a value; None exactly where it names none.
+pub fn turns_of(alloc: Global, value: Option<&str>) -> Result<Option<u32>, NoMemory>
+    ensures is { IfOk result (λ found. IfSome found (λ turns. IsTurnLimit (option_map (λ word. word.now)
+        value.entry) turns)) }
+    ensures few { IfOk result (λ found. IfSome found (λ turns. turns ≤ highest_turns)) }
+    ensures none { result ≡ Ok None → (turns : ℕ) → ¬ IsTurnLimit (option_map (λ word. word.now) value.entry) turns }
+{
+    match value {
+        Some(word) => number_of(alloc, word, 1, HIGHEST_TURNS),
+        None => Ok(Some(DEFAULT_TURNS)),
+    }
+}
+
+/// The choice of 1 or 2 that a value names, 1 without a value; None exactly where it names none.
+pub fn choice_of(alloc: Global, value: Option<&str>) -> Result<Option<u32>, NoMemory>
+    ensures is { IfOk result (λ found. IfSome found (λ choice. IsChoice (option_map (λ word. word.now)
+        value.entry) choice)) }
+    ensures one { IfOk result (λ found. IfSome found (λ choice. 1 ≤ choice)) }
+    ensures two { IfOk result (λ found. IfSome found (λ choice. choice ≤ 2)) }
+    ensures none { result ≡ Ok None → (choice : ℕ) → ¬ IsChoice (option_map (λ word. word.now) value.entry) choice }
+{
+    match value {
+        Some(word) => number_of(alloc, word, 1, 2),
+        None => Ok(Some(1)),
+    }
+}
