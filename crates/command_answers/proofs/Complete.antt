@@ -227,7 +227,7 @@ runs-status Tells done table public_input secret turns picture regions answer de
       measured = λ zero. absurd (omega (arith, zero, four));
       done = λ none. absurd (room (none fault cause));
     }
-runs-status Tells done table public_input secret turns picture regions answer deciding (inr (measured, is, accepted, folds, few, tells)) =
+runs-status Tells done table public_input secret turns picture regions answer deciding (inr (measured, is, accepted, folds, few, short, tells)) =
     let zero : status_of answer ≡ 0 = done measured answer tells in
     record {
       known = inl zero;

@@ -111,13 +111,13 @@ runs-one : (Tells : Measured → Answer → Type 0) → TellsDone Tells → (tab
     Runs Tells table public_input secret turns picture regions second → AreOne first second
 runs-one Tells done table public_input secret turns picture regions first second deciding (inl (fault, cause, room, e)) (inl (other, also, rooms, f)) =
     by-status first second 4 (ap status_of e) (ap status_of f)
-runs-one Tells done table public_input secret turns picture regions first second deciding (inl (fault, cause, room, e)) (inr (measured, is, accepted, folds, few, tells)) =
+runs-one Tells done table public_input secret turns picture regions first second deciding (inl (fault, cause, room, e)) (inr (measured, is, accepted, folds, few, short, tells)) =
     absurd (room (measured_have_no_cause table regions (start_of picture public_input secret) (length secret) turns
     measured fault deciding is cause))
-runs-one Tells done table public_input secret turns picture regions first second deciding (inr (measured, is, accepted, folds, few, tells)) (inl (fault, cause, room, f)) =
+runs-one Tells done table public_input secret turns picture regions first second deciding (inr (measured, is, accepted, folds, few, short, tells)) (inl (fault, cause, room, f)) =
     absurd (room (measured_have_no_cause table regions (start_of picture public_input secret) (length secret) turns
     measured fault deciding is cause))
-runs-one Tells done table public_input secret turns picture regions first second deciding (inr (measured, is, accepted, folds, few, tells)) (inr (other, also, acceptable, fold, less, telling)) =
+runs-one Tells done table public_input secret turns picture regions first second deciding (inr (measured, is, accepted, folds, few, short, tells)) (inr (other, also, acceptable, fold, less, brief, telling)) =
     by-status first second 0 (done measured first tells) (done other second telling)
 
 runs-regions-one : RegionLaws → (Tells : Measured → Answer → Type 0) → TellsDone Tells → (table : ℕ)

@@ -22,8 +22,8 @@ pub runs : (Tells : Measured → Answer → Type 0) (found : Result Measured Ref
     Runs Is table public_input secret turns picture regions found → Runs Tells table public_input secret turns picture regions answer
 runs Tells found answer law table public_input secret turns picture regions (inl (fault, cause, room, e)) =
     inl (fault, cause, room, law.refused _ e)
-runs Tells found answer law table public_input secret turns picture regions (inr (measured, is, accepted, folds, few, e)) =
-    inr (measured, is, accepted, folds, few, law.told measured e)
+runs Tells found answer law table public_input secret turns picture regions (inr (measured, is, accepted, folds, few, short, e)) =
+    inr (measured, is, accepted, folds, few, short, law.told measured e)
 
 runs-regions : (Tells : Measured → Answer → Type 0) (found : Result Measured Refusal) (answer : Answer) → Follows Tells found answer →
     (table : ℕ) (public_input secret : List ℕ) (turns : ℕ) (region_file : Option (List ℕ)) (picture : Picture) →
@@ -75,7 +75,7 @@ version-runs : (measured : Measured) (found : Result Measured Refusal) → found
     Runs Is table public_input secret turns picture regions found → measured.cut.version ≡ 1
 version-runs measured found is table public_input secret turns picture regions (inl (fault, cause, room, e)) =
     absurd (not_measured _ measured found e is)
-version-runs measured found is table public_input secret turns picture regions (inr (other, m, accepted, folds, few, e)) =
+version-runs measured found is table public_input secret turns picture regions (inr (other, m, accepted, folds, few, short, e)) =
     subst (λ (a : Measured). a.cut.version ≡ 1) (measured-of other measured found e is) m.measure.cut.version
 
 version-regions : (measured : Measured) (found : Result Measured Refusal) → found ≡ Ok measured → (table : ℕ)
@@ -108,7 +108,7 @@ pub own_cut : (measured : Measured) (found : Result Measured Refusal) → found 
     IsOwnCut measured picture public_input secret regions turns
 own_cut measured found is table public_input secret turns picture regions (inl (fault, cause, room, e)) =
     absurd (not_measured _ measured found e is)
-own_cut measured found is table public_input secret turns picture regions (inr (other, m, accepted, folds, few, e)) =
+own_cut measured found is table public_input secret turns picture regions (inr (other, m, accepted, folds, few, short, e)) =
     subst (λ (a : Measured). IsOwnCut a picture public_input secret regions turns) (measured-of other measured found e is)
     (record { accepted = accepted; few = few; bits = m.measure.cut.bits })
 

@@ -151,7 +151,7 @@ runs-status : (Tells : Measured → Answer → Type 0) → TellsDone Tells → (
     NoUsage answer
 runs-status Tells done table public_input secret turns picture regions answer (inl (fault, cause, room, e)) =
     by answer _ e (other _ (λ n. omega (arith, n)) (λ n. omega (arith, n)) (omega arith) (joined (codes "refused 4 ") _ (literal (codes "refused 4 ") refl) (run_fault fault)))
-runs-status Tells done table public_input secret turns picture regions answer (inr (measured, is, accepted, folds, few, tells)) = done measured answer tells
+runs-status Tells done table public_input secret turns picture regions answer (inr (measured, is, accepted, folds, few, short, tells)) = done measured answer tells
 
 runs-regions-status : (Tells : Measured → Answer → Type 0) → TellsDone Tells → (table : ℕ) (public_input secret : List ℕ) (turns : ℕ)
     (region_file : Option (List ℕ)) (picture : Picture) (answer : Answer) →

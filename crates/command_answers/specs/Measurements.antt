@@ -18,7 +18,7 @@ use Rattle.leak_report.specs.JsonReports.{report_json}
 use Rattle.leak_report.specs.Reports.{report_text}
 use Rattle.max_flow.specs.declared.answers.Solved.{Solved}
 use Rattle.measuring.specs.declared.measured.Measured.{Measured}
-use Rattle.measuring.specs.Accepting.{IsAcceptedByFolds, IsAcceptedByItsCut}
+use Rattle.measuring.specs.Accepting.{HasShortText, IsAcceptedByFolds, IsAcceptedByItsCut}
 use Rattle.measuring.specs.Measures.{HasCause, Measures}
 use Rattle.run_labels.specs.declared.faults.MeasureFault.{MeasureFault}
 use Rattle.run_labels.specs.declared.faults.MeasureFault.TheVariants.{Memory as NoRoomForRun}
@@ -45,7 +45,8 @@ start_of picture public_input secret = unlabelled (guest picture public_input se
 
 -- The run once program and regions are read, by the mask rules of a table: why it is refused; or what is measured of
 -- it, that the secret is accepted with that cut, and with its fold, within that number of bits and the same turns, which
--- is at most eight for each byte of the secret, and what comes of that.
+-- is at most eight for each byte of the secret, that the texts of both are short enough for a cut file, and what comes of
+-- that.
 abbrev pub Runs : {A : Type 0} → (Measured → Result A Refusal → Type 0) → ℕ → List ℕ → List ℕ → ℕ → Picture →
     List Region → Result A Refusal → Type 0
 Runs Tells table public_input secret turns picture regions result =
@@ -55,7 +56,7 @@ Runs Tells table public_input secret turns picture regions result =
     × Measures table regions (start_of picture public_input secret) (length secret) turns measured
     × IsAcceptedByItsCut picture public_input regions secret turns measured
     × IsAcceptedByFolds picture public_input regions secret turns measured
-    × (measured.value ≤ 8 * length secret) × Tells measured result)
+    × (measured.value ≤ 8 * length secret) × HasShortText measured × Tells measured result)
 
 -- the same once the program is read: the first fault of the region file, or by its regions
 abbrev pub RunsRegions : {A : Type 0} → (Measured → Result A Refusal → Type 0) → ℕ → List ℕ → List ℕ → ℕ →

@@ -20,5 +20,6 @@ returns-clause-runs g c = λ known.
       c.in_ok-measured.ensures.accepted,
       c.in_ok-measured.ensures.folds,
       c.in_ok-measured.ensures.few,
+      c.in_ok-measured.ensures.short,
       refl,
     )
