@@ -151,7 +151,7 @@ folded-runs point folded known own (inr stays) =
 
 folded-bytes : (points folded : List CutPoint) → list_all (is_point_of 1) points ≡ true →
     list_all is_cut_point folded ≡ true → AreFolded points folded →
-    point_bytes folded ≤ 64 * length points + 22 * listed_runs points
+    point_bytes folded ≤ 55 * length points + 22 * listed_runs points
 unfolding point_bytes
 folded-bytes [] [] all own made = omega arith
 folded-bytes [] (first ∷ folded) all own made = absurd made

@@ -213,7 +213,7 @@ single-rest point known =
     single-length point.rest (and_parts (is_cut_point point) (is_single point.rest) known).1
 
 single-bytes : (points : List CutPoint) → list_all (is_point_of 1) points ≡ true →
-    point_bytes points ≤ 64 * length points + 22 * listed_runs points
+    point_bytes points ≤ 55 * length points + 22 * listed_runs points
 unfolding point_bytes
 single-bytes [] all = omega arith
 single-bytes (point ∷ points) all =

@@ -9,9 +9,9 @@ use Rattle.cut_file.specs.Texts.{cut_text}
 abbrev pub listed_runs : List CutPoint → ℕ
 listed_runs points = sum_by (λ point. length point.runs) points
 
--- 64 bytes, 32 for each region to be skipped, 64 for each point, 22 for each listed run
+-- 64 bytes, 11 for each region to be skipped, 55 for each point, 22 for each listed run
 abbrev pub byte_bound : CutPicture → ℕ
-byte_bound cut = 64 + 32 * length cut.skip + 64 * length cut.points + 22 * listed_runs cut.points
+byte_bound cut = 64 + 11 * length cut.skip + 55 * length cut.points + 22 * listed_runs cut.points
 
 -- the text of a cut of version 1 is within its bound
 abbrev pub TextsAreShort : Type 0

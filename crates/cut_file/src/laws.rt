@@ -27,7 +27,7 @@ pub fn folds_keep_masks()
     ensures { FoldsKeepMasks }
 {}
 
-/// The text of a cut of version 1 has at most 64 bytes, 32 more for each region to be skipped, 64 for each point and 22
+/// The text of a cut of version 1 has at most 64 bytes, 11 more for each region to be skipped, 55 for each point and 22
 /// for each run that a point lists; and the text of its [`fold`](crate::fold) has no more than that. It does nothing
 /// when it is called.
 pub fn texts_are_short()

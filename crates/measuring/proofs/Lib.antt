@@ -10,6 +10,7 @@ pub mod Turns
 pub mod Measuring
 pub mod NamedLinks
 pub mod Within
+pub mod ShortTexts
 pub mod OwnCuts
 pub mod Decided
 pub mod Excluded

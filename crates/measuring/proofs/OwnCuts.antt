@@ -1,5 +1,5 @@
 -- A measured run is accepted with its own cut, within its own number of bits, which are at most eight for each byte of
--- its secret; and that cut is small.
+-- its secret; and that cut is small, and its text short.
 use Rattle.std.proofs.Common.{ℕ, ◌*◌, ◌≤◌, List, ◌∷◌, length, subst, sym, arith}
 use Rattle.cut_file.proofs.Following.{cut-valid}
 use Rattle.cut_file.specs.Pictures.{picture_of}
@@ -21,8 +21,9 @@ use Rattle.covered_runs.proofs.FewRuns.{few_runs_law}
 use Rattle.covered_runs.proofs.SecretRuns.{secret_bits_law}
 use Rattle.covered_runs.proofs.SecretSides.{least_bits_law}
 use Rattle.measuring.specs.declared.measured.Measured.{Measured}
-use Rattle.measuring.specs.Accepting.{HasSmallCut, IsAcceptedByFolds, IsAcceptedByItsCut}
+use Rattle.measuring.specs.Accepting.{HasShortText, HasSmallCut, IsAcceptedByFolds, IsAcceptedByItsCut}
 use Rattle.measuring.specs.Measures.{Measures}
+use Rattle.measuring.proofs.ShortTexts.{fold-text, own-text}
 
 module _ (table : ℕ) (program : Picture) (public_input : List ℕ) (regions : List Region) (secret : List ℕ) (turns : ℕ)
     (measured : Measured) (m : Measures table regions (unlabelled (guest program public_input secret)) (length secret)
@@ -89,3 +90,13 @@ module _ (table : ℕ) (program : Picture) (public_input : List ℕ) (regions : 
       (subst (λ bits. IsCutOf (length secret) events (named_side measured.graph measured.side.points
       measured.side.relays) bits (picture_of measured.cut)) (sym m.measure.capacity) m.measure.cut)
       (cut-valid measured.cut))
+
+  pub short : length secret ≤ 65536 → HasShortText measured
+  short within =
+      let bits : measured.value ≤ 524288 = let most = few in omega (arith, most, within) in
+      record {
+        text = own-text measured.value (picture_of measured.cut) (cut-valid measured.cut) m.measure.cut.version bits
+            small;
+        fold = λ folded own made. fold-text measured.value (picture_of measured.cut) folded (cut-valid measured.cut)
+            m.measure.cut.version bits small own made;
+      }

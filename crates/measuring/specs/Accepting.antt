@@ -1,9 +1,11 @@
--- The measured run is accepted with the cut that was measured of it, and with the fold of that cut, and the cut is small.
-use Rattle.std.specs.Prelude.{ℕ, List}
+-- The measured run is accepted with the cut that was measured of it, and with the fold of that cut; the cut is
+-- small, and the texts of both are short.
+use Rattle.std.specs.Prelude.{◌≡◌, ℕ, ◌≤◌, true, length, List}
 use Rattle.covered_runs.specs.RunLaws.{HasFewRuns}
-use Rattle.cut_file.specs.Cuts.{CutPicture}
+use Rattle.cut_file.specs.Cuts.{CutPicture, is_valid}
 use Rattle.cut_file.specs.Folds.{IsFold}
 use Rattle.cut_file.specs.Pictures.{picture_of}
+use Rattle.cut_file.specs.Texts.{cut_text}
 use Rattle.elf32_loader.specs.Pictures.{Picture}
 use Rattle.enclosure_regions.specs.declared.region_parts.Region.{Region}
 use Rattle.lockstep_replay.specs.Acceptance.{Accept}
@@ -28,3 +30,9 @@ IsAcceptedByFolds program public_input regions secret turns measured =
 -- each point
 abbrev pub HasSmallCut : Measured → Type 0
 HasSmallCut measured = HasFewRuns measured.value (picture_of measured.cut)
+
+-- the text of the measured cut has at most 64 MiB, and so has that of each valid cut that is a fold of it
+pub record HasShortText (measured : Measured) : Type 0 where
+  pub text : length (cut_text (picture_of measured.cut)) ≤ 67108864
+  pub fold : (folded : CutPicture) → is_valid folded ≡ true → IsFold (picture_of measured.cut) folded
+      → length (cut_text folded) ≤ 67108864

@@ -2,7 +2,7 @@ ghost use Rattle.std.specs.Prelude.{◌≤◌, ◌*◌, length, IfErr, IfOk};
 ghost use Rattle.elf32_loader.specs.Images.{picture_of};
 ghost use Rattle.region_machine.specs.Starts.{guest};
 ghost use Rattle.run_labels.specs.Runs.{unlabelled};
-ghost use Rattle.measuring.specs.Accepting.{HasSmallCut, IsAcceptedByFolds, IsAcceptedByItsCut};
+ghost use Rattle.measuring.specs.Accepting.{HasShortText, HasSmallCut, IsAcceptedByFolds, IsAcceptedByItsCut};
 ghost use Rattle.measuring.specs.Measures.{HasCause, Measures};
 
 use crate::inputs::tell_inputs;
@@ -19,7 +19,7 @@ use transfer_rules::RuleBook;
 /// at most `turns` turns: how many bits of the secret can have flowed to what is seen of it, and where they can be cut
 /// (McCamant and Ernst, PLDI 2008). The secret is accepted with that cut, and with its fold, within that number of bits,
 /// which are at most eight for each of its bytes; the cut has at most one point for each of these bits, and two runs
-/// of masks for each bit beside one for each point.
+/// of masks for each bit beside one for each point. So the text of the cut has at most 64 MiB, and that of its fold too.
 ///
 /// The secret has at most 65,536 bytes. Of the errors the first turn in which one holds decides; `TurnLimit` where the run
 /// does not exit within the limit, `GraphLimit` where it does and its graph exceeds a limit, and `Memory` where there is
@@ -45,6 +45,7 @@ pub fn measure(
         IsAcceptedByFolds (picture_of image.now) public.now regions.now.items secret.now turns measured) }
     ensures few { IfOk result (λ measured. measured.value ≤ 8 * length secret.now) }
     ensures runs { IfOk result (λ measured. HasSmallCut measured) }
+    ensures short { IfOk result (λ measured. HasShortText measured) }
 {
     tell_inputs(image, public, secret, regions);
     measure_run(alloc, image, public, secret, regions, book, turns)

@@ -1,6 +1,6 @@
 use Rattle.std.proofs.lemmas.Result.{IfOk-weaker}
 use Rattle.elf32_loader.specs.Images.{picture_of}
-use Rattle.measuring.proofs.OwnCuts.{accepted, few, folds, small}
+use Rattle.measuring.proofs.OwnCuts.{accepted, few, folds, short, small}
 use Rattle.measuring.proofs.accepting.measure.Goals as goal
 
 pub returns-clause-accepted : goal.returns-clause-accepted
@@ -29,4 +29,11 @@ returns-clause-runs g c =
     IfOk-weaker c.measure_run.result _ _
     (λ measured m. small c.args.book.now.table (picture_of c.args.image.now) c.args.public.now
     c.args.regions.now.items c.args.secret.now c.args.turns measured m)
+    c.measure_run.ensures.ok
+
+pub returns-clause-short : goal.returns-clause-short
+returns-clause-short g c =
+    IfOk-weaker c.measure_run.result _ _
+    (λ measured m. short c.args.book.now.table (picture_of c.args.image.now) c.args.public.now
+    c.args.regions.now.items c.args.secret.now c.args.turns measured m c.requires)
     c.measure_run.ensures.ok

@@ -1,0 +1,75 @@
+-- A cut of version 1 with few points and few runs of masks has a short text, and so has its fold.
+use Rattle.std.proofs.Common.{◌≡◌, ℕ, ◌+◌, ◌*◌, ◌<◌, ◌≤◌, length, nat_le, nat_lt, true, List, [], ◌∷◌, arith}
+use Rattle.std.specs.List.{list_all}
+use Rattle.std.proofs.lemmas.Bool.{and_parts, leb-true, ltb-true}
+use Rattle.cut_file.proofs.FoldLengths.{fold-short}
+use Rattle.cut_file.proofs.TextLengths.{text-short}
+use Rattle.cut_file.specs.Cuts.{CutPicture, are_points_of, are_regions, is_region, is_valid, is_version, is_word}
+use Rattle.cut_file.specs.Cuts.{neighbours_pass}
+use Rattle.cut_file.specs.Folds.{IsFold}
+use Rattle.cut_file.specs.TextLengths.{byte_bound, listed_runs}
+use Rattle.cut_file.specs.Texts.{cut_text}
+use Rattle.covered_runs.specs.RunLaws.{HasFewRuns}
+
+-- ---- regions that ascend are not more than there are
+
+region-range : (region : ℕ) → is_region region ≡ true → (1 ≤ region) × (region ≤ 65535)
+region-range region known =
+    let both = and_parts (nat_le 1 region) (nat_le region 65535) known in
+    (leb-true _ _ both.0, leb-true _ _ both.1)
+
+regions-from : (region : ℕ) (skip : List ℕ) → list_all is_region (region ∷ skip) ≡ true →
+    neighbours_pass nat_lt (region ∷ skip) ≡ true → region + length (region ∷ skip) ≤ 65536
+regions-from region [] all ascend =
+    let both = and_parts (is_region region) (list_all is_region []) all in
+    let range = region-range region both.0 in
+    let most : region ≤ 65535 = range.1 in
+    omega (arith, most)
+regions-from region (next ∷ skip) all ascend =
+    let both = and_parts (is_region region) (list_all is_region (next ∷ skip)) all in
+    let order = and_parts (nat_lt region next) (neighbours_pass nat_lt (next ∷ skip)) ascend in
+    let inner = regions-from next skip both.1 order.1 in
+    let less : region < next = ltb-true _ _ order.0 in
+    omega (arith, inner, less)
+
+regions-few : (skip : List ℕ) → are_regions skip ≡ true → length skip ≤ 65535
+regions-few [] known = omega arith
+regions-few (region ∷ skip) known =
+    let both = and_parts (list_all is_region (region ∷ skip)) (neighbours_pass nat_lt (region ∷ skip)) known in
+    let first = and_parts (is_region region) (list_all is_region skip) both.0 in
+    let range = region-range region first.0 in
+    let some : 1 ≤ region = range.0 in
+    let whole = regions-from region skip both.0 both.1 in
+    omega (arith, some, whole)
+
+skip-few : (cut : CutPicture) → is_valid cut ≡ true → length cut.skip ≤ 65535
+skip-few cut valid =
+    let known = and_parts (is_version cut.version) _ valid in
+    let short = and_parts (nat_le cut.secret_len 65536) _ known.1 in
+    let bits = and_parts (is_word cut.bits) _ short.1 in
+    let lists = and_parts (are_regions cut.skip) (are_points_of cut.version cut.points) bits.1 in
+    regions-few cut.skip lists.0
+
+-- ---- the texts
+
+bound-small : (bits : ℕ) (cut : CutPicture) → is_valid cut ≡ true → bits ≤ 524288 → HasFewRuns bits cut →
+    byte_bound cut ≤ 67108864
+bound-small bits cut valid small few =
+    let skip = skip-few cut valid in
+    let points : length cut.points ≤ bits = few.points in
+    let runs : listed_runs cut.points ≤ 2 * bits + length cut.points = few.runs in
+    omega (arith, skip, small, points, runs)
+
+pub own-text : (bits : ℕ) (cut : CutPicture) → is_valid cut ≡ true → cut.version ≡ 1 → bits ≤ 524288 →
+    HasFewRuns bits cut → length (cut_text cut) ≤ 67108864
+own-text bits cut valid first small few =
+    let whole = text-short cut valid first in
+    let bound = bound-small bits cut valid small few in
+    omega (arith, whole, bound)
+
+pub fold-text : (bits : ℕ) (cut folded : CutPicture) → is_valid cut ≡ true → cut.version ≡ 1 → bits ≤ 524288 →
+    HasFewRuns bits cut → is_valid folded ≡ true → IsFold cut folded → length (cut_text folded) ≤ 67108864
+fold-text bits cut folded valid first small few own made =
+    let whole = fold-short cut folded valid first own made in
+    let bound = bound-small bits cut valid small few in
+    omega (arith, whole, bound)
