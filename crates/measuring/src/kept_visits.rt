@@ -173,6 +173,14 @@ impl KeptVisits {
         self.put(point, VisitRun { count: 1, mask })
     }
 
+    /// One visit more of a point with mask 0, which is kept in a run.
+    #[inline(never)]
+    fn visit_uncounted(&mut self, point: Point) -> Result<(), NoMemory>
+        ensures { OnOk result (AddsVisit self.old self.new point 0) }
+    {
+        self.visit_in_runs(point, 0)
+    }
+
     /// One visit more of a point, with mask 0.
     #[inline(always)]
     fn visit_clean(&mut self, point: Point) -> Result<(), NoMemory>
@@ -182,7 +190,7 @@ impl KeptVisits {
         if counted {
             Ok(())
         } else {
-            self.visit_in_runs(point, 0)
+            self.visit_uncounted(point)
         }
     }
 

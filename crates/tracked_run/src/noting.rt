@@ -13,12 +13,13 @@ use crate::placing::{labelled, put_aimed};
 use crate::rule_answers::answer_of;
 use crate::source_masks::source_masks;
 use flow_base::NoMemory;
-use flow_graph::Events;
+use flow_graph::{Event, Events};
 use rv32im_machine::Passing;
-use shadow_masks::Shadow;
+use shadow_masks::{Label, Shadow};
 use transfer_rules::RuleBook;
 
 /// The mask of a passing, by the book's rules; none where it is no word, as in no turn of a guest.
+#[inline(always)]
 fn passing_mask(shadow: &Shadow, held: Held, book: &RuleBook, passing: Passing) -> Option<u32>
     requires slot { IsTrue (is_slot passing.point.slot) }
     requires sources { AreSources (Some shadow.now.base) passing.sources }
@@ -30,8 +31,32 @@ fn passing_mask(shadow: &Shadow, held: Held, book: &RuleBook, passing: Passing) 
     Some(aimed_mask(passing.aim, passing.point.slot, mask))
 }
 
+/// The event of a passing of mask 0 is added, and what its value goes to gets the clean label.
+/// `NoMemory` where there is not enough.
+#[inline(always)]
+fn note_clean<E: Events>(
+    events: &mut E,
+    shadow: &mut Shadow,
+    held: &mut Held,
+    passing: Passing,
+) -> Result<(), NoMemory>
+    requires aim { IsAim (Some shadow.old.base) passing.aim }
+    ensures base { shadow.new.base ≡ shadow.old.base }
+    ensures labels { OnOk result ((answer : ℕ) → 0 ≡ mask_of (labels_of shadow.old held.old) answer passing →
+        labels_of shadow.new held.new ≡ labels_after (labels_of shadow.old held.old) answer passing) }
+    ensures events { OnOk result (Appends (E.stands_for events.old) (E.stands_for events.new)
+        (masked_events (labels_of shadow.old held.old) 0 passing)) }
+{
+    events.add(Event::Pass {
+        point: passing.point,
+        mask: 0,
+    })?;
+    put_aimed(shadow, held, passing.aim, Label::clean())
+}
+
 /// The events of a passing of this mask are added, and what its value goes to gets the label.
 /// `NoMemory` where there is not enough.
+#[inline(never)]
 fn note_mask<E: Events>(
     events: &mut E,
     shadow: &mut Shadow,
@@ -53,6 +78,7 @@ fn note_mask<E: Events>(
 
 /// A value passes: its mask is found by the book's rules, its events are added, and what it goes to gets its label.
 /// `NoMemory` where there is not enough.
+#[inline(always)]
 pub(crate) fn note_passing<E: Events>(
     events: &mut E,
     shadow: &mut Shadow,
@@ -68,7 +94,13 @@ pub(crate) fn note_passing<E: Events>(
         (labels_of shadow.new held.new) (E.stands_for events.new)) }
 {
     match passing_mask(shadow, *held, book, passing) {
-        Some(mask) => note_mask(events, shadow, held, passing, mask),
+        Some(mask) => {
+            if mask == 0 {
+                note_clean(events, shadow, held, passing)
+            } else {
+                note_mask(events, shadow, held, passing, mask)
+            }
+        }
         None => Err(NoMemory),
     }
 }

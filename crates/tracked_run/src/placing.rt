@@ -12,6 +12,7 @@ use rv32im_machine::{Aim, Place};
 use shadow_masks::{Label, Shadow};
 
 /// The label of a place.
+#[inline(always)]
 pub(crate) fn label_at(shadow: &Shadow, held: Held, place: Place) -> Label
     requires { IsPlace (Some shadow.now.base) place }
     ensures { result ≡ label_of_place (labels_of shadow.now held) place }
@@ -37,6 +38,7 @@ pub(crate) fn labelled(mask: u32, point: Point) -> Label
 }
 
 /// A register gets a label; that of x0 stays clean.
+#[inline(always)]
 fn put_register(shadow: &mut Shadow, held: Held, register: u8, label: Label)
     requires register { register < 32 }
     requires label { IsLabel label }
@@ -48,6 +50,7 @@ fn put_register(shadow: &mut Shadow, held: Held, register: u8, label: Label)
 
 /// A byte gets a label. The label of a byte has at most 8 bits, and no turn of a guest gives it another; one that has
 /// more is not taken, as where memory is short.
+#[inline(never)]
 fn put_byte(shadow: &mut Shadow, held: Held, address: u32, label: Label) -> Result<(), NoMemory>
     requires inside { IsTrue (is_inside shadow.old.base address 1) }
     requires label { IsLabel label }
@@ -64,6 +67,7 @@ fn put_byte(shadow: &mut Shadow, held: Held, address: u32, label: Label) -> Resu
 
 /// A place gets a label.
 /// `NoMemory` where there is not enough.
+#[inline(always)]
 pub(crate) fn put_label(
     shadow: &mut Shadow,
     held: &mut Held,
@@ -95,6 +99,7 @@ pub(crate) fn put_label(
 
 /// What a value goes to gets its label; a decision goes to no place.
 /// `NoMemory` where there is not enough.
+#[inline(always)]
 pub(crate) fn put_aimed(
     shadow: &mut Shadow,
     held: &mut Held,

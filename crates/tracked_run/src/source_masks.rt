@@ -23,6 +23,7 @@ pub(crate) struct SourceMasks {
 }
 
 /// The mask of a source.
+#[inline(always)]
 fn source_mask(shadow: &Shadow, held: Held, source: Source) -> u32
     requires { IsSource (Some shadow.now.base) source }
     ensures { result ≡ mask_of_source (labels_of shadow.now held) source }
@@ -35,6 +36,7 @@ fn source_mask(shadow: &Shadow, held: Held, source: Source) -> u32
 }
 
 /// The masks of `count` bytes from an address on, 1 to 4.
+#[inline(never)]
 fn byte_masks(shadow: &Shadow, address: u32, count: u32) -> SourceMasks
     requires inside { IsTrue (is_inside shadow.now.base address count) }
     requires some { 0 < count }
@@ -54,6 +56,7 @@ fn byte_masks(shadow: &Shadow, address: u32, count: u32) -> SourceMasks
 }
 
 /// The masks of the sources of a passing.
+#[inline(always)]
 pub(crate) fn source_masks(shadow: &Shadow, held: Held, sources: Sources) -> SourceMasks
     requires { AreSources (Some shadow.now.base) sources }
     ensures { AreMasks result (masks_of (labels_of shadow.now held) sources) }

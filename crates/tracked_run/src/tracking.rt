@@ -55,12 +55,14 @@ impl<E: Events> Passer for Tracking<'_, E> {
           events_lent = side.events.ghost_name;
         }) walk out };
 
+    #[inline(always)]
     fn look(&mut self, seen: Seen, _value: u32) -> Result<(), NoMemory> {
         let fault = look_fault(self.shadow, self.region, seen);
         self.refused = earlier(self.refused, fault);
         Ok(())
     }
 
+    #[inline(always)]
     fn pass(&mut self, passing: Passing) -> Result<u32, NoMemory> {
         note_passing(self.events, self.shadow, &mut self.held, self.book, passing)?;
         Ok(passing.value)

@@ -32,10 +32,10 @@ pub(crate) fn column_of(point: &Point) -> usize
     (point.address % 4096 / 4) as usize
 }
 
-/// A small number by which slots are told apart, those of one instruction at least.
+/// A small number by which the slots of one instruction are told apart, those of a region's outputs aside.
 #[inline(always)]
-pub(crate) fn lane_of(slot: Slot) -> usize
-    ensures { result < 112 }
+fn lane_of_instruction(slot: Slot) -> usize
+    ensures { result < 16 }
 {
     match slot {
         Slot::First => 1,
@@ -50,7 +50,19 @@ pub(crate) fn lane_of(slot: Slot) -> usize
         Slot::SecretIn => 10,
         Slot::ByteOut => 11,
         Slot::Status => 12,
+        Slot::OutReg(_) => 13,
+        Slot::OutRange(_) => 14,
+    }
+}
+
+/// A small number by which slots are told apart, those of one instruction at least.
+#[inline(always)]
+pub(crate) fn lane_of(slot: Slot) -> usize
+    ensures { result < 112 }
+{
+    match slot {
         Slot::OutReg(register) => 16 + (register % 32) as usize,
         Slot::OutRange(range) => 48 + (range % 64) as usize,
+        _ => lane_of_instruction(slot),
     }
 }

@@ -17,13 +17,13 @@ returns-then-counted c =
 
 pub returns-else-counted : goal.returns-else-counted
 returns-else-counted c =
-    on_ok_weaker c.visit_in_runs.result
+    on_ok_weaker c.visit_uncounted.result
     (λ adds. uncounted c.args.self.now (record {
       counts = c.more.new.self;
       points = c.args.self.now.points;
       alloc = c.args.self.now.alloc;
       latest = c.args.self.now.latest;
-    }) c.visit_in_runs.new.self c.args.point 0 refl
+    }) c.visit_uncounted.new.self c.args.point 0 refl
     (subst (λ b. CountsMore c.args.self.now.counts c.more.new.self c.args.point (cond b 1 0)) c.if-counted.false
     c.in_ok-counted.ensures) adds)
-    c.visit_in_runs.ensures
+    c.visit_uncounted.ensures
