@@ -1,5 +1,5 @@
 -- What is written into the counters.
-use Rattle.std.proofs.Common.{◌≡◌, ℕ, ◌+◌, ◌*◌, ◌/◌, ◌%◌, add-zero, ◌<◌, ◌≤◌, ◌==◌, ◌&&◌, Bool, true, false, List, [], Option, Some, None, refl, sym, ap}
+use Rattle.std.proofs.Common.{◌≡◌, ℕ, ◌+◌, ◌*◌, ◌/◌, ◌%◌, add-zero, ◌<◌, ◌≤◌, ◌==◌, ◌&&◌, not, Bool, true, false, List, [], Option, Some, None, refl, sym, ap}
 use Rattle.std.proofs.Common.{◌∙◌, cond, replicate, length, ⊎_elim, arith, subst}
 use Rattle.std.specs.Map.{lookup, values_of}
 use Rattle.std.specs.List.{IsDistinct}
@@ -11,6 +11,7 @@ use Rattle.std.proofs.lemmas.List.{get_or-replicate, get_or-set_same, get_or-set
 use Rattle.std.proofs.lemmas.Option.{slice_get-map}
 use Rattle.flow_base.specs.declared.points.Point.{Point}
 use Rattle.flow_base.specs.declared.points.Slot.{Slot}
+use Rattle.flow_base.specs.declared.points.Slot.TheVariants.{OutReg, OutRange}
 use Rattle.flow_base.specs.contracts.points.SlotPartialEq.TheImpl as slot_eq_impl
 use Rattle.flow_graph.specs.EventGraphs.{is_same}
 use Rattle.indexmap.specs.IndexMap.{IndexMap, keys, set_value_at}
@@ -18,7 +19,8 @@ use Rattle.indexmap.proofs.CallerLemmas.{updates-with_value_at}
 use Rattle.location_collapse.proofs.Same.{point_eq, points_alike, points_same, same_tests}
 use Rattle.visit_counts.specs.declared.rows.Row.{Row}
 use Rattle.visit_counts.specs.declared.visit_counts.VisitCounts.{VisitCounts}
-use Rattle.visit_counts.specs.Counts.{StandsAt, column_of, count_at, count_of, is_counted, page_of, row_counts}
+use Rattle.visit_counts.specs.Counts.{StandsAt, column_of, count_at, count_of, is_counted, is_output, page_of}
+use Rattle.visit_counts.specs.Counts.{row_counts}
 
 -- the row of a page is written, and that of no other
 abbrev pub Puts : List (Point × Row) → List (Point × Row) → Point → Row → Type 0
@@ -160,22 +162,41 @@ eq_parts p q = refl
 same_place : (p q : Point) → is_counted p ≡ true → is_counted q ≡ true →
     (is_same (page_of p) (page_of q) && (column_of p == column_of q)) ≡ is_same p q
 same_place p q first second =
+    let fa : (p.address % 4 == 0) ≡ true = (and_parts (not (is_output p.slot)) (p.address % 4 == 0) first).1 in
+    let fb : (q.address % 4 == 0) ≡ true = (and_parts (not (is_output q.slot)) (q.address % 4 == 0) second).1 in
     ap (λ eq. eq (page_of p) (page_of q) && (column_of p == column_of q)) (sym points_same)
     ∙ (ap (λ b. b && (column_of p == column_of q)) (eq_parts (page_of p) (page_of q))
     ∙ (parts_moved (p.region == q.region) (p.address / 4096 * 4096 == q.address / 4096 * 4096) (slot_eq p.slot q.slot)
     (column_of p == column_of q)
-    ∙ (ap (λ b. (p.region == q.region) && (b && slot_eq p.slot q.slot)) (same_address p.address q.address first second)
+    ∙ (ap (λ b. (p.region == q.region) && (b && slot_eq p.slot q.slot)) (same_address p.address q.address fa fb)
     ∙ (sym (eq_parts p q) ∙ ap (λ eq. eq p q) points_same))))
 
--- points that are the same have one address
-one_address : (p q : Point) → is_same p q ≡ true → p.address ≡ q.address
-one_address p q e =
-    eqb-true p.address q.address (and_parts (p.address == q.address) (slot_eq p.slot q.slot)
-    (and_parts (p.region == q.region) ((p.address == q.address) && slot_eq p.slot q.slot)
-    (sym (eq_parts p q) ∙ (ap (λ eq. eq p q) points_same ∙ e))).1).0
+-- slots that are equal are both outputs, or none of them is
+outputs_alike : (s t : Slot) → slot_eq s t ≡ true → is_output s ≡ is_output t
+unfolding slot_eq
+outputs_alike (OutReg n) (OutReg m) same = refl
+outputs_alike (OutReg n) (OutRange m) same = refl
+outputs_alike (OutReg n) t same = absurd (false≢true same)
+outputs_alike (OutRange n) (OutReg m) same = refl
+outputs_alike (OutRange n) (OutRange m) same = refl
+outputs_alike (OutRange n) t same = absurd (false≢true same)
+outputs_alike s (OutReg m) same = absurd (false≢true same)
+outputs_alike s (OutRange m) same = absurd (false≢true same)
+outputs_alike s t same = refl
 
-both_counted : (p q : Point) → is_counted p ≡ true → is_same p q ≡ true → is_counted q ≡ true
-both_counted p q own e = ap (λ a. a % 4 == 0) (sym (one_address p q e)) ∙ own
+-- points that are the same have one address, and one slot of them is an output where the other is
+one_place : (p q : Point) → is_same p q ≡ true → (p.address ≡ q.address) × (is_output p.slot ≡ is_output q.slot)
+one_place p q e =
+    let parts = and_parts (p.address == q.address) (slot_eq p.slot q.slot)
+    (and_parts (p.region == q.region) ((p.address == q.address) && slot_eq p.slot q.slot)
+    (sym (eq_parts p q) ∙ (ap (λ eq. eq p q) points_same ∙ e))).1 in
+    (eqb-true p.address q.address parts.0, outputs_alike p.slot q.slot parts.1)
+
+counted_alike : (p q : Point) → is_same p q ≡ true → is_counted p ≡ is_counted q
+counted_alike p q e =
+    let place = one_place p q e in
+    ap (λ output. not output && (p.address % 4 == 0)) place.1
+    ∙ ap (λ a. not (is_output q.slot) && (a % 4 == 0)) place.0
 
 -- the counter of a point is written, and no other
 pub counted : (old new : VisitCounts) (p : Point) (n : ℕ) → is_counted p ≡ true → ((q : Point) (other : ℕ) →
@@ -194,17 +215,17 @@ counted old new p n own writes q =
     ap (λ b. cond b (count_at new.rows.entries (page_of q) (column_of q)) 0) e
     ∙ (ap (λ m. cond false n m) (sym (ap (λ b. cond b (count_at old.rows.entries (page_of q) (column_of q)) 0) e))
     ∙ ap (λ b. cond b n (cond (is_counted q) (count_at old.rows.entries (page_of q) (column_of q)) 0))
-    (sym (false_from_ne_true (is_same p q) (λ same. false≢true (sym e ∙ both_counted p q own same))))))
+    (sym (false_from_ne_true (is_same p q) (λ same. false≢true (sym e ∙ (sym (counted_alike p q same) ∙ own)))))))
     (cases_Bool (is_counted q))
 
 -- points that are the same have one counter
 pub count_alike : (counts : VisitCounts) (p q : Point) → is_same p q ≡ true → count_of counts p ≡ count_of counts q
 unfolding count_of
 count_alike counts p q e =
-    let at : p.address ≡ q.address = one_address p q e in
+    let at : p.address ≡ q.address = (one_place p q e).0 in
     ⊎_elim
     (λ (own : is_counted p ≡ true).
-    let other : is_counted q ≡ true = both_counted p q own e in
+    let other : is_counted q ≡ true = sym (counted_alike p q e) ∙ own in
     ap (λ b. cond b (count_at counts.rows.entries (page_of p) (column_of p)) 0) own
     ∙ (ap (λ test. slice_index_or (row_counts (lookup test counts.rows.entries)) (column_of p) 0)
     (same_tests (page_of p) (page_of q) (and_parts (is_same (page_of p) (page_of q)) (column_of p == column_of q)
@@ -212,7 +233,7 @@ count_alike counts p q e =
     ∙ (ap (λ a. count_at counts.rows.entries (page_of q) (a % 4096 / 4)) at
     ∙ sym (ap (λ b. cond b (count_at counts.rows.entries (page_of q) (column_of q)) 0) other))))
     (λ (none : is_counted p ≡ false).
-    let other : is_counted q ≡ false = ap (λ a. a % 4 == 0) (sym at) ∙ none in
+    let other : is_counted q ≡ false = sym (counted_alike p q e) ∙ none in
     ap (λ b. cond b (count_at counts.rows.entries (page_of p) (column_of p)) 0) none
     ∙ sym (ap (λ b. cond b (count_at counts.rows.entries (page_of q) (column_of q)) 0) other))
     (cases_Bool (is_counted p))

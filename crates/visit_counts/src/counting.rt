@@ -21,7 +21,7 @@ impl VisitCounts {
     {
         VisitCounts {
             rows: IndexMap::new(alloc),
-            latest: [0; 112],
+            latest: [0; 16],
             alloc,
         }
     }
@@ -159,8 +159,8 @@ impl VisitCounts {
         }
     }
 
-    /// One visit more of a point. False where it is not counted: its address is no multiple of 4, or its counter is at
-    /// its end.
+    /// One visit more of a point. False where it is not counted: it is an output of a region, its address is no multiple
+    /// of 4, or its counter is at its end.
     #[inline(always)]
     pub fn more(&mut self, point: &Point) -> Result<bool, NoMemory>
         ensures { IfOk result (λ done. CountsMore self.old self.new point.now (cond done 1 0)) }

@@ -1,14 +1,28 @@
 ghost use Rattle.std.specs.Prelude.{◌≡◌, ◌<◌};
 ghost use Rattle.visit_counts.specs.Counts.{column_of as the_column_of, is_counted as counts_there, page_of as the_page_of};
+ghost use Rattle.visit_counts.specs.Counts.{is_output as is_an_output};
 
 use flow_base::{Point, Slot};
 
-/// Whether a counter may stand for a point: instructions have addresses that are multiples of 4.
+/// Whether a slot is that of an output of a region.
+#[inline(always)]
+fn is_output(slot: Slot) -> bool
+    ensures { result ≡ is_an_output slot }
+{
+    match slot {
+        Slot::OutReg(_) => true,
+        Slot::OutRange(_) => true,
+        _ => false,
+    }
+}
+
+/// Whether a counter may stand for a point: instructions have addresses that are multiples of 4, and what leaves a region
+/// is not counted.
 #[inline(always)]
 pub(crate) fn is_counted(point: &Point) -> bool
     ensures { result ≡ counts_there point.now }
 {
-    point.address % 4 == 0
+    !is_output(point.slot) && point.address % 4 == 0
 }
 
 /// The point of the same slot at the start of the page.
@@ -32,9 +46,9 @@ pub(crate) fn column_of(point: &Point) -> usize
     (point.address % 4096 / 4) as usize
 }
 
-/// A small number by which the slots of one instruction are told apart, those of a region's outputs aside.
+/// A small number by which the slots of an instruction are told apart.
 #[inline(always)]
-fn lane_of_instruction(slot: Slot) -> usize
+pub(crate) fn lane_of(slot: Slot) -> usize
     ensures { result < 16 }
 {
     match slot {
@@ -52,17 +66,5 @@ fn lane_of_instruction(slot: Slot) -> usize
         Slot::Status => 12,
         Slot::OutReg(_) => 13,
         Slot::OutRange(_) => 14,
-    }
-}
-
-/// A small number by which slots are told apart, those of one instruction at least.
-#[inline(always)]
-pub(crate) fn lane_of(slot: Slot) -> usize
-    ensures { result < 112 }
-{
-    match slot {
-        Slot::OutReg(register) => 16 + (register % 32) as usize,
-        Slot::OutRange(range) => 48 + (range % 64) as usize,
-        _ => lane_of_instruction(slot),
     }
 }

@@ -36,5 +36,11 @@ fn each_point_is_counted_by_itself(rt: HostRuntime) -> Result<(), Fail> {
         counts.more(&point(0, 0x1fffd, Slot::First)).ok(),
         Some(false)
     );
+    for output in [Slot::OutReg(10), Slot::OutRange(0)] {
+        let left = point(1, 0x1fffc, output);
+        assert_eq!(rt; counts.more(&left).ok(), Some(false));
+        assert_eq!(rt; counts.count(&left), 0);
+        assert_eq!(rt; counts.clear(&left).ok(), Some(0));
+    }
     Ok(())
 }

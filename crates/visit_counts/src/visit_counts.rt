@@ -6,7 +6,7 @@ use indexmap::IndexMap;
 use std::alloc::Global;
 
 /// Counters of points, a row for each slot of each page that was run, and all 0 where there is no row. A counter goes up
-/// to 2^32 - 1.
+/// to 2^32 - 1. Outputs of regions have no counter: a run passes no mask 0 there.
 ///
 /// The row of a slot is first looked for where the latest one of that slot stands.
 #[derive(Drop)]
@@ -14,6 +14,6 @@ pub struct VisitCounts {
     /// The rows, each by its slot at the start of its page.
     pub rows: IndexMap<Point, Row>,
     /// Where the latest row of each slot stands.
-    pub latest: [usize; 112],
+    pub latest: [usize; 16],
     pub alloc: Global,
 }
