@@ -11,17 +11,10 @@ use Rattle.max_flow.specs.declared.answers.Solved.{Solved}
 use Rattle.flow_certificate.specs.Certificates.{Picture, arc_of, node_of, region_of}
 use Rattle.flow_certificate.specs.Pictures.{flow_at_link, flow_at_point, half_at, have_counts, inside_at, link_lines, picture_of, point_lines, relay_lines}
 use Rattle.flow_certificate.proofs.OneText.{texts-one}
+use Rattle.flow_certificate.proofs.Written.{arcs-kept, nodes-kept, regions-kept}
 use Rattle.command_answers.specs.Verifications.{IsCertificate}
 
 -- ---- the parts of lines
-
-nodes-kept : (nodes : List Node) (flows : List ℕ) (halves : List Half) → length flows ≡ length nodes →
-    length halves ≡ length nodes → map node_of (point_lines nodes flows halves) ≡ nodes
-nodes-kept [] flows halves first second = refl
-nodes-kept (node ∷ nodes) [] halves first second = absurd (omega (arith, first))
-nodes-kept (node ∷ nodes) (flow ∷ flows) [] first second = absurd (omega (arith, second))
-nodes-kept (node ∷ nodes) (flow ∷ flows) (half ∷ halves) first second =
-    ap (λ ns. node ∷ ns) (nodes-kept nodes flows halves (omega (arith, first)) (omega (arith, second)))
 
 flows-kept : (nodes : List Node) (flows : List ℕ) (halves : List Half) → length flows ≡ length nodes →
     length halves ≡ length nodes → map flow_at_point (point_lines nodes flows halves) ≡ flows
@@ -41,13 +34,6 @@ halves-kept (node ∷ nodes) (flow ∷ flows) [] first second = absurd (omega (a
 halves-kept (node ∷ nodes) (flow ∷ flows) (half ∷ halves) first second =
     ap (λ hs. half ∷ hs) (halves-kept nodes flows halves (omega (arith, first)) (omega (arith, second)))
 
-regions-kept : (regions : List ℕ) (answers : List Bool) → length answers ≡ length regions →
-    map region_of (relay_lines regions answers) ≡ regions
-regions-kept [] answers same = refl
-regions-kept (region ∷ regions) [] same = absurd (omega (arith, same))
-regions-kept (region ∷ regions) (answer ∷ answers) same =
-    ap (λ rs. region ∷ rs) (regions-kept regions answers (omega (arith, same)))
-
 answers-kept : (regions : List ℕ) (answers : List Bool) → length answers ≡ length regions →
     map inside_at (relay_lines regions answers) ≡ answers
 answers-kept [] [] same = refl
@@ -55,13 +41,6 @@ answers-kept [] (answer ∷ answers) same = absurd (omega (arith, same))
 answers-kept (region ∷ regions) [] same = absurd (omega (arith, same))
 answers-kept (region ∷ regions) (answer ∷ answers) same =
     ap (λ bs. answer ∷ bs) (answers-kept regions answers (omega (arith, same)))
-
-arcs-kept : (links : List Arc) (flows : List ℕ) → length flows ≡ length links →
-    map arc_of (link_lines links flows) ≡ links
-arcs-kept [] flows same = refl
-arcs-kept (link ∷ links) [] same = absurd (omega (arith, same))
-arcs-kept (link ∷ links) (flow ∷ flows) same =
-    ap (λ ls. link ∷ ls) (arcs-kept links flows (omega (arith, same)))
 
 carried-kept : (links : List Arc) (flows : List ℕ) → length flows ≡ length links →
     map flow_at_link (link_lines links flows) ≡ flows

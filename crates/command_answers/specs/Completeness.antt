@@ -96,7 +96,7 @@ CompletesFiles run files status =
 
 -- ---- every command
 
--- 0 exactly where the certificate shows a maximum flow, and else 1
+-- 0 exactly where the flow is feasible, the side is a side, and value, flow and side have one number; and else 1
 pub record CompletesVerdict (graph : Graph) (solved : Solved) (status : ℕ) : Type 0 where
   pub known : status ≤ 1
   pub verified : status ≡ 0 → IsVerified graph solved solved.value

@@ -89,6 +89,7 @@ pub fn flowcheck<F: Files, K: Sink>(
         × (count ≤ length reply.text)
         × (K.told out.new ≡ option_map (after_put (take count reply.text)) (K.told out.old)) }
 {
+    // That a region file has one reading is a law beside the reader, which `only` and `complete` rest on.
     region_files_are_one();
     let Ok(reply) = reply_to(alloc, files, words.as_slice(), books) else {
         return Status::NoMemory.number();

@@ -107,7 +107,7 @@ links-known count relays (link ∷ links) (flow ∷ flows) rest few joined small
 
 -- ---- the graph
 
-nodes-kept : (nodes : List Node) (flows : List ℕ) (halves : List Half) → length flows ≡ length nodes →
+pub nodes-kept : (nodes : List Node) (flows : List ℕ) (halves : List Half) → length flows ≡ length nodes →
     length halves ≡ length nodes → map node_of (point_lines nodes flows halves) ≡ nodes
 nodes-kept [] flows halves first second = refl
 nodes-kept (node ∷ nodes) [] halves first second = absurd (omega (arith, first))
@@ -115,14 +115,14 @@ nodes-kept (node ∷ nodes) (flow ∷ flows) [] first second = absurd (omega (ar
 nodes-kept (node ∷ nodes) (flow ∷ flows) (half ∷ halves) first second =
     ap (λ (ns : List Node). node ∷ ns) (nodes-kept nodes flows halves (omega (arith, first)) (omega (arith, second)))
 
-regions-kept : (regions : List ℕ) (answers : List Bool) → length answers ≡ length regions →
+pub regions-kept : (regions : List ℕ) (answers : List Bool) → length answers ≡ length regions →
     map region_of (relay_lines regions answers) ≡ regions
 regions-kept [] answers same = refl
 regions-kept (region ∷ regions) [] same = absurd (omega (arith, same))
 regions-kept (region ∷ regions) (answer ∷ answers) same =
     ap (λ (rs : List ℕ). region ∷ rs) (regions-kept regions answers (omega (arith, same)))
 
-arcs-kept : (links : List Arc) (flows : List ℕ) → length flows ≡ length links →
+pub arcs-kept : (links : List Arc) (flows : List ℕ) → length flows ≡ length links →
     map arc_of (link_lines links flows) ≡ links
 arcs-kept [] flows same = refl
 arcs-kept (link ∷ links) [] same = absurd (omega (arith, same))
