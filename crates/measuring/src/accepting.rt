@@ -24,7 +24,10 @@ use transfer_rules::RuleBook;
 /// The secret has at most 65,536 bytes. Of the errors the first turn in which one holds decides; `TurnLimit` where the run
 /// does not exit within the limit, `GraphLimit` where it does and its graph exceeds a limit, and `Memory` where there is
 /// not enough. `Memory` would be answered, too, where the number of visits of a point of the cut with one mask is 2^32 or
-/// more, or the slot of a point of the cut is none that a turn passes: in no run within the limits of the tool is it so.
+/// more, or the slot of a point of the cut is none that a turn passes: in no run of at most 20,000,000 turns is it so, by
+/// the laws [`runs_visit_points_seldom`](covered_runs::runs_visit_points_seldom),
+/// [`outputs_have_their_visits`](covered_runs::outputs_have_their_visits) and
+/// [`runs_pass_known_slots`](covered_runs::runs_pass_known_slots).
 pub fn measure(
     alloc: Global,
     image: &Image,
