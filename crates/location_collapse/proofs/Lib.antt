@@ -5,3 +5,4 @@ pub mod Limiting
 pub mod Taking
 pub mod Sorted
 pub mod Exceeding
+pub mod Latest

@@ -33,7 +33,7 @@ takes_put old new link keys updates = record {
       (chosen test (list_any (link_eq link) old) old link all more);
 }
 
-among_alike : (keys : List NamedLink) (link q : NamedLink) → is_same_link link q ≡ true → is_among keys link ≡ is_among
+pub among_alike : (keys : List NamedLink) (link q : NamedLink) → is_same_link link q ≡ true → is_among keys link ≡ is_among
     keys q
 among_alike [] link q e = refl
 among_alike (k ∷ ks) link q e =

@@ -2,3 +2,4 @@ pub mod Limits
 pub mod Collapses
 pub mod Sorting
 pub mod LimitLaws
+pub mod LatestLinks

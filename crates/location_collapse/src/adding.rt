@@ -68,7 +68,7 @@ impl Collapse {
         ensures full { self.new.is_full ≡ self.old.is_full }
     {
         if let Some(index) = self.links.find(&link) {
-            self.links.note(index);
+            self.links.note(index, &link);
             return Ok(());
         }
         if !self.has_ends(&link) {
@@ -89,10 +89,15 @@ impl Collapse {
     {
         match event {
             Event::Pass { point, mask } => self.pass(point, mask),
-            Event::Link { source, target } => self.put(NamedLink {
-                source: NamedEnd::At(source),
-                target: NamedEnd::At(target),
-            }),
+            Event::Link { source, target } => {
+                if self.links.is_latest_flow(&source, &target) {
+                    return Ok(());
+                }
+                self.put(NamedLink {
+                    source: NamedEnd::At(source),
+                    target: NamedEnd::At(target),
+                })
+            }
             Event::FromSecret { point } => self.put(NamedLink {
                 source: NamedEnd::Source,
                 target: NamedEnd::At(point),
@@ -103,6 +108,9 @@ impl Collapse {
             }),
             Event::Out { region, point } => {
                 if region == 0 {
+                    return Ok(());
+                }
+                if self.links.is_latest_output(region, &point) {
                     return Ok(());
                 }
                 self.put(NamedLink {

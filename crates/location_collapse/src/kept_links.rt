@@ -1,11 +1,14 @@
-ghost use Rattle.std.specs.Prelude.{◌≡◌, ◌≤◌, ◌∷◌, [], length, true, false, is_some, OnOk, OnErr, OnSome, Err};
+ghost use Rattle.std.specs.Prelude.{◌≡◌, ◌≤◌, ◌∷◌, [], length, true, false, is_some, OnOk, OnErr, OnSome, IfSome, Err};
 ghost use Rattle.std.specs.Bool.{OnTrue};
+ghost use Rattle.std.proofs.Props.{props};
 ghost use Rattle.flow_graph.specs.EventGraphs.{is_among};
 ghost use Rattle.flow_graph.specs.Keeping.{TakesLinks};
+ghost use Rattle.location_collapse.specs.LatestLinks.{has_flow, has_output};
 ghost use Rattle.location_collapse.specs.Limits.{HasAllLinks};
 
 use crate::faults::CollapseFault;
-use flow_graph::NamedLink;
+use flow_base::Point;
+use flow_graph::{NamedEnd, NamedLink};
 use indexmap::IndexSet;
 use std::alloc::Global;
 
@@ -15,13 +18,20 @@ const MAX_LINKS: usize = 1_048_576;
 /// The links by the names of their ends, in the order in which they first occurred. They are at most 1,048,576.
 ///
 /// A run makes much the same links in much the same order again and again. So a link is first looked for where the
-/// latest one stands, behind it, and where the one before stands.
+/// latest one stands, behind it, and where the one before stands. Of the links between two points, and of those from a
+/// relay to a point, the ends of the latest one are kept beside, so that it is known by them alone and not looked for.
 #[derive(Drop)]
 pub struct KeptLinks {
     pub named: IndexSet<NamedLink>,
-    /// Where the latest link that occurred again stands, and where another one did before it.
+    /// Where the latest link that was found stands, and where another one did before it.
     pub latest: usize,
     pub before: usize,
+    /// The source and the target of the latest link between two points that was found.
+    pub flow: Option<(Point, Point)>,
+    /// The region and the target of the latest link from a relay to a point that was found.
+    pub output: Option<(u16, Point)>,
+    ghost has_latest_flow: { IfSome flow (λ ends. has_flow named.keys ends.0 ends.1 ≡ true) } by { Prim.hlevel props },
+    ghost has_latest_output: { IfSome output (λ ends. has_output named.keys ends.0 ends.1 ≡ true) } by { Prim.hlevel props },
     ghost few: { length named.keys ≤ 1048576 },
 }
 
@@ -34,6 +44,30 @@ impl KeptLinks {
             named: IndexSet::new(alloc),
             latest: 0,
             before: 0,
+            flow: None,
+            output: None,
+        }
+    }
+
+    /// Whether the link from a point to a point is the latest one of its kind, and so has occurred.
+    #[inline(always)]
+    pub fn is_latest_flow(&self, source: &Point, target: &Point) -> bool
+        ensures { OnTrue result (has_flow self.now.named.keys source.now target.now ≡ true) }
+    {
+        match self.flow {
+            Some((from, to)) => from == *source && to == *target,
+            None => false,
+        }
+    }
+
+    /// Whether the link from the relay of a region to a point is the latest one of its kind, and so has occurred.
+    #[inline(always)]
+    pub fn is_latest_output(&self, region: u16, point: &Point) -> bool
+        ensures { OnTrue result (has_output self.now.named.keys region point.now ≡ true) }
+    {
+        match self.output {
+            Some((from, to)) => from == region && to == *point,
+            None => false,
         }
     }
 
@@ -76,15 +110,36 @@ impl KeptLinks {
         }
     }
 
-    /// Notes where a link was found, for the next look. The links stay.
+    /// Notes the ends of a link that has occurred, for the next look. The links stay.
     #[inline(always)]
-    pub fn note(&mut self, index: usize)
+    fn note_ends(&mut self, link: &NamedLink)
+        requires { is_among self.old.named.keys link.now ≡ true }
+        ensures { self.new.named.keys ≡ self.old.named.keys }
+    {
+        if let NamedEnd::At(target) = link.target {
+            match link.source {
+                NamedEnd::At(source) => {
+                    self.flow = Some((source, target));
+                }
+                NamedEnd::Relay(region) => {
+                    self.output = Some((region, target));
+                }
+                _ => {}
+            }
+        }
+    }
+
+    /// Notes a link that has occurred and where it was found, for the next look. The links stay.
+    #[inline(always)]
+    pub fn note(&mut self, index: usize, link: &NamedLink)
+        requires { is_among self.old.named.keys link.now ≡ true }
         ensures { self.new.named.keys ≡ self.old.named.keys }
     {
         if index != self.latest {
             self.before = self.latest;
             self.latest = index;
         }
+        self.note_ends(link);
     }
 
     /// Keeps a link that has not occurred before, unless there are 1,048,576 already.

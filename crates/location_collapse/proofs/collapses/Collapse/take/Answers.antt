@@ -1,7 +1,8 @@
 use Rattle.std.proofs.lemmas.Result.{on_ok_weaker}
-use Rattle.std.proofs.lemmas.Bool.{ne_eqb}
+use Rattle.std.proofs.lemmas.Bool.{ne_eqb, OnTrue_at}
 use Rattle.location_collapse.specs.Collapses.{knows}
 use Rattle.location_collapse.proofs.Taking.{makes_link, makes_secret, makes_implicit, makes_output, no_output}
+use Rattle.location_collapse.proofs.Taking.{known_link}
 use Rattle.location_collapse.proofs.collapses.Collapse.take.Goals as goal
 
 pub returns-then-region-eq0-clause-ok : goal.returns-then-region-eq0-clause-ok
@@ -9,11 +10,23 @@ returns-then-region-eq0-clause-ok c = λ events stands.
     rw c.in-Out.is (no_output c.args.self.now.points.capacities.entries c.args.self.now.links.named.keys c.in-Out.region
     c.in-Out.point events c.if-region-eq0.true stands)
 
+pub returns-then-is_latest_flow-clause-ok : goal.returns-then-is_latest_flow-clause-ok
+returns-then-is_latest_flow-clause-ok c = λ events stands.
+    rw c.in-Link.is (known_link c.args.self.now.points.capacities.entries c.args.self.now.links.named.keys _ _ events
+    (makes_link (knows c.args.self.now) c.in-Link.source c.in-Link.target)
+    (OnTrue_at c.if-is_latest_flow.true c.is_latest_flow.ensures) stands)
+
+pub returns-then-is_latest_output-clause-ok : goal.returns-then-is_latest_output-clause-ok
+returns-then-is_latest_output-clause-ok c = λ events stands.
+    rw c.in-Out.is (known_link c.args.self.now.points.capacities.entries c.args.self.now.links.named.keys _ _ events
+    (makes_output (knows c.args.self.now) c.in-Out.region c.in-Out.point (ne_eqb c.in-Out.region 0 c.if-region-eq0.false))
+    (OnTrue_at c.if-is_latest_output.true c.is_latest_output.ensures) stands)
+
 pub returns-in-Pass-clause-ok : goal.returns-in-Pass-clause-ok
 returns-in-Pass-clause-ok c = rw c.in-Pass.is c.pass.ensures.ok
 
-pub returns-in-Link-clause-ok : goal.returns-in-Link-clause-ok
-returns-in-Link-clause-ok c =
+pub returns-else-is_latest_flow-clause-ok : goal.returns-else-is_latest_flow-clause-ok
+returns-else-is_latest_flow-clause-ok c =
     rw c.in-Link.is
     (on_ok_weaker c.put.result (λ ok events. ok _ events (makes_link (knows c.args.self.now) c.in-Link.source
     c.in-Link.target)) c.put.ensures.ok)
@@ -30,8 +43,8 @@ returns-in-Implicit-clause-ok c =
     (on_ok_weaker c.put-in-Implicit.result (λ ok events. ok _ events (makes_implicit (knows c.args.self.now)
     c.in-Implicit.point c.in-Implicit.region c.outlet.result c.outlet.ensures)) c.put-in-Implicit.ensures.ok)
 
-pub returns-else-region-eq0-clause-ok : goal.returns-else-region-eq0-clause-ok
-returns-else-region-eq0-clause-ok c =
+pub returns-else-is_latest_output-clause-ok : goal.returns-else-is_latest_output-clause-ok
+returns-else-is_latest_output-clause-ok c =
     rw c.in-Out.is
     (on_ok_weaker c.put-in-Out.result (λ ok events. ok _ events (makes_output (knows c.args.self.now) c.in-Out.region
     c.in-Out.point (ne_eqb c.in-Out.region 0 c.if-region-eq0.false))) c.put-in-Out.ensures.ok)

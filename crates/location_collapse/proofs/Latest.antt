@@ -1,0 +1,41 @@
+-- A link whose ends are those of the latest one of its kind has occurred.
+use Rattle.std.proofs.Common.{◌≡◌, ℕ, ◌==◌, ◌&&◌, true, List, Option, Some, refl, sym, ap, subst, ◌∙◌}
+use Rattle.std.specs.Option.{IfSome}
+use Rattle.std.proofs.lemmas.Bool.{and_from, eq-eqb}
+use Rattle.flow_base.specs.declared.points.Point.{Point}
+use Rattle.flow_graph.specs.declared.named_links.NamedLink.{NamedLink}
+use Rattle.flow_graph.specs.declared.named_links.NamedEnd.TheVariants.{At, Relay}
+use Rattle.flow_graph.specs.EventGraphs.{is_among}
+use Rattle.location_collapse.specs.LatestLinks.{has_flow, has_output}
+use Rattle.location_collapse.proofs.Same.{point_eq, link_eq, links_same}
+use Rattle.location_collapse.proofs.Marking.{among_alike}
+
+-- what equals a link that has occurred has occurred
+equal_known : (keys : List NamedLink) (latest link : NamedLink) → is_among keys latest ≡ true →
+    link_eq latest link ≡ true → is_among keys link ≡ true
+equal_known keys latest link known e =
+    sym (among_alike keys latest link (ap (λ eq. eq latest link) (sym links_same) ∙ e)) ∙ known
+
+flow_eq : (s t from to : Point) → link_eq (record { source = At from; target = At to })
+    (record { source = At s; target = At t }) ≡ (point_eq from s && point_eq to t)
+flow_eq s t from to = refl
+
+output_eq : (r region : ℕ) (p to : Point) → link_eq (record { source = Relay region; target = At to })
+    (record { source = Relay r; target = At p }) ≡ ((region == r) && point_eq to p)
+output_eq r region p to = refl
+
+pub flow_known : (keys : List NamedLink) (flow : Option (Point × Point)) (s t from to : Point) →
+    IfSome flow (λ ends. has_flow keys ends.0 ends.1 ≡ true) → flow ≡ Some (from, to) →
+    point_eq from s ≡ true → point_eq to t ≡ true → has_flow keys s t ≡ true
+flow_known keys flow s t from to latest is first second =
+    equal_known keys (record { source = At from; target = At to }) (record { source = At s; target = At t })
+    (subst (λ o. IfSome o (λ ends. has_flow keys ends.0 ends.1 ≡ true)) is latest)
+    (flow_eq s t from to ∙ and_from (point_eq from s) (point_eq to t) first second)
+
+pub output_known : (keys : List NamedLink) (output : Option (ℕ × Point)) (r : ℕ) (p : Point) (from : ℕ) (to : Point) →
+    IfSome output (λ ends. has_output keys ends.0 ends.1 ≡ true) → output ≡ Some (from, to) →
+    from ≡ r → point_eq to p ≡ true → has_output keys r p ≡ true
+output_known keys output r p from to latest is first second =
+    equal_known keys (record { source = Relay from; target = At to }) (record { source = Relay r; target = At p })
+    (subst (λ o. IfSome o (λ ends. has_output keys ends.0 ends.1 ≡ true)) is latest)
+    (output_eq r from p to ∙ and_from (from == r) (point_eq to p) (eq-eqb from r first) second)
