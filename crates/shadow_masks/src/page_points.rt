@@ -42,14 +42,20 @@ impl PagePoints {
         ensures err { OnErr result (self.new ≡ self.old) }
     {
         match self {
-            PagePoints::Few(few) => match few.number_of(point)? {
-                Some(number) => few.give(place, number),
-                None => {
-                    let mut each = EachPoint::of(alloc, few)?;
-                    each.set(place, point);
-                    *self = PagePoints::Each(each);
+            PagePoints::Few(few) => {
+                // a place of the program gives a byte much the same point again and again
+                if few.at(place) == point {
+                    return Ok(());
                 }
-            },
+                match few.number_of(point)? {
+                    Some(number) => few.give(place, number),
+                    None => {
+                        let mut each = EachPoint::of(alloc, few)?;
+                        each.set(place, point);
+                        *self = PagePoints::Each(each);
+                    }
+                }
+            }
             PagePoints::Each(each) => each.set(place, point),
         }
         Ok(())
