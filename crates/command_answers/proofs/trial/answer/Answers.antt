@@ -1,5 +1,6 @@
 use Rattle.std.proofs.Common.{◌≡◌, ◌≢◌, ◌∙◌, Ok, Err, [], ap, arith, refl}
 use Rattle.std.proofs.lemmas.Grind.{common_steps}
+use Rattle.std.proofs.lemmas.Result.{err_from_is_err_and}
 use Rattle.elf32_loader.specs.Images.{picture_of}
 use Rattle.trial_guests.specs.Programs.{picture_of_number}
 use Rattle.trial_guests.specs.Secrets.{secret_of}
@@ -42,6 +43,16 @@ returns-in_err-measured-clause-answers g c = λ known.
     (runs_as result _ _ _ trial_turns _ _ 1 [] (secret_of number) (picture_of_number number) [] c.requires.table
     c.new-none.ensures c.in_ok-secret.ensures.is c.in_ok-image.ensures c.none-regions.ensures
     (c.measured_image.ensures.runs apart))
+
+pub returns-in_err-crossing-clause-answers : goal.returns-in_err-crossing-clause-answers
+returns-in_err-crossing-clause-answers g c = λ known.
+    let exit = err_from_is_err_and c.from_residual-in_err-crossing.result c.from_residual-in_err-crossing.ensures.1 in
+    absurd (known (exit.1 ∙ ap (λ r. Err r) exit.2))
+
+pub returns-in_err-text-clause-answers : goal.returns-in_err-text-clause-answers
+returns-in_err-text-clause-answers g c = λ known.
+    let exit = err_from_is_err_and c.from_residual-in_err-text.result c.from_residual-in_err-text.ensures.1 in
+    absurd (known (exit.1 ∙ ap (λ r. Err r) exit.2))
 
 pub returns-clause-answers : goal.returns-clause-answers
 returns-clause-answers g c = λ known.
