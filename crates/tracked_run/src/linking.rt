@@ -15,6 +15,7 @@ use shadow_masks::{Label, Shadow};
 
 /// Bits flow to a point from where they last passed.
 /// `NoMemory` where there is not enough.
+#[inline(always)]
 fn link<E: Events>(events: &mut E, label: Label, point: Point) -> Result<(), NoMemory>
     ensures { OnOk result (Appends (E.stands_for events.old) (E.stands_for events.new) (link_from label point)) }
 {
@@ -29,6 +30,7 @@ fn link<E: Events>(events: &mut E, label: Label, point: Point) -> Result<(), NoM
 
 /// Bits flow to a point from one source.
 /// `NoMemory` where there is not enough.
+#[inline(always)]
 fn link_source<E: Events>(
     events: &mut E,
     shadow: &Shadow,
@@ -49,6 +51,7 @@ fn link_source<E: Events>(
 
 /// Bits flow to a point from a byte.
 /// `NoMemory` where there is not enough.
+#[inline(always)]
 fn link_byte<E: Events>(
     events: &mut E,
     shadow: &Shadow,
@@ -65,6 +68,7 @@ fn link_byte<E: Events>(
 
 /// Bits flow to a point from two bytes.
 /// `NoMemory` where there is not enough.
+#[inline(never)]
 fn link_half<E: Events>(
     events: &mut E,
     shadow: &Shadow,
@@ -83,6 +87,7 @@ fn link_half<E: Events>(
 
 /// Bits flow to a point from four bytes.
 /// `NoMemory` where there is not enough.
+#[inline(never)]
 fn link_word<E: Events>(
     events: &mut E,
     shadow: &Shadow,
@@ -103,6 +108,7 @@ fn link_word<E: Events>(
 
 /// Bits flow to a point from each source, in order.
 /// `NoMemory` where there is not enough.
+#[inline(always)]
 fn link_sources<E: Events>(
     events: &mut E,
     shadow: &Shadow,
@@ -128,6 +134,7 @@ fn link_sources<E: Events>(
 
 /// Bits flow on from a point by what becomes of them.
 /// `NoMemory` where there is not enough.
+#[inline(always)]
 fn link_aim<E: Events>(events: &mut E, point: Point, aim: Aim) -> Result<(), NoMemory>
     ensures { OnOk result (Appends (E.stands_for events.old) (E.stands_for events.new) (aim_events point aim)) }
 {
@@ -141,6 +148,7 @@ fn link_aim<E: Events>(events: &mut E, point: Point, aim: Aim) -> Result<(), NoM
 
 /// The events of the bits that pass, but for the passing itself.
 /// `NoMemory` where there is not enough.
+#[inline(always)]
 fn link_flow<E: Events>(
     events: &mut E,
     shadow: &Shadow,
@@ -157,6 +165,7 @@ fn link_flow<E: Events>(
 
 /// The events of a passing of this mask.
 /// `NoMemory` where there is not enough.
+#[inline(always)]
 pub(crate) fn add_passing<E: Events>(
     events: &mut E,
     shadow: &Shadow,

@@ -14,7 +14,7 @@ use crate::rule_answers::answer_of;
 use crate::source_masks::source_masks;
 use flow_base::NoMemory;
 use flow_graph::{Event, Events};
-use rv32im_machine::Passing;
+use rv32im_machine::{Aim, Passing};
 use shadow_masks::{Label, Shadow};
 use transfer_rules::RuleBook;
 
@@ -56,8 +56,8 @@ fn note_clean<E: Events>(
 
 /// The events of a passing of this mask are added, and what its value goes to gets the label.
 /// `NoMemory` where there is not enough.
-#[inline(never)]
-fn note_mask<E: Events>(
+#[inline(always)]
+fn note_here<E: Events>(
     events: &mut E,
     shadow: &mut Shadow,
     held: &mut Held,
@@ -74,6 +74,49 @@ fn note_mask<E: Events>(
 {
     add_passing(events, shadow, *held, passing, mask)?;
     put_aimed(shadow, held, passing.aim, labelled(mask, passing.point))
+}
+
+/// The same, by a call of its own.
+#[inline(never)]
+fn note_apart<E: Events>(
+    events: &mut E,
+    shadow: &mut Shadow,
+    held: &mut Held,
+    passing: Passing,
+    mask: u32,
+) -> Result<(), NoMemory>
+    requires aim { IsAim (Some shadow.old.base) passing.aim }
+    requires sources { AreSources (Some shadow.old.base) passing.sources }
+    ensures base { shadow.new.base ≡ shadow.old.base }
+    ensures labels { OnOk result ((answer : ℕ) → mask ≡ mask_of (labels_of shadow.old held.old) answer passing →
+        labels_of shadow.new held.new ≡ labels_after (labels_of shadow.old held.old) answer passing) }
+    ensures events { OnOk result (Appends (E.stands_for events.old) (E.stands_for events.new)
+        (masked_events (labels_of shadow.old held.old) mask passing)) }
+{
+    note_here(events, shadow, held, passing, mask)
+}
+
+/// The same. Outputs of regions, of which a run may pass billions, are noted in their place.
+#[inline(always)]
+fn note_mask<E: Events>(
+    events: &mut E,
+    shadow: &mut Shadow,
+    held: &mut Held,
+    passing: Passing,
+    mask: u32,
+) -> Result<(), NoMemory>
+    requires aim { IsAim (Some shadow.old.base) passing.aim }
+    requires sources { AreSources (Some shadow.old.base) passing.sources }
+    ensures base { shadow.new.base ≡ shadow.old.base }
+    ensures labels { OnOk result ((answer : ℕ) → mask ≡ mask_of (labels_of shadow.old held.old) answer passing →
+        labels_of shadow.new held.new ≡ labels_after (labels_of shadow.old held.old) answer passing) }
+    ensures events { OnOk result (Appends (E.stands_for events.old) (E.stands_for events.new)
+        (masked_events (labels_of shadow.old held.old) mask passing)) }
+{
+    match passing.aim {
+        Aim::Give(_) => note_here(events, shadow, held, passing, mask),
+        _ => note_apart(events, shadow, held, passing, mask),
+    }
 }
 
 /// A value passes: its mask is found by the book's rules, its events are added, and what it goes to gets its label.

@@ -26,6 +26,7 @@ pub(crate) fn label_at(shadow: &Shadow, held: Held, place: Place) -> Label
 }
 
 /// The label of a mask and a point: the clean one where the mask is 0.
+#[inline(always)]
 pub(crate) fn labelled(mask: u32, point: Point) -> Label
     ensures label { result ≡ label_of mask point }
     ensures is_label { IsLabel result }
@@ -50,7 +51,7 @@ fn put_register(shadow: &mut Shadow, held: Held, register: u8, label: Label)
 
 /// A byte gets a label. The label of a byte has at most 8 bits, and no turn of a guest gives it another; one that has
 /// more is not taken, as where memory is short.
-#[inline(never)]
+#[inline(always)]
 fn put_byte(shadow: &mut Shadow, held: Held, address: u32, label: Label) -> Result<(), NoMemory>
     requires inside { IsTrue (is_inside shadow.old.base address 1) }
     requires label { IsLabel label }
