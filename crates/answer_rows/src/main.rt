@@ -1,5 +1,5 @@
 //! Answers the command lines of tables over files and a sink in memory, and prints the name of each row whose status,
-//! loads or text are not those that it says, and how many rows there are. What must come was found by hand.
+//! loads or text are not those that the row says, and how many rows there are.
 #![tactic(auto)]
 
 mod answering;

@@ -57,7 +57,7 @@ impl Collapse {
     }
 
     /// Keeps a link, where its ends are there.
-    #[inline(always)]
+    #[inline(never)]
     fn put(&mut self, link: NamedLink) -> Result<(), CollapseFault>
         requires leads { may_lead link.source link.target ≡ true }
         ensures ok { OnOk result ((event : AnEvent) (events : Seq AnEvent) → Makes (knows self.old) event link →

@@ -8,8 +8,8 @@ ghost use Rattle.lockstep_replay.specs.Verdicts.{why_broken, why_budget, why_mod
 use crate::replay_turns::{keeps_up, replay_reason};
 use crate::tallies::Tallying;
 use crate::verdicts::Why;
-use enclosure_regions::{Break, Regions};
-use region_machine::{RealTurn, real_turn_by};
+use enclosure_regions::Break;
+use region_machine::{MarkedRegions, RealTurn, real_turn_by};
 use replay_machine::Replay;
 use rv32im_machine::{Machine, Stepped, turn_by};
 
@@ -58,12 +58,17 @@ fn real_reason(broken: Option<Break>, mode: Stepped, budget: u32, needed: u32) -
 }
 
 /// One turn of the real run with these regions, of which those with these numbers are skipped; its bits are tallied.
-fn real_turn(real: &mut Machine, tally: &mut Tallying, regions: &Regions, skip: &[u16]) -> RealTurn
-    requires { IsTrue (may_leave regions.now.items real.old) }
-    ensures { Makes (record { regions = regions.now.items; skip = skip.now })
-        (kind_of regions.now.items real.old.control) real.old tally.old real.new tally.new result }
+fn real_turn(
+    real: &mut Machine,
+    tally: &mut Tallying,
+    marked: &MarkedRegions,
+    skip: &[u16],
+) -> RealTurn
+    requires { IsTrue (may_leave marked.now.regions.items real.old) }
+    ensures { Makes (record { regions = marked.now.regions.items; skip = skip.now })
+        (kind_of marked.now.regions.items real.old.control) real.old tally.old real.new tally.new result }
 {
-    match real_turn_by(real, tally, regions, skip) {
+    match real_turn_by(real, tally, marked, skip) {
         Ok(turn) => turn,
         Err(never) => match never {},
     }
@@ -75,7 +80,7 @@ fn make_region_round(real: &mut Machine, tally: &mut Tallying, replay: &mut Repl
     requires { Keeps real.old replay.old tally.old.bits tally.old.needed tally.old.budget }
     ensures { Rounds replay.old.enclosures real.old tally.old replay.old real.new tally.new replay.new result }
 {
-    let turn = real_turn(real, tally, replay.regions(), replay.skip());
+    let turn = real_turn(real, tally, replay.marked(), replay.skip());
     let RealTurn { enclosed, broken } = turn;
     if let Some(why) = real_reason(broken, real.mode(), tally.budget, tally.needed) {
         return Round {
@@ -116,10 +121,10 @@ fn put_region_round(
 
 /// One step of the real run outside of these regions; its bits are tallied.
 #[inline(always)]
-fn real_step(real: &mut Machine, tally: &mut Tallying, _regions: &Regions)
-    requires { kind_of _regions.now.items real.old.control ≡ Steps None }
-    ensures { (skip : Seq ℕ) → Makes (record { regions = _regions.now.items; skip = skip })
-        (kind_of _regions.now.items real.old.control) real.old tally.old real.new tally.new
+fn real_step(real: &mut Machine, tally: &mut Tallying, _marked: &MarkedRegions)
+    requires { kind_of _marked.now.regions.items real.old.control ≡ Steps None }
+    ensures { (skip : Seq ℕ) → Makes (record { regions = _marked.now.regions.items; skip = skip })
+        (kind_of _marked.now.regions.items real.old.control) real.old tally.old real.new tally.new
         (record { enclosed = false; broken = None }) }
 {
     match turn_by(real, tally) {
@@ -138,7 +143,7 @@ fn make_step(real: &mut Machine, tally: &mut Tallying, replay: &mut Replay) -> b
         (record { enclosed = false; why = why_standing real.new tally.new replay.new }) }
     ensures fine { IsTrue result → why_standing real.new tally.new replay.new ≡ None }
 {
-    real_step(real, tally, replay.regions());
+    real_step(real, tally, replay.marked());
     if let Some(_) = mode_reason(real.mode(), tally.budget, tally.needed) {
         return false;
     }

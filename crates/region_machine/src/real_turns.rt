@@ -14,10 +14,11 @@ ghost use Rattle.region_machine.specs.Within.{are_inside, can_leave, has_rules, 
 
 use crate::entering::enter_by;
 use crate::guards::Guarding;
-use crate::kinds::{GuestTurn, guest_turn};
+use crate::kinds::GuestTurn;
 use crate::leaving::leave_by;
+use crate::marked::MarkedRegions;
 use crate::observers::Observer;
-use enclosure_regions::{Break, Region, Regions, broken_at_entry, broken_at_leave};
+use enclosure_regions::{Break, Region, broken_at_entry, broken_at_leave};
 use rv32im_machine::{Machine, Plain, turn_by};
 
 /// What a turn of the real run has been.
@@ -153,22 +154,22 @@ fn unobserved_turn(machine: &mut Machine, turn: GuestTurn<'_>) -> Option<Break>
 pub fn real_turn_by<P: Observer>(
     machine: &mut Machine,
     observer: &mut P,
-    regions: &Regions,
+    marked: &MarkedRegions,
     skip: &[u16],
 ) -> Result<RealTurn, P::Stop>
     requires memory { Knows (P.memory observer.old) machine.old.setting.base }
-    requires leave { IsTrue (may_leave regions.now.items machine.old) }
-    ensures broken { IfOk result (λ turn. turn.broken ≡ Breaks regions.now.items machine.old) }
+    requires leave { IsTrue (may_leave marked.now.regions.items machine.old) }
+    ensures broken { IfOk result (λ turn. turn.broken ≡ Breaks marked.now.regions.items machine.old) }
     ensures enclosed { IfOk result (λ turn. turn.enclosed ≡
-        is_enclosed (record { regions = regions.now.items; skip = skip.now }) machine.old.control) }
-    ensures state { IfOk result (λ turn. machine.new ≡ real_end (guest_walk regions.now.items machine.old)) }
-    ensures untold { is_enclosed (record { regions = regions.now.items; skip = skip.now }) machine.old.control ≡ true →
+        is_enclosed (record { regions = marked.now.regions.items; skip = skip.now }) machine.old.control) }
+    ensures state { IfOk result (λ turn. machine.new ≡ real_end (guest_walk marked.now.regions.items machine.old)) }
+    ensures untold { is_enclosed (record { regions = marked.now.regions.items; skip = skip.now }) machine.old.control ≡ true →
         observer.new ≡ observer.old }
-    ensures plays { is_enclosed (record { regions = regions.now.items; skip = skip.now }) machine.old.control ≡ false →
-        P.Plays observer.old (guest_walk regions.now.items machine.old)
+    ensures plays { is_enclosed (record { regions = marked.now.regions.items; skip = skip.now }) machine.old.control ≡ false →
+        P.Plays observer.old (guest_walk marked.now.regions.items machine.old)
         (ending result machine.new (P.tape observer.new)) }
 {
-    let turn = guest_turn(machine, regions);
+    let turn = marked.next_turn(machine);
     if is_enclosed_turn(turn, skip) {
         let broken = unobserved_turn(machine, turn);
         return Ok(RealTurn {

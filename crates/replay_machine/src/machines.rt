@@ -275,11 +275,11 @@ impl Replay {
         self.marked.is_outside(machine)
     }
 
-    /// The regions of the program.
-    pub fn regions(&self) -> &Regions
-        ensures { result.now.items ≡ self.now.enclosures.regions }
+    /// The regions of the program, marked where each is entered.
+    pub fn marked(&self) -> &MarkedRegions
+        ensures { result.now.regions.items ≡ self.now.enclosures.regions }
     {
-        &self.marked.regions
+        &self.marked
     }
 
     /// The numbers of the regions that are skipped.

@@ -42,6 +42,7 @@ impl EachPoint {
     }
 
     /// The point of a byte.
+    #[inline(always)]
     pub fn at(&self, place: usize) -> Point
         requires { place < page_size }
         ensures { result ≡ listed_point self.now place }

@@ -25,6 +25,7 @@ impl PagePoints {
     }
 
     /// The point of a byte.
+    #[inline(always)]
     pub fn at(&self, place: usize) -> Point
         requires { place < page_size }
         ensures { result ≡ point_of self.now place }
@@ -35,18 +36,29 @@ impl PagePoints {
         }
     }
 
-    /// Sets the point of a byte; where memory is short all stays as it was.
+    /// Sets the point of a byte; where memory is short all stays as it was. A place of the program gives a byte much the
+    /// same point again and again, and one that it has is not written.
+    #[inline(always)]
     pub fn set(&mut self, alloc: Global, place: usize, point: Point) -> Result<(), NoMemory>
+        requires { place < page_size }
+        ensures ok { OnOk result (SetsPoint place point (point_of self.old) (point_of self.new)) }
+        ensures err { OnErr result (self.new ≡ self.old) }
+    {
+        if self.at(place) == point {
+            return Ok(());
+        }
+        self.set_other(alloc, place, point)
+    }
+
+    /// The same, whatever point the byte has.
+    #[inline(never)]
+    fn set_other(&mut self, alloc: Global, place: usize, point: Point) -> Result<(), NoMemory>
         requires { place < page_size }
         ensures ok { OnOk result (SetsPoint place point (point_of self.old) (point_of self.new)) }
         ensures err { OnErr result (self.new ≡ self.old) }
     {
         match self {
             PagePoints::Few(few) => {
-                // a place of the program gives a byte much the same point again and again
-                if few.at(place) == point {
-                    return Ok(());
-                }
                 match few.number_of(point)? {
                     Some(number) => few.give(place, number),
                     None => {

@@ -106,6 +106,26 @@ fn link_word<E: Events>(
     link_byte(events, shadow, held, address + 3, point)
 }
 
+/// Bits flow to a point from two sources.
+/// `NoMemory` where there is not enough.
+#[inline(never)]
+fn link_two<E: Events>(
+    events: &mut E,
+    shadow: &Shadow,
+    held: Held,
+    first: Source,
+    second: Source,
+    point: Point,
+) -> Result<(), NoMemory>
+    requires first { IsSource (Some shadow.now.base) first }
+    requires second { IsSource (Some shadow.now.base) second }
+    ensures { OnOk result (Appends (E.stands_for events.old) (E.stands_for events.new)
+        (sources_events (labels_of shadow.now held) point (Sources.Two first second))) }
+{
+    link_source(events, shadow, held, first, point)?;
+    link_source(events, shadow, held, second, point)
+}
+
 /// Bits flow to a point from each source, in order.
 /// `NoMemory` where there is not enough.
 #[inline(always)]
@@ -122,10 +142,7 @@ fn link_sources<E: Events>(
 {
     match sources {
         Sources::One(source) => link_source(events, shadow, held, source, point),
-        Sources::Two(first, second) => {
-            link_source(events, shadow, held, first, point)?;
-            link_source(events, shadow, held, second, point)
-        }
+        Sources::Two(first, second) => link_two(events, shadow, held, first, second, point),
         Sources::Byte(address) => link_byte(events, shadow, held, address, point),
         Sources::Half(address) => link_half(events, shadow, held, address, point),
         Sources::Word(address) => link_word(events, shadow, held, address, point),

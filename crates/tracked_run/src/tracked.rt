@@ -4,9 +4,10 @@ ghost use Rattle.region_machine.specs.Within.{may_leave};
 use crate::outcomes::{Spent, TrackedTurn, spent_after};
 use crate::turns::make_turn;
 use elf32_loader::Image;
-use enclosure_regions::Regions;
+use enclosure_regions::{Regions, copy_regions};
 use flow_base::{Bytes, NoMemory};
 use flow_graph::Events;
+use region_machine::MarkedRegions;
 use rv32im_machine::Machine;
 use shadow_masks::Shadow;
 use std::alloc::Global;
@@ -20,11 +21,11 @@ const OUTPUT_LIMIT: u32 = 1_048_576;
 pub struct Tracked<'a> {
     machine: Machine,
     shadow: Shadow,
-    regions: &'a Regions,
+    marked: MarkedRegions,
     book: &'a RuleBook,
     spent: Option<Spent>,
     ghost base: { spent ≡ None → shadow.base ≡ machine.setting.base },
-    ghost leave: { spent ≡ None → IsTrue (may_leave regions.now.items machine) },
+    ghost leave: { spent ≡ None → IsTrue (may_leave marked.regions.items machine) },
 }
 
 impl<'a> Tracked<'a> {
@@ -43,22 +44,23 @@ impl<'a> Tracked<'a> {
         image: &Image,
         public: &Bytes,
         secret: &Bytes,
-        regions: &'a Regions,
+        regions: &Regions,
         book: &'a RuleBook,
     ) -> Result<Tracked<'a>, NoMemory>
         requires { length secret.now < 2 ^ 32 }
         ensures stands { IfOk result (λ tracked. Stands tracked.machine tracked.shadow
             (unlabelled (guest (picture_of image.now) public.now secret.now))) }
-        ensures regions { IfOk result (λ tracked. tracked.regions.now.items ≡ regions.now.items) }
+        ensures regions { IfOk result (λ tracked. tracked.marked.regions.items ≡ regions.now.items) }
         ensures table { IfOk result (λ tracked. tracked.book.now.table ≡ book.now.table) }
         ensures unspent { IfOk result (λ tracked. tracked.spent ≡ None) }
     {
         let machine = Machine::new(alloc, image, public, secret, OUTPUT_LIMIT)?;
         let shadow = Shadow::new(alloc, image.base)?;
+        let marked = MarkedRegions::new(alloc, copy_regions(alloc, regions)?)?;
         Ok(Tracked {
             machine,
             shadow,
-            regions,
+            marked,
             book,
             spent: None,
         })
@@ -70,12 +72,12 @@ impl<'a> Tracked<'a> {
     /// added. After every answer but `Ran` each later call gives the same answer, changes nothing and adds nothing.
     pub fn turn<E: Events>(&mut self, events: &mut E) -> Result<TrackedTurn, NoMemory>
         ensures turns { self.old.spent ≡ None → (run : LabelledRun) → Stands self.old.machine self.old.shadow run →
-            Turns self.old.book.now.table self.old.regions.now.items run (E.stands_for events.old)
+            Turns self.old.book.now.table self.old.marked.regions.items run (E.stands_for events.old)
             (E.stands_for events.new) self.new.machine self.new.shadow result }
         ensures spent { IfSome self.old.spent (λ spent.
             (result ≡ answer_of spent) × (self.new ≡ self.old) × (events.new ≡ events.old)) }
         ensures ends { self.new.spent ≡ spent_by result }
-        ensures regions { self.new.regions.now ≡ self.old.regions.now }
+        ensures regions { self.new.marked.regions.items ≡ self.old.marked.regions.items }
         ensures book { self.new.book.now ≡ self.old.book.now }
     {
         match self.spent {
@@ -88,17 +90,17 @@ impl<'a> Tracked<'a> {
     fn next_turn<E: Events>(&mut self, events: &mut E) -> Result<TrackedTurn, NoMemory>
         requires { self.old.spent ≡ None }
         ensures turns { (run : LabelledRun) → Stands self.old.machine self.old.shadow run →
-            Turns self.old.book.now.table self.old.regions.now.items run (E.stands_for events.old)
+            Turns self.old.book.now.table self.old.marked.regions.items run (E.stands_for events.old)
             (E.stands_for events.new) self.new.machine self.new.shadow result }
         ensures ends { self.new.spent ≡ spent_by result }
-        ensures regions { self.new.regions.now ≡ self.old.regions.now }
+        ensures regions { self.new.marked.regions.items ≡ self.old.marked.regions.items }
         ensures book { self.new.book.now ≡ self.old.book.now }
     {
         let answer = make_turn(
             &mut self.machine,
             &mut self.shadow,
             events,
-            self.regions,
+            &self.marked,
             self.book,
         );
         self.spent = spent_after(answer);

@@ -10,20 +10,21 @@ use crate::changes::earlier;
 use crate::held::Held;
 use crate::outcomes::TrackedTurn;
 use crate::tracking::Tracking;
-use enclosure_regions::{Break, Regions};
+use enclosure_regions::Break;
 use flow_base::NoMemory;
 use flow_graph::Events;
-use region_machine::{GuestTurn, guest_turn, real_turn_by};
+use region_machine::{GuestTurn, MarkedRegions, real_turn_by};
 use run_labels::MeasureFault;
 use rv32im_machine::{Machine, Stepped};
 use shadow_masks::Shadow;
 use transfer_rules::RuleBook;
 
 /// The number of the region that a machine enters in its next turn, 0: of none.
-fn entered_number(machine: &Machine, regions: &Regions) -> u16
-    ensures { result ≡ number_entered (kind_of regions.now.items machine.now.control) }
+#[inline(always)]
+fn entered_number(machine: &Machine, marked: &MarkedRegions) -> u16
+    ensures { result ≡ number_entered (kind_of marked.now.regions.items machine.now.control) }
 {
-    match guest_turn(machine, regions) {
+    match marked.next_turn(machine) {
         GuestTurn::Enters(region) => region.id,
         GuestTurn::Leaves(_) => 0,
         GuestTurn::Steps(_) => 0,
@@ -76,23 +77,23 @@ fn decided(refused: Option<MeasureFault>, broken: Option<Break>, mode: Stepped) 
 fn play_turn<E: Events>(
     machine: &mut Machine,
     side: &mut Tracking<'_, E>,
-    regions: &Regions,
+    marked: &MarkedRegions,
 ) -> Result<TrackedTurn, NoMemory>
     requires base { side.old.shadow.now.base ≡ machine.old.setting.base }
-    requires leave { IsTrue (may_leave regions.now.items machine.old) }
+    requires leave { IsTrue (may_leave marked.now.regions.items machine.old) }
     requires held { side.old.held ≡ none_held }
-    requires region { side.old.region ≡ number_entered (kind_of regions.now.items machine.old.control) }
+    requires region { side.old.region ≡ number_entered (kind_of marked.now.regions.items machine.old.control) }
     requires unrefused { side.old.refused ≡ None }
     ensures turns { IfOk result (λ turn. (run : LabelledRun) → Stands machine.old side.old.shadow.now run →
-        Turns side.old.book.now.table regions.now.items run (E.stands_for side.old.events.now)
+        Turns side.old.book.now.table marked.now.regions.items run (E.stands_for side.old.events.now)
         (E.stands_for side.new.events.now) machine.new side.new.shadow.now (Ok turn)) }
     ensures base { IfOk result (λ turn. side.new.shadow.now.base ≡ machine.new.setting.base) }
     ensures leave { IfOk result (λ turn. spent_by (Ok turn) ≡ None →
-        IsTrue (may_leave regions.now.items machine.new)) }
+        IsTrue (may_leave marked.now.regions.items machine.new)) }
     ensures shadow { IfOk result (λ turn. side.new.shadow.ghost_name ≡ side.old.shadow.ghost_name) }
     ensures events { IfOk result (λ turn. side.new.events.ghost_name ≡ side.old.events.ghost_name) }
 {
-    let turn = real_turn_by(machine, side, regions, &[])?;
+    let turn = real_turn_by(machine, side, marked, &[])?;
     Ok(decided(side.refused, turn.broken, machine.mode()))
 }
 
@@ -102,18 +103,18 @@ pub(crate) fn make_turn<E: Events>(
     machine: &mut Machine,
     shadow: &mut Shadow,
     events: &mut E,
-    regions: &Regions,
+    marked: &MarkedRegions,
     book: &RuleBook,
 ) -> Result<TrackedTurn, NoMemory>
     requires base { shadow.old.base ≡ machine.old.setting.base }
-    requires leave { IsTrue (may_leave regions.now.items machine.old) }
+    requires leave { IsTrue (may_leave marked.now.regions.items machine.old) }
     ensures turns { (run : LabelledRun) → Stands machine.old shadow.old run →
-        Turns book.now.table regions.now.items run (E.stands_for events.old) (E.stands_for events.new) machine.new
+        Turns book.now.table marked.now.regions.items run (E.stands_for events.old) (E.stands_for events.new) machine.new
         shadow.new result }
     ensures base { spent_by result ≡ None → shadow.new.base ≡ machine.new.setting.base }
-    ensures leave { spent_by result ≡ None → IsTrue (may_leave regions.now.items machine.new) }
+    ensures leave { spent_by result ≡ None → IsTrue (may_leave marked.now.regions.items machine.new) }
 {
-    let region = entered_number(machine, regions);
+    let region = entered_number(machine, marked);
     let mut side = Tracking {
         shadow,
         events,
@@ -122,6 +123,6 @@ pub(crate) fn make_turn<E: Events>(
         region,
         refused: None,
     };
-    let turn = play_turn(machine, &mut side, regions)?;
+    let turn = play_turn(machine, &mut side, marked)?;
     Ok(turn)
 }

@@ -8,10 +8,10 @@ returns-in-Some c =
     let played : Played c.args.real.now c.args.tally.now c.args.replay.now c.real_turn-turn.new.real
     c.real_turn-turn.new.tally c.real_turn-turn.result =
     record {
-      makes = rw (c.regions.ensures, c.skip.ensures) at c.real_turn-turn.ensures;
+      makes = rw (c.marked.ensures, c.skip.ensures) at c.real_turn-turn.ensures;
       keeps = c.requires;
       small = c.args.tally.now.small;
-      rules = rw c.regions.ensures at c.regions.result.now.keeps_rules;
+      rules = rw c.marked.ensures at c.marked.result.now.regions.keeps_rules;
     } in
     round-fails c.args.real.now c.args.tally.now c.args.replay.now c.real_turn-turn.new.real
     c.real_turn-turn.new.tally c.real_turn-turn.result
@@ -22,10 +22,10 @@ returns-then-enclosed c =
     let played : Played c.args.real.now c.args.tally.now c.args.replay.now c.real_turn-turn.new.real
     c.real_turn-turn.new.tally c.real_turn-turn.result =
     record {
-      makes = rw (c.regions.ensures, c.skip.ensures) at c.real_turn-turn.ensures;
+      makes = rw (c.marked.ensures, c.skip.ensures) at c.real_turn-turn.ensures;
       keeps = c.requires;
       small = c.args.tally.now.small;
-      rules = rw c.regions.ensures at c.regions.result.now.keeps_rules;
+      rules = rw c.marked.ensures at c.marked.result.now.regions.keeps_rules;
     } in
     round-enclosed c.args.real.now c.args.tally.now c.args.replay.now c.real_turn-turn.new.real
     c.real_turn-turn.new.tally c.real_turn-turn.result
@@ -36,10 +36,10 @@ keeps_up-requires-clause-begins c =
     let played : Played c.args.real.now c.args.tally.now c.args.replay.now c.real_turn-turn.new.real
     c.real_turn-turn.new.tally c.real_turn-turn.result =
     record {
-      makes = rw (c.regions.ensures, c.skip.ensures) at c.real_turn-turn.ensures;
+      makes = rw (c.marked.ensures, c.skip.ensures) at c.real_turn-turn.ensures;
       keeps = c.requires;
       small = c.args.tally.now.small;
-      rules = rw c.regions.ensures at c.regions.result.now.keeps_rules;
+      rules = rw c.marked.ensures at c.marked.result.now.regions.keeps_rules;
     } in
     output-begins c.args.real.now c.args.tally.now c.args.replay.now c.real_turn-turn.new.real
     c.real_turn-turn.new.tally c.real_turn-turn.result
@@ -50,10 +50,10 @@ keeps_up-requires-clause-used c =
     let played : Played c.args.real.now c.args.tally.now c.args.replay.now c.real_turn-turn.new.real
     c.real_turn-turn.new.tally c.real_turn-turn.result =
     record {
-      makes = rw (c.regions.ensures, c.skip.ensures) at c.real_turn-turn.ensures;
+      makes = rw (c.marked.ensures, c.skip.ensures) at c.real_turn-turn.ensures;
       keeps = c.requires;
       small = c.args.tally.now.small;
-      rules = rw c.regions.ensures at c.regions.result.now.keeps_rules;
+      rules = rw c.marked.ensures at c.marked.result.now.regions.keeps_rules;
     } in
     used-played c.args.real.now c.args.tally.now c.args.replay.now c.real_turn-turn.new.real
     c.real_turn-turn.new.tally c.real_turn-turn.result
@@ -64,10 +64,10 @@ returns-then-keeps_up c =
     let played : Played c.args.real.now c.args.tally.now c.args.replay.now c.real_turn-turn.new.real
     c.real_turn-turn.new.tally c.real_turn-turn.result =
     record {
-      makes = rw (c.regions.ensures, c.skip.ensures) at c.real_turn-turn.ensures;
+      makes = rw (c.marked.ensures, c.skip.ensures) at c.real_turn-turn.ensures;
       keeps = c.requires;
       small = c.args.tally.now.small;
-      rules = rw c.regions.ensures at c.regions.result.now.keeps_rules;
+      rules = rw c.marked.ensures at c.marked.result.now.regions.keeps_rules;
     } in
     round-beside c.args.real.now c.args.tally.now c.args.replay.now c.real_turn-turn.new.real
     c.real_turn-turn.new.tally c.real_turn-turn.result
@@ -89,10 +89,10 @@ returns c =
     let played : Played c.args.real.now c.args.tally.now c.args.replay.now c.real_turn-turn.new.real
     c.real_turn-turn.new.tally c.real_turn-turn.result =
     record {
-      makes = rw (c.regions.ensures, c.skip.ensures) at c.real_turn-turn.ensures;
+      makes = rw (c.marked.ensures, c.skip.ensures) at c.real_turn-turn.ensures;
       keeps = c.requires;
       small = c.args.tally.now.small;
-      rules = rw c.regions.ensures at c.regions.result.now.keeps_rules;
+      rules = rw c.marked.ensures at c.marked.result.now.regions.keeps_rules;
     } in
     round-beside c.args.real.now c.args.tally.now c.args.replay.now c.real_turn-turn.new.real
     c.real_turn-turn.new.tally c.real_turn-turn.result

@@ -9,10 +9,10 @@ returns-in-Some-clause-rounds c =
     let played : Played c.args.real.now c.args.tally.now c.args.replay.now c.real_step.new.real
     c.real_step.new.tally outside_turn =
     record {
-      makes = rw c.regions.ensures at (c.real_step.ensures c.args.replay.now.enclosures.skip);
+      makes = rw c.marked.ensures at (c.real_step.ensures c.args.replay.now.enclosures.skip);
       keeps = c.requires.keeps;
       small = c.args.tally.now.small;
-      rules = rw c.regions.ensures at c.regions.result.now.keeps_rules;
+      rules = rw c.marked.ensures at c.marked.result.now.regions.keeps_rules;
     } in
     step-fails c.args.real.now c.args.tally.now c.args.replay.now c.real_step.new.real c.real_step.new.tally
     c.in-Some.field-0 played (sym (rw c.mode.ensures at c.mode_reason.ensures) ∙ c.in-Some.is)
@@ -22,10 +22,10 @@ keeps_up-requires-clause-begins c =
     let played : Played c.args.real.now c.args.tally.now c.args.replay.now c.real_step.new.real
     c.real_step.new.tally outside_turn =
     record {
-      makes = rw c.regions.ensures at (c.real_step.ensures c.args.replay.now.enclosures.skip);
+      makes = rw c.marked.ensures at (c.real_step.ensures c.args.replay.now.enclosures.skip);
       keeps = c.requires.keeps;
       small = c.args.tally.now.small;
-      rules = rw c.regions.ensures at c.regions.result.now.keeps_rules;
+      rules = rw c.marked.ensures at c.marked.result.now.regions.keeps_rules;
     } in
     output-begins c.args.real.now c.args.tally.now c.args.replay.now c.real_step.new.real c.real_step.new.tally
     outside_turn played
@@ -35,10 +35,10 @@ keeps_up-requires-clause-used c =
     let played : Played c.args.real.now c.args.tally.now c.args.replay.now c.real_step.new.real
     c.real_step.new.tally outside_turn =
     record {
-      makes = rw c.regions.ensures at (c.real_step.ensures c.args.replay.now.enclosures.skip);
+      makes = rw c.marked.ensures at (c.real_step.ensures c.args.replay.now.enclosures.skip);
       keeps = c.requires.keeps;
       small = c.args.tally.now.small;
-      rules = rw c.regions.ensures at c.regions.result.now.keeps_rules;
+      rules = rw c.marked.ensures at c.marked.result.now.regions.keeps_rules;
     } in
     used-played c.args.real.now c.args.tally.now c.args.replay.now c.real_step.new.real c.real_step.new.tally
     outside_turn played (sym (rw c.mode.ensures at c.mode_reason.ensures) ∙ c.in_default.is)
@@ -48,10 +48,10 @@ returns-clause-rounds c =
     let played : Played c.args.real.now c.args.tally.now c.args.replay.now c.real_step.new.real
     c.real_step.new.tally outside_turn =
     record {
-      makes = rw c.regions.ensures at (c.real_step.ensures c.args.replay.now.enclosures.skip);
+      makes = rw c.marked.ensures at (c.real_step.ensures c.args.replay.now.enclosures.skip);
       keeps = c.requires.keeps;
       small = c.args.tally.now.small;
-      rules = rw c.regions.ensures at c.regions.result.now.keeps_rules;
+      rules = rw c.marked.ensures at c.marked.result.now.regions.keeps_rules;
     } in
     step-beside c.args.real.now c.args.tally.now c.args.replay.now c.real_step.new.real c.real_step.new.tally
     c.keeps_up.new.replay _ played (sym (rw c.mode.ensures at c.mode_reason.ensures) ∙ c.in_default.is)

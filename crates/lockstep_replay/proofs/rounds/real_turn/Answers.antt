@@ -5,7 +5,7 @@ use Rattle.lockstep_replay.proofs.rounds.real_turn.Goals as goal
 
 pub returns : goal.returns
 returns c =
-    let enclosures : Enclosures = record { regions = c.args.regions.now.items; skip = c.args.skip.now } in
+    let enclosures : Enclosures = record { regions = c.args.marked.now.regions.items; skip = c.args.skip.now } in
     makes-turn Never enclosures c.args.real.now c.args.tally.now c.real_turn_by.new.machine c.real_turn_by.new.observer
     c.in-Ok.turn (rw c.in-Ok.is at c.real_turn_by.ensures.state) (rw c.in-Ok.is at c.real_turn_by.ensures.enclosed)
     (rw c.in-Ok.is at c.real_turn_by.ensures.broken) c.real_turn_by.ensures.untold

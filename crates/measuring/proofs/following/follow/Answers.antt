@@ -34,7 +34,7 @@ returns-in-Refused g c =
 pub loop-made-preserved : goal.loop-made-preserved
 loop-made-preserved g c = record {
   unspent = c.in_ok-turn.ensures.ends ∙ ap (λ answer. spent_by (Ok answer)) c.in-Ran.is;
-  regions = ap (λ regions. regions.items) c.in_ok-turn.ensures.regions ∙ c.loop-made.invariant.regions;
+  regions = c.in_ok-turn.ensures.regions ∙ c.loop-made.invariant.regions;
   table = ap (λ book. book.table) c.in_ok-turn.ensures.book ∙ c.loop-made.invariant.table;
   follows = ran _ _ _ c.loop-made.made _ _ _ _ _ _ c.loop-made.invariant.follows
       (turn_is _ _ _ _ _ c.loop-made.made _ _ _ _ _ _ c.in_ok-turn.field-0 Ran

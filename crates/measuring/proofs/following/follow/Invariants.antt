@@ -8,7 +8,7 @@ use Rattle.measuring.proofs.following.follow.Given as goal
 abbrev pub invariant-loop-made : goal.invariant-loop-made
 invariant-loop-made g l = record {
   unspent : l.tracked.spent ≡ None;
-  regions : l.tracked.regions.now.items ≡ l.regions.items;
+  regions : l.tracked.marked.regions.items ≡ l.regions.items;
   table : l.tracked.book.now.table ≡ l.book.table;
   follows : Follows l.book.table l.regions.items
       (unlabelled (guest (picture_of l.image) l.public l.secret)) l.made l.tracked.machine l.tracked.shadow l.recording;
