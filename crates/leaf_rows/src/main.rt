@@ -1,5 +1,6 @@
 //! Answers the rows of a table: what texts of cuts are read as, what files and sinks answer, how words and slots are
-//! written, what strings of bits give back, and which graph events make. What must be printed was found by hand.
+//! written, what strings of bits give back, which graph events make, and how visits are counted. What must be printed was
+//! found by hand.
 #![tactic(auto)]
 
 mod cut_rows;
@@ -10,12 +11,14 @@ mod input;
 mod store_rows;
 mod string_rows;
 mod texts;
+mod visit_rows;
 mod word_rows;
 
 use graph_rows::Graphs;
 use std::io;
 use store_rows::Stores;
 use string_rows::Strings;
+use visit_rows::Visits;
 
 /// What rows before a row have left.
 #[derive(Drop)]
@@ -23,6 +26,7 @@ struct Table {
     stores: Stores,
     strings: Strings,
     graphs: Graphs,
+    visits: Visits,
 }
 
 impl Table {
@@ -34,6 +38,7 @@ impl Table {
             || self.stores.print(rt, name, rest)?
             || self.strings.print(rt, name, rest)?
             || self.graphs.print(rt, name, rest)?
+            || self.visits.print(rt, name, rest)?
         {
             return Ok(());
         }
@@ -52,6 +57,7 @@ fn main(rt: HostRuntime) -> io::Result<()> {
         stores,
         strings,
         graphs: Graphs::new(rt.alloc()),
+        visits: Visits::new(rt.alloc()),
     };
     for line in rt.lines(rt.alloc()) {
         table.print(&rt, line?.as_str())?;
