@@ -4,8 +4,6 @@
 mod laws;
 mod masks;
 mod strings;
-#[cfg(test)]
-mod tests;
 mod texts;
 
 pub use laws::{

@@ -28,6 +28,3 @@ pub use migrating::migrate;
 pub use points::{CutPoint, Run};
 pub use reading::read_cut;
 pub use writing::write_cut;
-
-#[cfg(test)]
-mod tests;

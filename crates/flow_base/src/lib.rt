@@ -13,8 +13,6 @@ mod outputs;
 mod points;
 mod putting;
 mod register_file;
-#[cfg(test)]
-mod tests;
 
 pub use guests::MEMORY_SIZE;
 pub use hex_words::{hex_digits, hex_word};

@@ -12,8 +12,6 @@ mod finishing;
 mod graphs;
 mod named_links;
 mod nodes;
-#[cfg(test)]
-mod tests;
 
 pub use builders::{Builder, outlet};
 pub use collapsing::{graph_of, has_few_events};

@@ -4,8 +4,6 @@
 mod counting;
 mod places;
 mod rows;
-#[cfg(test)]
-mod tests;
 mod visit_counts;
 
 #[doc(hidden)]

@@ -1,3 +1,0 @@
-mod folding;
-mod reading;
-mod visits;

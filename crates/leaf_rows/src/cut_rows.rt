@@ -1,0 +1,123 @@
+//! Rows of texts of cuts. In a row a slash stands for a line feed, and a caret for a carriage return.
+
+ghost use Rattle.std.specs.Prelude.{◌<◌, ◌^◌, length, IfSome};
+
+use crate::cuts::{first_mask, fold_text, migrated_text, written};
+use crate::input::put_line;
+use crate::texts::bytes_of;
+use cut_file::{CutFault, read_cut};
+use flow_base::Bytes;
+use std::alloc::Global;
+use std::io;
+
+/// How many bytes a file may have at most.
+const LONGEST: usize = 1_048_576;
+
+/// The file that a row spells; None where it is too long, or memory is short.
+fn file_of(alloc: Global, row: &str) -> Option<Vec<u8>>
+    ensures { IfSome result (λ file. length file.items < 2 ^ 32) }
+{
+    let file = bytes_of(alloc, row.as_bytes()).ok()?;
+    if file.len() > LONGEST {
+        return None;
+    }
+    Some(file)
+}
+
+/// The text of a cut with one point, which lists so many rounds of 64 masks and then what a row says.
+fn rounds_of(alloc: Global, row: &str) -> Option<String> {
+    let (count, more) = row.split_once(' ')?;
+    let count = count.parse::<u16>().ok()?;
+    let mut text = String::new(alloc);
+    text.push_str("flowcheck-cut 1/secret 1/bits 1/point 0 0x00000000 u1 ")
+        .ok()?;
+    for _ in 0..count {
+        text.push_str("63*0x00000001 1*0x00000002 ").ok()?;
+    }
+    text.push_str(more).ok()?;
+    text.push_str("/end/").ok()?;
+    Some(text)
+}
+
+/// The texts of the fold of the cut of a file in version 1, and of that cut in version 2; None where the file has no
+/// such cut, or memory is short.
+fn others_of(alloc: Global, file: &[u8]) -> Option<(Bytes, Bytes)>
+    requires { length file.now < 2 ^ 32 }
+{
+    let cut = read_cut(alloc, file).ok()?;
+    if cut.version != 1 {
+        return None;
+    }
+    Some((
+        fold_text(alloc, &cut).ok()?,
+        migrated_text(alloc, &cut).ok()?,
+    ))
+}
+
+/// Prints that a file is read and written back as it is, or its first fault.
+fn print_cut(rt: &HostRuntime, row: &str) -> io::Result<bool> {
+    let Some(file) = file_of(rt.alloc(), row) else {
+        return Ok(false);
+    };
+    match written(rt.alloc(), file.as_slice()) {
+        Ok(text) if text.as_slice() == file.as_slice() => println!(rt; "read and written back")?,
+        Ok(_) => println!(rt; "another text is written")?,
+        Err(CutFault::Memory) => return Ok(false),
+        Err(fault) => println!(rt; "{fault:?}")?,
+    }
+    Ok(true)
+}
+
+/// Prints the texts of the fold of a cut, and of the cut in version 2.
+fn print_fold(rt: &HostRuntime, row: &str) -> io::Result<bool> {
+    let Some(file) = file_of(rt.alloc(), row) else {
+        return Ok(false);
+    };
+    let Some((folded, migrated)) = others_of(rt.alloc(), file.as_slice()) else {
+        return Ok(false);
+    };
+    Ok(put_line(rt, folded.as_slice()) && put_line(rt, migrated.as_slice()))
+}
+
+/// Prints the text of the fold of a cut of so many rounds, or that the fold is the cut in version 2.
+fn print_rounds(rt: &HostRuntime, row: &str) -> io::Result<bool> {
+    let Some(text) = rounds_of(rt.alloc(), row) else {
+        return Ok(false);
+    };
+    let Some(file) = file_of(rt.alloc(), text.as_str()) else {
+        return Ok(false);
+    };
+    let Some((folded, migrated)) = others_of(rt.alloc(), file.as_slice()) else {
+        return Ok(false);
+    };
+    if folded.as_slice() == migrated.as_slice() {
+        println!(rt; "all masks are kept")?;
+        return Ok(true);
+    }
+    Ok(put_line(rt, folded.as_slice()))
+}
+
+/// Prints the mask at a visit of the first point of a cut.
+fn print_mask(rt: &HostRuntime, row: &str) -> io::Result<bool> {
+    let (visit, text) = row.split_once(' ').unwrap_or((row, ""));
+    let Some(file) = file_of(rt.alloc(), text) else {
+        return Ok(false);
+    };
+    let visit = visit.parse::<u64>().unwrap_or(0);
+    match first_mask(rt.alloc(), file.as_slice(), visit) {
+        Some(mask) => println!(rt; "mask {mask:x}")?,
+        None => println!(rt; "no mask")?,
+    }
+    Ok(true)
+}
+
+/// Prints the answer of a row; whether it is one of these rows, and memory is not short.
+pub fn print(rt: &HostRuntime, name: &str, row: &str) -> io::Result<bool> {
+    match name {
+        "cut" => print_cut(rt, row),
+        "fold" => print_fold(rt, row),
+        "rounds" => print_rounds(rt, row),
+        "mask" => print_mask(rt, row),
+        _ => Ok(false),
+    }
+}

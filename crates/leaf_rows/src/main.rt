@@ -1,0 +1,66 @@
+//! Answers the rows of a table: what texts of cuts are read as, what files and sinks answer, how words and slots are
+//! written, what strings of bits give back, which graph events make, and how visits are counted. What must be printed
+//! was found by hand.
+#![tactic(auto)]
+
+mod cut_rows;
+mod cuts;
+mod events;
+mod graph_rows;
+mod input;
+mod store_rows;
+mod string_rows;
+mod texts;
+mod visit_rows;
+mod word_rows;
+
+use graph_rows::Graphs;
+use std::io;
+use store_rows::Stores;
+use string_rows::Strings;
+use visit_rows::Visits;
+
+/// What rows before a row have left.
+#[derive(Drop)]
+struct Table {
+    stores: Stores,
+    strings: Strings,
+    graphs: Graphs,
+    visits: Visits,
+}
+
+impl Table {
+    /// Prints the answer of a row, whose name says which table it is of.
+    fn print(&mut self, rt: &HostRuntime, row: &str) -> io::Result<()> {
+        let (name, rest) = row.split_once(' ').unwrap_or((row, ""));
+        if cut_rows::print(rt, name, rest)?
+            || word_rows::print(rt, name, rest)?
+            || self.stores.print(rt, name, rest)?
+            || self.strings.print(rt, name, rest)?
+            || self.graphs.print(rt, name, rest)?
+            || self.visits.print(rt, name, rest)?
+        {
+            return Ok(());
+        }
+        println!(rt; "no row, or memory is short: {row}")
+    }
+}
+
+fn main(rt: HostRuntime) -> io::Result<()> {
+    let Some(stores) = Stores::new(rt.alloc()) else {
+        return println!(rt; "memory is short");
+    };
+    let Some(strings) = Strings::new(rt.alloc()) else {
+        return println!(rt; "memory is short");
+    };
+    let mut table = Table {
+        stores,
+        strings,
+        graphs: Graphs::new(rt.alloc()),
+        visits: Visits::new(rt.alloc()),
+    };
+    for line in rt.lines(rt.alloc()) {
+        table.print(&rt, line?.as_str())?;
+    }
+    Ok(())
+}

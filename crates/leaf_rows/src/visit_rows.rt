@@ -1,0 +1,75 @@
+//! Rows of visits. A point is written REGION ADDRESS SLOT, with its address in hexadecimal.
+
+use crate::input::hexadecimal;
+use flow_base::{Point, Slot};
+use std::alloc::Global;
+use std::io;
+use visit_counts::VisitCounts;
+
+/// The visits that rows count.
+#[derive(Drop)]
+pub struct Visits {
+    counts: VisitCounts,
+}
+
+/// The point of a row.
+fn point_of(row: &str) -> Option<Point> {
+    let (region, rest) = row.split_once(' ')?;
+    let (address, slot) = rest.split_once(' ')?;
+    let slot = match slot {
+        "u1" => Slot::First,
+        "rs" => Slot::Result,
+        "x10" => Slot::OutReg(10),
+        "r0" => Slot::OutRange(0),
+        _ => return None,
+    };
+    Some(Point {
+        region: region.parse::<u16>().ok()?,
+        address: hexadecimal(Some(address))?,
+        slot,
+    })
+}
+
+impl Visits {
+    /// No visits.
+    pub fn new(alloc: Global) -> Visits {
+        Visits {
+            counts: VisitCounts::new(alloc),
+        }
+    }
+
+    /// Counts a visit, and prints whether it is counted.
+    fn visit(&mut self, rt: &HostRuntime, point: &Point) -> io::Result<bool> {
+        match self.counts.more(point) {
+            Ok(true) => println!(rt; "counted")?,
+            Ok(false) => println!(rt; "not counted")?,
+            Err(_) => return Ok(false),
+        }
+        Ok(true)
+    }
+
+    /// Forgets the visits of a point, and prints how many they were.
+    fn clear(&mut self, rt: &HostRuntime, point: &Point) -> io::Result<bool> {
+        match self.counts.clear(point) {
+            Ok(count) => println!(rt; "cleared {count}")?,
+            Err(_) => return Ok(false),
+        }
+        Ok(true)
+    }
+
+    /// Prints the answer of a row; whether it is one of these rows, and memory is not short.
+    pub fn print(&mut self, rt: &HostRuntime, name: &str, row: &str) -> io::Result<bool> {
+        let Some(point) = point_of(row) else {
+            return Ok(false);
+        };
+        match name {
+            "visit" => self.visit(rt, &point),
+            "clear" => self.clear(rt, &point),
+            "visits" => {
+                println!(rt; "visits {}", self.counts.count(&point))?;
+                Ok(true)
+            }
+            _ => Ok(false),
+        }
+    }
+}
