@@ -18,4 +18,4 @@ name_of (Tries number) = codes "trial"
 pub record IsNamed (words : List (List ℕ)) (name : List ℕ) : Type 0 where
   pub command : Command
   pub line : IsCommand words command
-  pub name : name ≡ name_of command
+  pub named : name ≡ name_of command

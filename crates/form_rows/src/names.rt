@@ -29,8 +29,8 @@ pub fn command_name<'a>(alloc: Global, words: &[String]) -> Result<Option<&'a st
     ensures named { IfOk result (λ found. IfSome found (λ name. IsNamed (map string_bytes words.now) name.now)) }
     ensures none { result ≡ Ok None → IsNoCommand (map string_bytes words.now) }
 {
-    match command_words(alloc, words)? {
-        Some(command) => Ok(Some(name(&command))),
-        None => Ok(None),
-    }
+    let Some(command) = command_words(alloc, words)? else {
+        return Ok(None);
+    };
+    Ok(Some(name(&command)))
 }
