@@ -21,7 +21,7 @@ asks_version words = false
 abbrev pub asks : List (List ℕ) → Bool
 asks words = asks_help words || asks_version words
 
--- what is wrong, an empty line, and a form with a line feed
+-- two texts with an empty line between them, and a line feed: what is wrong and a form, as clap writes them
 pub record IsComplaint (text : List ℕ) : Type 0 where
   pub wrong : List ℕ
   pub form : List ℕ
