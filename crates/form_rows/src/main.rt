@@ -1,5 +1,5 @@
-//! Says of each line of a table of which command it is a command line; else it prints the text that the line asks for, or
-//! what is wrong with it. Which rows are command lines was found by hand.
+//! Says of each line of a table of which command it is a command line; else it prints the text that the line asks for,
+//! or what is wrong with it. Which rows are command lines was found by hand.
 #![tactic(auto)]
 
 mod names;
