@@ -1,19 +1,14 @@
 //! How many bits of its secret can a program's output have given away?
 #![tactic(auto)]
 
-#[cfg(test)]
-mod form_tests;
-mod forms;
-
 use command_answers::flowcheck;
+use command_forms::{complaint, text_asked};
 use flow_base::{DiskFiles, Sink, StandardOut};
-use std::alloc::{AllocError, Global};
+use std::alloc::Global;
 use std::env;
 use std::io::ErrorKind;
 use std::process::ExitCode;
 use transfer_rules::*;
-
-const VERSION: &str = "flowcheck 0.1.0\n";
 
 /// The words after the program's name, or the status where they cannot be had: 8 for want of memory, else 9.
 fn words_of(rt: &HostRuntime, alloc: Global) -> Result<Vec<String>, u8> {
@@ -31,15 +26,6 @@ fn words_of(rt: &HostRuntime, alloc: Global) -> Result<Vec<String>, u8> {
     Ok(words)
 }
 
-/// The text that a lone word `--help` or `--version` asks for.
-fn text_asked(alloc: Global, words: &[String]) -> Result<Option<String>, AllocError> {
-    match words {
-        [word] if word.as_str() == "--help" => Ok(Some(forms::help(alloc)?)),
-        [word] if word.as_str() == "--version" => Ok(Some(VERSION.to_string(alloc)?)),
-        _ => Ok(None),
-    }
-}
-
 /// Writes a text, and the status of that: 0, or 7 where the write fails.
 fn written(rt: HostRuntime, text: &str) -> u8 {
     let mut out = StandardOut::new(rt);
@@ -54,7 +40,7 @@ fn complain(rt: HostRuntime) {
     let Ok(words) = words_of(&rt, rt.alloc()) else {
         return;
     };
-    if let Ok(text) = forms::complaint(rt.alloc(), words.as_slice()) {
+    if let Ok(text) = complaint(rt.alloc(), words.as_slice()) {
         let _ = rt.eprint(text);
     }
 }

@@ -1,16 +1,10 @@
-//! The forms of the commands as `clap` tells them: in the help, and beside what is wrong with words that are no command
-//! line. What is a command line is decided by the words' own splitter alone.
+//! The forms of the commands as `clap` has them. What is a command line is decided by `command_words` alone.
 
 use clap::builder::ValueParser;
 use clap::{Arg, ArgAction, Command};
 use std::alloc::{AllocError, Global};
 
 const ABOUT: &str = "How many bits of its secret can a program's output have given away?";
-
-/// What is wrong where `clap` finds nothing wrong.
-const NARROWER: &str =
-    "error: no word and no value is empty, only behind `=` does a value begin with `-`, and numbers \
-    have no leading zeros";
 
 /// A word of a command.
 fn word<'a>(alloc: Global, name: &'a str, help: &'a str) -> Arg<'a> {
@@ -168,7 +162,7 @@ fn trial<'a>(alloc: Global) -> Result<Command<'a>, AllocError> {
 }
 
 /// The form of each command.
-fn forms<'a>(alloc: Global) -> Result<Vec<Command<'a>>, AllocError> {
+pub fn forms<'a>(alloc: Global) -> Result<Vec<Command<'a>>, AllocError> {
     let mut forms = Vec::new(alloc);
     forms.push(check(alloc)?)?;
     for form in one_run_forms(alloc)? {
@@ -182,53 +176,9 @@ fn forms<'a>(alloc: Global) -> Result<Vec<Command<'a>>, AllocError> {
 }
 
 /// The form of a command line.
-fn command_line<'a>(alloc: Global) -> Result<Command<'a>, AllocError> {
+pub fn command_line<'a>(alloc: Global) -> Result<Command<'a>, AllocError> {
     bare(alloc, "flowcheck")
         .about(ABOUT)
         .subcommand_required(true)
         .subcommands(forms(alloc)?)
-}
-
-/// The text of the help: the commands, and then the form of each.
-pub fn help(alloc: Global) -> Result<String, AllocError> {
-    let mut text = command_line(alloc)?.render_help()?;
-    for mut form in forms(alloc)? {
-        text.push('\n')?;
-        let shown = form.render_help()?;
-        text.push_str(shown.as_str())?;
-    }
-    Ok(text)
-}
-
-/// The line of the form of the command that the words begin with, or of a command line where they begin with none.
-fn form_line(alloc: Global, words: &[String]) -> Result<String, AllocError> {
-    let name = match words {
-        [name, ..] => name.as_str(),
-        [] => "",
-    };
-    for mut form in forms(alloc)? {
-        if form.get_name() == name {
-            return form.render_usage();
-        }
-    }
-    command_line(alloc)?.render_usage()
-}
-
-/// What `clap` says is wrong with words that are no command line, up to its first blank line.
-fn wrong(alloc: Global, words: &[String]) -> Result<String, AllocError> {
-    let Err(error) = command_line(alloc)?.try_get_matches_from(words) else {
-        return NARROWER.to_string(alloc);
-    };
-    let text = format!(in alloc; "{error}")?;
-    match text.as_str().split_once("\n\n") {
-        Some((head, _)) => head.to_string(alloc),
-        None => text.as_str().trim_end().to_string(alloc),
-    }
-}
-
-/// What is wrong with words that are no command line, and the form of their command.
-pub fn complaint(alloc: Global, words: &[String]) -> Result<String, AllocError> {
-    let wrong = wrong(alloc, words)?;
-    let line = form_line(alloc, words)?;
-    format!(in alloc; "{wrong}\n\n{line}\n")
 }

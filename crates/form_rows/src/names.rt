@@ -1,0 +1,36 @@
+ghost use Rattle.std.specs.Prelude.{◌≡◌, None, Ok, map, string_bytes, IfOk, IfSome};
+ghost use Rattle.command_words.specs.CommandLines.{IsNoCommand};
+ghost use Rattle.command_words.specs.Words.{command_of};
+ghost use Rattle.form_rows.specs.Names.{IsNamed, name_of};
+
+use command_words::{CommandWords, command_words};
+use flow_base::NoMemory;
+use std::alloc::Global;
+
+/// The name of a command.
+fn name<'a>(command: &CommandWords<'_>) -> &'a str
+    ensures { result.now ≡ name_of (command_of command.now) }
+{
+    match command {
+        CommandWords::Check(_) => "check",
+        CommandWords::Measure { .. } => "measure",
+        CommandWords::Graph(_) => "graph",
+        CommandWords::Report { .. } => "report",
+        CommandWords::Assemble { .. } => "asm",
+        CommandWords::List { .. } => "list",
+        CommandWords::Verify { .. } => "verify",
+        CommandWords::Migrate { .. } => "migrate",
+        CommandWords::Trial { .. } => "trial",
+    }
+}
+
+/// The name of the command that words are; None exactly where they are no command line.
+pub fn command_name<'a>(alloc: Global, words: &[String]) -> Result<Option<&'a str>, NoMemory>
+    ensures named { IfOk result (λ found. IfSome found (λ name. IsNamed (map string_bytes words.now) name.now)) }
+    ensures none { result ≡ Ok None → IsNoCommand (map string_bytes words.now) }
+{
+    let Some(command) = command_words(alloc, words)? else {
+        return Ok(None);
+    };
+    Ok(Some(name(&command)))
+}
