@@ -103,7 +103,7 @@ program (elf.Headers count size loads) =
     more (codes "headers ") _ count (is refl) (more (codes " size ") _ size (is refl) (two (codes " loads ") loads (is refl)))
 program (elf.Dynamic index) = two (codes "dynamic ") index (is refl)
 program (elf.SegmentRange index) = two (codes "segment ") index (is refl)
-program (elf.Overlap first second) = more (codes "overlap ") _ first (is refl) (two (codes " ") second (is refl))
+program (elf.Overlap a b) = more (codes "overlap ") _ a (is refl) (two (codes " ") b (is refl))
 program (elf.EntryOutside entry) = joined (codes "entry ") _ (is refl) (word entry)
 program elf.Memory = is refl
 
