@@ -19,8 +19,8 @@ use Rattle.flow_certificate.specs.declared.faults.FormFault.TheVariants as forms
 use Rattle.flow_certificate.specs.VerdictTexts.{form_fault_text}
 use Rattle.enclosure_regions.specs.declared.break_kinds.Break.{Break}
 use Rattle.enclosure_regions.specs.declared.break_kinds.Break.TheVariants as breaks
-use Rattle.enclosure_regions.specs.declared.break_kinds.WrittenPlace.{WrittenPlace}
-use Rattle.enclosure_regions.specs.declared.break_kinds.WrittenPlace.TheVariants as places
+use Rattle.enclosure_regions.specs.declared.break_kinds.Place.{Place}
+use Rattle.enclosure_regions.specs.declared.break_kinds.Place.TheVariants as places
 use Rattle.rv32im_machine.specs.declared.stepping.Fault.{Fault}
 use Rattle.rv32im_machine.specs.declared.stepping.Fault.TheVariants as stops
 use Rattle.run_labels.specs.declared.faults.MeasureFault.{MeasureFault}
@@ -103,7 +103,7 @@ program (elf.Headers count size loads) =
     more (codes "headers ") _ count (is refl) (more (codes " size ") _ size (is refl) (two (codes " loads ") loads (is refl)))
 program (elf.Dynamic index) = two (codes "dynamic ") index (is refl)
 program (elf.SegmentRange index) = two (codes "segment ") index (is refl)
-program (elf.Overlap first second) = more (codes "overlap ") _ first (is refl) (two (codes " ") second (is refl))
+program (elf.Overlap a b) = more (codes "overlap ") _ a (is refl) (two (codes " ") b (is refl))
 program (elf.EntryOutside entry) = joined (codes "entry ") _ (is refl) (word entry)
 program elf.Memory = is refl
 
@@ -146,7 +146,7 @@ stop (stops.StoreOutside pc address) =
 stop (stops.Breakpoint pc) = joined (codes "breakpoint ") _ (is refl) (word pc)
 stop (stops.OutputLimit pc) = joined (codes "output-limit ") _ (is refl) (word pc)
 
-place : (place : WrittenPlace) → Clean (place_text place)
+place : (place : Place) → Clean (place_text place)
 place (places.Reg register) = two (codes "x") register (is refl)
 place (places.Byte address) = word address
 

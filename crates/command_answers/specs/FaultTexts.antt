@@ -28,7 +28,7 @@ program_fault_text (elf.Headers count size loads) =
     codes "headers " ++ (decimal count ++ (codes " size " ++ (decimal size ++ (codes " loads " ++ decimal loads))))
 program_fault_text (elf.Dynamic index) = codes "dynamic " ++ decimal index
 program_fault_text (elf.SegmentRange index) = codes "segment " ++ decimal index
-program_fault_text (elf.Overlap first second) = codes "overlap " ++ (decimal first ++ (codes " " ++ decimal second))
+program_fault_text (elf.Overlap a b) = codes "overlap " ++ (decimal a ++ (codes " " ++ decimal b))
 program_fault_text (elf.EntryOutside entry) = codes "entry " ++ hex_word entry
 program_fault_text elf.Memory = codes "memory"
 

@@ -49,7 +49,7 @@ impl fmt::Display for ProgramText<'_> {
             }
             ElfFault::Dynamic { index } => write!(f, "dynamic {index}"),
             ElfFault::SegmentRange { index } => write!(f, "segment {index}"),
-            ElfFault::Overlap { first, second } => write!(f, "overlap {first} {second}"),
+            ElfFault::Overlap { a, b } => write!(f, "overlap {a} {b}"),
             ElfFault::EntryOutside { entry } => {
                 let entry = Word(entry);
                 write!(f, "entry {entry}")

@@ -8,7 +8,7 @@ use Rattle.std.proofs.lemmas.Bool.{eqb-true, ltb-true, and_parts}
 use Rattle.std.proofs.lemmas.List.{get_or-set_other}
 use Rattle.enclosure_regions.specs.declared.break_kinds.Break.{Break}
 use Rattle.enclosure_regions.specs.declared.break_kinds.Break.TheVariants.{UndeclaredWrite}
-use Rattle.enclosure_regions.specs.declared.break_kinds.WrittenPlace.TheVariants.{Reg, Byte as WrittenByte}
+use Rattle.enclosure_regions.specs.declared.break_kinds.Place.TheVariants.{Reg, Byte as WrittenByte}
 use Rattle.enclosure_regions.specs.declared.region_parts.Region.{Region}
 use Rattle.enclosure_regions.specs.Breaks.{declares_register, declares_byte}
 use Rattle.rv32im_machine.specs.declared.language.Place.{Place}

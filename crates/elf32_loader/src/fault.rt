@@ -24,9 +24,9 @@ pub enum ElfFault {
     #[error("wrong-kind type {kind} machine {machine}")]
     WrongKind {
         /// The field e_type.
-        kind: u16,
+        kind: u32,
         /// The field e_machine.
-        machine: u16,
+        machine: u32,
     },
     /// The program has compressed instructions (EF_RISCV_RVC).
     #[error("compressed")]
@@ -36,17 +36,17 @@ pub enum ElfFault {
     #[error("headers {count} size {size} loads {loads}")]
     Headers {
         /// The field e_phnum.
-        count: u16,
+        count: u32,
         /// The field e_phentsize.
-        size: u16,
+        size: u32,
         /// The number of loads, as far as they are counted: 0.
-        loads: u16,
+        loads: u32,
     },
     /// The program wants a dynamic linker: the first header that is PT_DYNAMIC or PT_INTERP.
     #[error("dynamic {index}")]
     Dynamic {
         /// The number of the header.
-        index: u16,
+        index: u32,
     },
     /// A load has more bytes than memory, or bytes beyond the file, or memory that ends above the base plus 16,777,216
     /// or above 0xfffff000: the first such load. Or the base is above 0xfefff000: the first load of those with the
@@ -54,15 +54,15 @@ pub enum ElfFault {
     #[error("segment {index}")]
     SegmentRange {
         /// The number of the header.
-        index: u16,
+        index: u32,
     },
     /// Two loads share an address: the first of them, and the first after it that shares an address with it.
-    #[error("overlap {first} {second}")]
+    #[error("overlap {a} {b}")]
     Overlap {
         /// The number of one header.
-        first: u16,
+        a: u32,
         /// The number of the other header, which is higher.
-        second: u16,
+        b: u32,
     },
     /// The entry is no multiple of 4, or lies in no load.
     #[error("entry 0x{entry:08x}")]

@@ -62,7 +62,10 @@ fn check_kind(file: &[u8]) -> Result<(), ElfFault>
     let kind = LittleEndian::read_u16(&file[16..]);
     let machine = LittleEndian::read_u16(&file[18..]);
     if kind != ET_EXEC || machine != EM_RISCV {
-        return Err(ElfFault::WrongKind { kind, machine });
+        return Err(ElfFault::WrongKind {
+            kind: u32::from(kind),
+            machine: u32::from(machine),
+        });
     }
     Ok(())
 }
@@ -91,8 +94,8 @@ fn check_table(file: &[u8]) -> Result<(), ElfFault>
     let count = count_of(file);
     if size != 32 || count == 0 || count > 64 {
         return Err(ElfFault::Headers {
-            count,
-            size,
+            count: u32::from(count),
+            size: u32::from(size),
             loads: 0,
         });
     }

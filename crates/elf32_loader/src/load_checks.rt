@@ -24,7 +24,9 @@ fn check_dynamic(file: &[u8]) -> Result<(), ElfFault>
     ensures err { IfErr result (λ fault. IsDynamic file.now × AnswersDynamic file.now fault) }
 {
     match first_dynamic(file) {
-        Some(index) => Err(ElfFault::Dynamic { index }),
+        Some(index) => Err(ElfFault::Dynamic {
+            index: u32::from(index),
+        }),
         None => Ok(()),
     }
 }
@@ -39,8 +41,8 @@ fn check_lowest(file: &[u8]) -> Result<u16, ElfFault>
     match lowest_load(file) {
         Some(lowest) => Ok(lowest),
         None => Err(ElfFault::Headers {
-            count: count_of(file),
-            size: size_from(file),
+            count: u32::from(count_of(file)),
+            size: u32::from(size_from(file)),
             loads: 0,
         }),
     }
@@ -55,7 +57,9 @@ fn check_ranges(file: &[u8], base: u32) -> Result<(), ElfFault>
     ensures err { IfErr result (λ fault. HasRangeFault file.now × AnswersRange file.now fault) }
 {
     match first_out_of_range(file, base) {
-        Some(index) => Err(ElfFault::SegmentRange { index }),
+        Some(index) => Err(ElfFault::SegmentRange {
+            index: u32::from(index),
+        }),
         None => Ok(()),
     }
 }
@@ -68,7 +72,9 @@ fn check_base(file: &[u8], lowest: u16, base: u32) -> Result<(), ElfFault>
     ensures err { IfErr result (λ fault. HasHighBase file.now × AnswersBase file.now fault) }
 {
     if base > HIGHEST_BASE {
-        return Err(ElfFault::SegmentRange { index: lowest });
+        return Err(ElfFault::SegmentRange {
+            index: u32::from(lowest),
+        });
     }
     Ok(())
 }
@@ -80,7 +86,10 @@ fn check_overlaps(file: &[u8]) -> Result<(), ElfFault>
     ensures err { IfErr result (λ fault. HasOverlap file.now × AnswersOverlap file.now fault) }
 {
     match first_overlap(file) {
-        Some((first, second)) => Err(ElfFault::Overlap { first, second }),
+        Some((first, second)) => Err(ElfFault::Overlap {
+            a: u32::from(first),
+            b: u32::from(second),
+        }),
         None => Ok(()),
     }
 }

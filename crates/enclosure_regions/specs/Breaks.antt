@@ -7,7 +7,7 @@ use Rattle.enclosure_regions.specs.declared.region_parts.Region.{Region}
 use Rattle.enclosure_regions.specs.declared.break_kinds.Break.{Break}
 use Rattle.enclosure_regions.specs.declared.break_kinds.Break.TheVariants.{UndeclaredWrite, KeepBroken, CallInRegion}
 use Rattle.enclosure_regions.specs.declared.break_kinds.Break.TheVariants.{RangeOutside}
-use Rattle.enclosure_regions.specs.declared.break_kinds.WrittenPlace.TheVariants.{Reg, Byte}
+use Rattle.enclosure_regions.specs.declared.break_kinds.Place.TheVariants.{Reg, Byte}
 use Rattle.enclosure_regions.specs.Regions.{stands_in}
 use Rattle.enclosure_regions.specs.Turns.{start_of}
 

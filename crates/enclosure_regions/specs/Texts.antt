@@ -5,14 +5,14 @@ use Rattle.flow_base.specs.HexWords.{hex_word}
 use Rattle.enclosure_regions.specs.declared.break_kinds.Break.{Break}
 use Rattle.enclosure_regions.specs.declared.break_kinds.Break.TheVariants.{UndeclaredWrite, KeepBroken, CallInRegion}
 use Rattle.enclosure_regions.specs.declared.break_kinds.Break.TheVariants.{RangeOutside}
-use Rattle.enclosure_regions.specs.declared.break_kinds.WrittenPlace.{WrittenPlace}
-use Rattle.enclosure_regions.specs.declared.break_kinds.WrittenPlace.TheVariants.{Reg, Byte}
+use Rattle.enclosure_regions.specs.declared.break_kinds.Place.{Place}
+use Rattle.enclosure_regions.specs.declared.break_kinds.Place.TheVariants.{Reg, Byte}
 use Rattle.enclosure_regions.specs.declared.region_faults.RegionFault.{RegionFault}
 use Rattle.enclosure_regions.specs.declared.region_faults.RegionFault.TheVariants.{Json, Shape, SameAddress, EnterTwice}
 use Rattle.enclosure_regions.specs.declared.region_faults.RegionFault.TheVariants.{RegisterTwice, TooMany, Memory}
 
 -- a register, or the byte at an address
-abbrev pub place_text : WrittenPlace → List ℕ
+abbrev pub place_text : Place → List ℕ
 place_text (Reg register) = codes "x" ++ decimal register
 place_text (Byte address) = hex_word address
 

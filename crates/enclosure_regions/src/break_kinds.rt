@@ -3,7 +3,7 @@ use std::fmt;
 
 /// What an instruction writes.
 #[derive(Clone, Copy, Debug, PartialEq, Eq)]
-pub enum WrittenPlace {
+pub enum Place {
     /// A register, 1 to 31.
     Reg(u8),
     /// The byte at an address.
@@ -20,7 +20,7 @@ pub enum Break {
         /// The address of the instruction.
         pc: u32,
         /// The register, or the first such byte.
-        place: WrittenPlace,
+        place: Place,
     },
     /// At the leave a kept register has not its value at the entry.
     KeepBroken {
@@ -46,7 +46,7 @@ pub enum Break {
     },
 }
 
-impl fmt::Display for WrittenPlace {
+impl fmt::Display for Place {
     ghost use Rattle.std.specs.Prelude.{Some};
     ghost use Rattle.enclosure_regions.specs.Texts.{place_text};
 
@@ -54,8 +54,8 @@ impl fmt::Display for WrittenPlace {
 
     fn fmt<W: fmt::Write>(&self, f: &mut fmt::Formatter<W>) -> fmt::Result {
         match *self {
-            WrittenPlace::Reg(register) => write!(f, "x{register}"),
-            WrittenPlace::Byte(address) => {
+            Place::Reg(register) => write!(f, "x{register}"),
+            Place::Byte(address) => {
                 let address = Word(address);
                 write!(f, "{address}")
             }

@@ -25,7 +25,7 @@ mod turn_kinds;
 mod turning;
 mod words;
 
-pub use break_kinds::{Break, WrittenPlace};
+pub use break_kinds::{Break, Place};
 pub use copying::copy_regions;
 pub use file_laws::region_files_are_one;
 pub use monitors::Monitor;

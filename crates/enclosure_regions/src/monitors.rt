@@ -54,13 +54,6 @@ impl Monitor {
         })
     }
 
-    /// The regions that it watches.
-    pub fn regions(&self) -> &Regions
-        ensures { result.now.items ≡ self.now.regions }
-    {
-        &self.regions
-    }
-
     /// The kind of the turn at an address: the leave where a region is entered and this is its leave address, the entry
     /// where none is entered and this is the enter address of one, and else a step.
     pub fn turn_at(&self, pc: u32) -> TurnKind

@@ -5,7 +5,7 @@ ghost use Rattle.enclosure_regions.specs.Breaks.{register_changed, range_break};
 ghost use Rattle.enclosure_regions.specs.Breaks.{register_break};
 ghost use Rattle.enclosure_regions.specs.Regions.{is_region, is_register};
 
-use crate::break_kinds::{Break, WrittenPlace};
+use crate::break_kinds::{Break, Place};
 use crate::ranges_of_regions::{first_outside, has_byte};
 use crate::region_parts::Region;
 use flow_base::Registers;
@@ -30,7 +30,7 @@ pub fn written_register(region: &Region, pc: u32, register: u8) -> Option<Break>
         Some(Break::UndeclaredWrite {
             region: region.id,
             pc,
-            place: WrittenPlace::Reg(register),
+            place: Place::Reg(register),
         })
     }
 }
@@ -47,7 +47,7 @@ pub fn written_byte(region: &Region, registers: &Registers, pc: u32, address: u3
         Some(Break::UndeclaredWrite {
             region: region.id,
             pc,
-            place: WrittenPlace::Byte(address),
+            place: Place::Byte(address),
         })
     }
 }

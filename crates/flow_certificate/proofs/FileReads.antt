@@ -1,5 +1,5 @@
 -- A file that is read to its end is the text of what is drafted, and one that is not has its first failure there.
-use Rattle.std.proofs.Common.{◌≡◌, ℕ, zero, suc, ◌+◌, ◌-◌, ◌<◌, ◌==◌, ◌&&◌, true, false, List, [], ◌∷◌}
+use Rattle.std.proofs.Common.{◌≡◌, ℕ, zero, suc, ◌+◌, ◌-◌, ◌≤◌, ◌<◌, ◌==◌, ◌&&◌, true, false, List, [], ◌∷◌}
 use Rattle.std.proofs.Common.{◌++◌, ◌^◌, map}
 use Rattle.std.proofs.lemmas.List.{length-map}
 use Rattle.std.proofs.Common.{length, length-append, take, drop, Option, Some, None, refl, sym, ap, ◌∙◌}
@@ -39,6 +39,16 @@ all-take (line ∷ lines) (suc n) all =
     let parts = and_parts (is_line line) (list_all is_line lines) all in
     and_from (is_line line) (list_all is_line (take n lines)) parts.0 (all-take lines n parts.1)
 
+-- the text of a line has a byte, before its line feed
+line-some : (line : Line) → 1 ≤ length (line_text line)
+unfolding line_text
+line-some Version = omega arith
+line-some (Value value) = omega arith
+line-some (Point line) = omega arith
+line-some (Relay line) = omega arith
+line-some (Link line) = omega arith
+line-some End = omega arith
+
 -- ---- the loop
 
 pub reading-first : (file : List ℕ) (draft : Draft) → sketch_of draft ≡ blank → IsDraft draft →
@@ -60,6 +70,7 @@ reading-more file rest more draft next number line reading found taken is =
     let one = line-found rest line more found in
     let counted = reading.counted in
     let shorter = reading.shorter in
+    let some = line-some line in
     let size : length rest ≡ length (line_text line) + (length more + 1) = ap length one.text
     ∙ (length-append (line_text line) (10 ∷ more) ∙ omega arith) in
     record {
@@ -74,7 +85,7 @@ reading-more file rest more draft next number line reading found taken is =
           ∙ ap (λ (l : List ℕ). line_text line ++ (10 ∷ l)) text-none)))));
       counted = let long : length (reading.lines ++ (line ∷ [])) ≡ length reading.lines + 1 = length-append
           reading.lines (line ∷ []) in omega (arith, counted, long);
-      shorter = omega (arith, shorter, size);
+      shorter = omega (arith, shorter, some, size);
       is_draft = is;
     }
 
@@ -260,12 +271,13 @@ line-stands rest more line found none =
     let empty : length rest ≡ 0 = ap length none in
     omega (arith, size, empty)
 
-pub line-shorter : (rest more : List ℕ) (line : Line) → line_in rest ≡ Some (line, more) → length more < length rest
+pub line-shorter : (rest more : List ℕ) (line : Line) → line_in rest ≡ Some (line, more) → length more + 2 ≤ length rest
 line-shorter rest more line found =
     let one = line-found rest line more found in
     let size : length rest ≡ length (line_text line) + (length more + 1) = ap length one.text
     ∙ (length-append (line_text line) (10 ∷ more) ∙ omega arith) in
-    omega (arith, size)
+    let some = line-some line in
+    omega (arith, some, size)
 
 pub none-left : (rest : List ℕ) → (length rest == 0) ≡ true → rest ≡ []
 none-left [] none = refl
@@ -280,7 +292,7 @@ none-there stage rest going whole none =
     absurd cc
 
 pub points-few : (file rest : List ℕ) (draft : Draft) (number : ℕ) → IsReading file rest draft number →
-    is_whole draft.stage ≡ true → length file + 1 < 2 ^ 32 → length draft.points < 2 ^ 32
+    is_whole draft.stage ≡ true → length file < 2 ^ 32 → length draft.points < 2 ^ 32
 points-few file rest draft number reading end small =
     let made = steps-whole reading.lines (sketch_of draft) reading.known reading.drafted in
     let lines : lines_of (sketch_of draft).picture ≡ reading.lines =

@@ -1,5 +1,5 @@
 -- How far a file is read.
-use Rattle.std.specs.Prelude.{◌≡◌, ℕ, ◌+◌, ◌≤◌, Bool, true, false, List, ◌++◌, length, Some}
+use Rattle.std.specs.Prelude.{◌≡◌, ℕ, ◌+◌, ◌*◌, ◌≤◌, Bool, true, false, List, ◌++◌, length, Some}
 use Rattle.std.specs.List.{list_all}
 use Rattle.flow_certificate.specs.declared.drafts.Draft.{Draft}
 use Rattle.flow_certificate.specs.declared.drafts.Stage.{Stage}
@@ -9,14 +9,14 @@ use Rattle.flow_certificate.specs.Certificates.{CertText, lines_text}
 use Rattle.flow_certificate.specs.Drafts.{IsDraft, blank, sketch_of, steps}
 use Rattle.flow_certificate.specs.Lines.{is_line}
 
--- the file begins with lines from which the draft is made, and the next line has this number
+-- the file begins with lines from which the draft is made, each of two bytes or more, and the next line has this number
 pub record IsReading (file rest : List ℕ) (draft : Draft) (number : ℕ) : Type 0 where
   pub lines : List Line
   pub known : list_all is_line lines ≡ true
   pub drafted : steps blank lines ≡ Some (sketch_of draft)
   pub text : file ≡ lines_text lines ++ rest
   pub counted : number ≡ length lines + 1
-  pub shorter : number + length rest ≤ length file + 1
+  pub shorter : 2 * number + length rest ≤ length file + 2
   pub is_draft : IsDraft draft
 
 abbrev pub is_whole : Stage → Bool

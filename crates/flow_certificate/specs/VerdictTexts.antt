@@ -5,8 +5,8 @@ use Rattle.flow_graph.specs.declared.ends.End.{End}
 use Rattle.flow_graph.specs.declared.ends.End.TheVariants.{Source, Point, Relay, Sink}
 use Rattle.flow_certificate.specs.declared.faults.FormFault.{FormFault}
 use Rattle.flow_certificate.specs.declared.faults.FormFault.TheVariants as forms
-use Rattle.flow_certificate.specs.declared.verdicts.NetworkNode.{NetworkNode}
-use Rattle.flow_certificate.specs.declared.verdicts.NetworkNode.TheVariants as nodes
+use Rattle.flow_certificate.specs.declared.verdicts.Member.{Member}
+use Rattle.flow_certificate.specs.declared.verdicts.Member.TheVariants as nodes
 use Rattle.flow_certificate.specs.declared.verdicts.CertFault.{CertFault}
 use Rattle.flow_certificate.specs.declared.verdicts.CertFault.TheVariants.{Over, Unbalanced, OpenAcross, Values}
 use Rattle.flow_certificate.specs.declared.verdicts.CertVerdict.{CertVerdict}
@@ -19,9 +19,9 @@ end_text (Point index) = codes "p" ++ decimal index
 end_text (Relay region) = codes "r" ++ decimal region
 end_text Sink = codes "sink"
 
-abbrev pub node_text : NetworkNode → List ℕ
-node_text (nodes.FirstHalf point) = codes "p" ++ (decimal point ++ codes ".in")
-node_text (nodes.SecondHalf point) = codes "p" ++ (decimal point ++ codes ".out")
+abbrev pub node_text : Member → List ℕ
+node_text (nodes.In point) = codes "p" ++ (decimal point ++ codes ".in")
+node_text (nodes.Out point) = codes "p" ++ (decimal point ++ codes ".out")
 node_text (nodes.Relay region) = codes "r" ++ decimal region
 
 -- what is wrong with a certificate

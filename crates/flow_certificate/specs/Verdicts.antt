@@ -7,8 +7,8 @@ use Rattle.flow_graph.specs.declared.graphs.Graph.{Graph}
 use Rattle.max_flow.specs.declared.answers.Solved.{Solved}
 use Rattle.max_flow.specs.Flows.{IsFlowOf, IsSideOf, flow_value, member, network_of, side_capacity}
 use Rattle.max_flow.specs.Networks.{at_node, leaves}
-use Rattle.flow_certificate.specs.declared.verdicts.NetworkNode.{NetworkNode}
-use Rattle.flow_certificate.specs.declared.verdicts.NetworkNode.TheVariants.{FirstHalf, SecondHalf, Relay}
+use Rattle.flow_certificate.specs.declared.verdicts.Member.{Member}
+use Rattle.flow_certificate.specs.declared.verdicts.Member.TheVariants.{In, Out, Relay}
 use Rattle.flow_certificate.specs.declared.verdicts.CertFault.{CertFault}
 use Rattle.flow_certificate.specs.declared.verdicts.CertFault.TheVariants.{Over, Unbalanced, OpenAcross, Values}
 use Rattle.flow_certificate.specs.declared.verdicts.CertVerdict.{CertVerdict}
@@ -50,15 +50,15 @@ is_across graph solved link =
     leaves (network_of graph) (member graph solved.side.points solved.side.relays) (length graph.points + link)
 
 -- the number of a node of the network, where there are so many points
-abbrev pub number_of : ℕ → NetworkNode → ℕ
-number_of count (FirstHalf point) = 2 + 2 * point
-number_of count (SecondHalf point) = 3 + 2 * point
+abbrev pub number_of : ℕ → Member → ℕ
+number_of count (In point) = 2 + 2 * point
+number_of count (Out point) = 3 + 2 * point
 number_of count (Relay region) = 2 + 2 * count + region
 
 -- the node stands in a graph of so many points
-abbrev pub is_node_of : ℕ → NetworkNode → Bool
-is_node_of count (FirstHalf point) = nat_lt point count
-is_node_of count (SecondHalf point) = nat_lt point count
+abbrev pub is_node_of : ℕ → Member → Bool
+is_node_of count (In point) = nat_lt point count
+is_node_of count (Out point) = nat_lt point count
 is_node_of count (Relay region) = nat_lt region 65536
 
 -- ---- verdicts
@@ -92,7 +92,7 @@ abbrev pub IsOver : Graph → Solved → ℕ → Type 0
 IsOver graph solved point = IsFirst (is_over graph solved) 0 (length graph.points) point
 
 -- none is, and this node is the first that is not balanced
-pub record IsUnbalanced (graph : Graph) (solved : Solved) (node : NetworkNode) : Type 0 where
+pub record IsUnbalanced (graph : Graph) (solved : Solved) (node : Member) : Type 0 where
   pub none_over : HasNoneOver graph solved
   pub known : is_node_of (length graph.points) node ≡ true
   pub first : IsFirst (is_unbalanced graph solved) 2 ((network_of graph).nodes) (number_of (length graph.points) node)

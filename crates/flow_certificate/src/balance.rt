@@ -6,7 +6,7 @@ ghost use Rattle.flow_certificate.specs.Verdicts.{number_of};
 
 use crate::certificates::Certificate;
 use crate::sums::{sum_inflows, sum_outflows};
-use crate::verdicts::NetworkNode;
+use crate::verdicts::Member;
 
 /// For how many nodes one pass over the links counts.
 const BLOCK: usize = 4096;
@@ -53,7 +53,7 @@ fn unbalanced_from(certificate: &Certificate, base: usize, width: usize) -> Opti
 }
 
 /// The node with a number, where there are `count` points.
-fn node_at(count: usize, number: usize) -> NetworkNode
+fn node_at(count: usize, number: usize) -> Member
     requires count { count < 4294967296 }
     requires from_on { 2 ≤ number }
     requires below { number < 2 + 2 * count + 65536 }
@@ -61,19 +61,19 @@ fn node_at(count: usize, number: usize) -> NetworkNode
     ensures known { is_node_of count result ≡ true }
 {
     if number >= 2 + 2 * count {
-        return NetworkNode::Relay((number - 2 - 2 * count) as u16);
+        return Member::Relay((number - 2 - 2 * count) as u16);
     }
     let point = ((number - 2) / 2) as u32;
     if number % 2 == 0 {
-        NetworkNode::FirstHalf(point)
+        Member::In(point)
     } else {
-        NetworkNode::SecondHalf(point)
+        Member::Out(point)
     }
 }
 
 /// The first half or relay at which as much does not flow in as out, if any. It makes one pass over the links for each
 /// block of nodes.
-pub fn first_unbalanced(certificate: &Certificate) -> Option<NetworkNode>
+pub fn first_unbalanced(certificate: &Certificate) -> Option<Member>
     ensures some { IfSome result (λ node. IsFirst (is_unbalanced certificate.now.graph certificate.now.solved) 2
         ((network_of certificate.now.graph).nodes) (number_of (length certificate.now.graph.points) node)) }
     ensures known { IfSome result (λ node. is_node_of (length certificate.now.graph.points) node ≡ true) }

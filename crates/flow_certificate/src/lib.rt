@@ -28,6 +28,6 @@ pub use certificates::Certificate;
 pub use faults::FormFault;
 pub use laws::texts_are_one;
 pub use reading::read_certificate;
-pub use verdicts::{CertFault, CertVerdict, NetworkNode};
+pub use verdicts::{CertFault, CertVerdict, Member};
 pub use verifying::verify;
 pub use writing::write_certificate;

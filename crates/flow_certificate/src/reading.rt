@@ -1,4 +1,4 @@
-ghost use Rattle.std.specs.Prelude.{◌≡◌, ◌==◌, ◌&&◌, ◌+◌, ◌^◌, ◌<◌, IfErr, IfOk, length};
+ghost use Rattle.std.specs.Prelude.{◌≡◌, ◌==◌, ◌&&◌, ◌^◌, ◌<◌, IfErr, IfOk, length};
 ghost use Rattle.flow_certificate.specs.Certificates.{CertText, IsFormFault};
 ghost use Rattle.flow_certificate.specs.Pictures.{picture_of};
 ghost use Rattle.flow_certificate.specs.Reading.{IsWholeDraft, is_whole as is_whole_stage};
@@ -28,7 +28,7 @@ fn is_done(stage: Stage, rest: &[u8]) -> bool
 
 /// The draft of a file, or its first line that fails.
 fn draft_of(alloc: Global, file: &[u8]) -> Result<Draft, FormFault>
-    requires { length file.now + 1 < 2 ^ 32 }
+    requires { length file.now < 2 ^ 32 }
     ensures ok { IfOk result (IsWholeDraft file.now) }
     ensures few { IfOk result (λ draft. length draft.points < 2 ^ 32) }
     ensures err { IfErr result (IsFormFault file.now) }
@@ -61,7 +61,7 @@ fn draft_of(alloc: Global, file: &[u8]) -> Result<Draft, FormFault>
 /// Every other file answers the first line that fails. Want of memory answers [`FormFault::Memory`]. It takes time in
 /// the length of the file.
 pub fn read_certificate(alloc: Global, file: &[u8]) -> Result<Certificate, FormFault>
-    requires { length file.now + 1 < 2 ^ 32 }
+    requires { length file.now < 2 ^ 32 }
     ensures text { IfOk result (λ c. CertText file.now (picture_of c.graph c.solved)) }
     ensures fault { IfErr result (IsFormFault file.now) }
 {

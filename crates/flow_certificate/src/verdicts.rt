@@ -5,11 +5,11 @@ use std::fmt;
 /// A node of a graph at which what flows in must flow out: a half of a point, by the point's index, or the relay of a
 /// region. Nodes are ordered as p0.in, p0.out, p1.in and so on, and then the relays by their regions.
 #[derive(Clone, Copy, Debug, PartialEq, Eq)]
-pub enum NetworkNode {
+pub enum Member {
     /// The first half of a point, which links enter.
-    FirstHalf(u32),
+    In(u32),
     /// The second half of a point, which links leave.
-    SecondHalf(u32),
+    Out(u32),
     /// The relay of a region.
     Relay(u16),
 }
@@ -25,7 +25,7 @@ pub enum CertFault {
     /// What flows into a half or a relay differs from what flows out of it.
     Unbalanced {
         /// The first such node.
-        node: NetworkNode,
+        node: Member,
     },
     /// An open link leaves the source side.
     OpenAcross {
@@ -53,7 +53,7 @@ pub enum CertVerdict {
     Rejected(CertFault),
 }
 
-impl fmt::Display for NetworkNode {
+impl fmt::Display for Member {
     ghost use Rattle.std.specs.Prelude.{Some};
     ghost use Rattle.flow_certificate.specs.VerdictTexts.{node_text};
 
@@ -61,9 +61,9 @@ impl fmt::Display for NetworkNode {
 
     fn fmt<W: fmt::Write>(&self, f: &mut fmt::Formatter<W>) -> fmt::Result {
         match *self {
-            NetworkNode::FirstHalf(point) => write!(f, "p{point}.in"),
-            NetworkNode::SecondHalf(point) => write!(f, "p{point}.out"),
-            NetworkNode::Relay(region) => write!(f, "r{region}"),
+            Member::In(point) => write!(f, "p{point}.in"),
+            Member::Out(point) => write!(f, "p{point}.out"),
+            Member::Relay(region) => write!(f, "r{region}"),
         }
     }
 }

@@ -10,7 +10,7 @@ mod slot_texts;
 mod verdict_lines;
 mod word_texts;
 
-pub use fault_texts::{RunText, StopText, fault_text};
+pub use fault_texts::{RunText, fault_text};
 pub use json_reports::report_json;
 pub use reports::report_text;
 pub use verdict_lines::verdict_line;

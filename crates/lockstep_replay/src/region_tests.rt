@@ -1,6 +1,6 @@
 use crate::tests::{ECHO, Expected, NO_BITS, READ, Row, accepts, judged_as_said, mark, rejects};
 use crate::{ReplayStop, Why};
-use enclosure_regions::{Break, WrittenPlace};
+use enclosure_regions::{Break, Place};
 use rv32im_machine::Fault;
 use std::test::Fail;
 
@@ -183,7 +183,7 @@ fn undeclared(pc: u32, register: u8) -> Break {
     Break::UndeclaredWrite {
         region: 1,
         pc,
-        place: WrittenPlace::Reg(register),
+        place: Place::Reg(register),
     }
 }
 
@@ -445,7 +445,7 @@ fn ranges_and_calls_break_regions(rt: HostRuntime) -> Result<(), Fail> {
     let written = Why::RegionBreak(Break::UndeclaredWrite {
         region: 1,
         pc: 0x1001c,
-        place: WrittenPlace::Byte(0x11001),
+        place: Place::Byte(0x11001),
     });
     let calling = r#"{"id":1,"enter":"0x10014","leave":"0x10020","outs":["a0","a7"]}"#;
     let rows = [

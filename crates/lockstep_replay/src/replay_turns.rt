@@ -74,7 +74,9 @@ pub(crate) fn replay_reason(real: &Machine, needed: u32, replay: &Replay) -> Opt
     match replay.answer() {
         ReplayTurn::Ran => compared(real, needed, replay, Stepped::Ran),
         ReplayTurn::Exited(status) => compared(real, needed, replay, Stepped::Exited(status)),
-        ReplayTurn::Wants(missing) => Some(Why::ReplayFault(ReplayStop::Short { missing })),
+        ReplayTurn::Wants(missing) => Some(Why::ReplayFault(ReplayStop::Short {
+            missing: u32::from(missing),
+        })),
         ReplayTurn::Stopped(fault) => Some(Why::ReplayFault(ReplayStop::Guest(fault))),
         ReplayTurn::RangeOutside { region, range } => {
             Some(Why::ReplayFault(ReplayStop::RangeOutside { region, range }))

@@ -13,7 +13,7 @@ pub enum ReplayStop {
     /// from 0.
     RangeOutside { region: u16, range: u32 },
     /// A mask needs so many bits more than are left.
-    Short { missing: u8 },
+    Short { missing: u32 },
 }
 
 /// Why a secret is rejected: the first condition that fails, by turn, and within a turn in this order; but the last one

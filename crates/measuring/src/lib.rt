@@ -26,3 +26,4 @@ pub use measured::Measured;
 pub use point_visits::{PointVisits, VisitRun};
 #[doc(hidden)]
 pub use recordings::Recording;
+pub use run_labels::MeasureFault;

@@ -7,7 +7,6 @@ mod clearing;
 mod entering;
 mod giving;
 mod guards;
-mod guests;
 mod kinds;
 mod laws;
 mod leaving;
@@ -17,7 +16,6 @@ mod real_turns;
 mod skipping;
 
 pub use entering::enter_by;
-pub use guests::{guest_turn_by, kind_turn_by};
 pub use kinds::{GuestTurn, guest_turn};
 pub use laws::monitors_tell_the_next_turn;
 pub use leaving::leave_by;

@@ -20,7 +20,7 @@ pub enum LineKind {
 
 impl LineKind {
     /// The number of the kind, from 1 to 4.
-    pub fn number(self) -> u8
+    fn number(self) -> u8
         ensures { result ≡ number_of self }
     {
         match self {

@@ -151,7 +151,7 @@ impl Machine {
     }
 
     /// The point of a slot at the program counter, in the entered region (0 outside regions).
-    pub fn point(&self, slot: Slot) -> Point
+    pub(crate) fn point(&self, slot: Slot) -> Point
         requires { IsTrue (is_slot slot) }
         ensures { result ≡ point self.now.control slot }
     {
@@ -199,7 +199,7 @@ impl Machine {
     }
 
     /// Whether each of `count` bytes from the address on is one of guest memory.
-    pub fn is_inside(&self, address: u32, count: u32) -> bool
+    pub(crate) fn is_inside(&self, address: u32, count: u32) -> bool
         ensures inside { result ≡ is_inside self.now.setting.base address count }
         ensures below { IsTrue result → address + count ≤ 2 ^ 32 }
     {
@@ -363,14 +363,6 @@ impl Machine {
         ensures { self.new ≡ with_control (break_moved value self.old.control) self.old }
     {
         self.current_break = value;
-    }
-
-    /// How many more bytes the output may have.
-    pub fn output_left(&self) -> u32
-        ensures left { result ≡ self.now.setting.output_limit - length self.now.control.output }
-        ensures within { length self.now.control.output ≤ self.now.setting.output_limit }
-    {
-        self.output_limit - self.output.len() as u32
     }
 
     /// How many bytes were written so far.

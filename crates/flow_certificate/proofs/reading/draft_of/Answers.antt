@@ -1,4 +1,4 @@
-use Rattle.std.proofs.Common.{◌<◌, ◌==◌, length, sym, ◌∙◌}
+use Rattle.std.proofs.Common.{◌+◌, ◌≤◌, ◌==◌, length, sym, ◌∙◌}
 use Rattle.std.proofs.Common.{arith}
 use Rattle.std.proofs.lemmas.Bool.{and_parts}
 use Rattle.flow_certificate.specs.Reading.{is_whole}
@@ -21,7 +21,7 @@ returns-then-not-branch-clause-err c =
 pub overflow_add-number : goal.overflow_add-number
 overflow_add-number c =
     let found = sym (rw c.in-Some.is at c.in_ok-line.ensures) in
-    let less : length c.in-Some.more.now < length c.loop-draft.rest.now = line-shorter c.loop-draft.rest.now
+    let less : length c.in-Some.more.now + 2 ≤ length c.loop-draft.rest.now = line-shorter c.loop-draft.rest.now
     c.in-Some.more.now c.in-Some.line found in
     let short = c.loop-draft.invariant.shorter in
     omega (arith, less, short, c.requires)
@@ -29,7 +29,9 @@ overflow_add-number c =
 pub loop-draft-smaller : goal.loop-draft-smaller
 loop-draft-smaller c =
     let found = sym (rw c.in-Some.is at c.in_ok-line.ensures) in
-    line-shorter c.loop-draft.rest.now c.in-Some.more.now c.in-Some.line found
+    let less : length c.in-Some.more.now + 2 ≤ length c.loop-draft.rest.now = line-shorter c.loop-draft.rest.now
+    c.in-Some.more.now c.in-Some.line found in
+    omega (arith, less)
 
 pub loop-draft-preserved : goal.loop-draft-preserved
 loop-draft-preserved c =
