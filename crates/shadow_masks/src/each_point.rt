@@ -42,7 +42,6 @@ impl EachPoint {
     }
 
     /// The point of a byte.
-    #[inline(always)]
     pub fn at(&self, place: usize) -> Point
         requires { place < page_size }
         ensures { result ≡ listed_point self.now place }

@@ -50,7 +50,6 @@ impl FewPoints {
     }
 
     /// The point of a byte.
-    #[inline(always)]
     pub fn at(&self, place: usize) -> Point
         requires { place < page_size }
         ensures { result ≡ numbered_point self.now place }

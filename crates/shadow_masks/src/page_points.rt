@@ -25,7 +25,6 @@ impl PagePoints {
     }
 
     /// The point of a byte.
-    #[inline(always)]
     pub fn at(&self, place: usize) -> Point
         requires { place < page_size }
         ensures { result ≡ point_of self.now place }
@@ -38,7 +37,6 @@ impl PagePoints {
 
     /// Sets the point of a byte; where memory is short all stays as it was. A place of the program gives a byte much the
     /// same point again and again, and one that it has is not written.
-    #[inline(always)]
     pub fn set(&mut self, alloc: Global, place: usize, point: Point) -> Result<(), NoMemory>
         requires { place < page_size }
         ensures ok { OnOk result (SetsPoint place point (point_of self.old) (point_of self.new)) }

@@ -65,7 +65,6 @@ pub fn set_all_in(
 }
 
 /// Sets the label of a byte of a page, which is made where need be; where memory is short all stays as it was.
-#[inline(always)]
 pub fn set_in(
     page: &mut Option<Page>,
     alloc: Global,

@@ -45,7 +45,6 @@ impl Page {
     }
 
     /// The label of a byte.
-    #[inline(always)]
     pub fn label(&self, place: usize) -> Label
         requires { place < page_size }
         ensures label { result ≡ page_label self.now place }
@@ -108,7 +107,6 @@ impl Page {
     }
 
     /// Sets the label of a byte; where memory is short all stays as it was.
-    #[inline(always)]
     pub fn set(&mut self, alloc: Global, place: usize, label: Label) -> Result<(), NoMemory>
         requires place { place < page_size }
         requires label { IsByteLabel label }

@@ -88,7 +88,6 @@ impl Shadow {
     }
 
     /// The label of a register, 0 to 31.
-    #[inline(always)]
     pub fn reg(&self, register: u8) -> Label
         requires { register < 32 }
         ensures label { result ≡ register_label self.now register }
@@ -99,7 +98,6 @@ impl Shadow {
     }
 
     /// The label of the byte at an address of memory.
-    #[inline(always)]
     pub fn byte(&self, address: u32) -> Label
         requires { IsTrue (is_inside self.now.base address 1) }
         ensures label { result ≡ byte_label self.now address }
@@ -160,7 +158,6 @@ impl Shadow {
     }
 
     /// Sets the label of a register, 0 to 31; that of register 0 stays clean.
-    #[inline(always)]
     pub fn set_reg(&mut self, register: u8, label: Label)
         requires register { register < 32 }
         requires label { IsLabel label }
@@ -172,7 +169,6 @@ impl Shadow {
     }
 
     /// Sets the label of the byte at an address of memory; where memory of the host is short all stays as it was.
-    #[inline(always)]
     pub fn set_byte(&mut self, address: u32, label: Label) -> Result<(), NoMemory>
         requires inside { IsTrue (is_inside self.old.base address 1) }
         requires label { IsByteLabel label }

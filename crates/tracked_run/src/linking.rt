@@ -1,9 +1,10 @@
-ghost use Rattle.std.specs.Prelude.{◌+◌, ◌^◌, ◌<◌, Some, OnOk, IsTrue};
+ghost use Rattle.std.specs.Prelude.{◌+◌, ◌^◌, ◌<◌, ◌∷◌, [], Some, OnOk, IsTrue};
 ghost use Rattle.guest_calls.specs.Calls.{is_inside};
 ghost use Rattle.rv32im_machine.specs.Playing.{IsSource, AreSources};
 ghost use Rattle.run_labels.specs.Flowing.{link_from, source_events, sources_events, aim_events, flow_events};
 ghost use Rattle.run_labels.specs.Flowing.{byte_events};
 ghost use Rattle.tracked_run.specs.Labels.{labels_of};
+ghost use Rattle.flow_graph.specs.declared.events.Event.TheVariants.{FromSecret, Implicit};
 ghost use Rattle.tracked_run.specs.Linking.{Appends, masked_events};
 
 use crate::held::Held;
@@ -28,6 +29,28 @@ fn link<E: Events>(events: &mut E, label: Label, point: Point) -> Result<(), NoM
     })
 }
 
+/// A byte of the secret flows to a point.
+/// `NoMemory` where there is not enough.
+#[inline(never)]
+fn link_secret<E: Events>(events: &mut E, point: Point) -> Result<(), NoMemory>
+    ensures { OnOk result (Appends (E.stands_for events.old) (E.stands_for events.new) (FromSecret point ∷ [])) }
+{
+    events.add(Event::FromSecret { point })
+}
+
+/// The bits of a decision flow to all that its region gives out.
+/// `NoMemory` where there is not enough.
+#[inline(never)]
+fn link_decision<E: Events>(events: &mut E, point: Point) -> Result<(), NoMemory>
+    ensures { OnOk result (Appends (E.stands_for events.old) (E.stands_for events.new)
+        (Implicit point point.region ∷ [])) }
+{
+    events.add(Event::Implicit {
+        point,
+        region: point.region,
+    })
+}
+
 /// Bits flow to a point from one source.
 /// `NoMemory` where there is not enough.
 #[inline(always)]
@@ -45,13 +68,13 @@ fn link_source<E: Events>(
     match source {
         Source::At(place) => link(events, label_at(shadow, held, place), point),
         Source::Constant(_) => Ok(()),
-        Source::Secret(_) => events.add(Event::FromSecret { point }),
+        Source::Secret(_) => link_secret(events, point),
     }
 }
 
 /// Bits flow to a point from a byte.
 /// `NoMemory` where there is not enough.
-#[inline(always)]
+#[inline(never)]
 fn link_byte<E: Events>(
     events: &mut E,
     shadow: &Shadow,
@@ -158,7 +181,7 @@ fn link_aim<E: Events>(events: &mut E, point: Point, aim: Aim) -> Result<(), NoM
     let region = point.region;
     match aim {
         Aim::Put(_) => Ok(()),
-        Aim::Decide => events.add(Event::Implicit { point, region }),
+        Aim::Decide => link_decision(events, point),
         Aim::Give(_) => events.add(Event::Out { region, point }),
     }
 }

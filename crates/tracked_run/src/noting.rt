@@ -14,7 +14,7 @@ use crate::rule_answers::answer_of;
 use crate::source_masks::source_masks;
 use flow_base::NoMemory;
 use flow_graph::{Event, Events};
-use rv32im_machine::{Aim, Passing};
+use rv32im_machine::Passing;
 use shadow_masks::{Label, Shadow};
 use transfer_rules::RuleBook;
 
@@ -54,69 +54,27 @@ fn note_clean<E: Events>(
     put_aimed(shadow, held, passing.aim, Label::clean())
 }
 
-/// The events of a passing of this mask are added, and what its value goes to gets the label.
+/// The events of a passing of this mask are added, and what its value goes to gets the label. It is a call of its own, so
+/// that what is put in at each place of a turn stays small.
 /// `NoMemory` where there is not enough.
-#[inline(always)]
-fn note_here<E: Events>(
-    events: &mut E,
-    shadow: &mut Shadow,
-    held: &mut Held,
-    passing: Passing,
-    mask: u32,
-) -> Result<(), NoMemory>
-    requires aim { IsAim (Some shadow.old.base) passing.aim }
-    requires sources { AreSources (Some shadow.old.base) passing.sources }
-    ensures base { shadow.new.base ≡ shadow.old.base }
-    ensures labels { OnOk result ((answer : ℕ) → mask ≡ mask_of (labels_of shadow.old held.old) answer passing →
-        labels_of shadow.new held.new ≡ labels_after (labels_of shadow.old held.old) answer passing) }
-    ensures events { OnOk result (Appends (E.stands_for events.old) (E.stands_for events.new)
-        (masked_events (labels_of shadow.old held.old) mask passing)) }
-{
-    add_passing(events, shadow, *held, passing, mask)?;
-    put_aimed(shadow, held, passing.aim, labelled(mask, passing.point))
-}
-
-/// The same, by a call of its own.
 #[inline(never)]
-fn note_apart<E: Events>(
-    events: &mut E,
-    shadow: &mut Shadow,
-    held: &mut Held,
-    passing: Passing,
-    mask: u32,
-) -> Result<(), NoMemory>
-    requires aim { IsAim (Some shadow.old.base) passing.aim }
-    requires sources { AreSources (Some shadow.old.base) passing.sources }
-    ensures base { shadow.new.base ≡ shadow.old.base }
-    ensures labels { OnOk result ((answer : ℕ) → mask ≡ mask_of (labels_of shadow.old held.old) answer passing →
-        labels_of shadow.new held.new ≡ labels_after (labels_of shadow.old held.old) answer passing) }
-    ensures events { OnOk result (Appends (E.stands_for events.old) (E.stands_for events.new)
-        (masked_events (labels_of shadow.old held.old) mask passing)) }
-{
-    note_here(events, shadow, held, passing, mask)
-}
-
-/// The same. Outputs of regions, of which a run may pass billions, are noted in their place.
-#[inline(always)]
 fn note_mask<E: Events>(
     events: &mut E,
     shadow: &mut Shadow,
     held: &mut Held,
-    passing: Passing,
+    passing: &Passing,
     mask: u32,
 ) -> Result<(), NoMemory>
-    requires aim { IsAim (Some shadow.old.base) passing.aim }
-    requires sources { AreSources (Some shadow.old.base) passing.sources }
+    requires aim { IsAim (Some shadow.old.base) passing.now.aim }
+    requires sources { AreSources (Some shadow.old.base) passing.now.sources }
     ensures base { shadow.new.base ≡ shadow.old.base }
-    ensures labels { OnOk result ((answer : ℕ) → mask ≡ mask_of (labels_of shadow.old held.old) answer passing →
-        labels_of shadow.new held.new ≡ labels_after (labels_of shadow.old held.old) answer passing) }
+    ensures labels { OnOk result ((answer : ℕ) → mask ≡ mask_of (labels_of shadow.old held.old) answer passing.now →
+        labels_of shadow.new held.new ≡ labels_after (labels_of shadow.old held.old) answer passing.now) }
     ensures events { OnOk result (Appends (E.stands_for events.old) (E.stands_for events.new)
-        (masked_events (labels_of shadow.old held.old) mask passing)) }
+        (masked_events (labels_of shadow.old held.old) mask passing.now)) }
 {
-    match passing.aim {
-        Aim::Give(_) => note_here(events, shadow, held, passing, mask),
-        _ => note_apart(events, shadow, held, passing, mask),
-    }
+    add_passing(events, shadow, *held, *passing, mask)?;
+    put_aimed(shadow, held, passing.aim, labelled(mask, passing.point))
 }
 
 /// A value passes: its mask is found by the book's rules, its events are added, and what it goes to gets its label.
@@ -141,7 +99,7 @@ pub(crate) fn note_passing<E: Events>(
             if mask == 0 {
                 note_clean(events, shadow, held, passing)
             } else {
-                note_mask(events, shadow, held, passing, mask)
+                note_mask(events, shadow, held, &passing, mask)
             }
         }
         None => Err(NoMemory),
