@@ -45,27 +45,3 @@ pub fn agrees(alloc: Global, row: &str) -> Option<bool> {
     let (text, words) = row.split_once(" -> ")?;
     assembles_to(alloc, &source(alloc, text)?, &bytes(alloc, words)?)
 }
-
-#[cfg(test)]
-mod tests {
-    use super::*;
-
-    #[test]
-    fn rows_agree_or_not(rt: HostRuntime) {
-        for (row, agreed) in [
-            ("a: nop; j a -> 00000013 ffdff06f", Some(true)),
-            ("a: nop; j a -> 00000013 ffdff06e", Some(false)),
-            ("a: nop; j a -> 00000013", Some(false)),
-            ("j b -> 00000013", Some(false)),
-            ("j b => label-missing 1", Some(true)),
-            ("j b => label-missing 2", Some(false)),
-            ("nop => label-missing 1", Some(false)),
-            ("nop == 0x00010000 00000013 addi x0, x0, 0;", Some(true)),
-            ("nop == 0x00010000 00000013 nop;", Some(false)),
-            ("nop", None),
-            ("nop -> 0000001g", None),
-        ] {
-            assert_eq!(rt; agrees(rt.alloc(), row), agreed, "{row}");
-        }
-    }
-}

@@ -118,17 +118,3 @@ pub fn judged<F: Files>(alloc: Global, files: &mut F, run: &Run) -> Option<(usiz
         Verdict::Rejected(_) => None,
     }
 }
-
-#[cfg(test)]
-mod tests {
-    use super::*;
-
-    #[test]
-    fn lines_name_runs(rt: HostRuntime) {
-        let run = parse("guest.elf guest.cut 1234 -");
-        assert!(rt;
-            matches!(&run, Some(run) if run.secret == "1234" && run.public_input.is_empty())
-        );
-        assert!(rt; parse("guest.elf guest.cut 1234").is_none());
-    }
-}

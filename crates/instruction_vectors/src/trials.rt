@@ -108,30 +108,3 @@ pub(crate) fn agrees(mode: Stepped, found: Seen, case: &Case) -> bool
 {
     mode == Stepped::Ran && found == case.after
 }
-
-#[cfg(test)]
-mod tests {
-    use super::*;
-    use crate::cases::parse;
-    use std::test::Fail;
-
-    #[test]
-    fn cases_agree_or_not(rt: HostRuntime) -> Result<(), Fail> {
-        let Some(mut machine) = guest(rt.alloc()) else {
-            return Ok(());
-        };
-        for (line, agreed) in [
-            ("2e0010 6283b3 3 2 9 10000 0 -> 2e0014 3 2 5 0", Some(true)), // add x7,x5,x6
-            ("2e0010 6283b3 3 2 9 10000 0 -> 2e0014 3 2 9 0", Some(false)),
-            ("2e0010 0 3 2 9 10000 0 -> 2e0010 3 2 9 0", Some(false)),
-            ("2e0010 6283b3 3 2 9 10000 0 -> 2e0014 3 2 5", None),
-        ] {
-            let found = parse(line).map(|case| {
-                let (mode, seen) = run(&mut machine, &case);
-                agrees(mode, seen, &case)
-            });
-            assert_eq!(rt; found, agreed);
-        }
-        Ok(())
-    }
-}
