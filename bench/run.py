@@ -3,7 +3,7 @@
 
 Times `check` of the built program over guests that it makes by `asm`: a tight loop, the same with 256 regions that it
 never enters, a loop through a region that the replay runs, the same loop with the region skipped, a copy of memory
-byte by byte, and 64 secrets one after another.
+byte by byte, 64 secrets one after another, and one secret and 64 of a guest that exits at once.
 Prints for each how many turns the real run makes, the seconds of the whole command, the nanoseconds for each turn of
 both machines together, turns a second, and the most memory that the command had. Every check must accept its secrets.
 Linux with Python 3."""
@@ -99,22 +99,28 @@ def check(executable, folder, guest, secrets):
     return seconds, memory
 
 
-def main():
-    if len(sys.argv) != 2:
-        print(__doc__, file=sys.stderr)
-        return 2
-    executable = os.path.abspath(sys.argv[1])
-    rows = [
+def rows():
+    """Each guest with its name and with how many secrets it is checked."""
+    return [
         ("tight loop", tight_loop(9_999_990), 1),
         ("beside 256 regions", beside_regions(9_999_990), 1),
         ("loop through a region", region_loop(3_333_330, False), 1),
         ("the same, skipped", region_loop(3_333_330, True), 1),
         ("copy of memory", copy_loop(60, 65_536), 1),
         ("64 secrets", tight_loop(150_000), 64),
+        ("exit at once", Guest(EXIT, 3), 1),
+        ("the same, 64 secrets", Guest(EXIT, 3), 64),
     ]
+
+
+def main():
+    if len(sys.argv) != 2:
+        print(__doc__, file=sys.stderr)
+        return 2
+    executable = os.path.abspath(sys.argv[1])
     print(f"{'guest':24}{'turns':>12}{'seconds':>10}{'ns a turn':>11}{'turns a second':>16}{'memory':>10}")
     with tempfile.TemporaryDirectory() as folder:
-        for name, guest, secrets in rows:
+        for name, guest, secrets in rows():
             seconds, memory = check(executable, folder, guest, secrets)
             turns = guest.turns * secrets
             print(
