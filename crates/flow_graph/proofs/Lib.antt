@@ -1,3 +1,4 @@
+pub mod Again
 pub mod Bits
 pub mod Points
 pub mod Keeping

@@ -2,3 +2,4 @@ pub mod Graphs
 pub mod EventGraphs
 pub mod Keeping
 pub mod Builders
+pub mod Again

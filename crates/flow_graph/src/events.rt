@@ -1,5 +1,6 @@
 ghost use Rattle.std.specs.Prelude.{◌++◌, ◌∷◌, [], List as Seq, OnOk};
 ghost use Rattle.flow_graph.specs.declared.events.Event.{Event as AnEvent};
+ghost use Rattle.flow_graph.specs.Again.{again_events};
 
 use flow_base::{NoMemory, Point};
 
@@ -28,4 +29,22 @@ pub trait Events {
     fn add(&mut self, event: Event) -> Result<(), NoMemory>
         ensures { OnOk result ((events : Seq AnEvent) → stands_for self.old events
             → stands_for self.new (events ++ event ∷ [])) };
+
+    /// Takes the events of an output of a region that gives out again what it gave before: bits of the mask pass the
+    /// point, they flowed there from the point itself, and the region gives them out. A receiver may know these links
+    /// already, and only count. Where memory is short it answers so, and may have taken a first part of them.
+    fn add_again(&mut self, point: Point, mask: u32) -> Result<(), NoMemory>
+        ensures { OnOk result ((events : Seq AnEvent) → stands_for self.old events
+            → stands_for self.new (events ++ again_events point mask)) }
+    {
+        self.add(Event::Pass { point, mask })?;
+        self.add(Event::Link {
+            source: point,
+            target: point,
+        })?;
+        self.add(Event::Out {
+            region: point.region,
+            point,
+        })
+    }
 }

@@ -4,14 +4,17 @@ use Rattle.std.proofs.Common.{ap, ◌∙◌, subst}
 use Rattle.std.proofs.lemmas.Bool.{eq-eqb}
 use Rattle.flow_base.specs.declared.points.Point.{Point}
 use Rattle.flow_graph.specs.declared.events.Event.{Event}
-use Rattle.flow_graph.specs.declared.events.Event.TheVariants.{Link, FromSecret, Implicit, Out}
+use Rattle.flow_graph.specs.declared.events.Event.TheVariants.{Pass, Link, FromSecret, Implicit, Out}
 use Rattle.flow_graph.specs.declared.named_links.NamedLink.{NamedLink}
 use Rattle.flow_graph.specs.declared.named_links.NamedEnd.{NamedEnd}
 use Rattle.flow_graph.specs.declared.named_links.NamedEnd.TheVariants.{Source, At, Relay, Sink}
+use Rattle.flow_graph.specs.Again.{again_events}
 use Rattle.flow_graph.specs.EventGraphs.{is_among, links_by, one_if, outlet_of}
 use Rattle.flow_graph.specs.Keeping.{Keeps, TakesLinks, is_known, is_there}
+use Rattle.flow_graph.proofs.Again.{again-in-turn}
 use Rattle.flow_graph.proofs.Keeping.{keeps_links}
 use Rattle.location_collapse.specs.Collapses.{Makes, has_ends}
+use Rattle.location_collapse.specs.LatestLinks.{has_flow, has_output}
 use Rattle.location_collapse.proofs.Marking.{known_takes, no_link}
 
 pub known_link : (capacities : List (Point × ℕ)) (links : List NamedLink) (e : Event) (link : NamedLink)
@@ -91,3 +94,16 @@ makes_output has r p some = record {
   made = ap (λ b. one_if (has p && not b) (Relay r) (At p)) some ∙ ap (λ b. one_if b (Relay r) (At p)) (and_true (has p));
   no_bits = λ q. refl;
 }
+
+-- an output that gives out again what it gave before, where its links have occurred
+pub taken_again : (capacities : List (Point × ℕ)) (links : List NamedLink) (p : Point) (mask : ℕ) (events : List Event) →
+    (p.region == 0) ≡ false → has_flow links p p ≡ true → has_output links p.region p ≡ true →
+    Keeps capacities links (events ++ Pass p mask ∷ []) → Keeps capacities links (events ++ again_events p mask)
+taken_again capacities links p mask events some flow output keeps =
+    let second : Keeps capacities links ((events ++ Pass p mask ∷ []) ++ Link p p ∷ []) =
+    known_link capacities links (Link p p) (record { source = At p; target = At p }) (events ++ Pass p mask ∷ [])
+    (makes_link (is_known capacities) p p) flow keeps in
+    let third : Keeps capacities links (((events ++ Pass p mask ∷ []) ++ Link p p ∷ []) ++ Out p.region p ∷ []) =
+    known_link capacities links (Out p.region p) (record { source = Relay p.region; target = At p })
+    ((events ++ Pass p mask ∷ []) ++ Link p p ∷ []) (makes_output (is_known capacities) p.region p some) output second in
+    subst (Keeps capacities links) (again-in-turn events p mask) third

@@ -1,6 +1,8 @@
 ghost use Rattle.std.specs.Prelude.{◌≡◌, ◌⊎◌, ◌||◌, ◌++◌, ◌∷◌, [], cond, true, false, List as Seq, OnOk, OnErr, IfOk, Err};
+ghost use Rattle.std.specs.Bool.{OnTrue};
 ghost use Rattle.flow_graph.specs.declared.events.Event.{Event as AnEvent};
 ghost use Rattle.flow_graph.specs.declared.events.Event.TheVariants.{Pass as PassEvent};
+ghost use Rattle.flow_graph.specs.Again.{again_events};
 ghost use Rattle.flow_graph.specs.Keeping.{is_there, may_lead};
 ghost use Rattle.location_collapse.specs.Limits.{ExceedsLimit};
 ghost use Rattle.location_collapse.specs.Collapses.{KeepsAll, Makes, StandsFor, has_ends, is_limit, knows};
@@ -52,6 +54,7 @@ impl Collapse {
         ensures limit { result ≡ Err CollapseFault.Limit → (events : Seq AnEvent) → StandsFor self.old events →
             ExceedsLimit (events ++ PassEvent point mask ∷ []) }
         ensures full { self.new.is_full ≡ self.old.is_full }
+        ensures links { self.new.links ≡ self.old.links }
     {
         self.points.pass(point, mask)
     }
@@ -141,6 +144,34 @@ impl Collapse {
         let taken = self.take(event);
         self.is_full = tells_limit(&taken);
         taken
+    }
+
+    /// Takes the events of an output that gives out again what it gave before, where both of its links are the latest
+    /// of their kinds. False where nothing is taken: they are not, or a limit is exceeded, or memory is short.
+    #[inline(always)]
+    pub fn add_again(&mut self, point: &Point, mask: u32) -> bool
+        ensures yes { OnTrue result ((events : Seq AnEvent) → StandsFor self.old events → StandsFor self.new
+            (events ++ again_events point.now mask)) }
+        ensures some { OnTrue result (self.old.is_full ≡ false) }
+        ensures no { result ≡ false → KeepsAll self.old self.new }
+        ensures full { self.new.is_full ≡ self.old.is_full }
+    {
+        if self.is_full {
+            return false;
+        }
+        if point.region == 0 {
+            return false;
+        }
+        if !self.links.is_latest_flow(point, point) {
+            return false;
+        }
+        if !self.links.is_latest_output(point.region, point) {
+            return false;
+        }
+        match self.pass(*point, mask) {
+            Ok(()) => true,
+            Err(_) => false,
+        }
     }
 }
 

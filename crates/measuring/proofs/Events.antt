@@ -1,9 +1,13 @@
 -- A recording with one event more.
-use Rattle.std.proofs.Common.{◌≡◌, Bool, true, false, List, [], ◌∷◌, ◌++◌, ◌||◌, refl, sym, ap, ◌∙◌, ⊎_elim, ◌⊎◌}
+use Rattle.std.proofs.Common.{◌≡◌, ℕ, Bool, true, false, List, [], ◌∷◌, ◌++◌, ◌||◌, refl, sym, ap, subst, ◌∙◌, ⊎_elim, ◌⊎◌}
 use Rattle.std.proofs.Common.{Result, Ok, Err}
 use Rattle.std.proofs.lemmas.Bool.{cases_Bool, false≢true}
+use Rattle.flow_base.specs.declared.points.Point.{Point}
 use Rattle.flow_graph.specs.declared.events.Event.{Event}
-use Rattle.location_collapse.specs.Collapses.{StandsFor, is_limit}
+use Rattle.flow_graph.specs.declared.events.Event.TheVariants.{Pass}
+use Rattle.flow_graph.specs.Again.{again_events}
+use Rattle.flow_graph.specs.Keeping.{Keeps}
+use Rattle.location_collapse.specs.Collapses.{KeepsAll, StandsFor, is_limit}
 use Rattle.location_collapse.specs.LimitLaws.{MoreExceed}
 use Rattle.location_collapse.specs.Limits.{ExceedsLimit}
 use Rattle.location_collapse.specs.declared.collapses.Collapse.{Collapse}
@@ -12,6 +16,7 @@ use Rattle.location_collapse.specs.declared.faults.CollapseFault.TheVariants.{Li
 use Rattle.measuring.specs.declared.kept_visits.KeptVisits.{KeptVisits}
 use Rattle.measuring.specs.Recordings.{Records}
 use Rattle.measuring.specs.Visits.{HasVisits}
+use Rattle.measuring.proofs.Keeping.{visits-again, visits-push}
 
 pub not_full : (old : Bool) (answer : Result (Unit {0}) CollapseFault) (done : Unit {0}) → answer ≡ Ok done →
     (old ≡ true → answer ≡ Err Limit) → old ≡ false
@@ -63,3 +68,34 @@ passed_over old new visits e answer err full more limit events records =
           (λ exceeding. ⊎_elim over (λ (empty : old.is_full ≡ false). exceeding events (records.graph empty))
           (cases_Bool old.is_full)) limit;
     }
+
+-- ---- an output that gives out again what it gave before
+
+-- it is taken
+pub taken_again : (old new : Collapse) (visits after : KeptVisits) (point : Point) (mask : ℕ) →
+    old.is_full ≡ false → new.is_full ≡ old.is_full →
+    ((events : List Event) → StandsFor old events → StandsFor new (events ++ again_events point mask)) →
+    ((events : List Event) → HasVisits visits events → HasVisits after (events ++ Pass point mask ∷ [])) →
+    (events : List Event) → Records (record { collapse = old; visits = visits }) events →
+    Records (record { collapse = new; visits = after }) (events ++ again_events point mask)
+taken_again old new visits after point mask empty same stands has events records =
+    let passed : HasVisits after (events ++ Pass point mask ∷ []) = has events (records.visits empty) in
+    record {
+      graph = λ now. stands events (records.graph empty);
+      visits = λ now q.
+          passed q ∙ (visits-push q events (Pass point mask)
+          ∙ sym (visits-again q events point mask));
+      exceeds = λ other. absurd (false≢true (sym (same ∙ empty) ∙ other));
+    }
+
+-- nothing is taken
+pub same_records : (old new : Collapse) (visits : KeptVisits) → KeepsAll old new → new.is_full ≡ old.is_full →
+    (events : List Event) → Records (record { collapse = old; visits = visits }) events →
+    Records (record { collapse = new; visits = visits }) events
+same_records old new visits keeps same events records = record {
+  graph = λ now. subst (λ links. Keeps new.points.capacities.entries links events) (sym keeps.links)
+      (subst (λ entries. Keeps entries old.links.named.keys events) (sym keeps.points)
+      (records.graph (sym same ∙ now)));
+  visits = λ now. records.visits (sym same ∙ now);
+  exceeds = λ now. records.exceeds (sym same ∙ now);
+}

@@ -10,6 +10,7 @@ use Rattle.std.proofs.lemmas.Option.{slice_get-map}
 use Rattle.flow_base.specs.declared.points.Point.{Point}
 use Rattle.flow_graph.specs.declared.events.Event.{Event}
 use Rattle.flow_graph.specs.declared.events.Event.TheVariants.{Pass, Link, FromSecret, Implicit, Out}
+use Rattle.flow_graph.specs.Again.{again_events}
 use Rattle.flow_graph.specs.EventGraphs.{is_same}
 use Rattle.covered_runs.specs.RunCuts.{visit_masks, mask_at_event}
 use Rattle.indexmap.specs.IndexMap.{IndexMap, keys, set_value_at}
@@ -71,6 +72,15 @@ visits-push q [] e = append-nil (mask_at_event q e)
 visits-push q (other ∷ events) e =
     ap (λ masks. mask_at_event q other ++ masks) (visits-push q events e)
     ∙ sym (append_assoc (mask_at_event q other) (visit_masks q events) (mask_at_event q e))
+
+-- of an output that gives out again what it gave before only the passing is a visit
+pub visits-again : (q : Point) (events : List Event) (p : Point) (mask : ℕ) →
+    visit_masks q (events ++ again_events p mask) ≡ visit_masks q events ++ mask_at_event q (Pass p mask)
+unfolding visit_masks
+visits-again q [] p mask = append-nil (mask_at_event q (Pass p mask))
+visits-again q (other ∷ events) p mask =
+    ap (λ masks. mask_at_event q other ++ masks) (visits-again q events p mask)
+    ∙ sym (append_assoc (mask_at_event q other) (visit_masks q events) (mask_at_event q (Pass p mask)))
 
 -- an event that adds these masks is taken where they are added
 pub takes : (old new : KeptVisits) (e : Event) →

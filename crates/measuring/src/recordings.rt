@@ -2,7 +2,7 @@ ghost use Rattle.std.specs.Prelude.{◌≡◌, [], IfOk, false};
 ghost use Rattle.measuring.specs.Recordings.{Records};
 
 use crate::kept_visits::KeptVisits;
-use flow_base::NoMemory;
+use flow_base::{NoMemory, Point};
 use flow_graph::{Event, Events};
 use location_collapse::{Collapse, CollapseFault, more_events_exceed};
 use std::alloc::Global;
@@ -31,6 +31,7 @@ impl Recording {
 impl Events for Recording {
     ghost use Rattle.std.specs.Prelude.{◌++◌, ◌∷◌, [], List as Seq, OnOk};
     ghost use Rattle.flow_graph.specs.declared.events.Event.{Event as AnEvent};
+    ghost use Rattle.flow_graph.specs.Again.{again_events};
     ghost use Rattle.measuring.specs.Recordings.{Records};
 
     ghost stands_for = { λ recording events. Records recording events };
@@ -47,5 +48,26 @@ impl Events for Recording {
             Err(CollapseFault::Limit) => Ok(()),
             Err(CollapseFault::Memory) => Err(NoMemory),
         }
+    }
+
+    /// Takes the events of an output that gives out again what it gave before. A run may make billions of these, and
+    /// mostly they are only counted.
+    #[inline(always)]
+    fn add_again(&mut self, point: Point, mask: u32) -> Result<(), NoMemory>
+        ensures { OnOk result ((events : Seq AnEvent) → Records self.old events → Records self.new
+            (events ++ again_events point mask)) }
+    {
+        if self.collapse.add_again(&point, mask) {
+            return self.visits.take(Event::Pass { point, mask });
+        }
+        self.add(Event::Pass { point, mask })?;
+        self.add(Event::Link {
+            source: point,
+            target: point,
+        })?;
+        self.add(Event::Out {
+            region: point.region,
+            point,
+        })
     }
 }

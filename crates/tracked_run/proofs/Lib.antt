@@ -1,3 +1,4 @@
+pub mod AgainNotes
 pub mod Appending
 pub mod CleanCode
 pub mod Nodes

@@ -19,3 +19,13 @@ notes-of table before stood stands passing after mask (Ok done) m labels events 
   events = subst (λ x. Appends stood stands (masked_events before x passing)) m.is_mask events;
 }
 notes-of table before stood stands passing after mask (Err e) m labels events = tt
+
+-- the same, where the labels are known whatever the answer
+pub notes-given : {X : Type 0} (table : ℕ) (before : TurnLabels) (stood stands : List Event → Type 0) (passing : Passing)
+    (after : TurnLabels) (mask : ℕ) (r : Result (Unit {0}) X) → IsMask table before passing mask →
+    ((answer : ℕ) → mask ≡ mask_of before answer passing → after ≡ labels_after before answer passing) →
+    OnOk r (Appends stood stands (masked_events before mask passing)) →
+    OnOk r (Notes table before stood passing after stands)
+notes-given {X = X} table before stood stands passing after mask (Ok done) m labels events =
+    notes-of {X = X} table before stood stands passing after mask (Ok done) m labels events
+notes-given table before stood stands passing after mask (Err e) m labels events = tt

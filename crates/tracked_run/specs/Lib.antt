@@ -4,3 +4,4 @@ pub mod Notes
 pub mod Outcomes
 pub mod Runs
 pub mod Tracks
+pub mod Again

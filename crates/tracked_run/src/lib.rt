@@ -2,6 +2,7 @@
 //! adds to its graph handed on as they come.
 #![tactic(auto)]
 
+mod again;
 mod changes;
 mod held;
 mod linking;

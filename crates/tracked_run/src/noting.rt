@@ -6,6 +6,7 @@ ghost use Rattle.tracked_run.specs.Labels.{labels_of};
 ghost use Rattle.tracked_run.specs.Linking.{Appends, masked_events};
 ghost use Rattle.tracked_run.specs.Notes.{Answers, Notes};
 
+use crate::again::{gives_again, note_again};
 use crate::held::Held;
 use crate::linking::add_passing;
 use crate::passing_masks::{aimed_mask, work_mask};
@@ -98,6 +99,8 @@ pub(crate) fn note_passing<E: Events>(
         Some(mask) => {
             if mask == 0 {
                 note_clean(events, shadow, held, passing)
+            } else if gives_again(shadow, *held, &passing, mask) {
+                note_again(events, passing.point, mask)
             } else {
                 note_mask(events, shadow, held, &passing, mask)
             }
