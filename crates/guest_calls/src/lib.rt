@@ -13,6 +13,3 @@ pub use kinds::{BAD_ADDRESS, BAD_DESCRIPTOR, CallKind, UNKNOWN_CALL, call_kind};
 pub use ranges::inside;
 pub use reading::read_count;
 pub use writing::{WriteCheck, write_check};
-
-#[cfg(test)]
-mod tests;

@@ -3,6 +3,7 @@
 //! was found by hand.
 #![tactic(auto)]
 
+mod call_rows;
 mod cut_rows;
 mod cuts;
 mod events;
@@ -35,6 +36,7 @@ impl Table {
         let (name, rest) = row.split_once(' ').unwrap_or((row, ""));
         if cut_rows::print(rt, name, rest)?
             || word_rows::print(rt, name, rest)?
+            || call_rows::print(rt, name, rest)?
             || self.stores.print(rt, name, rest)?
             || self.strings.print(rt, name, rest)?
             || self.graphs.print(rt, name, rest)?

@@ -58,11 +58,7 @@ pub(crate) fn gives_again(shadow: &Shadow, held: Held, passing: &Passing, mask: 
 /// place of a turn stays small.
 /// `NoMemory` where there is not enough.
 #[inline(never)]
-pub(crate) fn note_again<E: Events>(
-    events: &mut E,
-    point: Point,
-    mask: u32,
-) -> Result<(), NoMemory>
+pub(crate) fn note_again<E: Events>(events: &mut E, point: Point, mask: u32) -> Result<(), NoMemory>
     ensures { OnOk result (Appends (E.stands_for events.old) (E.stands_for events.new) (again_events point mask)) }
 {
     events.add_again(point, mask)
