@@ -1,16 +1,20 @@
 //! Command lines with their files, and what must come, table by table.
 
 mod break_rows;
+mod broken_region_rows;
 mod check_rows;
 mod cuts;
 mod guests;
 mod hostile_rows;
 mod measure_rows;
 mod region_rows;
+mod region_verdict_rows;
 mod region_word_rows;
 mod report_rows;
 mod source_rows;
 mod trial_rows;
+mod verdict_guests;
+mod verdict_rows;
 
 /// What a file holds, or what must be put.
 #[derive(Clone, Copy)]
@@ -55,7 +59,7 @@ pub struct Row {
 }
 
 /// The tables.
-pub const TABLES: [&[Row]; 19] = [
+pub const TABLES: [&[Row]; 25] = [
     &check_rows::JUDGED,
     &check_rows::REJECTED,
     &check_rows::REFUSED,
@@ -75,4 +79,10 @@ pub const TABLES: [&[Row]; 19] = [
     &hostile_rows::FAILING,
     &hostile_rows::FILES,
     &hostile_rows::GUESTS,
+    &verdict_rows::WITHOUT_REGIONS,
+    &region_verdict_rows::RUN,
+    &region_verdict_rows::SKIPPED,
+    &region_verdict_rows::LEFT,
+    &broken_region_rows::BROKEN,
+    &broken_region_rows::NOT_LEFT,
 ];

@@ -6,13 +6,9 @@ mod differences;
 mod laws;
 mod lockstep;
 mod marks;
-#[cfg(test)]
-mod region_tests;
 mod replay_turns;
 mod rounds;
 mod tallies;
-#[cfg(test)]
-mod tests;
 mod two_runs;
 mod verdicts;
 
