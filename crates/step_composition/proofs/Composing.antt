@@ -24,7 +24,8 @@ use Rattle.rv32im_machine.specs.Language.{Ends, Held, Looks, Moves, none_held, t
 use Rattle.rv32im_machine.specs.Calls.{kind_plan, kind_row, planned}
 use Rattle.rv32im_machine.specs.Rows.{branches, fetched, load_at, row_walk, stops, store_at, turn_in}
 use Rattle.rv32im_machine.specs.Folds.{real_end}
-use Rattle.rv32im_machine.specs.Parts.{composed, arguments_of, branched, composed_after, composed_on, first_part, loaded, loaded_word, read_as, second_part, stopped, stored, written}
+use Rattle.rv32im_machine.specs.Parts.{first_part, loaded_word, read_as, second_part}
+use Rattle.step_composition.specs.Composed.{composed, arguments_of, branched, composed_after, composed_on, loaded, stopped, stored, written}
 
 pub linking : (even : Bool) (rd target : ℕ) (held : Held) (state : State)
     → real_end (walk state

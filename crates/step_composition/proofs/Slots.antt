@@ -26,7 +26,8 @@ use Rattle.rv32im_machine.specs.Language.{Ends, Held, Looks, Moves, none_held, t
 use Rattle.rv32im_machine.specs.Calls.{point}
 use Rattle.rv32im_machine.specs.Rows.{branches, fetched, load_at, row_walk, stops, store_at, turn_in}
 use Rattle.rv32im_machine.specs.Folds.{Visit, visits_in}
-use Rattle.rv32im_machine.specs.Parts.{fetch_part, load_slots, loaded_word, read_as, slot_value, slot_visits, value_or_zero}
+use Rattle.rv32im_machine.specs.Parts.{fetch_part, loaded_word, read_as}
+use Rattle.step_composition.specs.Slots.{load_slots, slot_value, slot_visits, value_or_zero}
 
 -- a jump that links, a jump, the rest of a branch and of a store pass nothing
 pub linking-passes : (even : Bool) (rd target : ℕ) (held : Held) (state : State)

@@ -1,6 +1,6 @@
-use Rattle.rv32im_machine.proofs.Composing.{composing-in}
-use Rattle.rv32im_machine.proofs.Slots.{passing-in}
-use Rattle.rv32im_machine.proofs.laws.parts_compose.Goals as goal
+use Rattle.step_composition.proofs.Composing.{composing-in}
+use Rattle.step_composition.proofs.Slots.{passing-in}
+use Rattle.step_composition.proofs.laws.parts_compose.Goals as goal
 
 pub returns-clause-parts : goal.returns-clause-parts
 returns-clause-parts c state ran = composing-in state.control.mode state ran
