@@ -1,4 +1,4 @@
-//! The law that the public parts of a step of the guest machine make the step together.
+//! The law that the public parts of a step of the guest machine, an instruction's as a call's, make the step together.
 #![tactic(auto)]
 
 mod laws;

@@ -6,4 +6,4 @@ pub returns-clause-parts : goal.returns-clause-parts
 returns-clause-parts c state ran = composing-in state.control.mode state ran
 
 pub returns-clause-slots : goal.returns-clause-slots
-returns-clause-slots c state instr ran found other = passing-in state.control.mode state instr ran found other
+returns-clause-slots c state ran = passing-in state.control.mode state ran
