@@ -2,5 +2,3 @@ pub mod Rounds
 pub mod Laying
 pub mod Memories
 pub mod Steps
-pub mod Composing
-pub mod Slots

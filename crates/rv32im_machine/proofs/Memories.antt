@@ -1,5 +1,5 @@
 -- Bytes inside guest memory, for whoever keeps something of them.
-use Rattle.std.proofs.Common.{◌≡◌, ℕ, subst, sym}
+use Rattle.std.proofs.Common.{ℕ, subst, sym}
 use Rattle.std.specs.Prelude.{IsTrue, Option, Some, None}
 use Rattle.guest_calls.specs.Calls.{is_inside}
 use Rattle.rv32im_machine.specs.Playing.{Knows, InMemory}

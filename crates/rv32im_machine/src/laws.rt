@@ -1,4 +1,4 @@
-ghost use Rattle.rv32im_machine.specs.Laws.{NextLaw, PartsLaw, SlotsLaw, StandsLaw, VisitLaw};
+ghost use Rattle.rv32im_machine.specs.Laws.{NextLaw, StandsLaw, VisitLaw};
 
 /// While the values that a turn passes go on as they are, what comes next is the visit after them, and at last the end
 /// that the step reaches. It does nothing when it is called.
@@ -10,11 +10,4 @@ pub fn next_follows_the_step()
 /// A machine that has exited or is stopped stands still. It does nothing when it is called.
 pub fn ended_machines_stand_still()
     ensures { StandsLaw }
-{}
-
-/// The parts of a step, called in the order of the slots, make the step, and the slots of a turn pass the values of the
-/// parts. It does nothing when it is called.
-pub fn parts_compose()
-    ensures parts { PartsLaw }
-    ensures slots { SlotsLaw }
 {}

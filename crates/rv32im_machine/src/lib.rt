@@ -20,7 +20,7 @@ mod stepping;
 mod walker;
 
 pub use language::{Aim, Operation, Part, Passing, Place, Seen, Shape, Source, Sources, Work};
-pub use laws::{ended_machines_stand_still, next_follows_the_step, parts_compose};
+pub use laws::{ended_machines_stand_still, next_follows_the_step};
 pub use machines::Machine;
 pub use passing::Passer;
 pub use plain::Plain;

@@ -1,0 +1,4 @@
+pub mod Methods
+pub mod Composed
+pub mod Slots
+pub mod Laws
