@@ -2,6 +2,7 @@ pub mod Cuts
 pub mod Texts
 pub mod Fronts
 pub mod Faults
+pub mod FaultTexts
 pub mod Masks
 pub mod Folds
 pub mod Pictures

@@ -1,5 +1,5 @@
 use flow_base::NoMemory;
-use std::alloc::AllocError;
+use std::fmt;
 
 /// Why a file gives no cut: what is wrong with the first line that fails.
 #[derive(Clone, Copy, Debug, PartialEq, Eq)]
@@ -36,5 +36,23 @@ impl From<NoMemory> for CutFault {
 
     fn from(_: NoMemory) -> CutFault {
         CutFault::Memory
+    }
+}
+
+impl fmt::Display for CutFault {
+    ghost use Rattle.std.specs.Prelude.{Some};
+    ghost use Rattle.cut_file.specs.FaultTexts.{cut_fault_text};
+
+    ghost output = { λ fault. Some (cut_fault_text fault) };
+
+    fn fmt<W: fmt::Write>(&self, f: &mut fmt::Formatter<W>) -> fmt::Result {
+        match *self {
+            CutFault::Version => write!(f, "version"),
+            CutFault::Line { number } => write!(f, "line {number}"),
+            CutFault::Order { number } => write!(f, "order {number}"),
+            CutFault::Truncated => write!(f, "truncated"),
+            CutFault::Trailing { offset } => write!(f, "trailing {offset}"),
+            CutFault::Memory => write!(f, "memory"),
+        }
     }
 }

@@ -1,11 +1,11 @@
-use flow_base::NoMemory;
+use flow_base::{HexWord, NoMemory, hex_digits};
+use std::fmt;
 use thiserror::Error;
 
 /// Why a program file gives no image. All offsets and sizes are in bytes, and program headers are counted from 0.
 #[derive(Debug, Drop, Error)]
 pub enum ElfFault {
     /// The file ends within the ELF header or within the program headers: it has fewer bytes than it needs.
-    #[error("truncated need {need} have {have}")]
     Truncated {
         /// How many bytes the headers take.
         need: u64,
@@ -13,7 +13,6 @@ pub enum ElfFault {
         have: u32,
     },
     /// The file is not a 32-bit little-endian ELF file of version 1: the first byte of e_ident that differs.
-    #[error("not-elf32 offset {offset} byte 0x{byte:02x}")]
     NotElf32 {
         /// Where the byte stands.
         offset: u32,
@@ -21,7 +20,6 @@ pub enum ElfFault {
         byte: u8,
     },
     /// The file is not an executable (ET_EXEC, 2) for RISC-V (EM_RISCV, 243).
-    #[error("wrong-kind type {kind} machine {machine}")]
     WrongKind {
         /// The field e_type.
         kind: u32,
@@ -29,11 +27,9 @@ pub enum ElfFault {
         machine: u32,
     },
     /// The program has compressed instructions (EF_RISCV_RVC).
-    #[error("compressed")]
     Compressed,
     /// The program headers are none or above 64 in number or not of 32 bytes, or no load is among them. A load is a
     /// header PT_LOAD with p_memsz other than 0.
-    #[error("headers {count} size {size} loads {loads}")]
     Headers {
         /// The field e_phnum.
         count: u32,
@@ -43,7 +39,6 @@ pub enum ElfFault {
         loads: u32,
     },
     /// The program wants a dynamic linker: the first header that is PT_DYNAMIC or PT_INTERP.
-    #[error("dynamic {index}")]
     Dynamic {
         /// The number of the header.
         index: u32,
@@ -51,13 +46,11 @@ pub enum ElfFault {
     /// A load has more bytes than memory, or bytes beyond the file, or memory that ends above the base plus 16,777,216
     /// or above 0xfffff000: the first such load. Or the base is above 0xfefff000: the first load of those with the
     /// lowest address. The base is the lowest address of a load rounded down to a multiple of 4,096.
-    #[error("segment {index}")]
     SegmentRange {
         /// The number of the header.
         index: u32,
     },
     /// Two loads share an address: the first of them, and the first after it that shares an address with it.
-    #[error("overlap {a} {b}")]
     Overlap {
         /// The number of one header.
         a: u32,
@@ -65,13 +58,11 @@ pub enum ElfFault {
         b: u32,
     },
     /// The entry is no multiple of 4, or lies in no load.
-    #[error("entry 0x{entry:08x}")]
     EntryOutside {
         /// The field e_entry.
         entry: u32,
     },
     /// There was not enough memory.
-    #[error("out of memory")]
     Memory,
 }
 
@@ -84,5 +75,55 @@ impl From<NoMemory> for ElfFault {
 
     fn from(_: NoMemory) -> ElfFault {
         ElfFault::Memory
+    }
+}
+
+/// A byte, which shows as `0x` and its two hexadecimal digits, in lower case.
+#[derive(Clone, Copy)]
+struct HexByte(u8);
+
+impl fmt::Display for HexByte {
+    ghost use Rattle.std.specs.Prelude.{Some};
+    ghost use Rattle.elf32_loader.specs.FaultTexts.{hex_byte};
+
+    ghost output = { λ byte. Some (hex_byte byte.0) };
+
+    fn fmt<W: fmt::Write>(&self, f: &mut fmt::Formatter<W>) -> fmt::Result {
+        let [_, _, _, _, _, _, high, low] = hex_digits(u32::from(self.0));
+        let high = char::from(high);
+        let low = char::from(low);
+        write!(f, "0x{high}{low}")
+    }
+}
+
+impl fmt::Display for ElfFault {
+    ghost use Rattle.std.specs.Prelude.{Some};
+    ghost use Rattle.elf32_loader.specs.FaultTexts.{program_fault_text};
+
+    ghost output = { λ fault. Some (program_fault_text fault) };
+
+    fn fmt<W: fmt::Write>(&self, f: &mut fmt::Formatter<W>) -> fmt::Result {
+        match *self {
+            ElfFault::Truncated { need, have } => write!(f, "truncated need {need} have {have}"),
+            ElfFault::NotElf32 { offset, byte } => {
+                let byte = HexByte(byte);
+                write!(f, "not-elf32 offset {offset} byte {byte}")
+            }
+            ElfFault::WrongKind { kind, machine } => {
+                write!(f, "wrong-kind type {kind} machine {machine}")
+            }
+            ElfFault::Compressed => write!(f, "compressed"),
+            ElfFault::Headers { count, size, loads } => {
+                write!(f, "headers {count} size {size} loads {loads}")
+            }
+            ElfFault::Dynamic { index } => write!(f, "dynamic {index}"),
+            ElfFault::SegmentRange { index } => write!(f, "segment {index}"),
+            ElfFault::Overlap { a, b } => write!(f, "overlap {a} {b}"),
+            ElfFault::EntryOutside { entry } => {
+                let entry = HexWord(entry);
+                write!(f, "entry {entry}")
+            }
+            ElfFault::Memory => write!(f, "memory"),
+        }
     }
 }

@@ -1,5 +1,8 @@
-ghost use Rattle.std.specs.Prelude.{◌≡◌, ◌<◌};
+ghost use Rattle.std.specs.Prelude.{◌≡◌, ◌<◌, Some};
+ghost use Rattle.std.specs.Fmt.{DisplaysOnOk};
 ghost use Rattle.flow_base.specs.HexWords.{hex_digit, hex_digits as hex_digits_of, hex_word as hex_word_of};
+
+use std::fmt;
 
 /// A digit below 16, in lower case.
 fn glyph(digit: u32) -> u8
@@ -35,4 +38,27 @@ pub fn hex_word(word: u32) -> [u8; 10]
 {
     let [a, b, c, d, e, f, g, h] = hex_digits(word);
     [b'0', b'x', a, b, c, d, e, f, g, h]
+}
+
+/// Writes a word as [`hex_word`] gives it.
+#[tactic(auto, using(crate::proofs::HexText::padded_word))]
+fn write_word<W: fmt::Write>(f: &mut fmt::Formatter<W>, word: u32) -> fmt::Result
+    ensures { DisplaysOnOk W.write_str_gives f.old result (Some (hex_word_of word)) f.new }
+{
+    write!(f, "0x{word:08x}")
+}
+
+/// An address or a word of the guest, which shows as `0x` and its eight hexadecimal digits, in lower case.
+#[derive(Clone, Copy, Debug, PartialEq, Eq)]
+pub struct HexWord(pub u32);
+
+impl fmt::Display for HexWord {
+    ghost use Rattle.std.specs.Prelude.{Some};
+    ghost use Rattle.flow_base.specs.HexWords.{hex_word};
+
+    ghost output = { λ word. Some (hex_word word.0) };
+
+    fn fmt<W: fmt::Write>(&self, f: &mut fmt::Formatter<W>) -> fmt::Result {
+        write_word(f, self.0)
+    }
 }

@@ -15,7 +15,7 @@ mod putting;
 mod register_file;
 
 pub use guests::MEMORY_SIZE;
-pub use hex_words::{hex_digits, hex_word};
+pub use hex_words::{HexWord, hex_digits, hex_word};
 pub use host::{DiskFiles, StandardOut};
 pub use lists::{Bytes, List, NoMemory};
 pub use loading::{Files, LoadFault};
