@@ -11,14 +11,15 @@ use Rattle.std.proofs.lemmas.Bool.{and_parts, and_from, cases_Bool, cases_lt, co
 use Rattle.std.proofs.lemmas.Bool.{eqb-true, le-leb, leb-true, lt-leb, lt-ltb, ltb-true}
 use Rattle.std.proofs.lemmas.List.{append-nil, get_or-drop, get_or-take, length-drop, length-take-le}
 use Rattle.flow_base.specs.declared.points.Point.{Point}
+use Rattle.flow_base.specs.PointOrders.{is_below, is_same}
 use Rattle.flow_base.specs.Points.{width_of}
 use Rattle.cut_file.specs.declared.points.CutPoint.{CutPoint}
 use Rattle.cut_file.specs.declared.points.Run.{Run}
-use Rattle.cut_file.specs.Cuts.{CutPicture, are_points, are_points_of, are_runs, have_other_masks, is_below}
+use Rattle.cut_file.specs.Cuts.{CutPicture, are_points, are_points_of, are_runs, have_other_masks}
 use Rattle.cut_file.specs.Cuts.{is_cut_point, is_rest, is_run, is_word}
 use Rattle.cut_file.specs.Cuts.{neighbours_pass, stands_before}
 use Rattle.cut_file.specs.Folds.{AreFolded, IsFold, IsFolded, begins_with, first_runs, is_period, listed_at}
-use Rattle.cut_file.specs.Masks.{MaskAt, is_same_point, listed_mask, listed_masks, mask_of, repeated}
+use Rattle.cut_file.specs.Masks.{MaskAt, listed_mask, listed_masks, mask_of, repeated}
 use Rattle.cut_file.proofs.Following.{all-migrated, is_so, is_true}
 use Rattle.cut_file.proofs.MaskLists.{masks-count, masks-none, repeated-here, repeated-behind}
 
@@ -138,22 +139,22 @@ points-mask [] (f ∷ folded) point visit known first inside = absurd known
 points-mask (p ∷ points) [] point visit known first inside = absurd known
 points-mask (p ∷ points) (f ∷ folded) point visit known first inside =
     let place = folded-point p f known.0 in
-    ap (λ (q : Point). if is_same_point q point then mask_of f visit else MaskAt folded point visit) place
-    ∙ elim (cases_Bool (is_same_point p.point point)) [
+    ap (λ (q : Point). if is_same q point then mask_of f visit else MaskAt folded point visit) place
+    ∙ elim (cases_Bool (is_same p.point point)) [
       | inl same ↦
           let here : visit ≤ length (listed_masks p.runs) =
-          subst (λ (n : ℕ). visit ≤ n) (cond-true (is_same_point p.point point) (length (listed_masks p.runs))
+          subst (λ (n : ℕ). visit ≤ n) (cond-true (is_same p.point point) (length (listed_masks p.runs))
           (listed_at points point) same) inside in
-          cond-true (is_same_point p.point point) (mask_of f visit) (MaskAt folded point visit) same
+          cond-true (is_same p.point point) (mask_of f visit) (MaskAt folded point visit) same
           ∙ folded-mask p f visit known.0 first here
-          ∙ sym (cond-true (is_same_point p.point point) (mask_of p visit) (MaskAt points point visit) same)
+          ∙ sym (cond-true (is_same p.point point) (mask_of p visit) (MaskAt points point visit) same)
       | inr other ↦
           let there : visit ≤ listed_at points point =
-          subst (λ (n : ℕ). visit ≤ n) (cond-false (is_same_point p.point point) (length (listed_masks p.runs))
+          subst (λ (n : ℕ). visit ≤ n) (cond-false (is_same p.point point) (length (listed_masks p.runs))
           (listed_at points point) other) inside in
-          cond-false (is_same_point p.point point) (mask_of f visit) (MaskAt folded point visit) other
+          cond-false (is_same p.point point) (mask_of f visit) (MaskAt folded point visit) other
           ∙ points-mask points folded point visit known.1 first there
-          ∙ sym (cond-false (is_same_point p.point point) (mask_of p visit) (MaskAt points point visit) other)
+          ∙ sym (cond-false (is_same p.point point) (mask_of p visit) (MaskAt points point visit) other)
     ]
 
 pub fold-mask : (cut folded : CutPicture) (point : Point) (visit : ℕ) → IsFold cut folded → 1 ≤ visit →

@@ -8,9 +8,10 @@ use Rattle.cut_file.specs.declared.points.CutPoint.{CutPoint}
 use Rattle.cut_file.specs.declared.points.Run.{Run}
 use Rattle.cut_file.specs.Cuts.{CutPicture}
 use Rattle.flow_base.specs.HexWords.{hex_word}
+use Rattle.flow_base.specs.Points.{slot_text}
 use Rattle.cut_file.specs.declared.lines.Line.{Line}
 use Rattle.cut_file.specs.declared.lines.Line.TheVariants.{Version, Secret, Bits, Skip, Point, End}
-use Rattle.cut_file.specs.Texts.{cut_text, joined, line_text, lines_text, rest_text, run_text, slot_text}
+use Rattle.cut_file.specs.Texts.{cut_text, joined, line_text, lines_text, rest_text, run_text}
 use Rattle.cut_file.specs.Writing.{led, point_pieces}
 
 pub joined-led : (word : List ℕ) (words : List (List ℕ)) → joined 32 (word ∷ words) ≡ word ++ led words

@@ -13,14 +13,14 @@ use Rattle.std.proofs.lemmas.List.{append-nil}
 use Rattle.std.proofs.Common.{inl, inr}
 use Rattle.flow_base.specs.declared.points.Point.{Point}
 use Rattle.flow_base.specs.declared.points.Slot.{Slot}
-use Rattle.flow_base.specs.Points.{is_slot}
+use Rattle.flow_base.specs.Points.{is_slot, slot_text}
 use Rattle.cut_file.specs.declared.points.CutPoint.{CutPoint}
 use Rattle.cut_file.specs.declared.points.Run.{Run}
 use Rattle.cut_file.specs.Cuts.{are_runs, have_other_masks, is_cut_point, is_point, is_point_of, is_rest, is_run}
 use Rattle.cut_file.specs.Cuts.{is_empty, is_single, is_word}
 use Rattle.flow_base.specs.HexWords.{hex_word}
 use Rattle.cut_file.specs.declared.lines.Line.TheVariants as forms
-use Rattle.cut_file.specs.Texts.{joined, line_text, point_words, rest_text, run_text, slot_text}
+use Rattle.cut_file.specs.Texts.{joined, line_text, point_words, rest_text, run_text}
 use Rattle.cut_file.specs.Reading.{◌>>=◌, after_text, divided, first_of, may_follow}
 use Rattle.cut_file.specs.Reading.{number_in, others_of, parts}
 use Rattle.cut_file.specs.Reading.{only_mask_in, pattern_in, place_in, point_in, point_in_words, rest_in}

@@ -8,7 +8,7 @@ use Rattle.std.proofs.lemmas.Bool.{and_parts, leb-true, ltb-true}
 use Rattle.std.proofs.lemmas.List.Sums.{sum_by-cons}
 use Rattle.std.proofs.lemmas.Fmt.{length-decimal-le}
 use Rattle.flow_base.specs.HexWords.{hex_word}
-use Rattle.flow_base.specs.Points.{is_slot}
+use Rattle.flow_base.specs.Points.{is_slot, slot_text}
 use Rattle.flow_base.specs.declared.points.Slot.{Slot}
 use Rattle.flow_base.specs.declared.points.Slot.TheVariants as slots
 use Rattle.cut_file.specs.declared.points.CutPoint.{CutPoint}
@@ -19,7 +19,6 @@ use Rattle.cut_file.specs.Cuts.{CutPicture, are_points_of, are_regions, are_runs
 use Rattle.cut_file.specs.Cuts.{is_point, is_point_of, is_region, is_rest, is_run, is_single, is_valid, is_version}
 use Rattle.cut_file.specs.Cuts.{is_word, neighbours_pass, stands_before}
 use Rattle.cut_file.specs.Texts.{cut_text, joined, line_text, lines_text, point_words, rest_text, run_text}
-use Rattle.cut_file.specs.Texts.{slot_text}
 use Rattle.cut_file.specs.TextLengths.{byte_bound, listed_runs}
 use Rattle.cut_file.proofs.Following.{points-all}
 

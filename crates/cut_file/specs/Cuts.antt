@@ -2,7 +2,8 @@
 use Rattle.std.specs.Prelude.{ℕ, ◌==◌, ◌&&◌, ◌||◌, nat_le, nat_lt, not, length, Bool, true, false, List, [], ◌∷◌}
 use Rattle.std.specs.List.{list_all}
 use Rattle.flow_base.specs.declared.points.Point.{Point}
-use Rattle.flow_base.specs.Points.{is_slot, number_of}
+use Rattle.flow_base.specs.PointOrders.{is_below}
+use Rattle.flow_base.specs.Points.{is_slot}
 use Rattle.cut_file.specs.declared.points.CutPoint.{CutPoint}
 use Rattle.cut_file.specs.declared.points.Run.{Run}
 
@@ -58,13 +59,6 @@ is_region region = nat_le 1 region && nat_le region 65535
 -- regions to be skipped, strictly ascending
 abbrev pub are_regions : List ℕ → Bool
 are_regions skip = list_all is_region skip && neighbours_pass nat_lt skip
-
--- points are ordered by region, address and slot number
-abbrev pub is_below : Point → Point → Bool
-is_below first second =
-    nat_lt first.region second.region
-    || ((first.region == second.region) && (nat_lt first.address second.address
-    || ((first.address == second.address) && nat_lt (number_of first.slot) (number_of second.slot))))
 
 abbrev pub is_point : Point → Bool
 is_point point = nat_le point.region 65535 && (is_word point.address && is_slot point.slot)

@@ -3,10 +3,11 @@ use Rattle.std.specs.Prelude.{◌≡◌, ◌⊎◌, ℕ, ◌-◌, ◌*◌, ◌<�
 use Rattle.std.specs.Prelude.{Bool, true, false, List, [], ◌∷◌}
 use Rattle.std.specs.Prelude.{drop, take, if◌then◌else◌}
 use Rattle.flow_base.specs.declared.points.Point.{Point}
+use Rattle.flow_base.specs.PointOrders.{is_same}
 use Rattle.cut_file.specs.declared.points.CutPoint.{CutPoint}
 use Rattle.cut_file.specs.declared.points.Run.{Run}
 use Rattle.cut_file.specs.Cuts.{CutPicture}
-use Rattle.cut_file.specs.Masks.{MaskAt, is_same_point, listed_masks}
+use Rattle.cut_file.specs.Masks.{MaskAt, listed_masks}
 
 -- the same cut in version 2
 abbrev pub migrated : CutPicture → CutPicture
@@ -57,7 +58,7 @@ pub record IsFold (cut folded : CutPicture) : Type 0 where
 abbrev pub listed_at : List CutPoint → Point → ℕ
 listed_at [] point = 0
 listed_at (cut_point ∷ points) point =
-    if is_same_point cut_point.point point then length (listed_masks cut_point.runs) else listed_at points point
+    if is_same cut_point.point point then length (listed_masks cut_point.runs) else listed_at points point
 
 -- a cut and its fold have the same mask at each visit that the cut lists
 abbrev pub FoldsKeepMasks : Type 0

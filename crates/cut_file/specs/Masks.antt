@@ -2,7 +2,8 @@
 use Rattle.std.specs.Prelude.{ℕ, ◌-◌, ◌%◌, ◌==◌, ◌&&◌, nat_lt, Bool, List, [], ◌∷◌, ◌++◌, length, replicate}
 use Rattle.std.specs.Prelude.{slice_index_or, bit_and, if◌then◌else◌}
 use Rattle.flow_base.specs.declared.points.Point.{Point}
-use Rattle.flow_base.specs.Points.{number_of, width_of}
+use Rattle.flow_base.specs.PointOrders.{is_same}
+use Rattle.flow_base.specs.Points.{width_of}
 use Rattle.cut_file.specs.declared.points.CutPoint.{CutPoint}
 use Rattle.cut_file.specs.declared.points.Run.{Run}
 
@@ -26,13 +27,8 @@ listed_mask cut_point visit =
 abbrev pub mask_of : CutPoint → ℕ → ℕ
 mask_of cut_point visit = bit_and (listed_mask cut_point visit) (width_of cut_point.point.slot)
 
-abbrev pub is_same_point : Point → Point → Bool
-is_same_point first second =
-    (first.region == second.region) && ((first.address == second.address)
-    && (number_of first.slot == number_of second.slot))
-
 -- the mask of points at a visit of a point, 0 where none of them is the point
 abbrev pub MaskAt : List CutPoint → Point → ℕ → ℕ
 MaskAt [] point visit = 0
 MaskAt (cut_point ∷ points) point visit =
-    if is_same_point cut_point.point point then mask_of cut_point visit else MaskAt points point visit
+    if is_same cut_point.point point then mask_of cut_point visit else MaskAt points point visit

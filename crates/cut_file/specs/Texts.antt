@@ -2,9 +2,7 @@
 use Rattle.std.specs.Prelude.{◌≡◌, ℕ, ◌==◌, nat_le, if◌then◌else◌, Bool, true, List, [], ◌∷◌, ◌++◌, codes, map}
 use Rattle.std.specs.Fmt.{decimal}
 use Rattle.flow_base.specs.HexWords.{hex_word}
-use Rattle.flow_base.specs.declared.points.Slot.{Slot}
-use Rattle.flow_base.specs.declared.points.Slot.TheVariants.{First, Second, Address, Result, Decision, Number, Arg0}
-use Rattle.flow_base.specs.declared.points.Slot.TheVariants.{Arg1, Arg2, SecretIn, ByteOut, Status, OutReg, OutRange}
+use Rattle.flow_base.specs.Points.{slot_text}
 use Rattle.cut_file.specs.declared.points.CutPoint.{CutPoint}
 use Rattle.cut_file.specs.declared.points.Run.{Run}
 use Rattle.cut_file.specs.declared.lines.Line.{Line}
@@ -20,22 +18,6 @@ joined separator (part ∷ (next ∷ parts)) = part ++ (separator ∷ joined sep
 -- words with one space between them
 abbrev pub spaced : List (List ℕ) → List ℕ
 spaced words = joined 32 words
-
-abbrev pub slot_text : Slot → List ℕ
-slot_text First = codes "u1"
-slot_text Second = codes "u2"
-slot_text Address = codes "ad"
-slot_text Result = codes "rs"
-slot_text Decision = codes "de"
-slot_text Number = codes "nr"
-slot_text Arg0 = codes "a0"
-slot_text Arg1 = codes "a1"
-slot_text Arg2 = codes "a2"
-slot_text SecretIn = codes "in"
-slot_text ByteOut = codes "ou"
-slot_text Status = codes "st"
-slot_text (OutReg register) = 120 ∷ decimal register
-slot_text (OutRange range) = 114 ∷ decimal range
 
 -- a count, * and a mask
 abbrev pub run_text : Run → List ℕ

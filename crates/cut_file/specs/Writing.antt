@@ -3,7 +3,8 @@ use Rattle.std.specs.Prelude.{ℕ, List, [], ◌∷◌, ◌++◌, codes, map}
 use Rattle.std.specs.Fmt.{decimal}
 use Rattle.cut_file.specs.declared.points.CutPoint.{CutPoint}
 use Rattle.flow_base.specs.HexWords.{hex_word}
-use Rattle.cut_file.specs.Texts.{rest_text, run_text, slot_text}
+use Rattle.flow_base.specs.Points.{slot_text}
+use Rattle.cut_file.specs.Texts.{rest_text, run_text}
 
 -- words, each behind a space
 abbrev pub led : List (List ℕ) → List ℕ

@@ -1,20 +1,7 @@
 ghost use Rattle.std.specs.Prelude.{◌≡◌, ◌≤◌, ◌+◌, ◌-◌, ◌%◌, length, slice_index_or, IfErr, IfOk};
-ghost use Rattle.flow_base.specs.Points.{width_of};
 ghost use Rattle.cut_file.specs.Masks.{listed_masks, mask_of};
 
 use crate::points::{CutPoint, Run};
-use flow_base::Slot;
-
-// The bits that a value of the slot may have.
-fn width(slot: Slot) -> u32
-    ensures { result ≡ width_of slot }
-{
-    match slot {
-        Slot::Decision => 1,
-        Slot::SecretIn | Slot::ByteOut | Slot::Status | Slot::OutRange(_) => 0xff,
-        _ => 0xffff_ffff,
-    }
-}
 
 // The mask that runs list for a visit, counted from 1; and where they list fewer, how many visits it is behind them.
 fn listed_mask(runs: &[Run], visit: u64) -> Result<u32, u64>
@@ -58,5 +45,5 @@ pub fn mask_at(point: &CutPoint, visit: u64) -> u32
         Ok(mask) => mask,
         Err(later) => pattern_mask(point.rest.as_slice(), later),
     };
-    mask & width(point.point.slot)
+    mask & point.point.slot.width()
 }

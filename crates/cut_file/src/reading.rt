@@ -1,7 +1,6 @@
 ghost use Rattle.std.specs.Prelude.{◌≡◌, ◌≢◌, ◌<◌, ◌≤◌, ◌^◌, length, nat_lt, Err, IfErr, IfOk, IsTrue};
-ghost use Rattle.flow_base.specs.Points.{is_slot};
 ghost use Rattle.cut_file.specs.declared.lines.Line.TheVariants as forms;
-ghost use Rattle.cut_file.specs.Cuts.{CutPicture, are_points, is_below as is_point_below, is_cut_point};
+ghost use Rattle.cut_file.specs.Cuts.{CutPicture, are_points, is_cut_point};
 ghost use Rattle.cut_file.specs.Cuts.{is_point_of, is_region, is_version, stands_before};
 ghost use Rattle.cut_file.specs.Faults.{FirstCutFault};
 ghost use Rattle.cut_file.specs.Fronts.{bare_cut as bare, is_front, version_of};
@@ -18,7 +17,7 @@ use crate::line_forms::line;
 use crate::lines::Line;
 use crate::points::CutPoint;
 use crate::words::divide;
-use flow_base::{List, Point, slot_number};
+use flow_base::List;
 use std::alloc::Global;
 
 // The fault of the line of that number where its form may not stand there.
@@ -42,19 +41,6 @@ fn may_follow_regions(regions: &[u16], region: u16) -> bool
     }
 }
 
-// Whether a point stands before another.
-fn is_below(first: Point, second: Point) -> bool
-    requires first { IsTrue (is_slot first.slot) }
-    requires second { IsTrue (is_slot second.slot) }
-    ensures { result ≡ is_point_below first second }
-{
-    first.region < second.region
-        || (first.region == second.region
-            && (first.address < second.address
-                || (first.address == second.address
-                    && slot_number(first.slot) < slot_number(second.slot))))
-}
-
 // Whether a point may stand behind points.
 fn may_follow_points(points: &[CutPoint], point: &CutPoint) -> bool
     requires points { IsTrue (are_points points.now) }
@@ -62,7 +48,7 @@ fn may_follow_points(points: &[CutPoint], point: &CutPoint) -> bool
     ensures { result ≡ may_follow stands_before points.now point.now }
 {
     match points {
-        [.., last] => is_below(last.point, point.point),
+        [.., last] => last.point.is_below(point.point),
         [] => true,
     }
 }

@@ -1,8 +1,9 @@
 ghost use Rattle.std.specs.Prelude.{◌≡◌, ◌++◌, ◌∷◌, ℕ, IfOk, OnOk, map, codes, []};
 ghost use Rattle.std.specs.Fmt.{decimal};
+ghost use Rattle.flow_base.specs.Points.{slot_text};
 ghost use Rattle.cut_file.specs.Pictures.{picture_of};
 ghost use Rattle.cut_file.specs.Writing.{led, point_pieces};
-ghost use Rattle.cut_file.specs.Texts.{CutText, lines_text, rest_text, run_text, slot_text};
+ghost use Rattle.cut_file.specs.Texts.{CutText, lines_text, rest_text, run_text};
 ghost use Rattle.cut_file.specs.declared.lines.Line.TheVariants.{Bits, Point, Secret, Skip, Version};
 
 use crate::cuts::Cut;
@@ -26,34 +27,12 @@ fn put_number(alloc: Global, text: &mut Vec<u8>, number: u32) -> Result<(), NoMe
     put(text, digits.as_bytes())
 }
 
-// Puts a letter and a number at the end of a text.
-fn put_lettered(alloc: Global, text: &mut Vec<u8>, letter: u8, number: u8) -> Result<(), NoMemory>
-    ensures { OnOk result (text.new.items ≡ text.old.items ++ (letter ∷ decimal number)) }
-{
-    put(text, &[letter])?;
-    put_number(alloc, text, u32::from(number))
-}
-
 // Puts the text of a slot at the end of a text.
 fn put_slot(alloc: Global, text: &mut Vec<u8>, slot: Slot) -> Result<(), NoMemory>
     ensures { OnOk result (text.new.items ≡ text.old.items ++ slot_text slot) }
 {
-    match slot {
-        Slot::First => put(text, b"u1"),
-        Slot::Second => put(text, b"u2"),
-        Slot::Address => put(text, b"ad"),
-        Slot::Result => put(text, b"rs"),
-        Slot::Decision => put(text, b"de"),
-        Slot::Number => put(text, b"nr"),
-        Slot::Arg0 => put(text, b"a0"),
-        Slot::Arg1 => put(text, b"a1"),
-        Slot::Arg2 => put(text, b"a2"),
-        Slot::SecretIn => put(text, b"in"),
-        Slot::ByteOut => put(text, b"ou"),
-        Slot::Status => put(text, b"st"),
-        Slot::OutReg(register) => put_lettered(alloc, text, b'x', register),
-        Slot::OutRange(range) => put_lettered(alloc, text, b'r', range),
-    }
+    let word = format!(in alloc; "{slot}")?;
+    put(text, word.as_bytes())
 }
 
 // Puts a run at the end of a text.

@@ -1,6 +1,7 @@
 use Rattle.std.proofs.Common.{sym, ap, ◌∙◌}
 use Rattle.cut_file.specs.declared.points.CutPoint.{CutPoint}
-use Rattle.cut_file.specs.Cuts.{is_below, stands_before}
+use Rattle.flow_base.specs.PointOrders.{is_below}
+use Rattle.cut_file.specs.Cuts.{stands_before}
 use Rattle.cut_file.proofs.Following.{may_follow-last}
 use Rattle.cut_file.proofs.reading.may_follow_points.Goals as goal
 

@@ -2,8 +2,9 @@ use Rattle.std.proofs.Common.{◌≡◌, List, ℕ, codes, ap, ◌++◌, ◌∙�
 use Rattle.std.specs.Fmt.{decimal}
 use Rattle.cut_file.specs.declared.points.Run.{Run}
 use Rattle.flow_base.specs.HexWords.{hex_word}
+use Rattle.flow_base.specs.Points.{slot_text}
 use Rattle.std.specs.Prelude.{map}
-use Rattle.cut_file.specs.Texts.{rest_text, run_text, slot_text}
+use Rattle.cut_file.specs.Texts.{rest_text, run_text}
 use Rattle.cut_file.specs.Writing.{led}
 use Rattle.cut_file.proofs.Pieces.{joins}
 use Rattle.cut_file.proofs.writing.put_point.Goals as goal
