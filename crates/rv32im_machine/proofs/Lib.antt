@@ -1,6 +1,7 @@
 pub mod Rounds
 pub mod Laying
 pub mod Memories
+pub mod Pages
 pub mod Steps
 pub mod Composing
 pub mod Slots
