@@ -1,5 +1,5 @@
 -- Guest memory at the start has at each address the byte of the segment that holds it, and 0 where none does.
-use Rattle.std.proofs.Common.{◌≡◌, ◌⊎◌, inl, inr, ℕ, ◌+◌, ◌-◌, ◌<◌, ◌≤◌, Bool, true, false, List, [], ◌∷◌, ◌++◌, length, take, drop, replicate, slice_index, refl, sym, ap, ◌∙◌, arith, IsTrue, length-append, length-drop, if◌then◌else◌}
+use Rattle.std.proofs.Common.{◌≡◌, ◌⊎◌, inl, inr, ℕ, ◌+◌, ◌-◌, ◌<◌, ◌≤◌, Bool, true, false, List, [], ◌∷◌, ◌++◌, length, take, drop, replicate, slice_index, slice_index_or, refl, sym, ap, ◌∙◌, arith, IsTrue, length-append, length-drop, if◌then◌else◌}
 use Rattle.std.proofs.lemmas.List.{get_or_append_left, get_or-append_right, get_or-take, get_or-drop, get_or-replicate, get_or_past, length-replicate, length-take-le}
 use Rattle.std.proofs.lemmas.Grind.{common_steps}
 use Rattle.std.proofs.lemmas.Bool.{cases_lt}
@@ -17,7 +17,7 @@ either false = inr refl
 
 -- ---- zeros
 
-zeros-byte : (count index : ℕ) → slice_index (zeros count) index ≡ 0
+pub zeros-byte : (count index : ℕ) → slice_index (zeros count) index ≡ 0
 unfolding zeros
 zeros-byte count index =
     let size : length (replicate {A = ℕ} count 0) ≡ count = length-replicate {A = ℕ} count 0 in
@@ -26,41 +26,44 @@ zeros-byte count index =
       | inr past ↦ get_or_past (replicate {A = ℕ} count 0) index 0 (omega arith)
     ]
 
-zeros-length : (count : ℕ) → length (zeros count) ≡ count
+pub zeros-length : (count : ℕ) → length (zeros count) ≡ count
 unfolding zeros
 zeros-length count = length-replicate {A = ℕ} count 0
 
--- ---- bytes laid over memory
+-- ---- bytes laid over memory, or any list over another
 
-laid_at-length : (at : ℕ) (bytes memory : List ℕ) → at + length bytes ≤ length memory
+pub laid_at-length : {X : Type 0} (at : ℕ) (bytes memory : List X) → at + length bytes ≤ length memory
     → length (laid_at at bytes memory) ≡ length memory
 laid_at-length at bytes memory fits =
     let front : length (take at memory) ≡ at = length-take-le at memory (omega arith) in
     simp (length-append, length-drop, front) (omega arith)
 
-laid_at-below : (at : ℕ) (bytes memory : List ℕ) (index : ℕ) → at + length bytes ≤ length memory → index < at
-    → slice_index (laid_at at bytes memory) index ≡ slice_index memory index
-laid_at-below at bytes memory index fits below =
+pub laid_at-below : {X : Type 0} (at : ℕ) (bytes memory : List X) (index : ℕ) (d : X)
+    → at + length bytes ≤ length memory → index < at
+    → slice_index_or (laid_at at bytes memory) index d ≡ slice_index_or memory index d
+laid_at-below at bytes memory index d fits below =
     let front : length (take at memory) ≡ at = length-take-le at memory (omega arith) in
-    get_or_append_left (take at memory) (bytes ++ drop (at + length bytes) memory) 0 index (omega arith)
-    ∙ get_or-take at memory index 0 below
+    get_or_append_left (take at memory) (bytes ++ drop (at + length bytes) memory) d index (omega arith)
+    ∙ get_or-take at memory index d below
 
-laid_at-within : (at : ℕ) (bytes memory : List ℕ) (index : ℕ) → at + length bytes ≤ length memory → at ≤ index
-    → index < at + length bytes → slice_index (laid_at at bytes memory) index ≡ slice_index bytes (index - at)
-laid_at-within at bytes memory index fits above below =
+pub laid_at-within : {X : Type 0} (at : ℕ) (bytes memory : List X) (index : ℕ) (d : X)
+    → at + length bytes ≤ length memory → at ≤ index → index < at + length bytes
+    → slice_index_or (laid_at at bytes memory) index d ≡ slice_index_or bytes (index - at) d
+laid_at-within at bytes memory index d fits above below =
     let front : length (take at memory) ≡ at = length-take-le at memory (omega arith) in
-    get_or-append_right (take at memory) (bytes ++ drop (at + length bytes) memory) at index 0 front above
-    ∙ get_or_append_left bytes (drop (at + length bytes) memory) 0 (index - at) (omega arith)
+    get_or-append_right (take at memory) (bytes ++ drop (at + length bytes) memory) at index d front above
+    ∙ get_or_append_left bytes (drop (at + length bytes) memory) d (index - at) (omega arith)
 
-laid_at-above : (at : ℕ) (bytes memory : List ℕ) (index : ℕ) → at + length bytes ≤ length memory
-    → at + length bytes ≤ index → slice_index (laid_at at bytes memory) index ≡ slice_index memory index
-laid_at-above at bytes memory index fits above =
+pub laid_at-above : {X : Type 0} (at : ℕ) (bytes memory : List X) (index : ℕ) (d : X)
+    → at + length bytes ≤ length memory → at + length bytes ≤ index
+    → slice_index_or (laid_at at bytes memory) index d ≡ slice_index_or memory index d
+laid_at-above at bytes memory index d fits above =
     let front : length (take at memory) ≡ at = length-take-le at memory (omega arith) in
     let same : at + length bytes + (index - at - length bytes) ≡ index = omega arith in
-    get_or-append_right (take at memory) (bytes ++ drop (at + length bytes) memory) at index 0 front (omega arith)
-    ∙ get_or-append_right bytes (drop (at + length bytes) memory) (length bytes) (index - at) 0 refl (omega arith)
-    ∙ get_or-drop (at + length bytes) memory (index - at - length bytes) 0
-    ∙ ap (λ (n : ℕ). slice_index memory n) same
+    get_or-append_right (take at memory) (bytes ++ drop (at + length bytes) memory) at index d front (omega arith)
+    ∙ get_or-append_right bytes (drop (at + length bytes) memory) (length bytes) (index - at) d refl (omega arith)
+    ∙ get_or-drop (at + length bytes) memory (index - at - length bytes) d
+    ∙ ap (λ (n : ℕ). slice_index_or memory n d) same
 
 -- ---- segments laid over memory
 
@@ -147,7 +150,7 @@ held-byte base segment memory address low high inside =
     let above : segment.address ≤ address = begins-below segment address inside in
     let below : address < end_of segment = ends-above segment address inside in
     let same : (address - base) - (segment.address - base) ≡ address - segment.address = omega arith in
-    laid_at-within (segment.address - base) segment.bytes memory (address - base) (omega arith) (omega arith) (omega arith)
+    laid_at-within (segment.address - base) segment.bytes memory (address - base) 0 (omega arith) (omega arith) (omega arith)
     ∙ ap (λ (n : ℕ). slice_index segment.bytes n) same
 
 other-byte : (base : ℕ) (segment : Segment) (memory : List ℕ) (address : ℕ) → base ≤ segment.address
@@ -155,8 +158,8 @@ other-byte : (base : ℕ) (segment : Segment) (memory : List ℕ) (address : ℕ
     → slice_index (laid_at (segment.address - base) segment.bytes memory) (address - base)
     ≡ slice_index memory (address - base)
 other-byte base segment memory address low high above none = elim (outside segment address none) [
-  | inl before ↦ laid_at-below (segment.address - base) segment.bytes memory (address - base) (omega arith) (omega arith)
-  | inr after ↦ laid_at-above (segment.address - base) segment.bytes memory (address - base) (omega arith) (omega arith)
+  | inl before ↦ laid_at-below (segment.address - base) segment.bytes memory (address - base) 0 (omega arith) (omega arith)
+  | inr after ↦ laid_at-above (segment.address - base) segment.bytes memory (address - base) 0 (omega arith) (omega arith)
 ]
 
 -- of segments laid over memory an address has the byte of the one that holds it, and else what memory had

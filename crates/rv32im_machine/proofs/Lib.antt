@@ -1,4 +1,5 @@
 pub mod Rounds
 pub mod Laying
 pub mod Memories
+pub mod Pages
 pub mod Steps

@@ -7,4 +7,5 @@ pub mod Parts
 pub mod Passings
 pub mod Playing
 pub mod Start
+pub mod Pages
 pub mod Laws

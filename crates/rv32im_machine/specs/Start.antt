@@ -11,8 +11,8 @@ use Rattle.rv32im_machine.specs.State.{State, byte_of}
 unfoldable pub zeros : ℕ → List ℕ
 zeros count = replicate count 0
 
--- bytes laid over memory from an index on
-abbrev pub laid_at : ℕ → List ℕ → List ℕ → List ℕ
+-- bytes laid over memory, or any list over another, from an index on
+abbrev pub laid_at : {X : Type 0} → ℕ → List X → List X → List X
 laid_at index bytes memory = take index memory ++ (bytes ++ drop (index + length bytes) memory)
 
 -- segments laid over memory, one after another

@@ -3,6 +3,7 @@
 #![tactic(auto)]
 
 mod calls;
+mod guest_memory;
 mod jumps;
 mod language;
 mod laws;
@@ -19,6 +20,7 @@ mod starting;
 mod stepping;
 mod walker;
 
+pub use guest_memory::GuestMemory;
 pub use language::{Aim, Operation, Part, Passing, Place, Seen, Shape, Source, Sources, Work};
 pub use laws::{ended_machines_stand_still, next_follows_the_step};
 pub use machines::Machine;

@@ -6,7 +6,7 @@ ghost use Rattle.rv32im_decode.specs.Encoding.{InRange};
 ghost use Rattle.guest_calls.specs.Calls.{is_inside};
 ghost use Rattle.rv32im_machine.specs.State.{joined};
 ghost use Rattle.rv32im_machine.specs.Language.{shaped, part_of, turn_walk, walk, Held, bytes_at};
-ghost use Rattle.rv32im_machine.specs.Rows.{row_walk, load_checked, store_checked, stores, load_at, store_at, loaded_from};
+ghost use Rattle.rv32im_machine.specs.Rows.{row_walk, load_checked, store_checked, stores, store_at, loaded_from};
 ghost use Rattle.rv32im_machine.specs.Playing.{Knows, outcome};
 
 use crate::language::{Aim, Part, Passing, Place, Shape, Source, Sources, Work};
@@ -33,11 +33,11 @@ pub(crate) fn load_turn<P: Passer>(
 {
     let first = operand(machine, passer, Slot::First, Aim::Put(Place::First), rs1)?;
     let address = decided_address(machine, passer, first, imm.cast_unsigned())?;
-    checked_load(machine, passer, kind, rd, address)
+    load_from(machine, passer, kind, rd, address)
 }
 
 /// The rest of a load, once its address is decided.
-fn checked_load<P: Passer>(
+fn load_from<P: Passer>(
     machine: &mut Machine,
     passer: &mut P,
     kind: LoadKind,
@@ -51,31 +51,11 @@ fn checked_load<P: Passer>(
         machine.old.store held)
         (outcome result machine.new (P.tape passer.new)) }
 {
-    if machine.is_inside(address, kind.size()) {
-        load_from(machine, passer, kind, rd, address)
-    } else {
+    if !machine.is_inside(address, kind.size()) {
         let pc = machine.pc();
         machine.end(Stepped::Stopped(Fault::LoadOutside { pc, address }));
-        Ok(())
+        return Ok(());
     }
-}
-
-/// The rest of a load, once its address is inside guest memory.
-fn load_from<P: Passer>(
-    machine: &mut Machine,
-    passer: &mut P,
-    kind: LoadKind,
-    rd: u8,
-    address: u32,
-) -> Result<(), P::Stop>
-    requires memory { Knows (P.memory passer.old) machine.old.setting.base }
-    requires rd { rd < 32 }
-    requires inside { IsTrue (is_inside machine.old.setting.base address (load_size kind)) }
-    requires below { address + load_size kind ≤ 2 ^ 32 }
-    ensures { (held : Held) →
-        P.Plays passer.old (walk machine.old (load_at kind rd address machine.old.control) machine.old.store held)
-        (outcome result machine.new (P.tape passer.new)) }
-{
     let value = passer.pass(Passing {
         point: machine.point(Slot::Result),
         aim: Aim::Put(Place::Register(rd)),

@@ -9,6 +9,7 @@ ghost use Rattle.rv32im_machine.specs.Language.{with_store, with_control};
 ghost use Rattle.rv32im_machine.specs.Calls.{point};
 ghost use Rattle.rv32im_machine.specs.Start.{start_on};
 
+use crate::guest_memory::GuestMemory;
 use crate::stepping::Stepped;
 use flow_base::{Bytes, MEMORY_SIZE, Point, Registers, Slot};
 use guest_calls::{WriteCheck, move_break, write_check};
@@ -18,7 +19,7 @@ use std::marker::Model;
 #[derive(Drop)]
 pub struct Machine {
     base: u32,
-    memory: Vec<u8>,
+    memory: GuestMemory,
     registers: Registers,
     kept: Registers,
     pc: u32,
@@ -59,10 +60,10 @@ impl Model for Machine {
         mode = m.mode;
         region = m.region;
       };
-      store = record { registers = m.registers; memory = m.memory.items; kept = m.kept };
+      store = record { registers = m.registers; memory = m.memory; kept = m.kept };
     } };
 
-    ghost invariant = { λ m. (vec_len m.memory ≡ memory_size) × (m.base + memory_size < 2 ^ 32)
+    ghost invariant = { λ m. (m.base + memory_size < 2 ^ 32)
         × (m.public_at ≤ length m.public)
         × (m.secret_at ≤ length m.secret) × (length m.secret < 2 ^ 32)
         × (vec_len m.output ≤ m.output_limit) × (m.output_limit ≤ vec_capacity m.output) };
@@ -74,18 +75,17 @@ impl Machine {
         base: u32,
         entry: u32,
         start_break: u32,
-        memory: Vec<u8>,
+        memory: GuestMemory,
         public: Bytes,
         secret: Bytes,
         output: Vec<u8>,
         output_limit: u32,
     ) -> Machine
-        requires size { vec_len memory ≡ memory_size }
         requires base { base + memory_size < 2 ^ 32 }
         requires secret { length secret < 2 ^ 32 }
         requires output { output.items ≡ [] }
         requires room { output_limit ≤ vec_capacity output }
-        ensures { result ≡ start_on memory.items base entry start_break public secret output_limit }
+        ensures { result ≡ start_on memory base entry start_break public secret output_limit }
     {
         let mut registers = Registers::new();
         registers.set(2, base + MEMORY_SIZE - 64);
@@ -141,6 +141,15 @@ impl Machine {
         ensures { result ≡ self.control.output }
     {
         Bytes::from_vec(self.output)
+    }
+
+    /// The bytes that were written and guest memory, handed out, the second for another guest to begin in. It takes no
+    /// memory.
+    pub fn into_parts(self) -> (Bytes, GuestMemory)
+        ensures output { result.0 ≡ self.control.output }
+        ensures memory { result.1 ≡ self.store.memory }
+    {
+        (Bytes::from_vec(self.output), self.memory)
     }
 
     /// Whether the machine has run on, has exited or is stopped.
@@ -214,7 +223,7 @@ impl Machine {
         requires { IsTrue (is_inside self.now.setting.base address 1) }
         ensures { result ≡ byte_of self.now.setting.base self.now.store address }
     {
-        self.memory[(address - self.base) as usize]
+        self.memory.byte((address - self.base) as usize)
     }
 
     /// The four bytes from an address on as a word, the lowest byte first.
@@ -223,10 +232,10 @@ impl Machine {
         ensures { result ≡ word_at self.now.setting.base self.now.store address }
     {
         let index = (address - self.base) as usize;
-        let byte0 = self.memory[index];
-        let byte1 = self.memory[index + 1];
-        let byte2 = self.memory[index + 2];
-        let byte3 = self.memory[index + 3];
+        let byte0 = self.memory.byte(index);
+        let byte1 = self.memory.byte(index + 1);
+        let byte2 = self.memory.byte(index + 2);
+        let byte3 = self.memory.byte(index + 3);
         u32::from(byte0)
             + 256 * (u32::from(byte1) + 256 * (u32::from(byte2) + 256 * u32::from(byte3)))
     }
@@ -244,8 +253,7 @@ impl Machine {
         requires { IsTrue (is_inside self.old.setting.base address 1) }
         ensures { self.new ≡ with_store (with_byte self.old.setting.base address value self.old.store) self.old }
     {
-        let index = (address - self.base) as usize;
-        self.memory[index] = value;
+        self.memory.set((address - self.base) as usize, value);
     }
 
     /// Sets the program counter, an address.

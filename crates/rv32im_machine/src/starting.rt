@@ -1,41 +1,29 @@
-ghost use Rattle.std.specs.Prelude.{◌≡◌, ◌+◌, ◌-◌, ◌^◌, ◌<◌, ◌≤◌, IfOk, IsTrue, length, vec_len};
+ghost use Rattle.std.specs.Prelude.{◌≡◌, ◌+◌, ◌-◌, ◌^◌, ◌<◌, ◌≤◌, IfOk, IsTrue, length};
 ghost use Rattle.flow_base.specs.Guests.{memory_size};
 ghost use Rattle.elf32_loader.specs.Images.{picture_of};
 ghost use Rattle.elf32_loader.specs.Segments.{are_inside, end_of};
-ghost use Rattle.rv32im_machine.specs.Start.{HoldsImage, zeros, laid, laid_at, top_of, first_break, start};
+ghost use Rattle.rv32im_machine.specs.Start.{HoldsImage, laid, laid_at, top_of, first_break, start};
 
+use crate::guest_memory::GuestMemory;
 use crate::machines::Machine;
 use elf32_loader::{Image, Segment};
-use flow_base::{Bytes, MEMORY_SIZE, NoMemory};
-use std::alloc::{AllocError, Global};
-
-/// So many zeros.
-#[tactic(auto, unfolding(crate::specs::Start::zeros))]
-fn zeroed(alloc: Global, count: usize) -> Result<Vec<u8>, AllocError>
-    ensures zeros { IfOk result (λ memory. memory.items ≡ zeros count) }
-    ensures length { IfOk result (λ memory. vec_len memory ≡ count) }
-{
-    vec![in alloc; 0; count]
-}
+use flow_base::{Bytes, NoMemory};
+use std::alloc::Global;
 
 /// Lays a segment over memory.
-fn lay_segment(memory: &mut Vec<u8>, base: u32, segment: &Segment)
+fn lay_segment(memory: &mut GuestMemory, base: u32, segment: &Segment)
     requires low { base ≤ segment.now.address }
-    requires high { segment.now.address + length segment.now.bytes ≤ base + vec_len memory.old }
-    ensures laid { memory.new.items ≡ laid_at (segment.now.address - base) segment.now.bytes memory.old.items }
-    ensures length { vec_len memory.new ≡ vec_len memory.old }
+    requires high { segment.now.address + length segment.now.bytes ≤ base + memory_size }
+    ensures { memory.new ≡ laid_at (segment.now.address - base) segment.now.bytes memory.old }
 {
     let bytes = segment.bytes.as_slice();
-    let at = (segment.address - base) as usize;
-    memory[at..at + bytes.len()].copy_from_slice(bytes);
+    memory.lay((segment.address - base) as usize, bytes);
 }
 
 /// Lays segments over memory, one after another.
-fn lay_segments(memory: &mut Vec<u8>, base: u32, segments: &[Segment])
-    requires inside { IsTrue (are_inside base segments.now) }
-    requires size { vec_len memory.old ≡ memory_size }
-    ensures laid { memory.new.items ≡ laid base segments.now memory.old.items }
-    ensures length { vec_len memory.new ≡ vec_len memory.old }
+fn lay_segments(memory: &mut GuestMemory, base: u32, segments: &[Segment])
+    requires { IsTrue (are_inside base segments.now) }
+    ensures { memory.new ≡ laid base segments.now memory.old }
 {
     let mut rest = segments;
     while let [segment, more @ ..] = rest {
@@ -82,7 +70,6 @@ impl Machine {
     ///
     /// It has copies of both inputs, and room for `output_limit` bytes of output, so no later call takes memory.
     /// `NoMemory` comes where there is not enough.
-    #[tactic(auto, unfolding(crate::specs::Start::first_memory))]
     pub fn new(
         alloc: Global,
         image: &Image,
@@ -95,7 +82,28 @@ impl Machine {
             machine ≡ start (picture_of image.now) public.now secret.now output_limit) }
         ensures memory { IfOk result (λ machine. HoldsImage (picture_of image.now) machine) }
     {
-        let mut memory = zeroed(alloc, MEMORY_SIZE as usize)?;
+        let memory = GuestMemory::new(alloc)?;
+        Machine::new_in(memory, alloc, image, public, secret, output_limit)
+    }
+
+    /// The same guest at its start in guest memory that may have been another's: what was there is gone, so a run from
+    /// here is that of a fresh start. It takes the time of what the other has written and of the image.
+    #[tactic(auto, unfolding(crate::specs::Start::first_memory))]
+    pub fn new_in(
+        memory: GuestMemory,
+        alloc: Global,
+        image: &Image,
+        public: &Bytes,
+        secret: &Bytes,
+        output_limit: u32,
+    ) -> Result<Machine, NoMemory>
+        requires { length secret.now < 2 ^ 32 }
+        ensures start { IfOk result (λ machine.
+            machine ≡ start (picture_of image.now) public.now secret.now output_limit) }
+        ensures memory { IfOk result (λ machine. HoldsImage (picture_of image.now) machine) }
+    {
+        let mut memory = memory;
+        memory.clear();
         lay_segments(&mut memory, image.base, image.segments.as_slice());
         let public = Bytes::from_slice(alloc, public.as_slice())?;
         let secret = Bytes::from_slice(alloc, secret.as_slice())?;

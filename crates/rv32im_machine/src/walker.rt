@@ -4,7 +4,7 @@ ghost use Rattle.std.specs.Prelude.{◌≡◌};
 ghost use Rattle.rv32im_decode.specs.Encoding.{InRange, decoded};
 ghost use Rattle.rv32im_machine.specs.State.{onward};
 ghost use Rattle.rv32im_machine.specs.Language.{turn_walk, Ends};
-ghost use Rattle.rv32im_machine.specs.Rows.{row_walk, stops, fetched, running, walk_of};
+ghost use Rattle.rv32im_machine.specs.Rows.{row_walk, stops, running, walk_of};
 ghost use Rattle.rv32im_machine.specs.Playing.{Knows, outcome};
 
 use crate::calls::call_turn;
@@ -37,28 +37,14 @@ fn running_turn<P: Passer>(machine: &mut Machine, passer: &mut P) -> Result<(), 
         (outcome result machine.new (P.tape passer.new)) }
 {
     let pc = machine.pc();
-    if machine.is_inside(pc, 4) {
-        let word = machine.word(pc);
-        passer.look(Seen::Word(pc), word)?;
-        fetched_turn(machine, passer, word)
-    } else {
-        stop(machine, passer, Fault::FetchOutside { pc })
+    if !machine.is_inside(pc, 4) {
+        return stop(machine, passer, Fault::FetchOutside { pc });
     }
-}
-
-/// The turn of a fetched word.
-fn fetched_turn<P: Passer>(machine: &mut Machine, passer: &mut P, word: u32) -> Result<(), P::Stop>
-    requires memory { Knows (P.memory passer.old) machine.old.setting.base }
-    ensures { P.Plays passer.old
-        (turn_walk machine.old (fetched (decoded word) word machine.old.setting machine.old.control))
-        (outcome result machine.new (P.tape passer.new)) }
-{
+    let word = machine.word(pc);
+    passer.look(Seen::Word(pc), word)?;
     match decode(word) {
         Some(instr) => instr_turn(machine, passer, instr),
-        None => {
-            let pc = machine.pc();
-            stop(machine, passer, Fault::Illegal { pc, word })
-        }
+        None => stop(machine, passer, Fault::Illegal { pc, word }),
     }
 }
 

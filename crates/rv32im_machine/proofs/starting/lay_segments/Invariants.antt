@@ -1,4 +1,4 @@
-use Rattle.std.proofs.Common.{◌≡◌, IsTrue, length, vec_len}
+use Rattle.std.proofs.Common.{◌≡◌, IsTrue, length}
 use Rattle.elf32_loader.specs.Segments.{are_inside}
 use Rattle.rv32im_machine.specs.Start.{laid}
 use Rattle.rv32im_machine.proofs.starting.lay_segments.Given as goal
@@ -6,9 +6,7 @@ use Rattle.rv32im_machine.proofs.starting.lay_segments.Given as goal
 abbrev pub invariant-loop-rest : goal.invariant-loop-rest
 invariant-loop-rest l = record {
   inside : IsTrue (are_inside l.base l.rest);
-  length : vec_len l.memory ≡ vec_len l.initial.memory;
-  size : vec_len l.memory ≡ 16777216;
-  laid : laid l.base l.rest l.memory.items ≡ laid l.base l.segments l.initial.memory.items;
+  laid : laid l.base l.rest l.memory ≡ laid l.base l.segments l.initial.memory;
 }
 
 abbrev pub decreases-loop-rest : goal.decreases-loop-rest

@@ -1,0 +1,168 @@
+ghost use Rattle.std.specs.Prelude.{◌≡◌, ◌+◌, ◌-◌, ◌*◌, ◌/◌, ◌<◌, ◌≤◌, IfOk, length, replicate, slice_index, slice_set, true, vec_len};
+ghost use Rattle.flow_base.specs.Guests.{memory_size};
+ghost use Rattle.rv32im_machine.specs.Pages.{AreZeroBelow, AreZeroUntouched};
+ghost use Rattle.rv32im_machine.specs.Start.{zeros, laid_at};
+
+use flow_base::{MEMORY_SIZE, NoMemory};
+use std::alloc::Global;
+use std::marker::Model;
+
+/// The bytes of a page.
+const PAGE_SIZE: usize = 4096;
+
+/// The pages of guest memory.
+const PAGES: usize = 4096;
+
+/// The 16 MiB of guest memory; contracts see the bytes. It knows which pages were touched since all bytes were 0, and
+/// so a run can begin on the memory of another run for the price of the pages that the other has written.
+#[derive(Drop)]
+pub struct GuestMemory {
+    bytes: Vec<u8>,
+    touched: Vec<bool>,
+}
+
+impl Model for GuestMemory {
+    ghost use Rattle.std.specs.Prelude.{◌≡◌, ℕ, List, vec_len};
+    ghost use Rattle.flow_base.specs.Guests.{memory_size};
+    ghost use Rattle.rv32im_machine.specs.Pages.{AreZeroUntouched};
+
+    ghost Value = { List ℕ };
+
+    ghost view = { λ m. m.bytes.items };
+
+    ghost invariant = { λ m. (vec_len m.bytes ≡ memory_size) × (vec_len m.touched ≡ 4096)
+        × AreZeroUntouched m.touched.items m.bytes.items };
+}
+
+/// So many zeros.
+#[tactic(auto, unfolding(crate::specs::Start::zeros))]
+fn zeroed(alloc: Global, count: usize) -> Result<Vec<u8>, NoMemory>
+    ensures zeros { IfOk result (λ bytes. bytes.items ≡ zeros count) }
+    ensures length { IfOk result (λ bytes. vec_len bytes ≡ count) }
+{
+    Ok(vec![in alloc; 0; count]?)
+}
+
+/// So many pages that are not touched.
+fn untouched(alloc: Global, count: usize) -> Result<Vec<bool>, NoMemory>
+    ensures { IfOk result (λ touched. vec_len touched ≡ count) }
+{
+    Ok(vec![in alloc; false; count]?)
+}
+
+/// Touches pages from a page on, up to another.
+fn touch(touched: &mut Vec<bool>, from: usize, end: usize)
+    requires low { from ≤ end }
+    requires high { end ≤ vec_len touched.old }
+    ensures pages { touched.new.items ≡ laid_at from (replicate (end - from) true) touched.old.items }
+    ensures length { vec_len touched.new ≡ vec_len touched.old }
+{
+    touched[from..end].fill(true);
+}
+
+/// Lays bytes over others from an index on.
+fn lay_over(under: &mut Vec<u8>, index: usize, bytes: &[u8])
+    requires { index + length bytes.now ≤ vec_len under.old }
+    ensures laid { under.new.items ≡ laid_at index bytes.now under.old.items }
+    ensures length { vec_len under.new ≡ vec_len under.old }
+{
+    under[index..index + bytes.len()].copy_from_slice(bytes);
+}
+
+/// Zeroes bytes from an index on, up to another.
+#[tactic(auto, unfolding(crate::specs::Start::zeros))]
+fn zero(bytes: &mut Vec<u8>, from: usize, end: usize)
+    requires low { from ≤ end }
+    requires high { end ≤ vec_len bytes.old }
+    ensures zeros { bytes.new.items ≡ laid_at from (zeros (end - from)) bytes.old.items }
+    ensures length { vec_len bytes.new ≡ vec_len bytes.old }
+{
+    bytes[from..end].fill(0);
+}
+
+/// Zeroes a page where it is touched, once the pages below it are 0.
+#[tactic(auto, using(crate::proofs::Pages::zeroed_untouched, crate::proofs::Pages::zeroed_below, crate::proofs::Pages::passed_below))]
+fn zero_page(bytes: &mut Vec<u8>, touched: &[bool], page: usize)
+    requires page { page < 4096 }
+    requires length { vec_len bytes.old ≡ memory_size }
+    requires pages { length touched.now ≡ 4096 }
+    requires untouched { AreZeroUntouched touched.now bytes.old.items }
+    requires below { AreZeroBelow (page * 4096) bytes.old.items }
+    ensures untouched { AreZeroUntouched touched.now bytes.new.items }
+    ensures below { AreZeroBelow ((page + 1) * 4096) bytes.new.items }
+    ensures length { vec_len bytes.new ≡ vec_len bytes.old }
+{
+    if touched[page] {
+        zero(bytes, page * PAGE_SIZE, (page + 1) * PAGE_SIZE);
+    }
+}
+
+/// Zeroes the pages that are touched.
+#[tactic(auto, using(crate::proofs::Pages::all_zeros))]
+fn zero_touched(bytes: &mut Vec<u8>, touched: &[bool])
+    requires length { vec_len bytes.old ≡ memory_size }
+    requires pages { length touched.now ≡ 4096 }
+    requires untouched { AreZeroUntouched touched.now bytes.old.items }
+    ensures zeros { bytes.new.items ≡ zeros memory_size }
+    ensures length { vec_len bytes.new ≡ vec_len bytes.old }
+{
+    for page in 0..PAGES {
+        zero_page(bytes, touched, page);
+    }
+}
+
+impl GuestMemory {
+    /// Guest memory whose bytes are 0. `NoMemory` where there is not enough; no later call takes memory.
+    #[tactic(auto, using(crate::proofs::Pages::zeros_untouched))]
+    pub fn new(alloc: Global) -> Result<GuestMemory, NoMemory>
+        ensures { IfOk result (λ memory. memory ≡ zeros memory_size) }
+    {
+        let bytes = zeroed(alloc, MEMORY_SIZE as usize)?;
+        let touched = untouched(alloc, PAGES)?;
+        Ok(GuestMemory { bytes, touched })
+    }
+
+    /// The byte with this index, counted from the lowest address.
+    #[inline(always)]
+    pub(crate) fn byte(&self, index: usize) -> u8
+        requires { index < memory_size }
+        ensures { result ≡ slice_index self.now index }
+    {
+        self.bytes[index]
+    }
+
+    /// Sets the byte with this index.
+    #[inline(always)]
+    #[tactic(auto, using(crate::proofs::Pages::set_untouched))]
+    pub(crate) fn set(&mut self, index: usize, value: u8)
+        requires { index < memory_size }
+        ensures { self.new ≡ slice_set self.old index value }
+    {
+        self.bytes[index] = value;
+        self.touched[index / PAGE_SIZE] = true;
+    }
+
+    /// Lays bytes over memory from an index on.
+    #[tactic(auto, using(crate::proofs::Pages::laid_untouched))]
+    pub(crate) fn lay(&mut self, index: usize, bytes: &[u8])
+        requires { index + length bytes.now ≤ memory_size }
+        ensures { self.new ≡ laid_at index bytes.now self.old }
+    {
+        let end = index + bytes.len();
+        lay_over(&mut self.bytes, index, bytes);
+        touch(
+            &mut self.touched,
+            index / PAGE_SIZE,
+            end.div_ceil(PAGE_SIZE),
+        );
+    }
+
+    /// Zeroes every byte, in the time of the pages that are touched.
+    #[tactic(auto, using(crate::proofs::Pages::zeros_untouched))]
+    pub(crate) fn clear(&mut self)
+        ensures { self.new ≡ zeros memory_size }
+    {
+        zero_touched(&mut self.bytes, self.touched.as_slice());
+        self.touched.fill(false);
+    }
+}
