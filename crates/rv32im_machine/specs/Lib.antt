@@ -8,3 +8,4 @@ pub mod Passings
 pub mod Playing
 pub mod Start
 pub mod Laws
+pub mod FaultTexts
