@@ -13,3 +13,4 @@ pub mod Turning
 pub mod Beginnings
 pub mod Checks
 pub mod Standings
+pub mod VerdictTexts

@@ -3,6 +3,8 @@ use enclosure_regions::Break;
 use flow_base::Output;
 use replay_machine::Mark;
 use rv32im_machine::Fault;
+use std::fmt;
+use thiserror::Error;
 
 /// Why a replay stops.
 #[derive(Clone, Copy, Debug, PartialEq, Eq)]
@@ -18,7 +20,7 @@ pub enum ReplayStop {
 
 /// Why a secret is rejected: the first condition that fails, by turn, and within a turn in this order; but the last one
 /// is tested before the first turn.
-#[derive(Clone, Copy, Debug, PartialEq, Eq)]
+#[derive(Clone, Copy, Debug, PartialEq, Eq, Error)]
 pub enum Why {
     /// The real run is stopped in this turn.
     RealFault(Fault),
@@ -46,4 +48,45 @@ pub enum Verdict {
     /// The secret is accepted, with its crossing bits and the output of its run.
     Accepted { bits: Bits, output: Output },
     Rejected(Why),
+}
+
+impl fmt::Display for ReplayStop {
+    ghost use Rattle.std.specs.Prelude.{Some};
+    ghost use Rattle.lockstep_replay.specs.VerdictTexts.{replay_stop_text};
+
+    ghost output = { λ stop. Some (replay_stop_text stop) };
+
+    fn fmt<W: fmt::Write>(&self, f: &mut fmt::Formatter<W>) -> fmt::Result {
+        match *self {
+            ReplayStop::Guest(fault) => write!(f, "guest {fault}"),
+            ReplayStop::RangeOutside { region, range } => {
+                write!(f, "{}", Break::RangeOutside { region, range })
+            }
+            ReplayStop::Short { missing } => write!(f, "short {missing}"),
+        }
+    }
+}
+
+impl fmt::Display for Why {
+    ghost use Rattle.std.specs.Prelude.{Some};
+    ghost use Rattle.lockstep_replay.specs.VerdictTexts.{why_text};
+
+    ghost output = { λ why. Some (why_text why) };
+
+    fn fmt<W: fmt::Write>(&self, f: &mut fmt::Formatter<W>) -> fmt::Result {
+        match *self {
+            Why::RealFault(fault) => write!(f, "guest {fault}"),
+            Why::RegionBreak(broken) => write!(f, "{broken}"),
+            Why::BudgetOverrun { budget, needed } => write!(f, "budget {budget} needed {needed}"),
+            Why::ReplayFault(stop) => write!(f, "replay {stop}"),
+            Why::Parted { real, replay } => write!(f, "parted real {real} replay {replay}"),
+            Why::OutputDiffers {
+                index,
+                real,
+                replay,
+            } => write!(f, "output index {index} real {real} replay {replay}"),
+            Why::TurnLimit { limit } => write!(f, "turns {limit}"),
+            Why::SecretLength { cut, got } => write!(f, "secret-length cut {cut} got {got}"),
+        }
+    }
 }

@@ -6,3 +6,4 @@ pub mod Tables
 pub mod Sides
 pub mod Ends
 pub mod Standing
+pub mod MarkTexts

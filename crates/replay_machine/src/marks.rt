@@ -1,3 +1,6 @@
+use flow_base::HexWord;
+use std::fmt;
+
 /// Where a run stands after a turn, as far as a real run and its replay must agree.
 #[derive(Clone, Copy, Debug, PartialEq, Eq)]
 pub struct Mark {
@@ -9,4 +12,19 @@ pub struct Mark {
     pub output: u32,
     /// Whether the run has exited.
     pub exited: bool,
+}
+
+impl fmt::Display for Mark {
+    ghost use Rattle.std.specs.Prelude.{Some};
+    ghost use Rattle.replay_machine.specs.MarkTexts.{mark_text};
+
+    ghost output = { λ mark. Some (mark_text mark) };
+
+    fn fmt<W: fmt::Write>(&self, f: &mut fmt::Formatter<W>) -> fmt::Result {
+        let address = HexWord(self.address);
+        let bits = self.bits;
+        let output = self.output;
+        let ended = if self.exited { "exited" } else { "running" };
+        write!(f, "{address} bits {bits} output {output} {ended}")
+    }
 }

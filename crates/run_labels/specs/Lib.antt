@@ -5,3 +5,4 @@ pub mod Looking
 pub mod Answers
 pub mod Runs
 pub mod Laws
+pub mod FaultTexts

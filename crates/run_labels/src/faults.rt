@@ -1,10 +1,13 @@
 use enclosure_regions::Break;
+use flow_base::HexWord;
 use rv32im_machine::Fault;
+use std::fmt;
+use thiserror::Error;
 
 /// Why a run is not measured: the first of these in the first turn in which one holds. Within one instruction a fetch
 /// outside of guest memory comes before secret code, and that before all else; at an entry a secret base register comes
 /// before a range outside of guest memory.
-#[derive(Clone, Copy, Debug, PartialEq, Eq)]
+#[derive(Clone, Copy, Debug, PartialEq, Eq, Error)]
 pub enum MeasureFault {
     /// The guest is stopped.
     Guest(Fault),
@@ -21,4 +24,25 @@ pub enum MeasureFault {
     GraphLimit,
     /// There is not enough memory.
     Memory,
+}
+
+impl fmt::Display for MeasureFault {
+    ghost use Rattle.std.specs.Prelude.{Some};
+    ghost use Rattle.run_labels.specs.FaultTexts.{run_fault_text};
+
+    ghost output = { λ fault. Some (run_fault_text fault) };
+
+    fn fmt<W: fmt::Write>(&self, f: &mut fmt::Formatter<W>) -> fmt::Result {
+        match *self {
+            MeasureFault::Guest(fault) => write!(f, "{fault}"),
+            MeasureFault::Region(broken) => write!(f, "{broken}"),
+            MeasureFault::TurnLimit { limit } => write!(f, "turns {limit}"),
+            MeasureFault::SecretCode { pc } => write!(f, "secret-code {}", HexWord(pc)),
+            MeasureFault::BaseSecret { region, register } => {
+                write!(f, "region {region} base x{register} secret")
+            }
+            MeasureFault::GraphLimit => write!(f, "graph-limit"),
+            MeasureFault::Memory => write!(f, "memory"),
+        }
+    }
 }

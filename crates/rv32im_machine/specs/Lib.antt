@@ -9,3 +9,4 @@ pub mod Playing
 pub mod Start
 pub mod Pages
 pub mod Laws
+pub mod FaultTexts

@@ -1,5 +1,9 @@
+use flow_base::HexWord;
+use std::fmt;
+use thiserror::Error;
+
 /// Why a guest is stopped, with the program counter (`pc`) of the instruction that stopped it. Addresses are in bytes.
-#[derive(Clone, Copy, Debug, PartialEq, Eq)]
+#[derive(Clone, Copy, Debug, PartialEq, Eq, Error)]
 pub enum Fault {
     /// The word at `pc` is no instruction.
     Illegal { pc: u32, word: u32 },
@@ -54,4 +58,39 @@ pub enum CallPlan {
     Exit,
     /// The guest is stopped.
     Stop(Fault),
+}
+
+impl fmt::Display for Fault {
+    ghost use Rattle.std.specs.Prelude.{Some};
+    ghost use Rattle.rv32im_machine.specs.FaultTexts.{stop_text};
+
+    ghost output = { λ fault. Some (stop_text fault) };
+
+    fn fmt<W: fmt::Write>(&self, f: &mut fmt::Formatter<W>) -> fmt::Result {
+        match *self {
+            Fault::Illegal { pc, word } => {
+                write!(f, "illegal {} word {}", HexWord(pc), HexWord(word))
+            }
+            Fault::FetchOutside { pc } => write!(f, "fetch-outside {}", HexWord(pc)),
+            Fault::FetchUnaligned { pc } => write!(f, "fetch-unaligned {}", HexWord(pc)),
+            Fault::LoadOutside { pc, address } => {
+                write!(
+                    f,
+                    "load-outside {} address {}",
+                    HexWord(pc),
+                    HexWord(address)
+                )
+            }
+            Fault::StoreOutside { pc, address } => {
+                write!(
+                    f,
+                    "store-outside {} address {}",
+                    HexWord(pc),
+                    HexWord(address)
+                )
+            }
+            Fault::Breakpoint { pc } => write!(f, "breakpoint {}", HexWord(pc)),
+            Fault::OutputLimit { pc } => write!(f, "output-limit {}", HexWord(pc)),
+        }
+    }
 }
