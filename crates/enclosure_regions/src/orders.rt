@@ -56,14 +56,9 @@ fn stands_twice(outs: &[u8], keep: &[u8], register: u8) -> bool
 fn first_twice(all: &[u8], outs: &[u8], keep: &[u8]) -> Option<u8>
     ensures { result ≡ find (stands_twice_in outs.now keep.now) all.now }
 {
-    let mut rest = all;
-    while let [register, more @ ..] = rest {
-        if stands_twice(outs, keep, *register) {
-            return Some(*register);
-        }
-        rest = more;
-    }
-    None
+    all.iter()
+        .copied()
+        .find(|register| stands_twice(outs, keep, *register))
 }
 
 /// The lowest register that stands twice in two lists together.

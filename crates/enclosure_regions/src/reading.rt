@@ -16,28 +16,14 @@ use std::alloc::Global;
 fn has_id(regions: &[Region], id: u16) -> bool
     ensures { result ≡ stands_in (ids_of regions.now) id }
 {
-    let mut rest = regions;
-    while let [region, more @ ..] = rest {
-        if region.id == id {
-            return true;
-        }
-        rest = more;
-    }
-    false
+    regions.iter().any(|region| region.id == id)
 }
 
 // Whether one of the regions has an enter address.
 fn has_enter(regions: &[Region], enter: u32) -> bool
     ensures { result ≡ stands_in (enters_of regions.now) enter }
 {
-    let mut rest = regions;
-    while let [region, more @ ..] = rest {
-        if region.enter == enter {
-            return true;
-        }
-        rest = more;
-    }
-    false
+    regions.iter().any(|region| region.enter == enter)
 }
 
 // A written region, in order, behind those that were found.

@@ -1,4 +1,5 @@
-ghost use Rattle.std.specs.Prelude.{◌≡◌, ◌≤◌, length, Some, None, if◌then◌else◌};
+ghost use Rattle.std.specs.Prelude.{◌≡◌, ◌==◌, ◌<◌, ◌≤◌, length, Some, None, IfSome, if◌then◌else◌};
+ghost use Rattle.std.specs.List.{position_from};
 ghost use Rattle.enclosure_regions.specs.Turns.{is_left_at, turn_kind as kind_of_turn};
 ghost use Rattle.enclosure_regions.specs.Watching.{EntersOneOf};
 
@@ -16,20 +17,22 @@ pub fn turn_inside(region: &Region, pc: u32) -> TurnKind
     }
 }
 
+// The place of the first region that is entered at an address.
+fn place_entered(regions: &[Region], pc: u32) -> Option<usize>
+    ensures place { result ≡ position_from (λ region. region.enter == pc) 0 regions.now }
+    ensures inside { IfSome result (λ place. place < length regions.now) }
+{
+    regions.iter().position(|region| region.enter == pc)
+}
+
 /// The turn at an address, outside regions.
 pub fn turn_outside(regions: &[Region], pc: u32) -> TurnKind
     requires { length regions.now ≤ 256 }
     ensures kind { result ≡ kind_of_turn regions.now None pc }
     ensures place { EntersOneOf regions.now result }
 {
-    let mut place: u32 = 0;
-    let mut rest = regions;
-    while let [region, more @ ..] = rest {
-        if region.enter == pc {
-            return TurnKind::Enter(place);
-        }
-        place += 1;
-        rest = more;
+    match place_entered(regions, pc) {
+        Some(place) => TurnKind::Enter(place as u32),
+        None => TurnKind::Step,
     }
-    TurnKind::Step
 }

@@ -20,11 +20,11 @@ use Rattle.flow_certificate.specs.Drafts.{IsDraft, blank, lines_in, sketch_of, s
 use Rattle.flow_certificate.specs.Guessing.{line_in}
 use Rattle.flow_certificate.specs.Lines.{is_line, line_text}
 use Rattle.flow_certificate.specs.Reading.{IsReading, is_whole}
-use Rattle.flow_certificate.proofs.Drafting.{drafted, whole}
+use Rattle.flow_certificate.proofs.DraftedPictures.{drafted, whole}
 use Rattle.flow_certificate.proofs.Guesses.{line-found, line-own, pair-same}
-use Rattle.flow_certificate.proofs.Lasts.{all-middle, all-push}
+use Rattle.flow_certificate.proofs.LastItems.{all-middle, all-push}
 use Rattle.flow_certificate.proofs.Prefixes.{front-of, text-append, text-more, text-none, whole-longer}
-use Rattle.flow_certificate.proofs.Steps.{sketch-same, steps-append, steps-one, steps-whole}
+use Rattle.flow_certificate.proofs.DraftSteps.{sketch-same, steps-append, steps-one, steps-whole}
 
 whole-is : (stage : Stage) → is_whole stage ≡ true → stage ≡ stages.Whole
 whole-is stages.Nothing is = absurd cc

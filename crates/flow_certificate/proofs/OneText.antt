@@ -7,9 +7,9 @@ use Rattle.flow_certificate.specs.declared.lines.Line.{Line}
 use Rattle.flow_certificate.specs.Certificates.{CertText, Picture, lines_of, lines_text, makes_graph}
 use Rattle.flow_certificate.specs.Drafts.{Sketch, blank, steps}
 use Rattle.flow_certificate.specs.Lines.{is_line}
-use Rattle.flow_certificate.proofs.Drafting.{drafted, whole}
+use Rattle.flow_certificate.proofs.DraftedPictures.{drafted, whole}
 use Rattle.flow_certificate.proofs.Prefixes.{front-of, whole-longer}
-use Rattle.flow_certificate.proofs.Steps.{sketch-same}
+use Rattle.flow_certificate.proofs.DraftSteps.{sketch-same}
 
 no-more : (lines more : List Line) → length (lines ++ more) ≤ length lines → lines ++ more ≡ lines
 no-more lines [] few = append-nil lines

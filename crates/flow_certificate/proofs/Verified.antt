@@ -7,7 +7,7 @@ use Rattle.flow_graph.specs.declared.graphs.Graph.{Graph}
 use Rattle.max_flow.specs.declared.answers.Solved.{Solved}
 use Rattle.max_flow.specs.Flows.{member, network_of}
 use Rattle.max_flow.specs.Networks.{at_node}
-use Rattle.max_flow.proofs.Answering.{edges-count}
+use Rattle.max_flow.proofs.GraphAnswers.{edges-count}
 use Rattle.flow_certificate.specs.Verdicts.{HasNoneAcross, HasNoneOver, HasNoneUnbalanced, IsVerified, cut_in, flow_in}
 use Rattle.flow_certificate.specs.Verdicts.{flows_of}
 use Rattle.flow_certificate.proofs.Sides.{member-sink, member-source}

@@ -14,14 +14,7 @@ use max_flow::Solved;
 fn are_numbers(numbers: &[u64]) -> bool
     ensures { result ≡ list_all is_known_number numbers.now }
 {
-    let mut rest = numbers;
-    while let [number, more @ ..] = rest {
-        if !is_number(*number) {
-            return false;
-        }
-        rest = more;
-    }
-    true
+    numbers.iter().all(|number| is_number(*number))
 }
 
 /// Whether a certificate can name a point and its capacity.
@@ -35,28 +28,14 @@ fn is_node(node: &Node) -> bool
 fn are_nodes(nodes: &[Node]) -> bool
     ensures { result ≡ list_all is_known_node nodes.now }
 {
-    let mut rest = nodes;
-    while let [node, more @ ..] = rest {
-        if !is_node(node) {
-            return false;
-        }
-        rest = more;
-    }
-    true
+    nodes.iter().all(|node| is_node(node))
 }
 
 /// Whether numbers of 16 bits can be those of regions: all can.
 fn are_regions(regions: &[u16]) -> bool
     ensures { result ≡ list_all is_known_region regions.now }
 {
-    let mut rest = regions;
-    while let [region, more @ ..] = rest {
-        if !is_region(*region) {
-            return false;
-        }
-        rest = more;
-    }
-    true
+    regions.iter().all(|region| is_region(*region))
 }
 
 /// Whether there is a number for each point and link, and an answer for each point and relay.

@@ -6,6 +6,6 @@ pub mod Adding
 pub mod Indices
 pub mod Naming
 pub mod Regions
-pub mod Kept
+pub mod CapacityEntries
 pub mod Relays
-pub mod Few
+pub mod FewPoints

@@ -14,14 +14,7 @@ use std::cmp::Ordering;
 fn have_capacities(points: &[Node]) -> bool
     ensures { result ≡ list_all has_capacity points.now }
 {
-    let mut rest = points;
-    while let [node, more @ ..] = rest {
-        if node.capacity == 0 {
-            return false;
-        }
-        rest = more;
-    }
-    true
+    points.iter().all(|node| node.capacity != 0)
 }
 
 /// Whether points ascend strictly.
@@ -143,14 +136,7 @@ fn do_links_join(count: usize, relays: &[u16], links: &[Arc]) -> bool
     requires { are_relays relays.now ≡ true }
     ensures { result ≡ are_links count relays.now links.now }
 {
-    let mut rest = links;
-    while let [link, more @ ..] = rest {
-        if !joins_ends(count, relays, link) {
-            return false;
-        }
-        rest = more;
-    }
-    true
+    links.iter().all(|link| joins_ends(count, relays, link))
 }
 
 impl Graph {

@@ -1,8 +1,8 @@
 pub mod Same
-pub mod Putting
-pub mod Marking
+pub mod CapacityMaps
+pub mod LinkMarks
 pub mod Limiting
-pub mod Taking
-pub mod Sorted
-pub mod Exceeding
-pub mod Latest
+pub mod EventSteps
+pub mod SortedCollapses
+pub mod ExceedingEvents
+pub mod LatestLinks

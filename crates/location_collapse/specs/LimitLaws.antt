@@ -1,5 +1,5 @@
 -- What a limit that the events exceed says of their graph, and of events that go on from there.
-use Rattle.std.specs.Prelude.{ℕ, ◌≤◌, ◌^◌, ◌++◌, nat_lt, Bool, IsTrue, List, length}
+use Rattle.std.specs.Prelude.{◌≤◌, ◌^◌, ◌++◌, nat_lt, Bool, IsTrue, List, length}
 use Rattle.std.specs.List.{list_all}
 use Rattle.flow_graph.specs.declared.events.Event.{Event}
 use Rattle.flow_graph.specs.declared.graphs.Graph.{Graph}

@@ -6,7 +6,7 @@ use Rattle.std.proofs.lemmas.List.{get_or-set_same, get_or-set_other}
 use Rattle.max_flow.specs.Networks.{Net, AreAtMost}
 use Rattle.max_flow.specs.Rooms.{other_end, pushed}
 use Rattle.max_flow.specs.Searching.{IsWalking, IsRaising}
-use Rattle.max_flow.proofs.Walking.{walk_arrives}
+use Rattle.max_flow.proofs.WalksBack.{walk_arrives}
 
 pub raising_first : (net : Net) (flow places : List ℕ) (value at d : ℕ) → AreAtMost value flow →
     IsRaising net flow places value at d

@@ -2,13 +2,12 @@ pub mod Sums
 pub mod Duality
 pub mod Tightness
 pub mod Graphs
-pub mod Linking
-pub mod Finding
+pub mod SearchSteps
 pub mod Scans
-pub mod Walking
+pub mod WalksBack
 pub mod Amounts
 pub mod Rounds
 pub mod Members
-pub mod Answering
+pub mod GraphAnswers
 pub mod SmallSides
 pub mod Stacks

@@ -8,14 +8,9 @@ use flow_graph::{Graph, Node};
 fn are_small(points: &[Node]) -> bool
     ensures { result ≡ list_all is_small points.now }
 {
-    let mut rest = points;
-    while let [node, more @ ..] = rest {
-        if node.capacity >= 281_474_976_710_656 {
-            return false;
-        }
-        rest = more;
-    }
-    true
+    points
+        .iter()
+        .all(|node| node.capacity < 281_474_976_710_656)
 }
 
 /// Whether a graph has at most 65,536 points, at most 1,048,576 links, and capacities below 2^48.

@@ -24,16 +24,7 @@ fn place(names: &[&str], name: &[u8]) -> Option<usize>
     ensures exact { result ≡ position_from (λ other. bytes_eq other name.now) 0 (map (λ other. other.now) names.now) }
     ensures inside { IfSome result (λ place. place < length names.now) }
 {
-    let mut place = 0;
-    let mut rest = names;
-    while let [other, more @ ..] = rest {
-        if other.as_bytes() == name {
-            return Some(place);
-        }
-        place += 1;
-        rest = more;
-    }
-    None
+    names.iter().position(|other| other.as_bytes() == name)
 }
 
 /// The register of a name: `x` and its number, or its name in the calling convention, where s0 is fp too.

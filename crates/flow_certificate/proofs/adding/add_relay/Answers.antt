@@ -1,6 +1,6 @@
 use Rattle.std.proofs.Common.{◌≡◌, ◌∙◌, sym, true}
 use Rattle.flow_certificate.specs.Drafts.{may_add_relay, sketch_of}
-use Rattle.flow_certificate.proofs.Lasts.{regions-grow, relays-grow}
+use Rattle.flow_certificate.proofs.LastItems.{regions-grow, relays-grow}
 use Rattle.flow_certificate.proofs.adding.add_relay.Goals as goal
 
 pub returns-clause-draft : goal.returns-clause-draft

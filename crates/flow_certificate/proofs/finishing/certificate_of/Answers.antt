@@ -4,7 +4,7 @@ use Rattle.max_flow.specs.declared.answers.Solved.{Solved}
 use Rattle.flow_certificate.specs.Certificates.{arc_of, node_of}
 use Rattle.flow_certificate.specs.Drafts.{sketch_of}
 use Rattle.flow_certificate.specs.Pictures.{flow_at_link, flow_at_point, half_at, inside_at}
-use Rattle.flow_certificate.proofs.Wholes.{parts-texts, same-picture}
+use Rattle.flow_certificate.proofs.WholeDrafts.{parts-texts, same-picture}
 use Rattle.flow_certificate.proofs.finishing.certificate_of.Goals as goal
 
 pub whole_of-requires-clause-texts : goal.whole_of-requires-clause-texts

@@ -1,6 +1,6 @@
 use Rattle.std.proofs.Common.{sym, ◌∙◌, arith}
 use Rattle.flow_certificate.specs.Drafts.{point_line_cmp}
-use Rattle.flow_certificate.proofs.Lasts.{follows-last}
+use Rattle.flow_certificate.proofs.LastItems.{follows-last}
 use Rattle.flow_certificate.proofs.following.may_follow_points.Goals as goal
 
 pub returns-in-len1-up : goal.returns-in-len1-up

@@ -1,6 +1,6 @@
 use Rattle.std.proofs.Common.{sym, ◌∙◌, arith}
 use Rattle.std.specs.Ordering.{nat_cmp}
-use Rattle.flow_certificate.proofs.Lasts.{follows-last, is_lt-nat}
+use Rattle.flow_certificate.proofs.LastItems.{follows-last, is_lt-nat}
 use Rattle.flow_certificate.proofs.following.may_follow_regions.Goals as goal
 
 pub returns-in-len1-up : goal.returns-in-len1-up

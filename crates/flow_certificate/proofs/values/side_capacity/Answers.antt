@@ -1,6 +1,6 @@
 use Rattle.std.proofs.Common.{◌≡◌, ◌<◌, ◌≤◌, length, sym, ap, ◌∙◌, arith}
 use Rattle.flow_certificate.specs.Sides.{cut_below}
-use Rattle.flow_certificate.proofs.Cutting.{cut-none, cut-step, cut-whole}
+use Rattle.flow_certificate.proofs.SideCapacity.{cut-none, cut-step, cut-whole}
 use Rattle.flow_certificate.proofs.values.side_capacity.Goals as goal
 
 pub loop-i-init : goal.loop-i-init

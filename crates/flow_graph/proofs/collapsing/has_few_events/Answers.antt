@@ -1,6 +1,6 @@
 use Rattle.std.proofs.Common.{◌<◌, ◌^◌, length, ap, arith}
 use Rattle.std.proofs.lemmas.Bool.{ltb-true}
-use Rattle.flow_graph.proofs.Few.{few_points}
+use Rattle.flow_graph.proofs.FewPoints.{few_points}
 use Rattle.flow_graph.proofs.collapsing.has_few_events.Goals as goal
 
 pub returns-clause-few : goal.returns-clause-few

@@ -1,4 +1,4 @@
-use Rattle.location_collapse.proofs.Exceeding.{graph_exceeds}
+use Rattle.location_collapse.proofs.ExceedingEvents.{graph_exceeds}
 use Rattle.location_collapse.proofs.laws.graphs_exceed.Goals as goal
 
 pub returns : goal.returns

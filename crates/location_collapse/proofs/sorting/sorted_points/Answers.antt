@@ -1,5 +1,5 @@
 use Rattle.std.proofs.Common.{sym, arith}
-use Rattle.location_collapse.proofs.Sorted.{same_more}
+use Rattle.location_collapse.proofs.SortedCollapses.{same_more}
 use Rattle.location_collapse.proofs.sorting.sorted_points.Goals as goal
 
 pub loop-left-preserved-in-Continue-1 : goal.loop-left-preserved-in-Continue-1

@@ -1,6 +1,6 @@
 use Rattle.std.proofs.Common.{sym, ◌∙◌, arith}
 use Rattle.max_flow.specs.Solving.{net_of}
-use Rattle.max_flow.proofs.Walking.{sum_fits}
+use Rattle.max_flow.proofs.WalksBack.{sum_fits}
 use Rattle.max_flow.proofs.augmenting.push.Goals as goal
 
 pub overflow_add-flows : goal.overflow_add-flows

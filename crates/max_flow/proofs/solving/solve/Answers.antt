@@ -7,7 +7,7 @@ use Rattle.max_flow.specs.Searching.{is_found}
 use Rattle.max_flow.specs.Solving.{net_of}
 use Rattle.max_flow.proofs.SmallSides.{small_side}
 use Rattle.max_flow.proofs.Members.{IsMade, made-capacity}
-use Rattle.max_flow.proofs.Answering.{edges-count, flow_from, front_most, back_most, least_from, greatest_from}
+use Rattle.max_flow.proofs.GraphAnswers.{edges-count, flow_from, front_most, back_most, least_from, greatest_from}
 use Rattle.max_flow.proofs.solving.solve.Goals as goal
 
 pub solve_network-requires-clause-small : goal.solve_network-requires-clause-small

@@ -11,7 +11,7 @@ use Rattle.flow_graph.specs.Keeping.{is_sound}
 use Rattle.flow_graph.proofs.Indices.{is_in}
 use Rattle.flow_graph.proofs.Naming.{arcs_ascend, links_there, named-among}
 use Rattle.flow_graph.proofs.Regions.{same_relays, relay_there}
-use Rattle.flow_graph.proofs.Kept.{capacity-lookup, sound_names, names_ordered, points_kept}
+use Rattle.flow_graph.proofs.CapacityEntries.{capacity-lookup, sound_names, names_ordered, points_kept}
 use Rattle.flow_graph.proofs.builders.Builder.finish.Goals as goal
 
 pub links_of-requires-clause-sorted : goal.links_of-requires-clause-sorted

@@ -1,7 +1,7 @@
 use Rattle.std.proofs.Common.{◌≡◌, true, sym, subst}
 use Rattle.std.proofs.lemmas.Bool.{ne_eqb, OnTrue_at}
 use Rattle.location_collapse.specs.LatestLinks.{has_flow, has_output}
-use Rattle.location_collapse.proofs.Taking.{taken_again}
+use Rattle.location_collapse.proofs.EventSteps.{taken_again}
 use Rattle.location_collapse.proofs.collapses.Collapse.add_again.Goals as goal
 
 pub returns-in-Ok-clause-yes : goal.returns-in-Ok-clause-yes

@@ -1,5 +1,5 @@
 use Rattle.std.proofs.lemmas.Result.{IfOk-weaker}
-use Rattle.location_collapse.proofs.Sorted.{sorted_positive, sorted_sound, sorted_keeps}
+use Rattle.location_collapse.proofs.SortedCollapses.{sorted_positive, sorted_sound, sorted_keeps}
 use Rattle.location_collapse.proofs.collapses.Collapse.finish.Goals as goal
 
 pub finish-requires-clause-positive : goal.finish-requires-clause-positive

@@ -1,8 +1,8 @@
 use Rattle.std.proofs.lemmas.Result.{on_ok_weaker}
 use Rattle.std.proofs.lemmas.Bool.{ne_eqb, OnTrue_at}
 use Rattle.location_collapse.specs.Collapses.{knows}
-use Rattle.location_collapse.proofs.Taking.{makes_link, makes_secret, makes_implicit, makes_output, no_output}
-use Rattle.location_collapse.proofs.Taking.{known_link}
+use Rattle.location_collapse.proofs.EventSteps.{makes_link, makes_secret, makes_implicit, makes_output, no_output}
+use Rattle.location_collapse.proofs.EventSteps.{known_link}
 use Rattle.location_collapse.proofs.collapses.Collapse.take.Goals as goal
 
 pub returns-then-region-eq0-clause-ok : goal.returns-then-region-eq0-clause-ok

@@ -1,6 +1,6 @@
 use Rattle.std.proofs.Common.{sym, ◌∙◌}
 use Rattle.std.proofs.lemmas.Bool.{OnTrue_from}
-use Rattle.location_collapse.proofs.Latest.{flow_known}
+use Rattle.location_collapse.proofs.LatestLinks.{flow_known}
 use Rattle.location_collapse.proofs.kept_links.KeptLinks.is_latest_flow.Goals as goal
 
 pub returns-then-eq : goal.returns-then-eq

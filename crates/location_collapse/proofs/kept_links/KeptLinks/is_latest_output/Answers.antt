@@ -1,6 +1,6 @@
 use Rattle.std.proofs.Common.{sym, ◌∙◌}
 use Rattle.std.proofs.lemmas.Bool.{OnTrue_from}
-use Rattle.location_collapse.proofs.Latest.{output_known}
+use Rattle.location_collapse.proofs.LatestLinks.{output_known}
 use Rattle.location_collapse.proofs.kept_links.KeptLinks.is_latest_output.Goals as goal
 
 pub returns-then-from-region : goal.returns-then-from-region

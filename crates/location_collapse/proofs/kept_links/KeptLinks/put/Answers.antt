@@ -1,7 +1,7 @@
 use Rattle.std.proofs.Common.{subst, arith}
 use Rattle.std.specs.List.{IsDistinct}
 use Rattle.location_collapse.proofs.Same.{links_same}
-use Rattle.location_collapse.proofs.Marking.{takes_put}
+use Rattle.location_collapse.proofs.LinkMarks.{takes_put}
 use Rattle.location_collapse.proofs.kept_links.KeptLinks.put.Goals as goal
 
 pub returns-then-len-ge-MAX_LINKS-clause-full : goal.returns-then-len-ge-MAX_LINKS-clause-full

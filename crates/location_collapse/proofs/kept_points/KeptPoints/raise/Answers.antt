@@ -1,6 +1,6 @@
 use Rattle.std.proofs.Common.{arith}
 use Rattle.indexmap.proofs.CallerLemmas.{index_map_len-with_value_at}
-use Rattle.location_collapse.proofs.Putting.{small_raised}
+use Rattle.location_collapse.proofs.CapacityMaps.{small_raised}
 use Rattle.location_collapse.proofs.kept_points.KeptPoints.raise.Goals as goal
 
 pub invariant_of-self : goal.invariant_of-self

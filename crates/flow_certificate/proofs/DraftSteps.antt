@@ -21,7 +21,7 @@ use Rattle.flow_certificate.specs.Drafts.{link_line_cmp, may_add_link, may_add_p
 use Rattle.flow_certificate.specs.Drafts.{point_line_cmp, step, steps, with_link, with_point, with_relay}
 use Rattle.flow_certificate.specs.Keeping.{is_number, is_place}
 use Rattle.flow_certificate.specs.Lines.{is_line}
-use Rattle.flow_certificate.proofs.Lasts.{all-push, ascend-push, follow-map, map-append}
+use Rattle.flow_certificate.proofs.LastItems.{all-push, ascend-push, follow-map, map-append}
 
 -- ---- what a step tells
 

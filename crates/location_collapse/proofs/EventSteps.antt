@@ -15,7 +15,7 @@ use Rattle.flow_graph.proofs.Again.{again-in-turn}
 use Rattle.flow_graph.proofs.Keeping.{keeps_links}
 use Rattle.location_collapse.specs.Collapses.{Makes, has_ends}
 use Rattle.location_collapse.specs.LatestLinks.{has_flow, has_output}
-use Rattle.location_collapse.proofs.Marking.{known_takes, no_link}
+use Rattle.location_collapse.proofs.LinkMarks.{known_takes, no_link}
 
 pub known_link : (capacities : List (Point × ℕ)) (links : List NamedLink) (e : Event) (link : NamedLink)
     (events : List Event) → Makes (is_known capacities) e link → is_among links link ≡ true →

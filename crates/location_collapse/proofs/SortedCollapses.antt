@@ -12,7 +12,7 @@ use Rattle.flow_graph.specs.EventGraphs.{is_same}
 use Rattle.flow_graph.specs.Keeping.{Keeps, TakesLinks, capacity_in, is_known, is_positive, is_sound}
 use Rattle.location_collapse.specs.Limits.{is_small}
 use Rattle.location_collapse.specs.Sorting.{HasSame}
-use Rattle.location_collapse.proofs.Putting.{found_positive}
+use Rattle.location_collapse.proofs.CapacityMaps.{found_positive}
 use Rattle.location_collapse.proofs.Same.{points_alike}
 
 drop_found : {X : Type 0} (es : List X) (i : ℕ) (e : X) → slice_get es i ≡ Some e → drop i es ≡ e ∷ drop (suc i) es

@@ -17,7 +17,7 @@ use Rattle.flow_certificate.specs.Certificates.{Picture, arc_of, lines_of, makes
 use Rattle.flow_certificate.specs.Drafts.{Sketch, blank}
 use Rattle.flow_certificate.specs.Drafts.{link_line_cmp, may_follow}
 use Rattle.flow_certificate.specs.Drafts.{point_line_cmp, step, steps}
-use Rattle.flow_certificate.proofs.Lasts.{all-middle, ascend-middle, follow-map, map-append}
+use Rattle.flow_certificate.proofs.LastItems.{all-middle, ascend-middle, follow-map, map-append}
 
 -- ---- each certificate is drafted
 
