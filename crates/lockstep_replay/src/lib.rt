@@ -6,6 +6,7 @@ mod differences;
 mod laws;
 mod lockstep;
 mod marks;
+mod memories;
 #[cfg(test)]
 mod region_tests;
 mod replay_turns;
@@ -18,4 +19,5 @@ mod verdicts;
 
 pub use laws::{accepted_runs_are_bounded, verdicts_are_acceptance};
 pub use lockstep::Lockstep;
+pub use memories::Memories;
 pub use verdicts::{ReplayStop, Verdict, Why};
