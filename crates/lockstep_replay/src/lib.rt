@@ -6,6 +6,7 @@ mod differences;
 mod laws;
 mod lockstep;
 mod marks;
+mod memories;
 mod replay_turns;
 mod rounds;
 mod tallies;
@@ -14,4 +15,5 @@ mod verdicts;
 
 pub use laws::{accepted_runs_are_bounded, verdicts_are_acceptance};
 pub use lockstep::Lockstep;
+pub use memories::Memories;
 pub use verdicts::{ReplayStop, Verdict, Why};

@@ -9,9 +9,10 @@ ghost use Rattle.lockstep_replay.specs.Turning.{Ends, Keeps};
 ghost use Rattle.lockstep_replay.specs.Verdicts.{Accepts, First, judged_from};
 ghost use Rattle.region_machine.specs.Within.{may_leave};
 
+use crate::memories::Memories;
 use crate::rounds::{Round, make_round};
 use crate::tallies::Tallying;
-use crate::two_runs::TwoRuns;
+use crate::two_runs::{TwoRuns, memories_of};
 use crate::verdicts::{Verdict, Why};
 use crossing_bits::Bits;
 use cut_file::Cut;
@@ -67,10 +68,36 @@ impl Lockstep {
             (task_of (picture_of image.now) public.now regions.now.items (cut_picture cut.now))
             (record { budget = budget; turns = turns }) secret.now) }
     {
-        let real = Machine::new(alloc, image, public, secret, OUTPUT_LIMIT)?;
+        let memories = Memories::new(alloc)?;
+        Lockstep::new_in(
+            memories, alloc, image, public, secret, regions, cut, budget, turns,
+        )
+    }
+
+    /// The same check in the guest memories that [`Lockstep::run_keeping`] has handed out: nothing of the check before is
+    /// left in them, so the verdict is that of a fresh start. It takes the time of what that check has written in place
+    /// of 32 MiB.
+    pub fn new_in(
+        memories: Memories,
+        alloc: Global,
+        image: &Image,
+        public: &Bytes,
+        secret: &Bytes,
+        regions: &Regions,
+        cut: &Cut,
+        budget: u32,
+        turns: u32,
+    ) -> Result<Lockstep, NoMemory>
+        requires secret { length secret.now < 2 ^ 32 }
+        requires budget { budget < 4294967295 }
+        ensures { IfOk result (λ lockstep. IsCheck lockstep
+            (task_of (picture_of image.now) public.now regions.now.items (cut_picture cut.now))
+            (record { budget = budget; turns = turns }) secret.now) }
+    {
+        let real = Machine::new_in(memories.real, alloc, image, public, secret, OUTPUT_LIMIT)?;
         let masks = VisitMasks::new(alloc, cut)?;
         let bits = Bits::with_room(alloc, budget)?;
-        let replay = Replay::new(alloc, image, public, regions, cut)?;
+        let replay = Replay::new_in(memories.replay, alloc, image, public, regions, cut)?;
         let tally = Tallying {
             masks,
             bits,
@@ -95,6 +122,15 @@ impl Lockstep {
         ensures { (task : Task) (limits : Limits) (secret : List ℕ) → IsCheck self task limits secret →
             judgement_of result ≡ First task limits secret }
     {
+        let (verdict, _memories) = self.run_keeping();
+        verdict
+    }
+
+    /// The verdict on the secret, with the guest memories for the next check. It takes no memory.
+    pub fn run_keeping(self) -> (Verdict, Memories)
+        ensures { (task : Task) (limits : Limits) (secret : List ℕ) → IsCheck self task limits secret →
+            judgement_of result.0 ≡ First task limits secret }
+    {
         let Lockstep {
             runs,
             wanted,
@@ -104,22 +140,26 @@ impl Lockstep {
         if got == wanted {
             run_turns(runs, turns)
         } else {
-            Verdict::Rejected(Why::SecretLength { cut: wanted, got })
+            let TwoRuns { real, replay, .. } = runs;
+            let why = Why::SecretLength { cut: wanted, got };
+            (Verdict::Rejected(why), memories_of(real, replay))
         }
     }
 }
 
-/// The verdict of a real run that has exited with this status.
-fn accepted(real: Machine, tally: Tallying, status: u8) -> Verdict
-    ensures { judgement_of result ≡ Accepts tally.bits.bits
+/// The verdict of a real run that has exited with this status, with the guest memories.
+fn accepted(real: Machine, tally: Tallying, replay: Replay, status: u8) -> (Verdict, Memories)
+    ensures { judgement_of result.0 ≡ Accepts tally.bits.bits
         (record { bytes = real.control.output; status = status }) }
 {
     let Tallying { bits, .. } = tally;
-    let output = Output {
-        bytes: real.into_output(),
-        status,
+    let (bytes, real) = real.into_parts();
+    let output = Output { bytes, status };
+    let memories = Memories {
+        real,
+        replay: replay.into_memory(),
     };
-    Verdict::Accepted { bits, output }
+    (Verdict::Accepted { bits, output }, memories)
 }
 
 /// The status with which a run has exited in a turn that is not enclosed, if it has.
@@ -136,12 +176,12 @@ fn exit_status(enclosed: bool, mode: Stepped) -> Option<u8>
     }
 }
 
-/// The verdict of so many turns of the real run.
-fn run_turns(runs: TwoRuns, turns: u32) -> Verdict
+/// The verdict of so many turns of the real run, with the guest memories.
+fn run_turns(runs: TwoRuns, turns: u32) -> (Verdict, Memories)
     requires empty { runs.tally.bits.bits ≡ [] }
     requires keeps { Keeps runs.real runs.replay runs.tally.bits runs.tally.needed runs.tally.budget }
     ensures { (task : Task) (limits : Limits) (secret : List ℕ) → Begins runs task limits secret →
-        turns ≡ limits.turns → judgement_of result ≡ judged_from task limits secret turns 0 }
+        turns ≡ limits.turns → judgement_of result.0 ≡ judged_from task limits secret turns 0 }
 {
     let TwoRuns {
         real,
@@ -158,11 +198,12 @@ fn run_turns(runs: TwoRuns, turns: u32) -> Verdict
     for _ in 0..turns {
         make_round(&mut real, &mut tally, &mut replay, &mut made);
         if let Some(why) = made.why {
-            return Verdict::Rejected(why);
+            return (Verdict::Rejected(why), memories_of(real, replay));
         }
         if let Some(status) = exit_status(made.enclosed, real.mode()) {
-            return accepted(real, tally, status);
+            return accepted(real, tally, replay, status);
         }
     }
-    Verdict::Rejected(Why::TurnLimit { limit: turns })
+    let why = Why::TurnLimit { limit: turns };
+    (Verdict::Rejected(why), memories_of(real, replay))
 }

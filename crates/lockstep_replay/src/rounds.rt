@@ -163,25 +163,6 @@ fn put_reason(real: &Machine, tally: &Tallying, replay: &Replay, round: &mut Rou
     };
 }
 
-/// A round outside of regions. What it is, is put into a round that has not failed.
-#[inline(always)]
-fn make_outside_round(
-    real: &mut Machine,
-    tally: &mut Tallying,
-    replay: &mut Replay,
-    round: &mut Round,
-)
-    requires keeps { Keeps real.old replay.old tally.old.bits tally.old.needed tally.old.budget }
-    requires outside { kind_of replay.old.enclosures.regions real.old.control ≡ Steps None }
-    requires fine { round.old.why ≡ None }
-    ensures { Rounds replay.old.enclosures real.old tally.old replay.old real.new tally.new replay.new round.new }
-{
-    round.enclosed = false;
-    if !make_step(real, tally, replay) {
-        put_reason(real, tally, replay, round);
-    }
-}
-
 /// One turn of the real run, and unless it is the entry of a skipped region or inside it one turn of the replay, which
 /// is lent the bits that crossed since its last turn. What it leaves is put into a round that has not failed.
 #[inline(always)]
@@ -196,7 +177,10 @@ pub(crate) fn make_round(
     ensures { Rounds replay.old.enclosures real.old tally.old replay.old real.new tally.new replay.new round.new }
 {
     if replay.is_outside(real) {
-        make_outside_round(real, tally, replay, round);
+        round.enclosed = false;
+        if !make_step(real, tally, replay) {
+            put_reason(real, tally, replay, round);
+        }
     } else {
         put_region_round(real, tally, replay, round);
     }

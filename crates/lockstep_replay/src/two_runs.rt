@@ -1,3 +1,6 @@
+ghost use Rattle.std.specs.Prelude.{◌≡◌};
+
+use crate::memories::Memories;
 use crate::tallies::Tallying;
 use replay_machine::Replay;
 use rv32im_machine::Machine;
@@ -8,4 +11,16 @@ pub(crate) struct TwoRuns {
     pub real: Machine,
     pub tally: Tallying,
     pub replay: Replay,
+}
+
+/// The guest memories of two runs that have come to their end. It takes no memory.
+pub(crate) fn memories_of(real: Machine, replay: Replay) -> Memories
+    ensures real { result.real ≡ real.store.memory }
+    ensures replay { result.replay ≡ replay.state.store.memory }
+{
+    let (_output, real) = real.into_parts();
+    Memories {
+        real,
+        replay: replay.into_memory(),
+    }
 }

@@ -30,7 +30,7 @@ use elf32_loader::Image;
 use enclosure_regions::{Regions, copy_regions};
 use flow_base::{Bytes, List, NoMemory};
 use region_machine::MarkedRegions;
-use rv32im_machine::{Machine, Stepped};
+use rv32im_machine::{GuestMemory, Machine, Stepped};
 use std::alloc::Global;
 use std::marker::Model;
 
@@ -135,9 +135,28 @@ impl Replay {
             (record { regions = regions.now.items; skip = cut.now.skip })) }
         ensures untaken { IfOk result (λ replay. replay.taken ≡ 0) }
     {
+        let memory = GuestMemory::new(alloc)?;
+        Replay::new_in(memory, alloc, image, public, regions, cut)
+    }
+
+    /// The same replay before its first turn, in guest memory that may have been another's: what was there is gone.
+    pub fn new_in(
+        memory: GuestMemory,
+        alloc: Global,
+        image: &Image,
+        public: &Bytes,
+        regions: &Regions,
+        cut: &Cut,
+    ) -> Result<Replay, NoMemory>
+        ensures stands { IfOk result (λ replay. Stands replay (MaskAt cut.now.points)
+            (replay_guest (picture_of image.now) public.now cut.now.secret_len)) }
+        ensures enclosures { IfOk result (λ replay. replay.enclosures ≡
+            (record { regions = regions.now.items; skip = cut.now.skip })) }
+        ensures untaken { IfOk result (λ replay. replay.taken ≡ 0) }
+    {
         let masks = VisitMasks::new(alloc, cut)?;
         let zeros = zeroed(alloc, cut.secret_len as usize)?;
-        let machine = Machine::new(alloc, image, public, &zeros, OUTPUT_LIMIT)?;
+        let machine = Machine::new_in(memory, alloc, image, public, &zeros, OUTPUT_LIMIT)?;
         let bits = Bits::with_room(alloc, 0)?;
         let regions = copy_regions(alloc, regions)?;
         let marked = MarkedRegions::new(alloc, regions)?;
@@ -257,6 +276,14 @@ impl Replay {
         ensures { result.now ≡ self.now.state.control.output }
     {
         self.machine.output()
+    }
+
+    /// Guest memory, handed out for another guest to begin in. It takes no memory.
+    pub fn into_memory(self) -> GuestMemory
+        ensures { result ≡ self.state.store.memory }
+    {
+        let (_output, memory) = self.machine.into_parts();
+        memory
     }
 
     /// What the last turn has answered, and each later one answers where it is not `Ran`; `Ran` before the first.

@@ -3,7 +3,7 @@ use Rattle.std.specs.Prelude.{if◌then◌else◌}
 use Rattle.rv32im_machine.specs.State.{State}
 use Rattle.lockstep_replay.specs.declared.verdicts.Why.TheVariants.{SecretLength}
 use Rattle.lockstep_replay.specs.Verdicts.{Rejects, judged_from}
-use Rattle.lockstep_replay.proofs.lockstep.Lockstep.run.Goals as goal
+use Rattle.lockstep_replay.proofs.lockstep.Lockstep.run_keeping.Goals as goal
 
 pub returns-then-got-wanted : goal.returns-then-got-wanted
 returns-then-got-wanted c = λ task limits secret is.
