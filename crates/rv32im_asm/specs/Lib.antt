@@ -1,4 +1,5 @@
 pub mod Kinds
+pub mod FaultTexts
 pub mod Lines
 pub mod Registers
 pub mod FirstWords

@@ -49,19 +49,14 @@ impl fmt::Display for LineKind {
 #[derive(Debug, Drop, Error)]
 pub enum AsmFault {
     /// The line fails by its form, its place or its size; or the program has no byte, with number 0.
-    #[error("line {number} kind {kind}")]
     Line { number: u32, kind: LineKind },
     /// An earlier line begins with the same label.
-    #[error("label-twice {number}")]
     LabelTwice { number: u32 },
     /// No line begins with the label that is named.
-    #[error("label-missing {number}")]
     LabelMissing { number: u32 },
     /// A number or an offset does not fit its field, or an offset is odd.
-    #[error("range {number}")]
     ImmediateRange { number: u32 },
     /// There was not enough memory.
-    #[error("out of memory")]
     Memory,
 }
 
@@ -74,5 +69,22 @@ impl From<NoMemory> for AsmFault {
 
     fn from(_: NoMemory) -> AsmFault {
         AsmFault::Memory
+    }
+}
+
+impl fmt::Display for AsmFault {
+    ghost use Rattle.std.specs.Prelude.{Some};
+    ghost use Rattle.rv32im_asm.specs.FaultTexts.{source_fault_text};
+
+    ghost output = { λ fault. Some (source_fault_text fault) };
+
+    fn fmt<W: fmt::Write>(&self, f: &mut fmt::Formatter<W>) -> fmt::Result {
+        match *self {
+            AsmFault::Line { number, kind } => write!(f, "line {number} kind {kind}"),
+            AsmFault::LabelTwice { number } => write!(f, "label-twice {number}"),
+            AsmFault::LabelMissing { number } => write!(f, "label-missing {number}"),
+            AsmFault::ImmediateRange { number } => write!(f, "range {number}"),
+            AsmFault::Memory => write!(f, "memory"),
+        }
     }
 }
