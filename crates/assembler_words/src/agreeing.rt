@@ -51,10 +51,10 @@ pub fn is_listed_as(alloc: Global, source: &[u8], text: &[u8]) -> Option<bool>
     }
 }
 
-/// Whether a source is refused, and with a fault of this text; None where memory is short.
+/// Whether a source is refused, and the fault shows as this text; None where memory is short.
 pub fn is_refused_with(alloc: Global, source: &[u8], text: &str) -> Option<bool>
     requires { length source.now < 2 ^ 32 }
-    ensures { IfSome result (λ agreed. IsTrue agreed → IsRefused source.now) }
+    ensures { IfSome result (λ agreed. IsTrue agreed ↔ IsRefused source.now text.now) }
 {
     match assemble(alloc, source) {
         Ok(_) => Some(false),
