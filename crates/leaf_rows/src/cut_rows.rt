@@ -63,7 +63,7 @@ fn print_cut(rt: &HostRuntime, row: &str) -> io::Result<bool> {
         Ok(text) if text.as_slice() == file.as_slice() => println!(rt; "read and written back")?,
         Ok(_) => println!(rt; "another text is written")?,
         Err(CutFault::Memory) => return Ok(false),
-        Err(fault) => println!(rt; "{fault:?}")?,
+        Err(fault) => println!(rt; "{fault}")?,
     }
     Ok(true)
 }
