@@ -6,13 +6,16 @@ use Rattle.std.specs.Fmt.{decimal, digit_glyph, digits, digits_onto}
 use Rattle.flow_base.specs.HexWords.{hex_digit, hex_word}
 use Rattle.elf32_loader.specs.declared.fault.ElfFault.{ElfFault}
 use Rattle.elf32_loader.specs.declared.fault.ElfFault.TheVariants as elf
+use Rattle.elf32_loader.specs.FaultTexts.{hex_byte, program_fault_text}
 use Rattle.cut_file.specs.declared.faults.CutFault.{CutFault}
 use Rattle.cut_file.specs.declared.faults.CutFault.TheVariants as cut
+use Rattle.cut_file.specs.FaultTexts.{cut_fault_text}
 use Rattle.enclosure_regions.specs.declared.region_faults.RegionFault.{RegionFault}
 use Rattle.enclosure_regions.specs.declared.region_faults.RegionFault.TheVariants as regions
 use Rattle.enclosure_regions.specs.Texts.{break_text, fault_text, place_text}
 use Rattle.rv32im_asm.specs.declared.fault.AsmFault.{AsmFault}
 use Rattle.rv32im_asm.specs.declared.fault.AsmFault.TheVariants as source
+use Rattle.rv32im_asm.specs.FaultTexts.{source_fault_text}
 use Rattle.rv32im_asm.specs.Kinds.{number_of}
 use Rattle.flow_certificate.specs.declared.faults.FormFault.{FormFault}
 use Rattle.flow_certificate.specs.declared.faults.FormFault.TheVariants as forms
@@ -26,7 +29,6 @@ use Rattle.rv32im_machine.specs.declared.stepping.Fault.TheVariants as stops
 use Rattle.run_labels.specs.declared.faults.MeasureFault.{MeasureFault}
 use Rattle.run_labels.specs.declared.faults.MeasureFault.TheVariants as run
 use Rattle.leak_report.specs.FaultTexts.{run_fault_text, stop_text}
-use Rattle.command_answers.specs.FaultTexts.{cut_fault_text, hex_byte, program_fault_text, source_fault_text}
 use Rattle.command_answers.specs.Lines.{has_line_feed}
 use Rattle.command_answers.specs.Names.{escape, is_control, shown}
 

@@ -2,7 +2,6 @@ pub mod Names
 pub mod Lines
 pub mod FileLimits
 pub mod Statuses
-pub mod FaultTexts
 pub mod Refusals
 pub mod Answers
 pub mod Loading

@@ -3,13 +3,16 @@ use Rattle.std.specs.Prelude.{◌≡◌, ◌≢◌, ℕ, List, ◌++◌, codes}
 use Rattle.std.specs.Fmt.{decimal}
 use Rattle.elf32_loader.specs.declared.fault.ElfFault.{ElfFault}
 use Rattle.elf32_loader.specs.declared.fault.ElfFault.TheVariants.{Memory as NoRoomForProgram}
+use Rattle.elf32_loader.specs.FaultTexts.{program_fault_text}
 use Rattle.cut_file.specs.declared.faults.CutFault.{CutFault}
 use Rattle.cut_file.specs.declared.faults.CutFault.TheVariants.{Memory as NoRoomForCut}
+use Rattle.cut_file.specs.FaultTexts.{cut_fault_text}
 use Rattle.enclosure_regions.specs.declared.region_faults.RegionFault.{RegionFault}
 use Rattle.enclosure_regions.specs.declared.region_faults.RegionFault.TheVariants.{Memory as NoRoomForRegions}
 use Rattle.enclosure_regions.specs.Texts.{fault_text as region_fault_text}
 use Rattle.rv32im_asm.specs.declared.fault.AsmFault.{AsmFault}
 use Rattle.rv32im_asm.specs.declared.fault.AsmFault.TheVariants.{Memory as NoRoomForSource}
+use Rattle.rv32im_asm.specs.FaultTexts.{source_fault_text}
 use Rattle.flow_certificate.specs.declared.faults.FormFault.{FormFault}
 use Rattle.flow_certificate.specs.declared.faults.FormFault.TheVariants.{Memory as NoRoomForCertificate}
 use Rattle.flow_certificate.specs.VerdictTexts.{form_fault_text}
@@ -20,7 +23,6 @@ use Rattle.command_answers.specs.declared.refusals.Refusal.TheVariants.{Usage, P
 use Rattle.command_answers.specs.declared.refusals.Refusal.TheVariants.{Certificate, Run, TooLarge, Memory}
 use Rattle.command_answers.specs.declared.statuses.Status.{Status}
 use Rattle.command_answers.specs.declared.statuses.Status.TheVariants as statuses
-use Rattle.command_answers.specs.FaultTexts.{cut_fault_text, program_fault_text, source_fault_text}
 use Rattle.leak_report.specs.FaultTexts.{run_fault_text}
 
 abbrev pub refusal_status : Refusal → Status

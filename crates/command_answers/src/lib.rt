@@ -6,7 +6,6 @@ mod asm;
 mod books;
 mod check;
 mod commands;
-mod fault_texts;
 mod graph;
 mod judging;
 mod kinds;

@@ -1,7 +1,6 @@
 ghost use Rattle.std.specs.Prelude.{◌≡◌};
 ghost use Rattle.command_answers.specs.Refusals.{refusal_status};
 
-use crate::fault_texts::{CutText, ProgramText, SourceText};
 use crate::names::Name;
 use crate::statuses::Status;
 use cut_file::CutFault;
@@ -76,19 +75,10 @@ impl fmt::Display for Refusal {
     fn fmt<W: fmt::Write>(&self, f: &mut fmt::Formatter<W>) -> fmt::Result {
         match self {
             Refusal::Usage => write!(f, "refused 2 usage"),
-            Refusal::Program(fault) => {
-                let fault = ProgramText(fault);
-                write!(f, "refused 3 program {fault}")
-            }
+            Refusal::Program(fault) => write!(f, "refused 3 program {fault}"),
             Refusal::Regions(fault) => write!(f, "refused 3 regions {fault}"),
-            Refusal::Cut(fault) => {
-                let fault = CutText(fault);
-                write!(f, "refused 3 cut {fault}")
-            }
-            Refusal::Source(fault) => {
-                let fault = SourceText(fault);
-                write!(f, "refused 3 source {fault}")
-            }
+            Refusal::Cut(fault) => write!(f, "refused 3 cut {fault}"),
+            Refusal::Source(fault) => write!(f, "refused 3 source {fault}"),
             Refusal::Certificate(fault) => write!(f, "refused 3 certificate {fault}"),
             Refusal::Run(fault) => {
                 let fault = RunText(fault);
