@@ -21,7 +21,7 @@ use Rattle.command_answers.specs.declared.refusals.Refusal.TheVariants.{Certific
 use Rattle.command_answers.specs.declared.statuses.Status.{Status}
 use Rattle.command_answers.specs.declared.statuses.Status.TheVariants as statuses
 use Rattle.command_answers.specs.FaultTexts.{cut_fault_text, program_fault_text, source_fault_text}
-use Rattle.leak_report.specs.FaultTexts.{run_fault_text}
+use Rattle.run_labels.specs.FaultTexts.{run_fault_text}
 
 abbrev pub refusal_status : Refusal → Status
 refusal_status Usage = statuses.Usage

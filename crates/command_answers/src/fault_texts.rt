@@ -1,7 +1,6 @@
 use cut_file::CutFault;
 use elf32_loader::ElfFault;
-use flow_base::hex_digits;
-use leak_report::Word;
+use flow_base::{HexWord as Word, hex_digits};
 use rv32im_asm::AsmFault;
 use std::fmt;
 
