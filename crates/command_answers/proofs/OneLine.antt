@@ -28,7 +28,8 @@ use Rattle.rv32im_machine.specs.declared.stepping.Fault.{Fault}
 use Rattle.rv32im_machine.specs.declared.stepping.Fault.TheVariants as stops
 use Rattle.run_labels.specs.declared.faults.MeasureFault.{MeasureFault}
 use Rattle.run_labels.specs.declared.faults.MeasureFault.TheVariants as run
-use Rattle.leak_report.specs.FaultTexts.{run_fault_text, stop_text}
+use Rattle.rv32im_machine.specs.FaultTexts.{stop_text}
+use Rattle.run_labels.specs.FaultTexts.{run_fault_text}
 use Rattle.command_answers.specs.Lines.{has_line_feed}
 use Rattle.command_answers.specs.Names.{escape, is_control, shown}
 

@@ -23,7 +23,7 @@ use Rattle.command_answers.specs.declared.refusals.Refusal.TheVariants.{Usage, P
 use Rattle.command_answers.specs.declared.refusals.Refusal.TheVariants.{Certificate, Run, TooLarge, Memory}
 use Rattle.command_answers.specs.declared.statuses.Status.{Status}
 use Rattle.command_answers.specs.declared.statuses.Status.TheVariants as statuses
-use Rattle.leak_report.specs.FaultTexts.{run_fault_text}
+use Rattle.run_labels.specs.FaultTexts.{run_fault_text}
 
 abbrev pub refusal_status : Refusal → Status
 refusal_status Usage = statuses.Usage

@@ -8,7 +8,6 @@ use elf32_loader::ElfFault;
 use enclosure_regions::RegionFault;
 use flow_base::NoMemory;
 use flow_certificate::FormFault;
-use leak_report::RunText;
 use run_labels::MeasureFault;
 use rv32im_asm::AsmFault;
 use std::fmt;
@@ -80,10 +79,7 @@ impl fmt::Display for Refusal {
             Refusal::Cut(fault) => write!(f, "refused 3 cut {fault}"),
             Refusal::Source(fault) => write!(f, "refused 3 source {fault}"),
             Refusal::Certificate(fault) => write!(f, "refused 3 certificate {fault}"),
-            Refusal::Run(fault) => {
-                let fault = RunText(fault);
-                write!(f, "refused 4 {fault}")
-            }
+            Refusal::Run(fault) => write!(f, "refused 4 {fault}"),
             Refusal::Load { name } => write!(f, "refused 5 load {name}"),
             Refusal::TooLarge { name, number } => {
                 write!(f, "refused 6 too-large {name} {number}")

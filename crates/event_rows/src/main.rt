@@ -7,7 +7,6 @@ mod lines;
 mod point_texts;
 mod programs;
 mod texts;
-mod words;
 
 use flow_graph::EventList;
 use guests::Guest;

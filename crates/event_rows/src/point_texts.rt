@@ -1,5 +1,4 @@
-use crate::words::Word;
-use flow_base::{Point, Slot};
+use flow_base::{HexWord, Point, Slot};
 use std::fmt;
 
 /// A slot, which shows as its two or three characters.
@@ -44,7 +43,7 @@ impl fmt::Display for PointText {
 
     fn fmt<W: fmt::Write>(&self, f: &mut fmt::Formatter<W>) -> fmt::Result {
         let region = self.0.region;
-        let address = Word(self.0.address);
+        let address = HexWord(self.0.address);
         let slot = SlotText(self.0.slot);
         write!(f, "{region} {address} {slot}")
     }

@@ -1,8 +1,6 @@
 use crate::point_texts::PointText;
-use crate::words::Word;
+use flow_base::HexWord;
 use flow_graph::Event;
-use run_labels::MeasureFault;
-use rv32im_machine::Fault;
 use std::fmt;
 use tracked_run::TrackedTurn;
 
@@ -20,7 +18,7 @@ impl fmt::Display for EventText {
         match self.0 {
             Event::Pass { point, mask } => {
                 let point = PointText(point);
-                let mask = Word(mask);
+                let mask = HexWord(mask);
                 write!(f, "pass {point} {mask}")
             }
             Event::Link { source, target } => {
@@ -44,84 +42,6 @@ impl fmt::Display for EventText {
     }
 }
 
-/// Why a guest is stopped.
-#[derive(Clone, Copy)]
-struct StopText(Fault);
-
-impl fmt::Display for StopText {
-    ghost use Rattle.std.specs.Prelude.{Some};
-    ghost use Rattle.event_rows.specs.Texts.{stop_text};
-
-    ghost output = { λ shown. Some (stop_text shown.0) };
-
-    fn fmt<W: fmt::Write>(&self, f: &mut fmt::Formatter<W>) -> fmt::Result {
-        match self.0 {
-            Fault::Illegal { pc, word } => {
-                let pc = Word(pc);
-                let word = Word(word);
-                write!(f, "illegal {pc} word {word}")
-            }
-            Fault::FetchOutside { pc } => {
-                let pc = Word(pc);
-                write!(f, "fetch-outside {pc}")
-            }
-            Fault::FetchUnaligned { pc } => {
-                let pc = Word(pc);
-                write!(f, "fetch-unaligned {pc}")
-            }
-            Fault::LoadOutside { pc, address } => {
-                let pc = Word(pc);
-                let address = Word(address);
-                write!(f, "load-outside {pc} address {address}")
-            }
-            Fault::StoreOutside { pc, address } => {
-                let pc = Word(pc);
-                let address = Word(address);
-                write!(f, "store-outside {pc} address {address}")
-            }
-            Fault::Breakpoint { pc } => {
-                let pc = Word(pc);
-                write!(f, "breakpoint {pc}")
-            }
-            Fault::OutputLimit { pc } => {
-                let pc = Word(pc);
-                write!(f, "output-limit {pc}")
-            }
-        }
-    }
-}
-
-/// Why a turn is refused. No turn is refused for a limit or for want of memory.
-#[derive(Clone, Copy)]
-struct RefusalText(MeasureFault);
-
-impl fmt::Display for RefusalText {
-    ghost use Rattle.std.specs.Prelude.{Some};
-    ghost use Rattle.event_rows.specs.Texts.{refusal_text};
-
-    ghost output = { λ shown. Some (refusal_text shown.0) };
-
-    fn fmt<W: fmt::Write>(&self, f: &mut fmt::Formatter<W>) -> fmt::Result {
-        match self.0 {
-            MeasureFault::Guest(fault) => {
-                let stop = StopText(fault);
-                write!(f, "{stop}")
-            }
-            MeasureFault::Region(broken) => write!(f, "{broken}"),
-            MeasureFault::TurnLimit { limit } => write!(f, "turns {limit}"),
-            MeasureFault::SecretCode { pc } => {
-                let pc = Word(pc);
-                write!(f, "secret-code {pc}")
-            }
-            MeasureFault::BaseSecret { region, register } => {
-                write!(f, "region {region} base x{register} secret")
-            }
-            MeasureFault::GraphLimit => write!(f, "graph-limit"),
-            MeasureFault::Memory => write!(f, "memory"),
-        }
-    }
-}
-
 /// What a turn answers.
 #[derive(Clone, Copy)]
 pub struct AnswerText(pub TrackedTurn);
@@ -136,10 +56,7 @@ impl fmt::Display for AnswerText {
         match self.0 {
             TrackedTurn::Ran => write!(f, "ran"),
             TrackedTurn::Exited(status) => write!(f, "exited {status}"),
-            TrackedTurn::Refused(fault) => {
-                let refusal = RefusalText(fault);
-                write!(f, "refused {refusal}")
-            }
+            TrackedTurn::Refused(fault) => write!(f, "refused {fault}"),
         }
     }
 }

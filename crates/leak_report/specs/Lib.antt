@@ -1,4 +1,3 @@
-pub mod FaultTexts
 pub mod VerdictLines
 pub mod Capacities
 pub mod Reports

@@ -6,9 +6,8 @@ ghost use Rattle.max_flow.specs.Flows.{is_small};
 
 use crate::capacities::capacity_of;
 use crate::slot_texts::SlotText;
-use crate::word_texts::Word;
 use cut_file::CutPoint;
-use flow_base::{Bytes, NoMemory, Point};
+use flow_base::{Bytes, HexWord, NoMemory, Point};
 use flow_graph::Node;
 use measuring::Measured;
 use std::alloc::Global;
@@ -63,7 +62,7 @@ fn put_point(
     ensures { OnOk result (text.new.items ≡ text.old.items ++ cut_line nodes.now point) }
 {
     let region = point.region;
-    let address = Word(point.address);
+    let address = HexWord(point.address);
     let slot = SlotText(point.slot);
     let bits = capacity_of(nodes, point);
     let line = format!(in alloc; "cut {region} {address} {slot} bits {bits}\n")?;
