@@ -2,4 +2,3 @@ pub mod Tables
 pub mod Keys
 pub mod Ordered
 pub mod Longer
-pub mod HexText
