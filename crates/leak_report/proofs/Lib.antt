@@ -1,4 +1,3 @@
-pub mod HexText
 pub mod LineLists
 pub mod Floats
 pub mod MappedLists

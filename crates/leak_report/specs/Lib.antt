@@ -1,6 +1,5 @@
 pub mod FaultTexts
 pub mod VerdictLines
-pub mod Capacities
 pub mod Reports
 pub mod JsonReports
 pub mod Members

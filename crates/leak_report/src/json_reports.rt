@@ -7,10 +7,8 @@ ghost use Rattle.leak_report.specs.Members.{with_first, with_last};
 ghost use Rattle.max_flow.specs.Flows.{is_small};
 
 use crate::capacities::capacity_of;
-use crate::slot_texts::SlotText;
-use crate::word_texts::Word;
 use cut_file::CutPoint;
-use flow_base::{Bytes, NoMemory, Point};
+use flow_base::{Bytes, HexWord, NoMemory, Point};
 use flow_graph::Node;
 use measuring::Measured;
 use serde_json::{Map, Value, json};
@@ -21,9 +19,9 @@ fn point_value(alloc: Global, nodes: &[Node], point: Point) -> Result<Value, NoM
     requires { list_all is_small nodes.now ≡ true }
     ensures { IfOk result (λ value. view value ≡ point_data nodes.now point) }
 {
-    let word = Word(point.address);
+    let word = HexWord(point.address);
     let address = format!(in alloc; "{word}")?;
-    let shown = SlotText(point.slot);
+    let shown = point.slot;
     let slot = format!(in alloc; "{shown}")?;
     let bits = capacity_of(nodes, point);
     let region = point.region;

@@ -6,7 +6,6 @@ mod capacities;
 mod fault_texts;
 mod json_reports;
 mod reports;
-mod slot_texts;
 mod verdict_lines;
 mod word_texts;
 
