@@ -1,5 +1,6 @@
 pub mod Words
 pub mod Points
+pub mod PointOrders
 pub mod Counts
 pub mod Loads
 pub mod Puts

@@ -1,5 +1,8 @@
--- The slots that a turn passes, with their numbers and widths, and the order of points.
-use Rattle.std.specs.Prelude.{ℕ, ◌+◌, ◌&&◌, nat_le, nat_lt, Bool, true}
+-- The slots that a turn passes, with their numbers, widths and texts.
+use Rattle.std.specs.Prelude.{ℕ, ◌+◌, ◌&&◌, nat_le, nat_lt, Bool, true, false, List, ◌∷◌, ◌++◌, codes}
+use Rattle.std.specs.Fmt.{decimal}
+use Rattle.flow_base.specs.HexWords.{hex_word}
+use Rattle.flow_base.specs.declared.points.Point.{Point}
 use Rattle.flow_base.specs.declared.points.Slot.{Slot}
 use Rattle.flow_base.specs.declared.points.Slot.TheVariants.{First, Second, Address, Result, Decision, Number, Arg0, Arg1, Arg2, SecretIn, ByteOut, Status, OutReg, OutRange}
 
@@ -53,3 +56,42 @@ width_of ByteOut = 255
 width_of Status = 255
 width_of (OutReg register) = 4294967295
 width_of (OutRange range) = 255
+
+-- an output of a region: one of its registers, or a byte of one of its ranges
+abbrev pub is_output_slot : Slot → Bool
+is_output_slot First = false
+is_output_slot Second = false
+is_output_slot Address = false
+is_output_slot Result = false
+is_output_slot Decision = false
+is_output_slot Number = false
+is_output_slot Arg0 = false
+is_output_slot Arg1 = false
+is_output_slot Arg2 = false
+is_output_slot SecretIn = false
+is_output_slot ByteOut = false
+is_output_slot Status = false
+is_output_slot (OutReg register) = true
+is_output_slot (OutRange range) = true
+
+-- the text of a slot: two letters, or a letter and a number
+abbrev pub slot_text : Slot → List ℕ
+slot_text First = codes "u1"
+slot_text Second = codes "u2"
+slot_text Address = codes "ad"
+slot_text Result = codes "rs"
+slot_text Decision = codes "de"
+slot_text Number = codes "nr"
+slot_text Arg0 = codes "a0"
+slot_text Arg1 = codes "a1"
+slot_text Arg2 = codes "a2"
+slot_text SecretIn = codes "in"
+slot_text ByteOut = codes "ou"
+slot_text Status = codes "st"
+slot_text (OutReg register) = 120 ∷ decimal register
+slot_text (OutRange range) = 114 ∷ decimal range
+
+-- the text of a point: its region, its address and its slot
+abbrev pub point_text : Point → List ℕ
+point_text point =
+    decimal point.region ++ (codes " " ++ (hex_word point.address ++ (codes " " ++ slot_text point.slot)))

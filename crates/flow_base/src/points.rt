@@ -1,8 +1,11 @@
 ghost use Rattle.std.specs.Prelude.{◌≡◌, IsTrue};
-ghost use Rattle.flow_base.specs.Points.{is_slot, number_of, width_of};
+ghost use Rattle.flow_base.specs.Points.{is_output_slot, is_slot, number_of, width_of};
 
-/// A place within a turn at which a value passes. Slots are ordered by their number (see [`slot_number`]). The registers of
-/// `OutReg` are 1 to 31 and the ranges of `OutRange` 0 to 63; a call that needs this says so.
+use crate::hex_words::HexWord;
+use std::fmt;
+
+/// A place within a turn at which a value passes. Slots are ordered by their number (see [`Slot::number`]). The registers
+/// of `OutReg` are 1 to 31 and the ranges of `OutRange` 0 to 63; a call that needs this says so.
 #[derive(Clone, Copy, Debug, PartialEq, Eq, PartialOrd, Ord, Hash)]
 pub enum Slot {
     /// `u1`: the value of rs1
@@ -44,37 +47,113 @@ pub struct Point {
     pub slot: Slot,
 }
 
-/// The number by which slots are ordered, 1 to 107.
+impl Slot {
+    /// The number by which slots are ordered, 1 to 107 where the slot is known.
+    pub fn number(self) -> u16
+        ensures { result ≡ number_of self }
+    {
+        match self {
+            Slot::First => 1,
+            Slot::Second => 2,
+            Slot::Address => 3,
+            Slot::Result => 4,
+            Slot::Decision => 5,
+            Slot::Number => 6,
+            Slot::Arg0 => 7,
+            Slot::Arg1 => 8,
+            Slot::Arg2 => 9,
+            Slot::SecretIn => 10,
+            Slot::ByteOut => 11,
+            Slot::Status => 12,
+            Slot::OutReg(register) => 12 + u16::from(register),
+            Slot::OutRange(range) => 44 + u16::from(range),
+        }
+    }
+
+    /// The mask of the bits that a value of the slot may have.
+    pub fn width(self) -> u32
+        ensures { result ≡ width_of self }
+    {
+        match self {
+            Slot::Decision => 1,
+            Slot::SecretIn | Slot::ByteOut | Slot::Status | Slot::OutRange(_) => 0xff,
+            _ => 0xffff_ffff,
+        }
+    }
+
+    /// Whether the slot is one that a turn can pass: the registers of outputs are 1 to 31 and their ranges 0 to 63.
+    pub fn is_known(self) -> bool
+        ensures { result ≡ is_slot self }
+    {
+        match self {
+            Slot::OutReg(register) => 1 <= register && register <= 31,
+            Slot::OutRange(range) => range < 64,
+            _ => true,
+        }
+    }
+
+    /// Whether a value of the slot is an output of a region.
+    pub fn is_output(self) -> bool
+        ensures { result ≡ is_output_slot self }
+    {
+        match self {
+            Slot::OutReg(_) | Slot::OutRange(_) => true,
+            _ => false,
+        }
+    }
+}
+
+/// The number by which slots are ordered, 1 to 107: [`Slot::number`] of a known slot.
 pub fn slot_number(slot: Slot) -> u8
     requires { IsTrue (is_slot slot) }
     ensures { result ≡ number_of slot }
 {
-    match slot {
-        Slot::First => 1,
-        Slot::Second => 2,
-        Slot::Address => 3,
-        Slot::Result => 4,
-        Slot::Decision => 5,
-        Slot::Number => 6,
-        Slot::Arg0 => 7,
-        Slot::Arg1 => 8,
-        Slot::Arg2 => 9,
-        Slot::SecretIn => 10,
-        Slot::ByteOut => 11,
-        Slot::Status => 12,
-        Slot::OutReg(register) => 12 + register,
-        Slot::OutRange(range) => 44 + range,
+    slot.number() as u8
+}
+
+/// The mask of the bits that a value of the slot may have: [`Slot::width`].
+pub fn slot_width(slot: Slot) -> u32
+    ensures { result ≡ width_of slot }
+{
+    slot.width()
+}
+
+impl fmt::Display for Slot {
+    ghost use Rattle.std.specs.Prelude.{Some};
+    ghost use Rattle.flow_base.specs.Points.{slot_text};
+
+    ghost output = { λ slot. Some (slot_text slot) };
+
+    fn fmt<W: fmt::Write>(&self, f: &mut fmt::Formatter<W>) -> fmt::Result {
+        match *self {
+            Slot::First => write!(f, "u1"),
+            Slot::Second => write!(f, "u2"),
+            Slot::Address => write!(f, "ad"),
+            Slot::Result => write!(f, "rs"),
+            Slot::Decision => write!(f, "de"),
+            Slot::Number => write!(f, "nr"),
+            Slot::Arg0 => write!(f, "a0"),
+            Slot::Arg1 => write!(f, "a1"),
+            Slot::Arg2 => write!(f, "a2"),
+            Slot::SecretIn => write!(f, "in"),
+            Slot::ByteOut => write!(f, "ou"),
+            Slot::Status => write!(f, "st"),
+            Slot::OutReg(register) => write!(f, "x{register}"),
+            Slot::OutRange(range) => write!(f, "r{range}"),
+        }
     }
 }
 
-/// The mask of the bits that a value of the slot may have.
-pub fn slot_width(slot: Slot) -> u32
-    requires { IsTrue (is_slot slot) }
-    ensures { result ≡ width_of slot }
-{
-    match slot {
-        Slot::Decision => 1,
-        Slot::SecretIn | Slot::ByteOut | Slot::Status | Slot::OutRange(_) => 0xff,
-        _ => 0xffff_ffff,
+impl fmt::Display for Point {
+    ghost use Rattle.std.specs.Prelude.{Some};
+    ghost use Rattle.flow_base.specs.Points.{point_text};
+
+    ghost output = { λ point. Some (point_text point) };
+
+    fn fmt<W: fmt::Write>(&self, f: &mut fmt::Formatter<W>) -> fmt::Result {
+        let region = self.region;
+        let address = HexWord(self.address);
+        let slot = self.slot;
+        write!(f, "{region} {address} {slot}")
     }
 }

@@ -1,0 +1,221 @@
+-- Points are the same where they are one, and points with slots that turns pass are ordered by the numbers of the slots.
+use Rattle.std.proofs.Common.{◌≡◌, ℕ, ◌+◌, ◌<◌, ◌≤◌, ◌==◌, ◌&&◌, ◌||◌, Bool, true, false, refl, sym, ap, ◌∙◌, arith, cond}
+use Rattle.std.proofs.Common.{nat_lt, nat_le, nat_eq, inl, inr}
+use Rattle.std.specs.Cmp.{IsTotalOrder}
+use Rattle.std.specs.Ordering.{is_eq, is_lt, ordering_then, ordering_reverse, nat_cmp}
+use Rattle.std.specs.declared.cmp.Ordering.{Ordering}
+use Rattle.std.specs.declared.cmp.Ordering.TheVariants.{Less, Equal, Greater}
+use Rattle.std.proofs.lemmas.Bool.{and_parts, cases_Bool, cases_order, cond-false, cond-true, leb-true, le-ltb, lt-ltb, ne_eqb}
+use Rattle.std.proofs.lemmas.Bool.{ltb-true, ltb-false}
+use Rattle.std.proofs.lemmas.Cmp.{tied_itself}
+use Rattle.flow_base.specs.declared.points.Point.{Point}
+use Rattle.flow_base.specs.declared.points.Slot.{Slot}
+use Rattle.flow_base.specs.declared.points.Slot.TheVariants.{First, Second, Address, Result, Decision, Number, Arg0, Arg1}
+use Rattle.flow_base.specs.declared.points.Slot.TheVariants.{Arg2, SecretIn, ByteOut, Status, OutReg, OutRange}
+use Rattle.flow_base.specs.contracts.points.SlotOrd.TheImpl as slot_ord
+use Rattle.flow_base.specs.contracts.points.PointOrd.TheImpl.Laws.{total-law}
+use Rattle.flow_base.specs.Points.{is_slot, number_of}
+use Rattle.flow_base.specs.PointOrders.{is_below, is_below_by_number, is_same, point_cmp}
+
+abbrev pub slot_cmp : Slot → Slot → Ordering
+slot_cmp = (slot_ord.ghosts).cmp
+
+pub point_total : IsTotalOrder point_cmp
+point_total = total-law
+
+pub is_equal : (o : Ordering) → is_eq o ≡ true → o ≡ Equal
+is_equal Less e = absurd (cc)
+is_equal Equal e = refl
+is_equal Greater e = absurd (cc)
+
+-- ---- the same
+
+pub nat_equal : (a b : ℕ) → nat_cmp a b ≡ Equal → a ≡ b
+nat_equal a b e = elim (cases_order a b) [
+  | inl same ↦ same
+  | inr (inl less) ↦
+      let no : nat_cmp a b ≡ Less = cond-true (nat_lt a b) Less _ (lt-ltb a b less) in absurd (cc)
+  | inr (inr more) ↦
+      let no : nat_cmp a b ≡ Greater = cond-false (nat_lt a b) Less _ (le-ltb a b (omega arith))
+      ∙ cond-false (nat_eq a b) Equal Greater (ne_eqb a b (λ s. omega (arith, s, more))) in absurd (cc)
+]
+
+slot_equal : (s t : Slot) → slot_cmp s t ≡ Equal → s ≡ t
+slot_equal First First e = refl
+slot_equal First t e = absurd (cc)
+slot_equal Second Second e = refl
+slot_equal Second t e = absurd (cc)
+slot_equal Address Address e = refl
+slot_equal Address t e = absurd (cc)
+slot_equal Result Result e = refl
+slot_equal Result t e = absurd (cc)
+slot_equal Decision Decision e = refl
+slot_equal Decision t e = absurd (cc)
+slot_equal Number Number e = refl
+slot_equal Number t e = absurd (cc)
+slot_equal Arg0 Arg0 e = refl
+slot_equal Arg0 t e = absurd (cc)
+slot_equal Arg1 Arg1 e = refl
+slot_equal Arg1 t e = absurd (cc)
+slot_equal Arg2 Arg2 e = refl
+slot_equal Arg2 t e = absurd (cc)
+slot_equal SecretIn SecretIn e = refl
+slot_equal SecretIn t e = absurd (cc)
+slot_equal ByteOut ByteOut e = refl
+slot_equal ByteOut t e = absurd (cc)
+slot_equal Status Status e = refl
+slot_equal Status t e = absurd (cc)
+slot_equal (OutReg n) (OutReg m) e = ap (λ k. OutReg k) (nat_equal n m e)
+slot_equal (OutReg n) t e = absurd (cc)
+slot_equal (OutRange n) (OutRange m) e = ap (λ k. OutRange k) (nat_equal n m e)
+slot_equal (OutRange n) t e = absurd (cc)
+
+then_both : (o r : Ordering) → ordering_then o r ≡ Equal → (o ≡ Equal) × (r ≡ Equal)
+then_both Less r e = absurd (cc)
+then_both Equal r e = (refl, e)
+then_both Greater r e = absurd (cc)
+
+-- points that are the same are one
+pub same-one : (p q : Point) → is_same p q ≡ true → p ≡ q
+same-one p q same =
+    let whole = then_both _ _ (is_equal (point_cmp p q) same) in
+    let later = then_both _ _ whole.1 in
+    let region : p.region ≡ q.region = nat_equal p.region q.region whole.0 in
+    let address : p.address ≡ q.address = nat_equal p.address q.address later.0 in
+    let slot : p.slot ≡ q.slot = slot_equal p.slot q.slot later.1 in
+    ap (λ (n : ℕ). record { region = n; address = p.address; slot = p.slot }) region
+    ∙ (ap (λ (n : ℕ). record { region = q.region; address = n; slot = p.slot }) address
+    ∙ ap (λ (s : Slot). record { region = q.region; address = q.address; slot = s }) slot)
+
+pub same-self : (p : Point) → is_same p p ≡ true
+same-self p = ap is_eq (tied_itself point_total p)
+
+pub one-same : (p q : Point) → p ≡ q → is_same p q ≡ true
+one-same p q one = ap (λ (x : Point). is_same p x) (sym one) ∙ same-self p
+
+-- ---- numbers
+
+less_number : (l e : Bool) → is_lt (cond l Less (cond e Equal Greater)) ≡ l
+less_number true e = refl
+less_number false true = refl
+less_number false false = refl
+
+pub is_lt-number : (n m : ℕ) → is_lt (nat_cmp n m) ≡ nat_lt n m
+is_lt-number n m = less_number (nat_lt n m) (n == m)
+
+then_less : (l e : Bool) (o : Ordering) → is_lt (ordering_then (cond l Less (cond e Equal Greater)) o) ≡
+    (l || (e && is_lt o))
+then_less true e o = refl
+then_less false true o = refl
+then_less false false o = refl
+
+-- the numbers of registers come behind all others, those of ranges behind these
+to_register : (k register : ℕ) → k ≤ 12 → is_slot (OutReg register) ≡ true → true ≡ nat_lt k (12 + register)
+to_register k register small valid =
+    let first : 1 ≤ register = leb-true 1 register (and_parts (nat_le 1 register) (nat_le register 31) valid).0 in
+    sym (lt-ltb k (12 + register) (omega (arith, small, first)))
+
+to_range : (k range : ℕ) → k ≤ 12 → true ≡ nat_lt k (44 + range)
+to_range k range small = sym (lt-ltb k (44 + range) (omega (arith, small)))
+
+behind : (k n : ℕ) → k ≤ n → false ≡ nat_lt n k
+behind k n low = sym (le-ltb n k low)
+
+shifted : (k n m : ℕ) → nat_lt n m ≡ nat_lt (k + n) (k + m)
+shifted k n m = elim (cases_Bool (nat_lt n m)) [
+  | inl less ↦ less ∙ sym (lt-ltb (k + n) (k + m) (let below : n < m = ltb-true n m less in omega (arith, below)))
+  | inr other ↦ other ∙ sym (le-ltb (k + n) (k + m) (let high : m ≤ n = ltb-false n m other in omega (arith, high)))
+]
+
+register_range : (register range : ℕ) → is_slot (OutReg register) ≡ true → nat_lt (12 + register) (44 + range) ≡ true
+register_range register range valid =
+    let last : register ≤ 31 = leb-true register 31 (and_parts (nat_le 1 register) (nat_le register 31) valid).1 in
+    lt-ltb (12 + register) (44 + range) (omega (arith, last))
+
+-- slots are ordered by their numbers
+pub slots-numbered : (s t : Slot) → is_slot s ≡ true → is_slot t ≡ true →
+    is_lt (slot_cmp s t) ≡ nat_lt (number_of s) (number_of t)
+slots-numbered First (OutReg m) a b = to_register 1 m (omega arith) b
+slots-numbered First (OutRange m) a b = to_range 1 m (omega arith)
+slots-numbered First t a b = refl
+slots-numbered Second (OutReg m) a b = to_register 2 m (omega arith) b
+slots-numbered Second (OutRange m) a b = to_range 2 m (omega arith)
+slots-numbered Second t a b = refl
+slots-numbered Address (OutReg m) a b = to_register 3 m (omega arith) b
+slots-numbered Address (OutRange m) a b = to_range 3 m (omega arith)
+slots-numbered Address t a b = refl
+slots-numbered Result (OutReg m) a b = to_register 4 m (omega arith) b
+slots-numbered Result (OutRange m) a b = to_range 4 m (omega arith)
+slots-numbered Result t a b = refl
+slots-numbered Decision (OutReg m) a b = to_register 5 m (omega arith) b
+slots-numbered Decision (OutRange m) a b = to_range 5 m (omega arith)
+slots-numbered Decision t a b = refl
+slots-numbered Number (OutReg m) a b = to_register 6 m (omega arith) b
+slots-numbered Number (OutRange m) a b = to_range 6 m (omega arith)
+slots-numbered Number t a b = refl
+slots-numbered Arg0 (OutReg m) a b = to_register 7 m (omega arith) b
+slots-numbered Arg0 (OutRange m) a b = to_range 7 m (omega arith)
+slots-numbered Arg0 t a b = refl
+slots-numbered Arg1 (OutReg m) a b = to_register 8 m (omega arith) b
+slots-numbered Arg1 (OutRange m) a b = to_range 8 m (omega arith)
+slots-numbered Arg1 t a b = refl
+slots-numbered Arg2 (OutReg m) a b = to_register 9 m (omega arith) b
+slots-numbered Arg2 (OutRange m) a b = to_range 9 m (omega arith)
+slots-numbered Arg2 t a b = refl
+slots-numbered SecretIn (OutReg m) a b = to_register 10 m (omega arith) b
+slots-numbered SecretIn (OutRange m) a b = to_range 10 m (omega arith)
+slots-numbered SecretIn t a b = refl
+slots-numbered ByteOut (OutReg m) a b = to_register 11 m (omega arith) b
+slots-numbered ByteOut (OutRange m) a b = to_range 11 m (omega arith)
+slots-numbered ByteOut t a b = refl
+slots-numbered Status (OutReg m) a b = to_register 12 m (omega arith) b
+slots-numbered Status (OutRange m) a b = to_range 12 m (omega arith)
+slots-numbered Status t a b = refl
+slots-numbered (OutReg n) (OutReg m) a b = is_lt-number n m ∙ shifted 12 n m
+slots-numbered (OutReg n) (OutRange m) a b = sym (register_range n m a)
+slots-numbered (OutReg n) t a b = behind (number_of t) (12 + n) (omega arith)
+slots-numbered (OutRange n) (OutRange m) a b = is_lt-number n m ∙ shifted 44 n m
+slots-numbered (OutRange n) (OutReg m) a b =
+    let before : nat_lt (12 + m) (44 + n) ≡ true = register_range m n b in
+    behind (12 + m) (44 + n) (let low : 12 + m < 44 + n = ltb-true (12 + m) (44 + n) before in omega (arith, low))
+slots-numbered (OutRange n) t a b = behind (number_of t) (44 + n) (omega arith)
+
+pub points-numbered : (p q : Point) → is_slot p.slot ≡ true → is_slot q.slot ≡ true →
+    is_below p q ≡ is_below_by_number p q
+points-numbered p q a b =
+    let inner : Ordering = ordering_then (nat_cmp p.address q.address) (slot_cmp p.slot q.slot) in
+    then_less (nat_lt p.region q.region) (p.region == q.region) inner
+    ∙ ap (λ later. nat_lt p.region q.region || ((p.region == q.region) && later))
+    (then_less (nat_lt p.address q.address) (p.address == q.address) (slot_cmp p.slot q.slot)
+    ∙ ap (λ later. nat_lt p.address q.address || ((p.address == q.address) && later))
+    (slots-numbered p.slot q.slot a b))
+
+-- ---- the order
+
+less : (o : Ordering) → is_lt o ≡ true → o ≡ Less
+less Less e = refl
+less Equal e = absurd (cc)
+less Greater e = absurd (cc)
+
+pub below-trans : (a b c : Point) → is_below a b ≡ true → is_below b c ≡ true → is_below a c ≡ true
+below-trans a b c first second =
+    ap is_lt (point_total.trans a b c (less (point_cmp a b) first) (less (point_cmp b c) second))
+
+pub below-other : (a b : Point) → is_below a b ≡ true → is_same a b ≡ false
+below-other a b below = ap is_eq (less (point_cmp a b) below)
+
+pub other-sym : (a b : Point) → is_same a b ≡ false → is_same b a ≡ false
+other-sym a b other = elim (cases_Bool (is_same b a)) [
+  | inl same ↦ let turned : is_same a b ≡ true = one-same a b (sym (same-one b a same)) in absurd (cc)
+  | inr apart ↦ apart
+]
+
+-- of two points that are not the same one is below the other
+pub below-total : (c p : Point) → is_same c p ≡ false → is_below p c ≡ false → is_below c p ≡ true
+below-total c p other high = pick (point_cmp c p) refl
+  where
+    pick : (o : Ordering) → point_cmp c p ≡ o → is_below c p ≡ true
+    pick Less e = ap is_lt e
+    pick Equal e = let same : is_same c p ≡ true = ap is_eq e in absurd (cc)
+    pick Greater e =
+        let turned : is_below p c ≡ true = ap is_lt (point_total.antisymm p c ∙ ap ordering_reverse e) in absurd (cc)
