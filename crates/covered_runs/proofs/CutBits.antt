@@ -11,7 +11,7 @@ use Rattle.flow_base.specs.Points.{is_slot}
 use Rattle.flow_base.specs.Words.{bit_count, bits_under}
 use Rattle.crossing_bits.proofs.Places.{length_bits_under}
 use Rattle.cut_file.specs.Cuts.{CutPicture, has_slot}
-use Rattle.flow_graph.specs.EventGraphs.{is_same}
+use Rattle.flow_base.specs.PointOrders.{is_same}
 use Rattle.flow_graph.specs.declared.events.Event.{Event}
 use Rattle.flow_graph.specs.declared.events.Event.TheVariants.{Pass, Link, FromSecret, Implicit, Out}
 use Rattle.flow_graph.proofs.Bits.{bit_count-zero}

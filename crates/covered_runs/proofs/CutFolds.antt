@@ -9,7 +9,7 @@ use Rattle.cut_file.specs.Folds.{AreFolded, IsFold, IsFolded}
 use Rattle.cut_file.specs.Masks.{MaskAt}
 use Rattle.cut_file.proofs.Periods.{fold-mask}
 use Rattle.enclosure_regions.specs.Regions.{stands_in}
-use Rattle.flow_graph.specs.EventGraphs.{is_same}
+use Rattle.flow_base.specs.PointOrders.{is_same}
 use Rattle.lockstep_replay.specs.Crossing.{cross_after}
 use Rattle.max_flow.specs.Flows.{side_capacity}
 use Rattle.region_machine.specs.Starts.{guest}

@@ -1,20 +1,13 @@
 -- Inside a skipped region a turn passes inner points alone.
 use Rattle.std.proofs.Common.{◌≡◌, ℕ, ◌+◌, ◌≤◌, ◌==◌, ◌&&◌, ◌++◌, ◌∷◌, [], Bool, true, false, not, List}
-use Rattle.std.proofs.Common.{refl, sym, ap, ◌∙◌, arith, nat_le, inl, inr}
+use Rattle.std.proofs.Common.{refl, sym, ap, ◌∙◌, arith, inl, inr}
 use Rattle.std.specs.Prelude.{if◌then◌else◌}
 use Rattle.std.specs.List.{AllByRecursion}
-use Rattle.std.proofs.lemmas.Bool.{and_from, cases_Bool, cond-false, le-leb, leb-true, and_parts}
+use Rattle.std.proofs.lemmas.Bool.{and_from, cases_Bool, cond-false}
 use Rattle.flow_base.specs.declared.points.Point.{Point}
-use Rattle.flow_base.specs.declared.points.Slot.{Slot}
-use Rattle.flow_base.specs.declared.points.Slot.TheVariants.{First as FirstSlot, Second as SecondSlot, Address}
-use Rattle.flow_base.specs.declared.points.Slot.TheVariants.{Result as ResultSlot, Decision as DecisionSlot, Number}
-use Rattle.flow_base.specs.declared.points.Slot.TheVariants.{Arg0, Arg1, Arg2, SecretIn, ByteOut, Status, OutReg}
-use Rattle.flow_base.specs.declared.points.Slot.TheVariants.{OutRange}
-use Rattle.flow_base.specs.Points.{is_slot, number_of}
-use Rattle.cut_file.specs.Masks.{is_same_point}
-use Rattle.replay_machine.proofs.Searching.{same-parts}
-use Rattle.flow_graph.specs.EventGraphs.{is_same}
-use Rattle.covered_runs.proofs.PointOrders.{same_points}
+use Rattle.flow_base.specs.Points.{is_slot, is_output_slot}
+use Rattle.flow_base.specs.PointOrders.{is_same}
+use Rattle.flow_base.proofs.PointOrders.{same-one}
 use Rattle.enclosure_regions.specs.Regions.{stands_in}
 use Rattle.flow_graph.specs.declared.events.Event.{Event}
 use Rattle.flow_graph.specs.declared.events.Event.TheVariants.{Pass, Link, FromSecret, Implicit, Out}
@@ -28,7 +21,7 @@ use Rattle.shadow_masks.specs.Pages.{label_of}
 use Rattle.run_labels.specs.TurnLabels.{TurnLabels, put_label}
 use Rattle.run_labels.specs.Masks.{masks_of, work_mask, mask_of, answers_after, moved_label}
 use Rattle.run_labels.specs.Flowing.{flow_events, passing_events, events_in, sources_events, aim_events}
-use Rattle.covered_runs.specs.RunCuts.{is_output_slot, is_inner, mask_at_event, visit_masks}
+use Rattle.covered_runs.specs.RunCuts.{is_inner, mask_at_event, visit_masks}
 use Rattle.covered_runs.specs.Proper.{AreBytes, IsProper}
 use Rattle.covered_runs.proofs.GraphEvents.{all-append, all_more}
 use Rattle.covered_runs.proofs.Passings.{made_fits, slot_word}
@@ -124,38 +117,14 @@ module _ (setting : Setting) (secret : List ℕ) (bytes : AreBytes secret) (skip
 
 -- ---- they are no visits of other points
 
-output-number : (slot : Slot) → is_slot slot ≡ true → is_output_slot slot ≡ nat_le 13 (number_of slot)
-output-number FirstSlot known = refl
-output-number SecondSlot known = refl
-output-number Address known = refl
-output-number ResultSlot known = refl
-output-number DecisionSlot known = refl
-output-number Number known = refl
-output-number Arg0 known = refl
-output-number Arg1 known = refl
-output-number Arg2 known = refl
-output-number SecretIn known = refl
-output-number ByteOut known = refl
-output-number Status known = refl
-output-number (OutReg register) known =
-    let least : 1 ≤ register = leb-true 1 register (and_parts (nat_le 1 register) (nat_le register 31) known).0 in
-    sym (le-leb 13 (12 + register) (omega (arith, least)))
-output-number (OutRange range) known = sym (le-leb 13 (44 + range) (omega arith))
-
-same-inner : (skip : List ℕ) (p q : Point) → is_slot p.slot ≡ true → is_slot q.slot ≡ true →
-    is_same_point p q ≡ true → is_inner skip p ≡ is_inner skip q
-same-inner skip p q first second same =
-    let parts = same-parts p q same in
-    let output : is_output_slot p.slot ≡ is_output_slot q.slot =
-    output-number p.slot first ∙ ap (nat_le 13) parts.1.1 ∙ sym (output-number q.slot second) in
-    ap (λ region. stands_in skip region && not (is_output_slot p.slot)) parts.0
-    ∙ ap (λ test. stands_in skip q.region && not test) output
+same-inner : (skip : List ℕ) (p q : Point) → is_same p q ≡ true → is_inner skip p ≡ is_inner skip q
+same-inner skip p q same = ap (is_inner skip) (same-one p q same)
 
 event-elsewhere : (skip : List ℕ) (point : Point) (event : Event) → is_inner skip point ≡ false →
     is_slot point.slot ≡ true → IsInnerEvent skip event → mask_at_event point event ≡ []
 event-elsewhere skip point (Pass other mask) outside slot inner = elim (cases_Bool (is_same point other)) [
   | inl same ↦
-      let alike = same-inner skip point other slot inner.1 (same_points point other slot inner.1 ∙ same) in
+      let alike = same-inner skip point other same in
       let no : false ≡ true = sym outside ∙ alike ∙ inner.0 in absurd (cc)
   | inr apart ↦ cond-false (is_same point other) (mask ∷ []) [] apart
 ]

@@ -15,24 +15,21 @@ use Rattle.flow_base.specs.declared.points.Slot.TheVariants.{Result as ResultSlo
 use Rattle.flow_base.specs.declared.points.Slot.TheVariants.{Arg0, Arg1, Arg2, SecretIn, ByteOut, Status, OutReg}
 use Rattle.flow_base.specs.declared.points.Slot.TheVariants.{OutRange}
 use Rattle.flow_base.specs.Points.{is_slot, width_of}
+use Rattle.flow_base.specs.PointOrders.{is_same, point_cmp}
+use Rattle.flow_base.proofs.PointOrders.{same-one, point_total, is_equal}
 use Rattle.flow_graph.specs.declared.events.Event.{Event}
 use Rattle.flow_graph.specs.declared.events.Event.TheVariants.{Pass, Link, FromSecret, Implicit, Out}
 use Rattle.cut_file.specs.declared.points.CutPoint.{CutPoint}
 use Rattle.cut_file.specs.Cuts.{CutPicture, has_slot}
-use Rattle.cut_file.specs.Masks.{is_same_point, listed_masks, listed_mask, repeated, mask_of, MaskAt}
-use Rattle.cut_file.proofs.CutMasks.{same-width, same-slot}
+use Rattle.cut_file.specs.Masks.{listed_masks, listed_mask, repeated, mask_of, MaskAt}
 use Rattle.cut_file.specs.Folds.{listed_at}
 use Rattle.replay_machine.specs.Runs.{Masks, times_passed, mask_at}
-use Rattle.flow_graph.specs.EventGraphs.{is_same}
-use Rattle.flow_graph.specs.Graphs.{point_cmp}
-use Rattle.flow_graph.proofs.Points.{is_equal, point_total}
 use Rattle.std.specs.Ordering.{is_eq}
 use Rattle.covered_runs.specs.Sides.{NamedSide}
 use Rattle.covered_runs.specs.RunCuts.{mask_at_event, visit_masks, names_point, HasVisitMasks, IsCutOf}
 use Rattle.covered_runs.specs.ClosedEvents.{IsProperEvent, AreProperEvents}
 use Rattle.covered_runs.specs.Covers.{IsContained, past_after, AreContained}
 use Rattle.covered_runs.proofs.GraphEvents.{same-itself}
-use Rattle.covered_runs.proofs.PointOrders.{same_points}
 
 -- ---- the masks of the visits of one point
 
@@ -86,13 +83,12 @@ unseen past seen event counts none =
     ∙ ap (λ masks. visit_masks other seen ++ masks) (one-visit other event ∙ none other)
     ∙ append-nil (visit_masks other seen)))
 
--- a visit more of a point, where the masks tell it by its name and the count by its number
+-- a visit more of a point
 pub visit_more : (point other : Point) (mask count : ℕ) (masks : List ℕ) → is_slot point.slot ≡ true →
     is_slot other.slot ≡ true → count ≡ length masks →
-    cond (is_same_point other point) (suc count) count ≡ length (masks ++ cond (is_same other point) (mask ∷ []) [])
+    cond (is_same other point) (suc count) count ≡ length (masks ++ cond (is_same other point) (mask ∷ []) [])
 visit_more point other mask count masks slot known is =
-    ap (λ test. cond test (suc count) count) (same_points other point known slot)
-    ∙ seen_more (is_same other point) mask count masks is
+    seen_more (is_same other point) mask count masks is
 
 pub counts-more : (past : List Point) (seen : List Event) (event : Event) → IsProperEvent event → Counts past seen →
     Counts (past_after event past) (seen ++ event ∷ [])
@@ -142,19 +138,18 @@ mask-found : (events : List Event) (points : List CutPoint) (point : Point) (pla
 mask-found events [] point place have slots slot below named = absurd (cc)
 mask-found events (first ∷ points) point place have slots slot below named =
     let both = and_parts (has_slot first) (list_all has_slot points) slots in
-    let alike = same_points first.point point both.0 slot in
     elim (cases_Bool (is_same first.point point)) [
       | inl same ↦
-          cond-true (is_same_point first.point point) (mask_of first (suc place)) (MaskAt points point (suc place))
-          (alike ∙ same)
+          cond-true (is_same first.point point) (mask_of first (suc place)) (MaskAt points point (suc place))
+          same
           ∙ ap (λ mask. bit_and mask (width_of first.point.slot))
           (listed-here first (visit_masks point events) place
           (have.0.masks ∙ same-visits first.point point same events) below)
           ∙ ap (λ width. bit_and (get_or (visit_masks point events) place 0) width)
-          (same-width first.point.slot point.slot both.0 slot (same-slot first.point point (alike ∙ same)))
+          (ap (λ (p : Point). width_of p.slot) (same-one first.point point same))
       | inr other ↦
-          cond-false (is_same_point first.point point) (mask_of first (suc place)) (MaskAt points point (suc place))
-          (alike ∙ other)
+          cond-false (is_same first.point point) (mask_of first (suc place)) (MaskAt points point (suc place))
+          other
           ∙ mask-found events points point place have.1 both.1 slot below
           (later-named (is_same first.point point) (names_point points point) other named)
     ]
@@ -168,8 +163,8 @@ pub mask-missing : (points : List CutPoint) (point : Point) (visit : ℕ) → li
 mask-missing [] point visit slots slot none = refl
 mask-missing (first ∷ points) point visit slots slot none =
     let both = and_parts (has_slot first) (list_all has_slot points) slots in
-    cond-false (is_same_point first.point point) (mask_of first visit) (MaskAt points point visit)
-    (same_points first.point point both.0 slot ∙ first-none (is_same first.point point) (names_point points point) none)
+    cond-false (is_same first.point point) (mask_of first visit) (MaskAt points point visit)
+    (first-none (is_same first.point point) (names_point points point) none)
     ∙ mask-missing points point visit both.1 slot (later-none (is_same first.point point) (names_point points point) none)
   where
     first-none : (a b : Bool) → (a || b) ≡ false → a ≡ false
@@ -236,15 +231,14 @@ listed-found : (events : List Event) (points : List CutPoint) (point : Point) �
 listed-found events [] point have slots slot named = absurd (cc)
 listed-found events (first ∷ points) point have slots slot named =
     let both = and_parts (has_slot first) (list_all has_slot points) slots in
-    let alike = same_points first.point point both.0 slot in
     elim (cases_Bool (is_same first.point point)) [
       | inl same ↦
-          cond-true (is_same_point first.point point) (length (listed_masks first.runs)) (listed_at points point)
-          (alike ∙ same)
+          cond-true (is_same first.point point) (length (listed_masks first.runs)) (listed_at points point)
+          same
           ∙ ap length (have.0.masks ∙ same-visits first.point point same events)
       | inr other ↦
-          cond-false (is_same_point first.point point) (length (listed_masks first.runs)) (listed_at points point)
-          (alike ∙ other)
+          cond-false (is_same first.point point) (length (listed_masks first.runs)) (listed_at points point)
+          other
           ∙ listed-found events points point have.1 both.1 slot
           (later-named (is_same first.point point) (names_point points point) other named)
     ]

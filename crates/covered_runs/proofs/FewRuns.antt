@@ -10,31 +10,31 @@ use Rattle.std.proofs.lemmas.List.Sums.{sum_by-append, sum_by-cons}
 use Rattle.flow_base.specs.declared.points.Point.{Point}
 use Rattle.flow_base.specs.Points.{is_slot}
 use Rattle.flow_base.specs.Words.{bit_count}
+use Rattle.flow_base.specs.PointOrders.{is_below, point_cmp, is_same}
+use Rattle.flow_base.proofs.PointOrders.{below-other, below-trans, point_total}
 use Rattle.cut_file.specs.declared.points.CutPoint.{CutPoint}
 use Rattle.cut_file.specs.Cuts.{CutPicture, is_valid, is_version, is_word, are_regions, are_points_of, is_point_of}
-use Rattle.cut_file.specs.Cuts.{is_cut_point, is_point, is_rest, are_runs, has_slot, is_below, neighbours_pass}
+use Rattle.cut_file.specs.Cuts.{is_cut_point, is_point, is_rest, are_runs, has_slot, neighbours_pass}
 use Rattle.cut_file.specs.Cuts.{stands_before}
 use Rattle.cut_file.specs.Masks.{listed_masks}
-use Rattle.cut_file.proofs.CutMasks.{below-other, below-trans}
 use Rattle.flow_graph.specs.declared.events.Event.{Event}
 use Rattle.flow_graph.specs.declared.events.Event.TheVariants.{Pass, Link, FromSecret, Implicit, Out}
 use Rattle.flow_graph.specs.declared.graphs.Graph.{Graph}
 use Rattle.flow_graph.specs.declared.nodes.Node.{Node}
-use Rattle.flow_graph.specs.EventGraphs.{is_same, bits_at, passed, capacity_at, IsGraphOf}
-use Rattle.flow_graph.specs.Graphs.{point_cmp, ascend, node_cmp, has_capacity}
-use Rattle.flow_graph.proofs.Points.{point_total}
+use Rattle.flow_graph.specs.EventGraphs.{bits_at, passed, capacity_at, IsGraphOf}
+use Rattle.flow_graph.specs.Graphs.{ascend, node_cmp, has_capacity}
 use Rattle.max_flow.specs.declared.answers.Half.{Half}
 use Rattle.max_flow.specs.Flows.{has_first}
 use Rattle.covered_runs.specs.GraphLaws.{split_bits}
 use Rattle.covered_runs.specs.RunCuts.{HasVisitMasks, is_inner, mask_at_event, names_point, visit_masks}
-use Rattle.covered_runs.specs.RunLaws.{run_count, FewRunsLaw}
+use Rattle.cut_file.specs.TextLengths.{listed_runs}
+use Rattle.covered_runs.specs.RunLaws.{FewRunsLaw}
 use Rattle.covered_runs.specs.Sides.{NamedSide, halves_at, is_split, named_side}
 use Rattle.covered_runs.proofs.CutMeasured.{valid-slots}
 use Rattle.covered_runs.proofs.CutVisits.{same-left}
 use Rattle.covered_runs.proofs.GraphCapacities.{split-bits-within}
 use Rattle.covered_runs.proofs.GraphEvents.{all_more, same-itself}
 use Rattle.covered_runs.proofs.MaskRuns.{few-runs}
-use Rattle.covered_runs.proofs.PointOrders.{same_points}
 
 -- ---- points that are the same
 
@@ -129,7 +129,6 @@ none-named point other (next ∷ points) slot same slots behind =
     or-none (is_same next.point other) (names_point points other)
     (same-turned next.point other
     ∙ sym (same-left point other next.point same)
-    ∙ sym (same_points point next.point slot both.0)
     ∙ below-other point next.point behind.0)
     (none-named point other points slot same both.1 behind.1)
 
@@ -237,7 +236,7 @@ IsFew events cut_point =
     (1 ≤ passed events cut_point.point) × (length cut_point.runs ≤ 2 * passed events cut_point.point + 1)
 
 sum-few : (events : List Event) (points : List CutPoint) → AllByRecursion (IsFew events) points →
-    (length points ≤ passed_all points events) × (run_count points ≤ 2 * passed_all points events + length points)
+    (length points ≤ passed_all points events) × (listed_runs points ≤ 2 * passed_all points events + length points)
 sum-few events [] few = (omega arith, omega arith)
 sum-few events (first ∷ points) few =
     let rest = sum-few events points few.1 in

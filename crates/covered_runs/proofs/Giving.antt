@@ -2,16 +2,17 @@
 use Rattle.std.proofs.Common.{◌≡◌, ℕ, zero, suc, ◌+◌, ◌<◌, ◌≤◌, Bool, true, false, List, [], ◌∷◌, ◌++◌, length}
 use Rattle.std.proofs.Common.{refl, sym, ap, subst, ◌∙◌, arith, inl, inr, ⊎_elim}
 use Rattle.std.specs.Prelude.{◌==◌, ◌&&◌, not, if◌then◌else◌}
-use Rattle.std.proofs.lemmas.Bool.{eqb-true, and_parts}
+use Rattle.std.proofs.lemmas.Bool.{and_parts}
 use Rattle.flow_base.specs.declared.points.Slot.{Slot}
 use Rattle.flow_base.specs.declared.points.Slot.TheVariants.{First as FirstSlot, Second as SecondSlot, Address}
 use Rattle.flow_base.specs.declared.points.Slot.TheVariants.{Result as ResultSlot, Decision as DecisionSlot, Number}
 use Rattle.flow_base.specs.declared.points.Slot.TheVariants.{Arg0, Arg1, Arg2, SecretIn, ByteOut, Status, OutReg}
 use Rattle.flow_base.specs.declared.points.Slot.TheVariants.{OutRange}
 use Rattle.flow_base.specs.declared.points.Point.{Point}
-use Rattle.flow_base.specs.Points.{width_of, number_of}
+use Rattle.flow_base.specs.Points.{width_of, number_of, is_output_slot}
 use Rattle.flow_base.specs.Words.{Agree, bits_under, patched}
-use Rattle.cut_file.specs.Masks.{is_same_point}
+use Rattle.flow_base.proofs.PointOrders.{same-one}
+use Rattle.flow_base.specs.PointOrders.{is_same}
 use Rattle.enclosure_regions.specs.Regions.{stands_in}
 use Rattle.flow_graph.specs.declared.events.Event.{Event}
 use Rattle.flow_graph.specs.declared.events.Event.TheVariants.{Pass, Out}
@@ -38,7 +39,7 @@ use Rattle.run_labels.specs.Answers.{EachAnswer}
 use Rattle.covered_runs.specs.Sides.{NamedSide, is_split}
 use Rattle.covered_runs.specs.ClosedEvents.{AreClosedEvents}
 use Rattle.covered_runs.specs.Covers.{IsWithin, IsContained, AreContained}
-use Rattle.covered_runs.specs.RunCuts.{is_inner, is_output_slot}
+use Rattle.covered_runs.specs.RunCuts.{is_inner}
 use Rattle.covered_runs.specs.Proper.{IsPlace, place_limit}
 use Rattle.covered_runs.proofs.Beside.{close_label_of, Beside, put_limits, put_label_limits, put_registers}
 use Rattle.covered_runs.proofs.Beside.{put_memory, put_kept, not_alike, fresh_beside}
@@ -97,13 +98,13 @@ no_output slot e = pick (is_output_slot slot) e
 
 never_same : (skip : List ℕ) (base : ℕ) (region : Region) (o : Output) → IsOutput base o →
     NeverInner skip (output_point region (output_slot o))
-never_same skip base region o is other inner = pick (is_same_point (output_point region (output_slot o)) other) refl
+never_same skip base region o is other inner = pick (is_same (output_point region (output_slot o)) other) refl
   where
-    pick : (t : Bool) → is_same_point (output_point region (output_slot o)) other ≡ t → t ≡ false
+    pick : (t : Bool) → is_same (output_point region (output_slot o)) other ≡ t → t ≡ false
     pick false e = refl
     pick true e =
-        let slots = (and_parts (region.leave == other.address) _ (and_parts (region.id == other.region) _ e).1).1 in
-        let same = eqb-true (number_of (output_slot o)) (number_of other.slot) slots in
+        let same : number_of (output_slot o) ≡ number_of other.slot =
+        ap (λ (p : Point). number_of p.slot) (same-one (output_point region (output_slot o)) other e) in
         let low = low_number other.slot (no_output other.slot
         (and_parts (stands_in skip other.region) (not (is_output_slot other.slot)) inner).1) in
         let high = high_number base o is in

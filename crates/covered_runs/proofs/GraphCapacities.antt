@@ -13,9 +13,9 @@ use Rattle.flow_graph.specs.declared.events.Event.{Event}
 use Rattle.flow_graph.specs.declared.events.Event.TheVariants.{Pass, Link, FromSecret, Implicit, Out}
 use Rattle.flow_graph.specs.declared.graphs.Graph.{Graph}
 use Rattle.flow_graph.specs.declared.nodes.Node.{Node}
-use Rattle.flow_graph.specs.EventGraphs.{is_same, bits_at, passed, capacity_at, no_point, IsGraphOf}
-use Rattle.flow_graph.specs.Graphs.{point_cmp}
-use Rattle.flow_graph.proofs.Points.{is_equal}
+use Rattle.flow_graph.specs.EventGraphs.{bits_at, passed, capacity_at, no_point, IsGraphOf}
+use Rattle.flow_base.specs.PointOrders.{point_cmp, is_same}
+use Rattle.flow_base.proofs.PointOrders.{is_equal}
 use Rattle.max_flow.specs.declared.answers.Half.{Half}
 use Rattle.max_flow.specs.Flows.{tail_of, head_of, halves_from, network_of, member, has_first, has_second, IsSideOf}
 use Rattle.max_flow.specs.Flows.{side_capacity}

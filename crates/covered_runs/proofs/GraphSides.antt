@@ -13,6 +13,8 @@ use Rattle.std.proofs.lemmas.Bool.{ltb-true, ne_eqb, eqb-false, cases_order}
 use Rattle.std.proofs.lemmas.Bool.{or_cases, or_left, or_right}
 use Rattle.std.proofs.lemmas.List.{get_or-append_right, length-map}
 use Rattle.flow_base.specs.declared.points.Point.{Point}
+use Rattle.flow_base.specs.PointOrders.{point_cmp, is_same}
+use Rattle.flow_base.proofs.PointOrders.{point_total, is_equal}
 use Rattle.flow_graph.specs.declared.ends.Arc.{Arc}
 use Rattle.flow_graph.specs.declared.ends.End.{End}
 use Rattle.flow_graph.specs.declared.ends.End.TheVariants.{Source as SourceEnd, Point as PointEnd, Relay as RelayEnd}
@@ -24,11 +26,10 @@ use Rattle.flow_graph.specs.declared.nodes.Node.{Node}
 use Rattle.flow_graph.specs.declared.named_links.NamedEnd.{NamedEnd}
 use Rattle.flow_graph.specs.declared.named_links.NamedEnd.TheVariants.{Source, At, Relay, Sink}
 use Rattle.flow_graph.specs.declared.named_links.NamedLink.{NamedLink}
-use Rattle.flow_graph.specs.EventGraphs.{is_same, has_passed, one_if, outlet_of, links_after, named_links, link_cmp}
+use Rattle.flow_graph.specs.EventGraphs.{has_passed, one_if, outlet_of, links_after, named_links, link_cmp}
 use Rattle.flow_graph.specs.EventGraphs.{is_among, is_relay_of, names_relay, no_point, named_end, named, IsGraphOf}
-use Rattle.flow_graph.specs.Graphs.{point_cmp, ascend, node_cmp, has_capacity, is_origin, is_target, is_link}
+use Rattle.flow_graph.specs.Graphs.{ascend, node_cmp, has_capacity, is_origin, is_target, is_link}
 use Rattle.flow_graph.proofs.Naming.{link_total, named_end_cmp}
-use Rattle.flow_graph.proofs.Points.{point_total, is_equal}
 use Rattle.max_flow.specs.declared.answers.Half.{Half}
 use Rattle.max_flow.specs.Flows.{tail_of, head_of, halves_from, network_of, marks, relay_in, member, has_first}
 use Rattle.max_flow.specs.Flows.{has_second}

@@ -12,7 +12,6 @@ pub mod GraphEvents
 pub mod GraphTurns
 pub mod GraphSides
 pub mod GraphCapacities
-pub mod PointOrders
 pub mod CutVisits
 pub mod CutInner
 pub mod CutBits

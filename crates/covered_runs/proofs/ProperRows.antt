@@ -7,7 +7,7 @@ use Rattle.flow_base.specs.Guests.{memory_size}
 use Rattle.flow_base.specs.declared.points.Slot.{Slot}
 use Rattle.flow_base.specs.declared.points.Slot.TheVariants.{Address, Result as ResultSlot, Decision as DecisionSlot}
 use Rattle.flow_base.specs.declared.points.Slot.TheVariants.{Number, Arg0, Arg1, Arg2}
-use Rattle.flow_base.specs.Points.{width_of}
+use Rattle.flow_base.specs.Points.{width_of, is_output_slot}
 use Rattle.rv32im_decode.specs.declared.instructions.Instr.{Instr}
 use Rattle.rv32im_decode.specs.declared.instructions.Instr.TheVariants.{Lui, Auipc, Jal, Jalr, Branch, Load}
 use Rattle.rv32im_decode.specs.declared.instructions.Instr.TheVariants.{Store as StoreInstr, OpImm, Op, Fence, Ecall}
@@ -52,7 +52,6 @@ use Rattle.rv32im_machine.specs.Calls.{kind_row, call_row, public_plan, secret_p
 use Rattle.rv32im_machine.specs.Calls.{break_plan, write_checked}
 use Rattle.rv32im_machine.specs.Rows.{load_checked, loaded_from, store_at, store_checked, jumps, links, branches, row}
 use Rattle.rv32im_machine.specs.Rows.{fetched, running, stops, first_used, second_used, addressed}
-use Rattle.covered_runs.specs.RunCuts.{is_output_slot}
 use Rattle.covered_runs.specs.Proper.{AreBytes, IsPassing, AreSources, AreOperands, operation_limit, IsProper}
 use Rattle.covered_runs.specs.ProperLaws.{ProperTurnsLaw}
 use Rattle.covered_runs.proofs.ProperValues.{computed_fits, part_fits, byte_fits, half_fits, whole_fits}

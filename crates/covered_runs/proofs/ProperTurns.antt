@@ -9,7 +9,7 @@ use Rattle.flow_base.specs.declared.points.Slot.TheVariants.{First as FirstSlot,
 use Rattle.flow_base.specs.declared.points.Slot.TheVariants.{Result as ResultSlot, Decision as DecisionSlot, Number}
 use Rattle.flow_base.specs.declared.points.Slot.TheVariants.{Arg0, Arg1, Arg2, SecretIn, ByteOut, Status, OutReg}
 use Rattle.flow_base.specs.declared.points.Slot.TheVariants.{OutRange}
-use Rattle.flow_base.specs.Points.{is_slot, width_of}
+use Rattle.flow_base.specs.Points.{is_slot, width_of, is_output_slot}
 use Rattle.flow_graph.specs.declared.events.Event.TheVariants.{Link}
 use Rattle.rv32im_machine.specs.declared.language.Aim.{Aim}
 use Rattle.rv32im_machine.specs.declared.language.Aim.TheVariants.{Put, Decide, Give}
@@ -37,7 +37,6 @@ use Rattle.run_labels.specs.Masks.{masks_of, work_mask, mask_of, answers_after, 
 use Rattle.run_labels.specs.Flowing.{link_from, source_events, byte_events, sources_events, aim_events, flow_events}
 use Rattle.run_labels.specs.Flowing.{passing_events, labels_in, events_in}
 use Rattle.run_labels.specs.Answers.{IsSoundAnswer, EachAnswer}
-use Rattle.covered_runs.specs.RunCuts.{is_output_slot}
 use Rattle.covered_runs.specs.ClosedEvents.{IsProperEvent, AreProperEvents}
 use Rattle.covered_runs.specs.Proper.{AreWords, AreBytes, IsGuest, IsMove, AreSources, FitsSlot, IsProper, place_limit}
 use Rattle.covered_runs.proofs.Beside.{put_limits, put_label_limits, put_kept, put_label_kept}

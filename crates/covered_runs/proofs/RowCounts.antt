@@ -1,6 +1,6 @@
 -- What a row says of its passings: which of them read the secret, how many there are, and at which slots.
 use Rattle.std.proofs.Common.{◌≡◌, ℕ, ◌+◌, ◌≤◌, cond, Bool, true, false, length}
-use Rattle.flow_base.specs.Points.{is_slot}
+use Rattle.flow_base.specs.Points.{is_slot, is_output_slot}
 use Rattle.rv32im_machine.specs.declared.language.Shape.TheVariants.{Copied}
 use Rattle.rv32im_machine.specs.declared.language.Source.{Source}
 use Rattle.rv32im_machine.specs.declared.language.Source.TheVariants.{At, Constant, Secret}
@@ -10,7 +10,6 @@ use Rattle.rv32im_machine.specs.declared.language.Sources.TheVariants.{Word as B
 use Rattle.rv32im_machine.specs.State.{Control}
 use Rattle.rv32im_machine.specs.Language.{Turn, Looks, Passes, Decides, Gives, Moves, Saves, Restores, Ends, Making}
 use Rattle.rv32im_machine.specs.Language.{Shaped}
-use Rattle.covered_runs.specs.RunCuts.{is_output_slot}
 use Rattle.covered_runs.specs.SecretBits.{is_secret_slot}
 
 -- ---- sources

@@ -1,20 +1,19 @@
 -- The points that read the secret are the first halves of a side, whose capacity is eight bits for each byte that is
 -- read; so the least capacity of a side is no more.
-use Rattle.std.proofs.Common.{◌≡◌, ◌⊎◌, ℕ, zero, suc, ◌+◌, ◌-◌, ◌*◌, ◌≤◌, ◌<◌, ◌&&◌, ◌||◌, ◌++◌, ◌∷◌, [], cond, not}
-use Rattle.std.proofs.Common.{Bool, true, false, List, length, map, get_or, slice_index, refl, sym, ap, ◌∙◌, subst, arith, inl, inr}
-use Rattle.std.specs.List.{AllByRecursion, list_all, list_any, sum_by}
+use Rattle.std.proofs.Common.{◌≡◌, ◌⊎◌, ℕ, zero, suc, ◌+◌, ◌-◌, ◌*◌, ◌≤◌, ◌<◌, ◌&&◌, ◌||◌, ◌++◌, ◌∷◌, [], cond}
+use Rattle.std.proofs.Common.{Bool, true, false, List, length, map, get_or, slice_index, refl, sym, ap, ◌∙◌, arith, inl, inr}
+use Rattle.std.specs.List.{AllByRecursion, list_all}
 use Rattle.std.specs.List.Sorted.{IsStrictlySortedBy}
-use Rattle.std.specs.Ordering.{is_eq, is_lt, ordering_then}
+use Rattle.std.specs.Ordering.{is_eq}
 use Rattle.std.specs.declared.cmp.Ordering.{Ordering}
 use Rattle.std.specs.declared.cmp.Ordering.TheVariants.{Less, Equal, Greater}
 use Rattle.std.proofs.lemmas.Bool.{and_parts, cases_Bool, cond-true, cond-false, or_cases, or_left, or_right, ltb-true}
 use Rattle.std.proofs.lemmas.List.{get_or-append_right, length-map}
 use Rattle.std.proofs.lemmas.List.Sums.{sum_by-cons}
 use Rattle.flow_base.specs.declared.points.Point.{Point}
-use Rattle.flow_base.specs.declared.points.Slot.{Slot}
-use Rattle.flow_base.specs.declared.points.Slot.TheVariants.{First, Second, Address, Result, Decision, Number, Arg0, Arg1, Arg2, SecretIn, ByteOut, Status, OutReg, OutRange}
 use Rattle.flow_base.specs.Words.{bit_count}
-use Rattle.flow_base.specs.contracts.points.SlotOrd.TheImpl as slot_ord
+use Rattle.flow_base.specs.PointOrders.{point_cmp, is_same}
+use Rattle.flow_base.proofs.PointOrders.{point_total, is_equal, same-one}
 use Rattle.flow_graph.specs.declared.ends.Arc.{Arc}
 use Rattle.flow_graph.specs.declared.ends.End.{End}
 use Rattle.flow_graph.specs.declared.ends.End.TheVariants.{Source as SourceEnd, Point as PointEnd, Relay as RelayEnd, Sink as SinkEnd}
@@ -25,13 +24,12 @@ use Rattle.flow_graph.specs.declared.nodes.Node.{Node}
 use Rattle.flow_graph.specs.declared.named_links.NamedEnd.{NamedEnd}
 use Rattle.flow_graph.specs.declared.named_links.NamedEnd.TheVariants.{Source, At, Relay, Sink}
 use Rattle.flow_graph.specs.declared.named_links.NamedLink.{NamedLink}
-use Rattle.flow_graph.specs.Graphs.{point_cmp, is_link, is_origin, is_target, leads_on}
-use Rattle.flow_graph.specs.EventGraphs.{is_among, is_same, bits_at, has_passed, link_cmp, links_after, links_by, named, named_end, named_links, no_point, one_if, outlet_of, passed, IsGraphOf}
-use Rattle.flow_graph.proofs.Points.{is_equal, point_total}
+use Rattle.flow_graph.specs.Graphs.{is_link, is_origin, is_target, leads_on}
+use Rattle.flow_graph.specs.EventGraphs.{is_among, bits_at, has_passed, link_cmp, links_after, named, named_end, named_links, no_point, one_if, outlet_of, IsGraphOf}
 use Rattle.max_flow.specs.declared.answers.Half.{Half}
 use Rattle.max_flow.specs.declared.answers.Half.TheVariants.{FirstOnly, Neither}
-use Rattle.max_flow.specs.Flows.{IsSideOf, Least, halves_from, has_first, has_second, head_of, member, network_of, relay_in, side_capacity, tail_of}
-use Rattle.max_flow.specs.Networks.{IsSide, sum_below}
+use Rattle.max_flow.specs.Flows.{IsSideOf, halves_from, has_first, has_second, head_of, member, network_of, relay_in, tail_of}
+use Rattle.max_flow.specs.Networks.{sum_below}
 use Rattle.max_flow.proofs.Graphs.{length-halves}
 use Rattle.max_flow.proofs.Sums.{sum_add, sum_same, sum_zero}
 use Rattle.covered_runs.specs.Sides.{NamedSide, halves_at, is_split, named_side}
@@ -42,49 +40,8 @@ use Rattle.covered_runs.proofs.GraphEvents.{same-itself}
 use Rattle.covered_runs.proofs.GraphSides.{graph_sorted, head-named, length-tails, link-itself, member-low, name-later, points_of, tail-named}
 use Rattle.covered_runs.proofs.GraphCapacities.{name_at, side-capacity, split-more, split_at}
 
-abbrev slot_cmp : Slot → Slot → Ordering
-slot_cmp = (slot_ord.ghosts).cmp
-
-slot_alike : (s t : Slot) → slot_cmp s t ≡ Equal → is_secret_slot s ≡ is_secret_slot t
-slot_alike SecretIn SecretIn e = refl
-slot_alike SecretIn First e = absurd (cc)
-slot_alike SecretIn Second e = absurd (cc)
-slot_alike SecretIn Address e = absurd (cc)
-slot_alike SecretIn Result e = absurd (cc)
-slot_alike SecretIn Decision e = absurd (cc)
-slot_alike SecretIn Number e = absurd (cc)
-slot_alike SecretIn Arg0 e = absurd (cc)
-slot_alike SecretIn Arg1 e = absurd (cc)
-slot_alike SecretIn Arg2 e = absurd (cc)
-slot_alike SecretIn ByteOut e = absurd (cc)
-slot_alike SecretIn Status e = absurd (cc)
-slot_alike SecretIn (OutReg r) e = absurd (cc)
-slot_alike SecretIn (OutRange r) e = absurd (cc)
-slot_alike First SecretIn e = absurd (cc)
-slot_alike Second SecretIn e = absurd (cc)
-slot_alike Address SecretIn e = absurd (cc)
-slot_alike Result SecretIn e = absurd (cc)
-slot_alike Decision SecretIn e = absurd (cc)
-slot_alike Number SecretIn e = absurd (cc)
-slot_alike Arg0 SecretIn e = absurd (cc)
-slot_alike Arg1 SecretIn e = absurd (cc)
-slot_alike Arg2 SecretIn e = absurd (cc)
-slot_alike ByteOut SecretIn e = absurd (cc)
-slot_alike Status SecretIn e = absurd (cc)
-slot_alike (OutReg r) SecretIn e = absurd (cc)
-slot_alike (OutRange r) SecretIn e = absurd (cc)
-slot_alike s t e = refl
-
-then_parts : (o r : Ordering) → ordering_then o r ≡ Equal → (o ≡ Equal) × (r ≡ Equal)
-then_parts Less r e = absurd (cc)
-then_parts Equal r e = (refl, e)
-then_parts Greater r e = absurd (cc)
-
 pub secret_alike : (p q : Point) → is_same p q ≡ true → is_secret_slot p.slot ≡ is_secret_slot q.slot
-secret_alike p q same =
-    let whole = then_parts _ _ (is_equal (point_cmp p q) same) in
-    let later = then_parts _ _ whole.1 in
-    slot_alike p.slot q.slot later.1
+secret_alike p q same = ap (λ (x : Point). is_secret_slot x.slot) (same-one p q same)
 
 -- ---- the side of the points that read the secret
 

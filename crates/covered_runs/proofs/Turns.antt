@@ -12,7 +12,8 @@ use Rattle.flow_base.specs.Words.{Agree, bits_under, bit_count, patched}
 use Rattle.crossing_bits.specs.Askers.{Asker, Asks, feed}
 use Rattle.crossing_bits.proofs.Feeding.{feed_enough}
 use Rattle.crossing_bits.proofs.Places.{length_bits_under}
-use Rattle.cut_file.specs.Masks.{is_same_point}
+use Rattle.flow_base.proofs.PointOrders.{same-one}
+use Rattle.flow_base.specs.PointOrders.{is_same}
 use Rattle.enclosure_regions.specs.Regions.{stands_in}
 use Rattle.flow_graph.specs.declared.events.Event.{Event}
 use Rattle.flow_graph.specs.declared.events.Event.TheVariants.{Pass, Link, FromSecret, Implicit, Out}
@@ -61,7 +62,7 @@ feed_bits value mask go rest =
 
 -- no inner point of a skipped region is the same point
 abbrev pub NeverInner : List ℕ → Point → Type 0
-NeverInner skip point = (other : Point) → is_inner skip other ≡ true → is_same_point point other ≡ false
+NeverInner skip point = (other : Point) → is_inner skip other ≡ true → is_same point other ≡ false
 
 -- each point that is no inner one has been passed as often in both lists
 abbrev pub SameCounts : List ℕ → List Point → List Point → Type 0
@@ -71,7 +72,7 @@ SameCounts skip first second =
 pub counts_step : (skip : List ℕ) (x : Point) (first second : List Point) → SameCounts skip first second →
     SameCounts skip (x ∷ first) (x ∷ second)
 counts_step skip x first second same point outside =
-    ap (λ n. if is_same_point point x then suc n else n) (same point outside)
+    ap (λ n. if is_same point x then suc n else n) (same point outside)
 
 pub mask_same : (skip : List ℕ) (masks : Masks) (x : Point) (first second : List Point) → SameCounts skip first second →
     NeverInner skip x → mask_at masks first x ≡ mask_at masks second x
@@ -88,13 +89,13 @@ not_both p q = cc
 
 -- a point of a region that isn't skipped is none
 pub outside_never : (skip : List ℕ) (point : Point) → stands_in skip point.region ≡ false → NeverInner skip point
-outside_never skip point out other inner = pick (is_same_point point other) refl
+outside_never skip point out other inner = pick (is_same point other) refl
   where
-    pick : (t : Bool) → is_same_point point other ≡ t → t ≡ false
+    pick : (t : Bool) → is_same point other ≡ t → t ≡ false
     pick false e = refl
     pick true e =
         let region : point.region ≡ other.region =
-        eqb-true point.region other.region (and_parts (point.region == other.region) _ e).0 in
+        ap (λ (p : Point). p.region) (same-one point other e) in
         let stands : stands_in skip other.region ≡ true = (and_parts (stands_in skip other.region) _ inner).0 in
         absurd (not_both (subst (λ r. stands_in skip r ≡ true) (sym region) stands) out)
 

@@ -22,10 +22,11 @@ use Rattle.rv32im_machine.specs.Language.{walked, Held, none_held, at_place, put
 use Rattle.rv32im_machine.specs.Language.{work_of, shaped, first_of, seen_value}
 use Rattle.rv32im_machine.specs.Folds.{real_end}
 use Rattle.flow_base.specs.declared.points.Point.{Point}
+use Rattle.flow_base.specs.Points.{is_output_slot}
 use Rattle.enclosure_regions.specs.Regions.{stands_in}
 use Rattle.region_machine.specs.Runs.{passed}
 use Rattle.replay_machine.specs.Runs.{times_passed}
-use Rattle.covered_runs.specs.RunCuts.{is_inner, is_output_slot}
+use Rattle.covered_runs.specs.RunCuts.{is_inner}
 use Rattle.region_machine.specs.Breaking.{place_break, first_break, walk_break}
 use Rattle.shadow_masks.specs.declared.labels.Label.{Label}
 use Rattle.shadow_masks.specs.Writes.{LabelMap}

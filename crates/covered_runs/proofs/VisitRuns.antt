@@ -3,27 +3,24 @@ use Rattle.std.proofs.Common.{◌≡◌, ℕ, ◌+◌, ◌*◌, ◌≤◌, ◌==
 use Rattle.std.proofs.Common.{length, length-append, refl, sym, ap, ◌∙◌, subst, arith, inl, inr}
 use Rattle.std.specs.Prelude.{None}
 use Rattle.std.specs.List.{list_all}
-use Rattle.std.specs.Ordering.{is_eq, is_gt, ordering_then}
-use Rattle.std.specs.declared.cmp.Ordering.{Ordering}
-use Rattle.std.specs.declared.cmp.Ordering.TheVariants.{Less, Equal, Greater}
+use Rattle.std.specs.Ordering.{is_eq}
 use Rattle.std.proofs.lemmas.Bool.{and_from, and_parts, cases_Bool, cond-true, cond-false, eqb-true, leb-true}
 use Rattle.std.proofs.lemmas.List.Sums.{sum_by-append, sum_by-cons}
 use Rattle.std.proofs.lemmas.List.Folds.{list_all-append}
 use Rattle.flow_base.specs.declared.points.Point.{Point}
 use Rattle.flow_base.specs.declared.points.Slot.{Slot}
 use Rattle.flow_base.specs.declared.points.Slot.TheVariants as slot
-use Rattle.flow_base.specs.Points.{width_of}
+use Rattle.flow_base.specs.Points.{width_of, is_output_slot}
 use Rattle.flow_base.specs.Words.{bit_count}
-use Rattle.flow_base.specs.contracts.points.SlotOrd.TheImpl.Laws as slot_laws
 use Rattle.enclosure_regions.specs.declared.region_parts.Region.{Region}
 use Rattle.enclosure_regions.specs.Regions.{are_apart, are_ranges, are_registers, are_regions, is_place, is_range}
 use Rattle.enclosure_regions.specs.Regions.{is_region, is_region_number}
 use Rattle.elf32_loader.specs.Pictures.{Picture}
 use Rattle.flow_graph.specs.declared.events.Event.{Event}
 use Rattle.flow_graph.specs.declared.events.Event.TheVariants.{Pass, Link, FromSecret, Implicit, Out}
-use Rattle.flow_graph.specs.EventGraphs.{bits_at, is_same, passed}
-use Rattle.flow_graph.specs.Graphs.{point_cmp}
-use Rattle.flow_graph.proofs.Points.{is_equal, point_total}
+use Rattle.flow_graph.specs.EventGraphs.{bits_at, passed}
+use Rattle.flow_base.specs.PointOrders.{point_cmp, is_same}
+use Rattle.flow_base.proofs.PointOrders.{point_total, is_equal, same-one}
 use Rattle.rv32im_machine.specs.State.{State}
 use Rattle.rv32im_machine.specs.Language.{none_held}
 use Rattle.rv32im_machine.specs.Folds.{real_end}
@@ -37,10 +34,9 @@ use Rattle.run_labels.specs.Looking.{secret_look}
 use Rattle.run_labels.specs.Runs.{IsUnrefused, LabelledRun, enclosing, entered_number, next_run, next_walk, run_after}
 use Rattle.run_labels.specs.Runs.{stopped_fault, turn_events, turn_fault, unlabelled}
 use Rattle.region_machine.specs.Breaking.{Breaks}
-use Rattle.covered_runs.specs.RunCuts.{is_output_slot, mask_at_event, visit_masks}
+use Rattle.covered_runs.specs.RunCuts.{mask_at_event, visit_masks}
 use Rattle.covered_runs.specs.VisitLaws.{FewVisitsLaw, KnownSlotsLaw, OutputVisitsLaw, is_at_slot}
 use Rattle.covered_runs.proofs.GraphEvents.{same-itself}
-use Rattle.covered_runs.proofs.PointOrders.{slot_cmp}
 use Rattle.covered_runs.proofs.ProperRuns.{LeavesRegion, kind-leaves}
 use Rattle.covered_runs.proofs.SecretRuns.{next_broken, next_state, unbroken}
 use Rattle.covered_runs.proofs.TurnKinds.{all_rules, rules_of}
@@ -52,23 +48,8 @@ use Rattle.covered_runs.proofs.CountedRows.{counts_entry, counts_leave, counts_s
 -- ---- points that are the same have slots of one kind
 
 -- an output's slot comes after those of every other kind
-output_order : (s : Slot) → is_output_slot s ≡ is_gt (slot_cmp s slot.Status)
-output_order (slot.OutReg register) = refl
-output_order (slot.OutRange range) = refl
-output_order s = refl
-
-then_parts : (o r : Ordering) → ordering_then o r ≡ Equal → (o ≡ Equal) × (r ≡ Equal)
-then_parts Less r e = absurd (cc)
-then_parts Equal r e = (refl, e)
-then_parts Greater r e = absurd (cc)
-
 output_alike : (p q : Point) → is_same p q ≡ true → is_output_slot p.slot ≡ is_output_slot q.slot
-output_alike p q same =
-    let whole = then_parts _ _ (is_equal (point_cmp p q) same) in
-    let later = then_parts _ _ whole.1 in
-    output_order p.slot
-    ∙ ap is_gt (slot_laws.total-law.congr p.slot q.slot slot.Status later.1)
-    ∙ sym (output_order q.slot)
+output_alike p q same = ap (λ (x : Point). is_output_slot x.slot) (same-one p q same)
 
 -- ---- the visits of a point
 

@@ -9,7 +9,7 @@ use Rattle.std.proofs.lemmas.List.Folds.{list_all-append}
 use Rattle.flow_base.specs.declared.points.Point.{Point}
 use Rattle.flow_base.specs.declared.points.Slot.{Slot}
 use Rattle.flow_base.specs.declared.points.Slot.TheVariants as slot
-use Rattle.flow_base.specs.Points.{is_slot, width_of}
+use Rattle.flow_base.specs.Points.{is_slot, width_of, is_output_slot}
 use Rattle.flow_graph.specs.declared.events.Event.{Event}
 use Rattle.flow_graph.specs.declared.events.Event.TheVariants as event
 use Rattle.rv32im_machine.specs.declared.language.Aim.{Aim}
@@ -32,7 +32,6 @@ use Rattle.run_labels.specs.TurnLabels.{TurnLabels, label_at, put_label, restore
 use Rattle.run_labels.specs.Masks.{answers_after, labels_after, mask_of, moved_label}
 use Rattle.run_labels.specs.Flowing.{aim_events, byte_events, events_in, flow_events, link_from, passing_events}
 use Rattle.run_labels.specs.Flowing.{source_events, sources_events}
-use Rattle.covered_runs.specs.RunCuts.{is_output_slot}
 use Rattle.covered_runs.specs.SecretBits.{is_secret_slot}
 use Rattle.covered_runs.specs.VisitLaws.{is_at_slot}
 use Rattle.covered_runs.proofs.RowCounts.{Counts, Has, Limits}

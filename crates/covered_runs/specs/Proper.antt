@@ -2,7 +2,7 @@
 -- passes a slot fits its width, and the bytes that are named do not lie below guest memory.
 use Rattle.std.specs.Prelude.{◌≡◌, ℕ, ◌≤◌, ◌<◌, ◌^◌, false, List, [], ◌∷◌, slice_index}
 use Rattle.flow_base.specs.declared.points.Point.{Point}
-use Rattle.flow_base.specs.Points.{width_of}
+use Rattle.flow_base.specs.Points.{width_of, is_output_slot}
 use Rattle.rv32im_machine.specs.declared.language.Operation.{Operation}
 use Rattle.rv32im_machine.specs.declared.language.Operation.TheVariants.{Result, Decision, Target}
 use Rattle.rv32im_machine.specs.declared.language.Place.{Place}
@@ -18,7 +18,6 @@ use Rattle.rv32im_machine.specs.declared.language.Sources.TheVariants.{Word as B
 use Rattle.rv32im_machine.specs.State.{Store, State}
 use Rattle.rv32im_machine.specs.Language.{Turn, Looks, Passes, Decides, Gives, Moves, Saves, Restores, Ends, Making}
 use Rattle.rv32im_machine.specs.Language.{Shaped, Computed, shaped, computed}
-use Rattle.covered_runs.specs.RunCuts.{is_output_slot}
 
 -- ---- values and states
 

@@ -1,16 +1,15 @@
 -- The cut of a run and a side: it is split where the side splits points, with the masks of the run.
-use Rattle.std.specs.Prelude.{◌≡◌, ℕ, ◌&&◌, not, Bool, true, false, cond, List, [], ◌∷◌, ◌++◌, bit_or}
+use Rattle.std.specs.Prelude.{◌≡◌, ℕ, ◌&&◌, not, Bool, cond, List, [], ◌∷◌, ◌++◌, bit_or}
 use Rattle.std.specs.List.{list_any, AllByRecursion}
 use Rattle.flow_base.specs.declared.points.Point.{Point}
-use Rattle.flow_base.specs.declared.points.Slot.{Slot}
-use Rattle.flow_base.specs.declared.points.Slot.TheVariants.{First, Second, Address, Result, Decision, Number, Arg0, Arg1, Arg2, SecretIn, ByteOut, Status, OutReg, OutRange}
+use Rattle.flow_base.specs.Points.{is_output_slot}
 use Rattle.cut_file.specs.declared.points.CutPoint.{CutPoint}
 use Rattle.cut_file.specs.Cuts.{CutPicture}
 use Rattle.cut_file.specs.Masks.{listed_masks}
 use Rattle.enclosure_regions.specs.Regions.{stands_in}
 use Rattle.flow_graph.specs.declared.events.Event.{Event}
 use Rattle.flow_graph.specs.declared.events.Event.TheVariants.{Pass, Link, FromSecret, Implicit, Out}
-use Rattle.flow_graph.specs.EventGraphs.{is_same}
+use Rattle.flow_base.specs.PointOrders.{is_same}
 use Rattle.covered_runs.specs.Sides.{NamedSide, is_split}
 
 -- ---- the masks of a point
@@ -34,24 +33,8 @@ united (mask ∷ masks) = bit_or mask (united masks)
 
 -- ---- the points
 
--- inside a region every slot but those of its outputs is an inner one
-abbrev pub is_output_slot : Slot → Bool
-is_output_slot (OutReg register) = true
-is_output_slot (OutRange range) = true
-is_output_slot First = false
-is_output_slot Second = false
-is_output_slot Address = false
-is_output_slot Result = false
-is_output_slot Decision = false
-is_output_slot Number = false
-is_output_slot Arg0 = false
-is_output_slot Arg1 = false
-is_output_slot Arg2 = false
-is_output_slot SecretIn = false
-is_output_slot ByteOut = false
-is_output_slot Status = false
-
--- a point that the replay never visits, where these regions are skipped
+-- a point that the replay never visits, where these regions are skipped: inside a region every slot but those of its
+-- outputs is an inner one
 abbrev pub is_inner : List ℕ → Point → Bool
 is_inner skip point = stands_in skip point.region && not (is_output_slot point.slot)
 

@@ -1,8 +1,7 @@
 -- The cut of a run has few points, and few runs of masks.
 use Rattle.std.specs.Prelude.{◌≡◌, ℕ, ◌+◌, ◌*◌, ◌≤◌, Bool, true, List, length}
-use Rattle.std.specs.List.{sum_by}
-use Rattle.cut_file.specs.declared.points.CutPoint.{CutPoint}
 use Rattle.cut_file.specs.Cuts.{CutPicture, is_valid}
+use Rattle.cut_file.specs.TextLengths.{listed_runs}
 use Rattle.flow_graph.specs.declared.events.Event.{Event}
 use Rattle.flow_graph.specs.declared.graphs.Graph.{Graph}
 use Rattle.flow_graph.specs.EventGraphs.{IsGraphOf}
@@ -11,14 +10,10 @@ use Rattle.max_flow.specs.Flows.{IsSideOf, side_capacity}
 use Rattle.covered_runs.specs.RunCuts.{IsCutOf}
 use Rattle.covered_runs.specs.Sides.{named_side}
 
--- the runs of masks that stand at the points
-abbrev pub run_count : List CutPoint → ℕ
-run_count points = sum_by (λ cut_point. length cut_point.runs) points
-
 -- at most one point for each bit, and two runs for each bit beside one for each point
 pub record HasFewRuns (bits : ℕ) (cut : CutPicture) : Type 0 where
   pub points : length cut.points ≤ bits
-  pub runs : run_count cut.points ≤ 2 * bits + length cut.points
+  pub runs : listed_runs cut.points ≤ 2 * bits + length cut.points
 
 -- the cut of a run and a side of its graph has few runs for the side's capacity
 abbrev pub FewRunsLaw : Type 0

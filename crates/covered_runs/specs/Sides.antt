@@ -3,7 +3,7 @@ use Rattle.std.specs.Prelude.{ℕ, ◌&&◌, not, Bool, List, [], ◌∷◌, con
 use Rattle.flow_base.specs.declared.points.Point.{Point}
 use Rattle.flow_graph.specs.declared.graphs.Graph.{Graph}
 use Rattle.flow_graph.specs.declared.nodes.Node.{Node}
-use Rattle.flow_graph.specs.EventGraphs.{is_same}
+use Rattle.flow_base.specs.PointOrders.{is_same}
 use Rattle.max_flow.specs.declared.answers.Half.{Half}
 use Rattle.max_flow.specs.declared.answers.Half.TheVariants.{Neither}
 use Rattle.max_flow.specs.Flows.{has_first, has_second, relay_in}

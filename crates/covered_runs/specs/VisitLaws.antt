@@ -2,7 +2,7 @@
 use Rattle.std.specs.Prelude.{◌≡◌, ℕ, ◌<◌, ◌≤◌, ◌^◌, Bool, true, false, List, length}
 use Rattle.std.specs.List.{list_all}
 use Rattle.flow_base.specs.declared.points.Point.{Point}
-use Rattle.flow_base.specs.Points.{is_slot}
+use Rattle.flow_base.specs.Points.{is_slot, is_output_slot}
 use Rattle.elf32_loader.specs.Pictures.{Picture}
 use Rattle.enclosure_regions.specs.declared.region_parts.Region.{Region}
 use Rattle.enclosure_regions.specs.Regions.{are_regions}
@@ -11,7 +11,7 @@ use Rattle.flow_graph.specs.declared.events.Event.TheVariants.{Pass, Link, FromS
 use Rattle.flow_graph.specs.EventGraphs.{passed}
 use Rattle.region_machine.specs.Starts.{guest}
 use Rattle.run_labels.specs.Runs.{IsUnrefused, run_after, unlabelled}
-use Rattle.covered_runs.specs.RunCuts.{is_output_slot, visit_masks}
+use Rattle.covered_runs.specs.RunCuts.{visit_masks}
 
 -- what passes a point passes it at a slot that a turn passes
 abbrev pub is_at_slot : Event → Bool

@@ -2,5 +2,4 @@ pub mod Tables
 pub mod Keys
 pub mod Ordered
 pub mod Longer
-pub mod HexText
 pub mod Searches

@@ -1,4 +1,4 @@
-use crate::hex_texts::Word;
+use flow_base::HexWord;
 use std::fmt;
 
 /// What an instruction writes.
@@ -56,7 +56,7 @@ impl fmt::Display for Place {
         match *self {
             Place::Reg(register) => write!(f, "x{register}"),
             Place::Byte(address) => {
-                let address = Word(address);
+                let address = HexWord(address);
                 write!(f, "{address}")
             }
         }
@@ -72,7 +72,7 @@ impl fmt::Display for Break {
     fn fmt<W: fmt::Write>(&self, f: &mut fmt::Formatter<W>) -> fmt::Result {
         match *self {
             Break::UndeclaredWrite { region, pc, place } => {
-                let pc = Word(pc);
+                let pc = HexWord(pc);
                 write!(f, "region {region} undeclared {place} at {pc}")
             }
             Break::KeepBroken {
@@ -81,15 +81,15 @@ impl fmt::Display for Break {
                 before,
                 after,
             } => {
-                let before = Word(before);
-                let after = Word(after);
+                let before = HexWord(before);
+                let after = HexWord(after);
                 write!(
                     f,
                     "region {region} keep x{register} before {before} after {after}"
                 )
             }
             Break::CallInRegion { region, pc } => {
-                let pc = Word(pc);
+                let pc = HexWord(pc);
                 write!(f, "region {region} call at {pc}")
             }
             Break::RangeOutside { region, range } => {

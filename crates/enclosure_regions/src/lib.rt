@@ -5,7 +5,6 @@
 mod break_kinds;
 mod copying;
 mod file_laws;
-mod hex_texts;
 mod item_lists;
 mod monitors;
 mod object_keys;

@@ -4,7 +4,6 @@
 
 mod guests;
 mod lines;
-mod point_texts;
 mod programs;
 mod texts;
 

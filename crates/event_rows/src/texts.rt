@@ -1,4 +1,3 @@
-use crate::point_texts::PointText;
 use flow_base::HexWord;
 use flow_graph::Event;
 use std::fmt;
@@ -17,27 +16,13 @@ impl fmt::Display for EventText {
     fn fmt<W: fmt::Write>(&self, f: &mut fmt::Formatter<W>) -> fmt::Result {
         match self.0 {
             Event::Pass { point, mask } => {
-                let point = PointText(point);
                 let mask = HexWord(mask);
                 write!(f, "pass {point} {mask}")
             }
-            Event::Link { source, target } => {
-                let source = PointText(source);
-                let target = PointText(target);
-                write!(f, "link {source} to {target}")
-            }
-            Event::FromSecret { point } => {
-                let point = PointText(point);
-                write!(f, "secret to {point}")
-            }
-            Event::Implicit { point, region } => {
-                let point = PointText(point);
-                write!(f, "implicit {point} to {region}")
-            }
-            Event::Out { region, point } => {
-                let point = PointText(point);
-                write!(f, "out {region} to {point}")
-            }
+            Event::Link { source, target } => write!(f, "link {source} to {target}"),
+            Event::FromSecret { point } => write!(f, "secret to {point}"),
+            Event::Implicit { point, region } => write!(f, "implicit {point} to {region}"),
+            Event::Out { region, point } => write!(f, "out {region} to {point}"),
         }
     }
 }

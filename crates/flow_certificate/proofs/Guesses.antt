@@ -7,7 +7,7 @@ use Rattle.std.specs.Fmt.{decimal}
 use Rattle.std.proofs.lemmas.Fmt.{decimal_by_steps}
 use Rattle.std.proofs.lemmas.Bool.{and_parts, lt-ltb, ltb-true}
 use Rattle.flow_base.specs.HexWords.{hex_digit, hex_digits, hex_word}
-use Rattle.flow_base.specs.Points.{is_slot}
+use Rattle.flow_base.specs.Points.{is_slot, slot_text}
 use Rattle.flow_base.specs.declared.points.Slot.{Slot}
 use Rattle.flow_base.specs.declared.points.Slot.TheVariants.{First, Second, Address, Result, Decision, Number, Arg0}
 use Rattle.flow_base.specs.declared.points.Slot.TheVariants.{Arg1, Arg2, SecretIn, ByteOut, Status, OutReg, OutRange}
@@ -18,7 +18,7 @@ use Rattle.flow_certificate.specs.Guessing.{after_text, guess, half_of, line_in,
 use Rattle.flow_certificate.specs.Guessing.{word_at}
 use Rattle.flow_certificate.specs.Keeping.{is_number, is_place, is_region}
 use Rattle.flow_certificate.specs.Lines.{half_text, inside_text, is_end, is_line, line_text, link_text, point_text}
-use Rattle.flow_certificate.specs.Lines.{relay_text, slot_text}
+use Rattle.flow_certificate.specs.Lines.{relay_text}
 use Rattle.flow_certificate.specs.declared.lines.Line.{Line}
 use Rattle.flow_certificate.specs.declared.lines.Line.TheVariants as forms
 use Rattle.flow_certificate.specs.declared.lines.LinkLine.{LinkLine}

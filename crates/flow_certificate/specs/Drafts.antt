@@ -3,7 +3,8 @@ use Rattle.std.specs.Prelude.{◌≡◌, ◌==◌, ◌&&◌, Bool, true, false, 
 use Rattle.std.specs.Prelude.{Option, Some, None, option_and_then}
 use Rattle.std.specs.Ordering.{is_lt, nat_cmp}
 use Rattle.std.specs.declared.cmp.Ordering.{Ordering}
-use Rattle.flow_graph.specs.Graphs.{are_relays, arc_cmp, is_link, point_cmp}
+use Rattle.flow_base.specs.PointOrders.{point_cmp}
+use Rattle.flow_graph.specs.Graphs.{are_relays, arc_cmp, is_link}
 use Rattle.flow_certificate.specs.declared.drafts.Draft.{Draft}
 use Rattle.flow_certificate.specs.declared.drafts.Stage.{Stage}
 use Rattle.flow_certificate.specs.declared.drafts.Stage.TheVariants as stages

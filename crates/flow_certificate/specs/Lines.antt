@@ -2,9 +2,7 @@
 use Rattle.std.specs.Prelude.{ℕ, ◌^◌, ◌&&◌, nat_lt, Bool, true, false, List, ◌++◌, codes}
 use Rattle.std.specs.Fmt.{decimal}
 use Rattle.flow_base.specs.HexWords.{hex_word}
-use Rattle.flow_base.specs.declared.points.Slot.{Slot}
-use Rattle.flow_base.specs.declared.points.Slot.TheVariants.{First, Second, Address, Result, Decision, Number, Arg0}
-use Rattle.flow_base.specs.declared.points.Slot.TheVariants.{Arg1, Arg2, SecretIn, ByteOut, Status, OutReg, OutRange}
+use Rattle.flow_base.specs.Points.{slot_text}
 use Rattle.flow_graph.specs.declared.ends.End.{End}
 use Rattle.flow_graph.specs.declared.ends.End.TheVariants as ends
 use Rattle.max_flow.specs.declared.answers.Half.{Half}
@@ -16,22 +14,6 @@ use Rattle.flow_certificate.specs.declared.lines.PointLine.{PointLine}
 use Rattle.flow_certificate.specs.declared.lines.RelayLine.{RelayLine}
 use Rattle.flow_certificate.specs.Keeping.{is_number, is_place, is_region}
 use Rattle.flow_certificate.specs.VerdictTexts.{end_text}
-
-abbrev pub slot_text : Slot → List ℕ
-slot_text First = codes "u1"
-slot_text Second = codes "u2"
-slot_text Address = codes "ad"
-slot_text Result = codes "rs"
-slot_text Decision = codes "de"
-slot_text Number = codes "nr"
-slot_text Arg0 = codes "a0"
-slot_text Arg1 = codes "a1"
-slot_text Arg2 = codes "a2"
-slot_text SecretIn = codes "in"
-slot_text ByteOut = codes "ou"
-slot_text Status = codes "st"
-slot_text (OutReg register) = codes "x" ++ decimal register
-slot_text (OutRange range) = codes "r" ++ decimal range
 
 -- which halves of a point are in the side
 abbrev pub half_text : Half → List ℕ

@@ -1,5 +1,4 @@
 ghost use Rattle.std.specs.Prelude.{◌≡◌, IfOk, nat_lt, option_map};
-ghost use Rattle.flow_base.specs.Points.{is_slot as is_known_slot};
 ghost use Rattle.flow_certificate.specs.Guessing.{after_text, line_in};
 ghost use Rattle.flow_certificate.specs.Keeping.{is_number as is_known_number, is_place as is_known_place};
 ghost use Rattle.flow_certificate.specs.Keeping.{is_region as is_known_region};
@@ -8,7 +7,7 @@ ghost use Rattle.flow_certificate.specs.Lines.{is_end as is_known_end, is_line a
 use crate::guessing::guess;
 use crate::line_texts::put_line;
 use crate::lines::Line;
-use flow_base::{NoMemory, Point, Slot};
+use flow_base::{NoMemory, Point};
 use flow_graph::End;
 use std::alloc::Global;
 
@@ -32,17 +31,6 @@ fn after<'a>(wanted: &[u8], bytes: &'a [u8]) -> Option<&'a [u8]>
         rest = more;
     }
     Some(rest)
-}
-
-/// Whether a region has such an output register or such a range.
-pub fn is_slot(slot: Slot) -> bool
-    ensures { result ≡ is_known_slot slot }
-{
-    match slot {
-        Slot::OutReg(register) => 1 <= register && register <= 31,
-        Slot::OutRange(range) => range < 64,
-        _ => true,
-    }
 }
 
 /// Whether a number of 16 bits can be that of a region: each can.
@@ -72,7 +60,7 @@ pub fn is_number(number: u64) -> bool
 pub fn is_place(point: Point) -> bool
     ensures { result ≡ is_known_place point }
 {
-    is_region(point.region) && is_word(point.address) && is_slot(point.slot)
+    is_region(point.region) && is_word(point.address) && point.slot.is_known()
 }
 
 /// Whether a link can name an end.

@@ -1,7 +1,7 @@
 ghost use Rattle.std.specs.Prelude.{◌≡◌, ◌++◌, ◌∷◌, [], OnOk, codes};
 ghost use Rattle.std.specs.Fmt.{decimal};
 ghost use Rattle.flow_certificate.specs.Lines.{half_text, inside_text, line_text, link_text, point_text, relay_text};
-ghost use Rattle.flow_certificate.specs.Lines.{slot_text};
+ghost use Rattle.flow_base.specs.Points.{slot_text};
 ghost use Rattle.flow_certificate.specs.VerdictTexts.{end_text};
 
 use crate::lines::{Line, LinkLine, PointLine, RelayLine};
@@ -38,22 +38,8 @@ fn put_lettered(alloc: Global, text: &mut Vec<u8>, letter: u8, number: u64) -> R
 fn put_slot(alloc: Global, text: &mut Vec<u8>, slot: Slot) -> Result<(), NoMemory>
     ensures { OnOk result (text.new.items ≡ text.old.items ++ slot_text slot) }
 {
-    match slot {
-        Slot::First => put(text, b"u1"),
-        Slot::Second => put(text, b"u2"),
-        Slot::Address => put(text, b"ad"),
-        Slot::Result => put(text, b"rs"),
-        Slot::Decision => put(text, b"de"),
-        Slot::Number => put(text, b"nr"),
-        Slot::Arg0 => put(text, b"a0"),
-        Slot::Arg1 => put(text, b"a1"),
-        Slot::Arg2 => put(text, b"a2"),
-        Slot::SecretIn => put(text, b"in"),
-        Slot::ByteOut => put(text, b"ou"),
-        Slot::Status => put(text, b"st"),
-        Slot::OutReg(register) => put_lettered(alloc, text, b'x', u64::from(register)),
-        Slot::OutRange(range) => put_lettered(alloc, text, b'r', u64::from(range)),
-    }
+    let word = format!(in alloc; "{slot}")?;
+    put(text, word.as_bytes())
 }
 
 /// Puts the text of an end of a link at the end of a text.

@@ -10,13 +10,14 @@ use Rattle.std.specs.List.{list_all}
 use Rattle.std.proofs.lemmas.Bool.{and_parts, and_from, lt-ltb}
 use Rattle.flow_base.specs.declared.points.Point.{Point}
 use Rattle.flow_base.specs.Words.{bit_count}
+use Rattle.flow_base.specs.PointOrders.{is_same}
 use Rattle.flow_graph.specs.declared.builders.Builder.{Builder}
 use Rattle.flow_graph.specs.declared.events.Event.{Event}
 use Rattle.flow_graph.specs.declared.events.Event.TheVariants.{Pass, Link, FromSecret, Implicit, Out}
 use Rattle.flow_graph.specs.declared.named_links.NamedLink.{NamedLink}
 use Rattle.flow_graph.specs.declared.named_links.NamedEnd.{NamedEnd}
 use Rattle.flow_graph.specs.declared.named_links.NamedEnd.TheVariants.{Source, At, Relay}
-use Rattle.flow_graph.specs.EventGraphs.{is_same, bits_at, one_if, outlet_of, links_by}
+use Rattle.flow_graph.specs.EventGraphs.{bits_at, one_if, outlet_of, links_by}
 use Rattle.flow_graph.specs.EventGraphs.{link_cmp}
 use Rattle.flow_graph.specs.Builders.{StandsFor, Takes, ArePositive, count_at, has_point}
 use Rattle.flow_graph.specs.Keeping.{Keeps, is_positive}

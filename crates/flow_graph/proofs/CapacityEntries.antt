@@ -17,14 +17,15 @@ use Rattle.std.proofs.lemmas.List.Folds.{list_all-map}
 use Rattle.std.proofs.lemmas.Map.Keys.{sorted_head, sorted_tail}
 use Rattle.std.proofs.lemmas.Map.Views.{All-found, All-keys_found}
 use Rattle.flow_base.specs.declared.points.Point.{Point}
+use Rattle.flow_base.specs.PointOrders.{point_cmp, is_same}
 use Rattle.flow_graph.specs.declared.builders.Builder.{Builder}
 use Rattle.flow_graph.specs.declared.events.Event.{Event}
 use Rattle.flow_graph.specs.declared.nodes.Node.{Node}
-use Rattle.flow_graph.specs.Graphs.{point_cmp, ascend, node_cmp, has_capacity, are_points}
-use Rattle.flow_graph.specs.EventGraphs.{is_same, capacity_at, has_passed, HasFewPoints}
+use Rattle.flow_graph.specs.Graphs.{ascend, node_cmp, has_capacity, are_points}
+use Rattle.flow_graph.specs.EventGraphs.{capacity_at, has_passed, HasFewPoints}
 use Rattle.flow_graph.specs.Builders.{has_point, ArePositive, StandsFor}
 use Rattle.flow_graph.specs.Keeping.{is_positive, is_sound}
-use Rattle.flow_graph.proofs.Points.{point_total}
+use Rattle.flow_base.proofs.PointOrders.{point_total}
 use Rattle.flow_graph.proofs.Indices.{is_in}
 use Rattle.flow_graph.proofs.Keeping.{all_more, known-same}
 

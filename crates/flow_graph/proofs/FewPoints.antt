@@ -13,9 +13,9 @@ use Rattle.flow_base.specs.declared.points.Point.{Point}
 use Rattle.flow_base.specs.Words.{bit_count}
 use Rattle.flow_graph.specs.declared.events.Event.{Event}
 use Rattle.flow_graph.specs.declared.events.Event.TheVariants.{Pass, Link, FromSecret, Implicit, Out}
-use Rattle.flow_graph.specs.Graphs.{point_cmp}
-use Rattle.flow_graph.specs.EventGraphs.{is_same, bits_at, passed, has_passed, HasFewPoints}
-use Rattle.flow_graph.proofs.Points.{point_total, is_equal}
+use Rattle.flow_base.specs.PointOrders.{point_cmp, is_same}
+use Rattle.flow_base.proofs.PointOrders.{point_total, is_equal}
+use Rattle.flow_graph.specs.EventGraphs.{bits_at, passed, has_passed, HasFewPoints}
 
 -- an event passes nothing here
 abbrev is_spared : Event → Point → Bool

@@ -11,10 +11,9 @@ use Rattle.std.proofs.lemmas.Bool.{ne_eqb, cond-true, cond-false}
 use Rattle.std.proofs.lemmas.Cmp.{alike_right}
 use Rattle.std.proofs.lemmas.Map.Keys.{sorted_head, sorted_tail, Less-from_sorted}
 use Rattle.flow_base.specs.declared.points.Point.{Point}
-use Rattle.flow_graph.specs.Graphs.{point_cmp}
-use Rattle.flow_graph.specs.EventGraphs.{is_same}
+use Rattle.flow_base.specs.PointOrders.{point_cmp, is_same}
+use Rattle.flow_base.proofs.PointOrders.{point_total, is_equal}
 use Rattle.flow_graph.specs.Builders.{index_in}
-use Rattle.flow_graph.proofs.Points.{point_total, is_equal}
 
 pub found-index : (names : List Point) (p : Point) (i : ℕ) (d : Point) → IsStrictlySortedBy point_cmp names →
     i < length names →

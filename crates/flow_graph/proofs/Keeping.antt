@@ -10,12 +10,13 @@ use Rattle.std.proofs.lemmas.List.Folds.{list_any-append}
 use Rattle.std.proofs.lemmas.List.Sums.{sum_by-append, sum_by-cons}
 use Rattle.flow_base.specs.declared.points.Point.{Point}
 use Rattle.flow_base.specs.Words.{bit_count}
+use Rattle.flow_base.specs.PointOrders.{is_same}
 use Rattle.flow_graph.specs.declared.events.Event.{Event}
 use Rattle.flow_graph.specs.declared.events.Event.TheVariants.{Pass, Link, FromSecret, Implicit, Out}
 use Rattle.flow_graph.specs.declared.named_links.NamedLink.{NamedLink}
 use Rattle.flow_graph.specs.declared.named_links.NamedEnd.{NamedEnd}
 use Rattle.flow_graph.specs.declared.named_links.NamedEnd.TheVariants.{Source, At, Relay, Sink}
-use Rattle.flow_graph.specs.EventGraphs.{is_same, bits_at, passed, has_passed, one_if, outlet_of, links_by, links_after}
+use Rattle.flow_graph.specs.EventGraphs.{bits_at, passed, has_passed, one_if, outlet_of, links_by, links_after}
 use Rattle.flow_graph.specs.EventGraphs.{named_links, is_among}
 use Rattle.flow_graph.specs.Keeping.{Keeps, TakesLinks, capacity_in, count_in, is_known, is_positive}
 use Rattle.flow_graph.specs.Keeping.{is_sound, is_there, may_lead}

@@ -10,6 +10,7 @@ use Rattle.std.specs.declared.cmp.Ordering.TheVariants.{Less, Equal}
 use Rattle.std.proofs.lemmas.Bool.{and_parts, and_from, or_left, or_right, lt-ltb, eq-eqb}
 use Rattle.std.proofs.lemmas.Map.Keys.{sorted_head, sorted_tail}
 use Rattle.flow_base.specs.declared.points.Point.{Point}
+use Rattle.flow_base.specs.PointOrders.{point_cmp}
 use Rattle.flow_graph.specs.declared.ends.End.{End}
 use Rattle.flow_graph.specs.declared.nodes.Node.{Node}
 use Rattle.flow_graph.specs.declared.named_links.NamedLink.{NamedLink}
@@ -18,7 +19,7 @@ use Rattle.flow_graph.specs.declared.named_links.NamedEnd.TheVariants.{Source, A
 use Rattle.flow_graph.specs.contracts.ends.EndOrd.TheImpl as end_ord
 use Rattle.flow_graph.specs.contracts.named_links.NamedEndOrd.TheImpl as named_end_ord
 use Rattle.flow_graph.specs.contracts.named_links.NamedLinkOrd.TheImpl.Laws.{total-law}
-use Rattle.flow_graph.specs.Graphs.{point_cmp, arc_cmp, ascend, is_relay, is_origin, is_target, is_link, are_links}
+use Rattle.flow_graph.specs.Graphs.{arc_cmp, ascend, is_relay, is_origin, is_target, is_link, are_links}
 use Rattle.flow_graph.specs.Graphs.{leads_on}
 use Rattle.flow_graph.specs.EventGraphs.{no_point, link_cmp, is_among, named_end, named, is_relay_of}
 use Rattle.flow_graph.specs.EventGraphs.{names_relay}

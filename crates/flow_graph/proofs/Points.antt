@@ -3,22 +3,11 @@ use Rattle.std.proofs.Common.{◌≡◌, true, cond, List, [], ◌∷◌, Some, 
 use Rattle.std.specs.BTreeMap as tree
 use Rattle.std.specs.BTreeMap.{BTreeMap, is_at}
 use Rattle.std.specs.Map.{lookup}
-use Rattle.std.specs.Cmp.{IsTotalOrder}
 use Rattle.std.specs.Ordering.{is_eq}
-use Rattle.std.specs.declared.cmp.Ordering.{Ordering}
-use Rattle.std.specs.declared.cmp.Ordering.TheVariants.{Less, Equal, Greater}
+use Rattle.std.specs.declared.cmp.Ordering.TheVariants.{Equal}
 use Rattle.flow_base.specs.declared.points.Point.{Point}
-use Rattle.flow_base.specs.contracts.points.PointOrd.TheImpl.Laws.{total-law}
-use Rattle.flow_graph.specs.Graphs.{point_cmp}
-use Rattle.flow_graph.specs.EventGraphs.{is_same}
-
-pub point_total : IsTotalOrder point_cmp
-point_total = total-law
-
-pub is_equal : (o : Ordering) → is_eq o ≡ true → o ≡ Equal
-is_equal Less e = absurd (cc)
-is_equal Equal e = refl
-is_equal Greater e = absurd (cc)
+use Rattle.flow_base.specs.PointOrders.{is_same, point_cmp}
+use Rattle.flow_base.proofs.PointOrders.{is_equal, point_total}
 
 lookup_alike : {X : Type 0} (p q : Point) → point_cmp p q ≡ Equal → (es : List (Point × X)) →
     lookup (is_at (point_cmp p)) es ≡ lookup (is_at (point_cmp q)) es

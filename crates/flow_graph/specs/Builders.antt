@@ -13,8 +13,7 @@ use Rattle.flow_graph.specs.declared.events.Event.{Event}
 use Rattle.flow_graph.specs.declared.named_links.NamedLink.{NamedLink}
 use Rattle.flow_graph.specs.declared.named_links.NamedEnd.{NamedEnd}
 use Rattle.flow_graph.specs.declared.named_links.NamedEnd.TheVariants.{Source, At, Relay, Sink}
-use Rattle.flow_graph.specs.Graphs.{point_cmp}
-use Rattle.flow_graph.specs.EventGraphs.{is_same}
+use Rattle.flow_base.specs.PointOrders.{point_cmp, is_same}
 use Rattle.flow_graph.specs.Keeping.{is_positive, Keeps, TakesLinks}
 
 -- the capacity of a point so far

@@ -7,6 +7,7 @@ use Rattle.std.specs.Ordering.{eq_by_cmp}
 use Rattle.std.specs.declared.cmp.Ordering.{Ordering}
 use Rattle.flow_base.specs.declared.points.Point.{Point}
 use Rattle.flow_base.specs.declared.points.Slot.TheVariants.{First}
+use Rattle.flow_base.specs.PointOrders.{is_same, point_cmp}
 use Rattle.flow_base.specs.Words.{bit_count}
 use Rattle.flow_graph.specs.declared.ends.Arc.{Arc}
 use Rattle.flow_graph.specs.declared.ends.End.{End}
@@ -20,10 +21,6 @@ use Rattle.flow_graph.specs.declared.named_links.NamedLink.{NamedLink}
 use Rattle.flow_graph.specs.declared.named_links.NamedEnd.{NamedEnd}
 use Rattle.flow_graph.specs.declared.named_links.NamedEnd.TheVariants.{Source, At, Relay, Sink}
 use Rattle.flow_graph.specs.contracts.named_links.NamedLinkOrd.TheImpl as link_ord
-use Rattle.flow_graph.specs.Graphs.{point_cmp}
-
-abbrev pub is_same : Point → Point → Bool
-is_same p q = eq_by_cmp point_cmp p q
 
 -- the bits that an event passes at a point
 abbrev pub bits_at : Point → Event → ℕ

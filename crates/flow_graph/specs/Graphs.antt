@@ -3,17 +3,12 @@ use Rattle.std.specs.Prelude.{ℕ, ◌&&◌, nat_eq, nat_lt, Bool, true, false, 
 use Rattle.std.specs.List.{list_all, list_any}
 use Rattle.std.specs.Ordering.{is_lt, nat_cmp}
 use Rattle.std.specs.declared.cmp.Ordering.{Ordering}
-use Rattle.flow_base.specs.declared.points.Point.{Point}
-use Rattle.flow_base.specs.contracts.points.PointOrd.TheImpl as point_ord
+use Rattle.flow_base.specs.PointOrders.{point_cmp}
 use Rattle.flow_graph.specs.declared.ends.Arc.{Arc}
 use Rattle.flow_graph.specs.declared.ends.End.{End}
 use Rattle.flow_graph.specs.declared.ends.End.TheVariants.{Source, Point as PointEnd, Relay, Sink}
 use Rattle.flow_graph.specs.declared.nodes.Node.{Node}
 use Rattle.flow_graph.specs.contracts.ends.ArcOrd.TheImpl as arc_ord
-
--- the order of points: by region, address and slot
-abbrev pub point_cmp : Point → Point → Ordering
-point_cmp = (point_ord.ghosts).cmp
 
 -- the order of links: by source, then target, where the ends are the source, the points, the relays, the sink
 abbrev pub arc_cmp : Arc → Arc → Ordering

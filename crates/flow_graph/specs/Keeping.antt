@@ -5,11 +5,12 @@ use Rattle.std.specs.List.{list_all}
 use Rattle.std.specs.Map.{lookup}
 use Rattle.std.specs.Option.{is_some}
 use Rattle.flow_base.specs.declared.points.Point.{Point}
+use Rattle.flow_base.specs.PointOrders.{is_same}
 use Rattle.flow_graph.specs.declared.events.Event.{Event}
 use Rattle.flow_graph.specs.declared.named_links.NamedLink.{NamedLink}
 use Rattle.flow_graph.specs.declared.named_links.NamedEnd.{NamedEnd}
 use Rattle.flow_graph.specs.declared.named_links.NamedEnd.TheVariants.{Source, At, Relay, Sink}
-use Rattle.flow_graph.specs.EventGraphs.{is_same, passed, named_links, is_among}
+use Rattle.flow_graph.specs.EventGraphs.{passed, named_links, is_among}
 
 -- the capacity that is kept for a point, if any
 abbrev pub capacity_in : List (Point × ℕ) → Point → Option ℕ

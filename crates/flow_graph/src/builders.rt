@@ -1,8 +1,9 @@
 ghost use Rattle.std.specs.Prelude.{◌≡◌, ◌+◌, ◌==◌, ◌&&◌, ◌++◌, ◌∷◌, [], cond, not, true, List as Seq, OnOk, OnErr};
 ghost use Rattle.flow_base.specs.declared.points.Point.{Point as ThePoint};
 ghost use Rattle.flow_base.specs.Words.{bit_count};
+ghost use Rattle.flow_base.specs.PointOrders.{is_same};
 ghost use Rattle.flow_graph.specs.declared.events.Event.{Event as AnEvent};
-ghost use Rattle.flow_graph.specs.EventGraphs.{is_same, one_if, outlet_of};
+ghost use Rattle.flow_graph.specs.EventGraphs.{one_if, outlet_of};
 ghost use Rattle.flow_graph.specs.Builders.{ArePositive, HasRoom, StandsFor, Takes, count_at, has_point};
 
 use crate::events::Event;

@@ -5,7 +5,7 @@ ghost use Rattle.flow_base.specs.Points.{is_slot};
 
 use crate::input::{number, put_line};
 use flow_base::{
-    Bytes, List, Output, Registers, Slot, hex_digits, hex_word, slot_number, slot_width,
+    Bytes, List, Output, Registers, Slot, hex_digits, hex_word,
 };
 use std::alloc::Global;
 use std::io;
@@ -87,7 +87,7 @@ fn print_slot(rt: &HostRuntime, row: &str) -> io::Result<bool> {
     let Some(slot) = slot_of(row) else {
         return Ok(false);
     };
-    println!(rt; "slot {} width {:x}", slot_number(slot), slot_width(slot))?;
+    println!(rt; "slot {} width {:x}", slot.number(), slot.width())?;
     Ok(true)
 }
 

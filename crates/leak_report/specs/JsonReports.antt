@@ -4,12 +4,12 @@ use Rattle.serde_json.specs.Data.{Data, unsigned, number, string, array, object,
 use Rattle.serde_json.specs.View.{items_of}
 use Rattle.serde_json.specs.Written.{compact_text}
 use Rattle.cut_file.specs.declared.points.CutPoint.{CutPoint}
-use Rattle.cut_file.specs.Texts.{slot_text}
+use Rattle.flow_base.specs.Points.{slot_text}
 use Rattle.flow_base.specs.declared.points.Point.{Point}
 use Rattle.flow_base.specs.HexWords.{hex_word}
 use Rattle.flow_graph.specs.declared.nodes.Node.{Node}
+use Rattle.flow_graph.specs.EventGraphs.{capacity_at}
 use Rattle.measuring.specs.declared.measured.Measured.{Measured}
-use Rattle.leak_report.specs.Capacities.{capacity_of}
 
 abbrev pub whole : ℕ → Data
 whole n = number (unsigned n)
@@ -18,7 +18,7 @@ whole n = number (unsigned n)
 abbrev pub point_data : List Node → Point → Data
 point_data nodes point =
     object (member (codes "address") (string (hex_word point.address))
-    (member (codes "bits") (whole (capacity_of nodes point))
+    (member (codes "bits") (whole (capacity_at nodes point))
     (member (codes "region") (whole point.region)
     (member (codes "slot") (string (slot_text point.slot)) no_members))))
 

@@ -2,12 +2,11 @@
 use Rattle.std.specs.Prelude.{ℕ, List, [], ◌∷◌, ◌++◌, codes, length}
 use Rattle.std.specs.Fmt.{decimal}
 use Rattle.cut_file.specs.declared.points.CutPoint.{CutPoint}
-use Rattle.cut_file.specs.Texts.{slot_text}
+use Rattle.flow_base.specs.Points.{point_text}
 use Rattle.flow_base.specs.declared.points.Point.{Point}
-use Rattle.flow_base.specs.HexWords.{hex_word}
 use Rattle.flow_graph.specs.declared.nodes.Node.{Node}
+use Rattle.flow_graph.specs.EventGraphs.{capacity_at}
 use Rattle.measuring.specs.declared.measured.Measured.{Measured}
-use Rattle.leak_report.specs.Capacities.{capacity_of}
 
 -- the maximum flow in bits, the length of the secret in bytes, the number of turns
 abbrev pub run_text : Measured → List ℕ
@@ -37,8 +36,7 @@ skip_lines (region ∷ regions) = skip_line region ++ skip_lines regions
 -- a point of the cut, with its capacity in bits
 abbrev pub cut_line : List Node → Point → List ℕ
 cut_line nodes point =
-    codes "cut " ++ (decimal point.region ++ (codes " " ++ (hex_word point.address ++ (codes " "
-    ++ (slot_text point.slot ++ (codes " bits " ++ (decimal (capacity_of nodes point) ++ codes "\n")))))))
+    codes "cut " ++ (point_text point ++ (codes " bits " ++ (decimal (capacity_at nodes point) ++ codes "\n")))
 
 -- a line for each point of the cut
 abbrev pub cut_lines : List Node → List CutPoint → List ℕ

@@ -7,7 +7,6 @@ ghost use Rattle.leak_report.specs.Members.{with_first, with_last};
 ghost use Rattle.max_flow.specs.Flows.{is_small};
 
 use crate::capacities::capacity_of;
-use crate::slot_texts::SlotText;
 use cut_file::CutPoint;
 use flow_base::{Bytes, HexWord, NoMemory, Point};
 use flow_graph::Node;
@@ -22,7 +21,7 @@ fn point_value(alloc: Global, nodes: &[Node], point: Point) -> Result<Value, NoM
 {
     let word = HexWord(point.address);
     let address = format!(in alloc; "{word}")?;
-    let shown = SlotText(point.slot);
+    let shown = point.slot;
     let slot = format!(in alloc; "{shown}")?;
     let bits = capacity_of(nodes, point);
     let region = point.region;

@@ -4,7 +4,6 @@
 mod capacities;
 mod json_reports;
 mod reports;
-mod slot_texts;
 mod verdict_lines;
 
 pub use json_reports::report_json;

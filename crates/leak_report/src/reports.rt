@@ -5,7 +5,6 @@ ghost use Rattle.leak_report.specs.Reports.{report_text as report_text_of, skip_
 ghost use Rattle.max_flow.specs.Flows.{is_small};
 
 use crate::capacities::capacity_of;
-use crate::slot_texts::SlotText;
 use cut_file::CutPoint;
 use flow_base::{Bytes, HexWord, NoMemory, Point};
 use flow_graph::Node;
@@ -61,11 +60,8 @@ fn put_point(
     requires { list_all is_small nodes.now ≡ true }
     ensures { OnOk result (text.new.items ≡ text.old.items ++ cut_line nodes.now point) }
 {
-    let region = point.region;
-    let address = HexWord(point.address);
-    let slot = SlotText(point.slot);
     let bits = capacity_of(nodes, point);
-    let line = format!(in alloc; "cut {region} {address} {slot} bits {bits}\n")?;
+    let line = format!(in alloc; "cut {point} bits {bits}\n")?;
     text.extend_from_slice(line.as_bytes())?;
     Ok(())
 }

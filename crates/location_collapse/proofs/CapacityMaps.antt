@@ -8,7 +8,7 @@ use Rattle.std.specs.Result.{OnOk, OnErr}
 use Rattle.std.specs.Map.{lookup}
 use Rattle.std.specs.Option.{is_some}
 use Rattle.flow_base.specs.declared.points.Point.{Point}
-use Rattle.flow_graph.specs.EventGraphs.{is_same}
+use Rattle.flow_base.specs.PointOrders.{is_same}
 use Rattle.flow_graph.specs.Keeping.{capacity_in, count_in, is_known, is_positive}
 use Rattle.indexmap.specs.IndexMap.{IndexMap, keys, insert_entry, set_value_at}
 use Rattle.indexmap.proofs.CallerLemmas.{updates-with_value_at}

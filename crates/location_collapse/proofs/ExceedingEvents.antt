@@ -7,11 +7,12 @@ use Rattle.std.proofs.lemmas.Bool.{and_parts, or_left, ltb-true}
 use Rattle.std.proofs.lemmas.List.{length-map}
 use Rattle.std.proofs.lemmas.Map.Made.{length-le_from_is_member}
 use Rattle.flow_base.specs.declared.points.Point.{Point}
+use Rattle.flow_base.specs.PointOrders.{is_same}
 use Rattle.flow_graph.specs.declared.events.Event.{Event}
 use Rattle.flow_graph.specs.declared.graphs.Graph.{Graph}
 use Rattle.flow_graph.specs.declared.named_links.NamedLink.{NamedLink}
 use Rattle.flow_graph.specs.declared.nodes.Node.{Node}
-use Rattle.flow_graph.specs.EventGraphs.{is_same, bits_at, passed, has_passed, named_links, is_among, links_by, capacity_at}
+use Rattle.flow_graph.specs.EventGraphs.{bits_at, passed, has_passed, named_links, is_among, links_by, capacity_at}
 use Rattle.flow_graph.specs.EventGraphs.{named, IsGraphOf}
 use Rattle.flow_graph.proofs.Keeping.{passed-push, among-push}
 use Rattle.location_collapse.specs.Limits.{ExceedsLimit, is_same_link}

@@ -8,10 +8,11 @@ use Rattle.std.proofs.lemmas.Map.Keys.{any_passes_from_place}
 use Rattle.flow_base.specs.declared.points.Point.{Point}
 use Rattle.flow_base.specs.contracts.points.PointPartialEq.TheImpl as point_eq_impl
 use Rattle.flow_base.specs.contracts.points.PointOrd.TheImpl.Laws as point_laws
+use Rattle.flow_base.specs.PointOrders.{is_same}
 use Rattle.flow_graph.specs.declared.named_links.NamedLink.{NamedLink}
 use Rattle.flow_graph.specs.contracts.named_links.NamedLinkPartialEq.TheImpl as link_eq_impl
 use Rattle.flow_graph.specs.contracts.named_links.NamedLinkOrd.TheImpl.Laws as link_laws
-use Rattle.flow_graph.specs.EventGraphs.{is_same, is_among}
+use Rattle.flow_graph.specs.EventGraphs.{is_among}
 use Rattle.location_collapse.specs.Limits.{is_same_link}
 
 abbrev pub point_eq : Point → Point → Bool

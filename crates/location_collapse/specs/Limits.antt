@@ -6,9 +6,10 @@ use Rattle.std.specs.List.{list_all, IsDistinct}
 use Rattle.std.specs.Ordering.{eq_by_cmp}
 use Rattle.flow_base.specs.declared.points.Point.{Point}
 use Rattle.flow_base.specs.Words.{bit_count}
+use Rattle.flow_base.specs.PointOrders.{is_same}
 use Rattle.flow_graph.specs.declared.events.Event.{Event}
 use Rattle.flow_graph.specs.declared.named_links.NamedLink.{NamedLink}
-use Rattle.flow_graph.specs.EventGraphs.{is_same, passed, has_passed, link_cmp, named_links, is_among}
+use Rattle.flow_graph.specs.EventGraphs.{passed, has_passed, link_cmp, named_links, is_among}
 use Rattle.flow_graph.specs.Keeping.{is_known}
 
 abbrev pub is_same_link : NamedLink → NamedLink → Bool

@@ -6,7 +6,7 @@ ghost use Rattle.std.specs.Option.{option_map};
 ghost use Rattle.indexmap.specs.IndexMap.{set_value_at};
 ghost use Rattle.flow_base.specs.declared.points.Point.{Point as ThePoint};
 ghost use Rattle.flow_base.specs.Words.{bit_count};
-ghost use Rattle.flow_graph.specs.EventGraphs.{is_same};
+ghost use Rattle.flow_base.specs.PointOrders.{is_same};
 ghost use Rattle.flow_graph.specs.Keeping.{capacity_in, count_in, is_known};
 ghost use Rattle.location_collapse.specs.Limits.{HoldsAt, HasAllPoints, LacksRoom, is_small};
 

@@ -1,8 +1,9 @@
 ghost use Rattle.std.specs.BTreeMap as tree;
 ghost use Rattle.std.specs.Prelude.{◌≡◌, ◌+◌, ◌≤◌, ◌∷◌, [], cond, length, List as Seq, IfOk, OnOk, Some};
 ghost use Rattle.flow_base.specs.declared.points.Point.{Point as ThePoint};
+ghost use Rattle.flow_base.specs.PointOrders.{is_same};
 ghost use Rattle.flow_graph.specs.declared.events.Event.{Event as AnEvent};
-ghost use Rattle.flow_graph.specs.EventGraphs.{IsGraphOf, is_same};
+ghost use Rattle.flow_graph.specs.EventGraphs.{IsGraphOf};
 ghost use Rattle.flow_graph.specs.Keeping.{TakesLinks, capacity_in};
 ghost use Rattle.location_collapse.specs.Collapses.{StandsFor};
 ghost use Rattle.location_collapse.specs.Sorting.{HasSame};

@@ -8,7 +8,7 @@ use Rattle.std.proofs.lemmas.Bool.{and_parts, and_from, false≢true}
 use Rattle.flow_base.specs.declared.points.Point.{Point}
 use Rattle.flow_graph.specs.declared.nodes.Node.{Node}
 use Rattle.flow_graph.specs.Graphs.{node_cmp, ascend}
-use Rattle.flow_graph.specs.EventGraphs.{is_same}
+use Rattle.flow_base.specs.PointOrders.{is_same}
 use Rattle.max_flow.specs.declared.answers.Half.{Half}
 use Rattle.max_flow.specs.Flows.{has_first, has_second}
 use Rattle.cut_file.specs.declared.points.CutPoint.{CutPoint}
@@ -18,7 +18,8 @@ use Rattle.location_collapse.proofs.Same.{points_alike}
 use Rattle.measuring.specs.CutRuns.{points_of}
 use Rattle.measuring.specs.Limits.{are_points_in, is_point_in}
 use Rattle.measuring.specs.Splits.{is_cut, split_points}
-use Rattle.measuring.proofs.Orders.{inner_alike, less_differs}
+use Rattle.flow_base.proofs.PointOrders.{below-other}
+use Rattle.measuring.proofs.Orders.{inner_alike}
 use Rattle.measuring.proofs.Splits.{above, all_split, all_weaker, behind, nodes_chain}
 
 names-points : (points : List CutPoint) (q : Point) → names_point points q ≡ list_any (λ p. is_same p q)
@@ -77,7 +78,7 @@ differ_from node q nodes same all =
     all_weaker (λ other. is_lt (node_cmp node other)) (λ other. not (is_same other.point q))
     (λ other less. ap not (points_alike.symm other.point q
     ∙ (points_alike.congr q node.point other.point (points_alike.symm q node.point ∙ same)
-    ∙ less_differs node.point other.point less))) nodes all
+    ∙ below-other node.point other.point less))) nodes all
 
 split_named : (skip : List ℕ) (nodes : List Node) (halves : List Half) (q : Point) → ascend node_cmp nodes ≡ true →
     list_any (λ p. is_same p q) (split_points skip nodes halves) ≡

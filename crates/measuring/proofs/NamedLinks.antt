@@ -14,9 +14,10 @@ use Rattle.std.proofs.lemmas.Cmp.{tied_itself}
 use Rattle.std.proofs.lemmas.Map.Keys.{Less-from_sorted}
 use Rattle.flow_graph.specs.contracts.ends.ArcOrd.TheImpl.Laws as arc_laws
 use Rattle.flow_graph.proofs.Indices.{nat_cmp-itself}
-use Rattle.flow_graph.proofs.Points.{point_total}
+use Rattle.flow_base.proofs.PointOrders.{point_total}
 use Rattle.std.proofs.lemmas.List.{length-map}
 use Rattle.flow_base.specs.declared.points.Point.{Point}
+use Rattle.flow_base.specs.PointOrders.{point_cmp}
 use Rattle.flow_graph.specs.declared.ends.Arc.{Arc}
 use Rattle.flow_graph.specs.declared.ends.End.{End}
 use Rattle.flow_graph.specs.declared.ends.End.TheVariants.{Source, Point as PointEnd, Relay, Sink}
@@ -29,7 +30,7 @@ use Rattle.flow_graph.specs.EventGraphs.{is_among, link_cmp, named}
 use Rattle.flow_graph.specs.EventGraphs.{named_end}
 use Rattle.flow_graph.specs.EventGraphs.{no_point}
 use Rattle.flow_graph.specs.Graphs.{arc_cmp, ascend, is_link, is_origin}
-use Rattle.flow_graph.specs.Graphs.{is_target, leads_on, node_cmp, point_cmp}
+use Rattle.flow_graph.specs.Graphs.{is_target, leads_on, node_cmp}
 use Rattle.location_collapse.specs.Limits.{is_same_link}
 use Rattle.location_collapse.proofs.Same.{links_alike}
 use Rattle.measuring.proofs.Splits.{above, nodes_chain}

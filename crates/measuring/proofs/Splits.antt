@@ -8,18 +8,18 @@ use Rattle.std.specs.declared.cmp.Ordering.{Ordering}
 use Rattle.std.proofs.lemmas.Bool.{and_parts, and_from, false≢true, lt-ltb, ltb-true, eqb-true, eqb-false, ne_eqb}
 use Rattle.flow_base.specs.declared.points.Point.{Point}
 use Rattle.flow_base.specs.Points.{is_slot}
+use Rattle.flow_base.specs.PointOrders.{is_below, point_cmp}
+use Rattle.flow_base.proofs.PointOrders.{below-trans, is_lt-number}
 use Rattle.flow_graph.specs.declared.nodes.Node.{Node}
-use Rattle.flow_graph.specs.Graphs.{point_cmp, node_cmp, ascend}
+use Rattle.flow_graph.specs.Graphs.{node_cmp, ascend}
 use Rattle.max_flow.specs.declared.answers.Half.{Half}
 use Rattle.max_flow.specs.Flows.{relay_in}
-use Rattle.cut_file.specs.Cuts.{neighbours_pass, is_below, is_point, is_point_of, is_cut_point, is_word, is_single}
+use Rattle.cut_file.specs.Cuts.{neighbours_pass, is_point, is_point_of, is_cut_point, is_word, is_single}
 use Rattle.cut_file.specs.Cuts.{stands_before, are_runs, is_rest}
 use Rattle.cut_file.specs.declared.points.CutPoint.{CutPoint}
 use Rattle.enclosure_regions.specs.Regions.{stands_in}
 use Rattle.measuring.specs.CutRuns.{points_of}
 use Rattle.measuring.specs.Splits.{skipped, is_cut, split_points}
-use Rattle.covered_runs.proofs.PointOrders.{is_lt-number, points_below}
-use Rattle.measuring.proofs.Orders.{less_chains}
 
 -- ---- ascending lists
 
@@ -156,7 +156,7 @@ all_split test skip (node ∷ nodes) (half ∷ halves) all =
 
 pub nodes_chain : (x y z : Node) → is_lt (node_cmp x y) ≡ true → is_lt (node_cmp y z) ≡ true →
     is_lt (node_cmp x z) ≡ true
-nodes_chain x y z first second = less_chains x.point y.point z.point first second
+nodes_chain x y z first second = below-trans x.point y.point z.point first second
 
 point_chosen_front : (b : Bool) (p : Point) (more : List Point) → list_all (λ q. is_lt (point_cmp p q)) more ≡ true →
     neighbours_pass (λ p' q. is_lt (point_cmp p' q)) more ≡ true →
@@ -192,7 +192,7 @@ numbered (point ∷ (next ∷ points)) valid up =
     let parts = and_parts (is_lt (point_cmp point.point next.point)) (neighbours_pass (λ p q. is_lt (point_cmp p q))
     (points_of (next ∷ points))) up in
     and_from (is_below point.point next.point) (neighbours_pass stands_before (next ∷ points))
-    (points_below point.point next.point (slot_valid point valids.0) (slot_valid next following.0) parts.0)
+    parts.0
     (numbered (next ∷ points) valids.1 parts.1)
 
 -- the points of the cut ascend

@@ -10,10 +10,11 @@ use Rattle.std.proofs.lemmas.List.{length-map}
 use Rattle.std.proofs.lemmas.List.Folds.{list_all-map}
 use Rattle.cut_file.proofs.Following.{is_true, is_so}
 use Rattle.flow_base.specs.declared.points.Point.{Point}
+use Rattle.flow_base.specs.PointOrders.{is_same}
 use Rattle.flow_graph.specs.declared.events.Event.{Event}
 use Rattle.flow_graph.specs.declared.graphs.Graph.{Graph}
 use Rattle.flow_graph.specs.declared.nodes.Node.{Node}
-use Rattle.flow_graph.specs.EventGraphs.{IsGraphOf, capacity_at, has_passed, is_same, named}
+use Rattle.flow_graph.specs.EventGraphs.{IsGraphOf, capacity_at, has_passed, named}
 use Rattle.flow_graph.specs.EventGraphs.{named_links}
 use Rattle.flow_graph.specs.Graphs.{ascend, has_capacity}
 use Rattle.flow_graph.specs.Graphs.{node_cmp}
@@ -26,7 +27,7 @@ use Rattle.measuring.specs.declared.recordings.Recording.{Recording}
 use Rattle.measuring.specs.Limits.{is_point_in}
 use Rattle.measuring.specs.Recordings.{HasEvents}
 use Rattle.measuring.proofs.NamedLinks.{links_differ, own_links}
-use Rattle.measuring.proofs.Orders.{less_differs}
+use Rattle.flow_base.proofs.PointOrders.{below-other}
 use Rattle.measuring.proofs.RunCut.{nodes_up}
 use Rattle.measuring.proofs.CutNames.{own_points}
 use Rattle.measuring.proofs.Splits.{above, nodes_chain, all_weaker}
@@ -38,7 +39,7 @@ differ_by : (n : Node) (ns : List Node) → list_all (λ m. is_lt (node_cmp n m)
 differ_by n [] all = tt
 differ_by n (m ∷ ms) all =
     let parts = and_parts (is_lt (node_cmp n m)) (list_all (λ k. is_lt (node_cmp n k)) ms) all in
-    (less_differs n.point m.point parts.0, differ_by n ms parts.1)
+    (below-other n.point m.point parts.0, differ_by n ms parts.1)
 
 behind : {A : Type 0} (cmp : A → A → Ordering) (x : A) (xs : List A) → ascend cmp (x ∷ xs) ≡ true → ascend cmp xs ≡ true
 behind cmp x [] up = refl
@@ -124,7 +125,7 @@ capacities_own (n ∷ ns) up =
     (all_both (λ x. is_lt (node_cmp n x)) (λ x. capacity_at ns x.point == x.capacity)
     (λ x. capacity_at (n ∷ ns) x.point == x.capacity)
     (λ x less own. ap (λ c. c == x.capacity) (other_chosen (is_same x.point n.point) n.capacity
-    (capacity_at ns x.point) (points_alike.symm x.point n.point ∙ less_differs n.point x.point less)) ∙ own)
+    (capacity_at ns x.point) (points_alike.symm x.point n.point ∙ below-other n.point x.point less)) ∙ own)
     ns (above node_cmp nodes_chain n ns up) (capacities_own ns (behind node_cmp n ns up)))
 
 small_capacities : (events : List Event) (graph : Graph) → IsGraphOf events graph → (ExceedsLimit events → ⊥) →

@@ -2,7 +2,7 @@
 use Rattle.std.specs.Prelude.{◌≡◌, ◌++◌, ℕ, List, [], Option, Some, None, cond, replicate, slice_get, true}
 use Rattle.std.specs.Map.{lookup}
 use Rattle.flow_base.specs.declared.points.Point.{Point}
-use Rattle.flow_graph.specs.EventGraphs.{is_same}
+use Rattle.flow_base.specs.PointOrders.{is_same}
 use Rattle.measuring.specs.declared.point_visits.PointVisits.{PointVisits}
 use Rattle.measuring.specs.declared.point_visits.VisitRun.{VisitRun}
 use Rattle.measuring.specs.PointMasks.{point_masks}

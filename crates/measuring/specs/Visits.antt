@@ -2,7 +2,7 @@
 use Rattle.std.specs.Prelude.{◌≡◌, ◌++◌, ◌∷◌, [], ℕ, cond, replicate, List}
 use Rattle.flow_base.specs.declared.points.Point.{Point}
 use Rattle.flow_graph.specs.declared.events.Event.{Event}
-use Rattle.flow_graph.specs.EventGraphs.{is_same}
+use Rattle.flow_base.specs.PointOrders.{is_same}
 use Rattle.covered_runs.specs.RunCuts.{visit_masks}
 use Rattle.visit_counts.specs.Counts.{count_of}
 use Rattle.measuring.specs.declared.kept_visits.KeptVisits.{KeptVisits}

@@ -2,8 +2,7 @@ ghost use Rattle.std.specs.Prelude.{◌≡◌, ◌<◌, ◌++◌, ◌∷◌, [],
 ghost use Rattle.std.specs.Option.{option_copied};
 ghost use Rattle.std.specs.List.{AllByRecursion, list_all};
 ghost use Rattle.std.specs.Map.{lookup};
-ghost use Rattle.flow_base.specs.Points.{is_slot};
-ghost use Rattle.flow_graph.specs.EventGraphs.{is_same};
+ghost use Rattle.flow_base.specs.PointOrders.{is_same};
 ghost use Rattle.cut_file.specs.Cuts.{are_runs, is_point, is_point_of, is_run};
 ghost use Rattle.cut_file.specs.Masks.{listed_masks};
 ghost use Rattle.covered_runs.specs.RunCuts.{united};
@@ -175,23 +174,12 @@ fn pattern(alloc: Global, mask: u32) -> Result<List<Run>, NoMemory>
     Ok(rest)
 }
 
-/// Whether a slot is one that a turn can pass: the registers of outputs are 1 to 31 and their ranges 0 to 63.
-fn is_known(slot: Slot) -> bool
-    ensures { result ≡ is_slot slot }
-{
-    match slot {
-        Slot::OutReg(register) => 1 <= register && register <= 31,
-        Slot::OutRange(range) => range < 64,
-        _ => true,
-    }
-}
-
 /// The point of these parts; None where its slot is none that a turn can pass.
 fn known_point(region: u16, address: u32, slot: Slot) -> Option<Point>
     ensures point { IfSome result (λ point. point ≡ record { region = region; address = address; slot = slot }) }
     ensures valid { IfSome result (λ point. is_point point ≡ true) }
 {
-    if is_known(slot) {
+    if slot.is_known() {
         Some(Point {
             region,
             address,

@@ -5,7 +5,7 @@ ghost use Rattle.std.specs.List.{IsDistinct};
 ghost use Rattle.std.specs.Map.{keys_of, lookup};
 ghost use Rattle.flow_base.specs.declared.points.Point.{Point as ThePoint};
 ghost use Rattle.flow_graph.specs.declared.events.Event.{Event as AnEvent};
-ghost use Rattle.flow_graph.specs.EventGraphs.{is_same};
+ghost use Rattle.flow_base.specs.PointOrders.{is_same};
 ghost use Rattle.measuring.specs.KeptMasks.{Adds, StandsAt};
 ghost use Rattle.measuring.specs.Visits.{AddsVisit, HasVisits, Settles, all_masks};
 ghost use Rattle.measuring.specs.VisitRuns.{is_visit_run};

@@ -2,10 +2,10 @@ ghost use Rattle.std.specs.Prelude.{◌≡◌, ◌&&◌, ◌++◌, not, true, If
 ghost use Rattle.std.specs.List.{list_all};
 ghost use Rattle.cut_file.specs.Cuts.{is_region};
 ghost use Rattle.max_flow.specs.Flows.{has_first, has_second};
-ghost use Rattle.covered_runs.specs.RunCuts.{is_inner, is_output_slot};
+ghost use Rattle.covered_runs.specs.RunCuts.{is_inner};
 ghost use Rattle.measuring.specs.Splits.{is_cut, point_if, region_if, skipped, split_points};
 
-use flow_base::{List, NoMemory, Point, Slot};
+use flow_base::{List, NoMemory, Point};
 use flow_graph::Node;
 use max_flow::Half;
 use std::alloc::Global;
@@ -46,22 +46,11 @@ pub(crate) fn skipped_regions(
     Ok(skip)
 }
 
-/// Whether a slot is that of an output of a region.
-fn is_output(slot: Slot) -> bool
-    ensures { result ≡ is_output_slot slot }
-{
-    match slot {
-        Slot::OutReg(_) => true,
-        Slot::OutRange(_) => true,
-        _ => false,
-    }
-}
-
 /// Whether a point is inside one of these regions, and none of its outputs.
 fn is_inside(skip: &[u16], point: &Point) -> bool
     ensures { result ≡ is_inner skip.now point.now }
 {
-    skip.contains(&point.region) && !is_output(point.slot)
+    skip.contains(&point.region) && !point.slot.is_output()
 }
 
 /// Whether the side has the first half of a point and not the second.

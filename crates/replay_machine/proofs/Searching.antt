@@ -1,84 +1,25 @@
 -- A search by halves finds the index of a point of a cut.
-use Rattle.std.proofs.Common.{◌≡◌, ℕ, suc, ◌+◌, ◌-◌, ◌<◌, ◌≤◌, ◌==◌, ◌⊎◌, inl, inr, true, false, List, [], ◌∷◌, ◌++◌}
-use Rattle.std.proofs.Common.{length, take, drop, get_or, refl, sym, ap, subst, ◌∙◌, arith, length-append, Option}
-use Rattle.std.proofs.Common.{Some, None, if◌then◌else◌}
-use Rattle.std.proofs.lemmas.Bool.{and_parts, and_from, cases_Bool, cond-false, cond-true, eqb-true, eq-eqb}
+use Rattle.std.proofs.Common.{◌≡◌, ℕ, suc, ◌+◌, ◌-◌, ◌≤◌, true, false, List, [], ◌∷◌, ◌++◌, length, take, drop}
+use Rattle.std.proofs.Common.{get_or, refl, sym, ap, subst, ◌∙◌, arith, length-append, Option, Some, None, if◌then◌else◌}
+use Rattle.std.proofs.lemmas.Bool.{and_parts, and_from, cond-false, cond-true}
 use Rattle.std.proofs.lemmas.List.{take_all, take-append-drop}
 use Rattle.flow_base.specs.declared.points.Point.{Point}
-use Rattle.flow_base.specs.Points.{number_of}
+use Rattle.flow_base.specs.PointOrders.{is_below, is_same}
+use Rattle.flow_base.proofs.PointOrders.{below-other, below-total, below-trans, other-sym, same-one}
 use Rattle.cut_file.specs.declared.points.CutPoint.{CutPoint}
-use Rattle.cut_file.specs.Cuts.{is_below, neighbours_pass, stands_before}
-use Rattle.cut_file.specs.Masks.{is_same_point}
-use Rattle.cut_file.proofs.CutMasks.{below-trans, below-other, below-from, IsBelow, first-below, neighbours-behind}
-use Rattle.crossing_bits.proofs.Feeding.{le_or_lt}
+use Rattle.cut_file.specs.Cuts.{neighbours_pass, stands_before}
+use Rattle.cut_file.proofs.CutMasks.{first-below, neighbours-behind}
 use Rattle.replay_machine.specs.Tables.{index_from}
 
 -- ---- the same point
 
-pub same-parts : (a b : Point) → is_same_point a b ≡ true →
-    (a.region ≡ b.region) × ((a.address ≡ b.address) × (number_of a.slot ≡ number_of b.slot))
-same-parts a b same =
-    let rest = and_parts (a.region == b.region) _ same in
-    let slots = and_parts (a.address == b.address) (number_of a.slot == number_of b.slot) rest.1 in
-    (eqb-true _ _ rest.0, (eqb-true _ _ slots.0, eqb-true _ _ slots.1))
-
-same-from : (a b : Point) → a.region ≡ b.region → a.address ≡ b.address → number_of a.slot ≡ number_of b.slot →
-    is_same_point a b ≡ true
-same-from a b region address number =
-    and_from _ _ (eq-eqb a.region b.region region) (and_from _ _ (eq-eqb a.address b.address address)
-    (eq-eqb (number_of a.slot) (number_of b.slot) number))
-
-pub same-sym : (a b : Point) → is_same_point a b ≡ true → is_same_point b a ≡ true
-same-sym a b same =
-    let p = same-parts a b same in same-from b a (sym p.0) (sym p.1.0) (sym p.1.1)
-
-pub same-with : (q a b : Point) → is_same_point a b ≡ true → is_same_point q a ≡ is_same_point q b
-same-with q a b same = let p = same-parts a b same in rw (p.0, p.1.0, p.1.1) refl
-
-below-with : (q a b : Point) → is_same_point a b ≡ true → is_below q a ≡ is_below q b
-below-with q a b same = let p = same-parts a b same in rw (p.0, p.1.0, p.1.1) refl
-
-pub other-sym : (a b : Point) → is_same_point a b ≡ false → is_same_point b a ≡ false
-other-sym a b other = elim (cases_Bool (is_same_point b a)) [
-  | inl same ↦ let turned = same-sym b a same in absurd (cc)
-  | inr apart ↦ apart
-]
-
 -- what is below a point is another than it, and than all above it
-pub apart-same : (c p : Point) → is_same_point c p ≡ true → (f : Point) → is_below f c ≡ true →
-    is_same_point f p ≡ false
-apart-same c p same f below = below-other f p (sym (below-with f c p same) ∙ below)
+pub apart-same : (c p : Point) → is_same c p ≡ true → (f : Point) → is_below f c ≡ true → is_same f p ≡ false
+apart-same c p same f below =
+    ap (λ (q : Point). is_same f q) (sym (same-one c p same)) ∙ below-other f c below
 
-pub apart-below : (c p : Point) → is_below c p ≡ true → (f : Point) → is_below f c ≡ true → is_same_point f p ≡ false
+pub apart-below : (c p : Point) → is_below c p ≡ true → (f : Point) → is_below f c ≡ true → is_same f p ≡ false
 apart-below c p low f below = below-other f p (below-trans f c p below low)
-
-three-ways : (a b : ℕ) → (a < b) ⊎ ((a ≡ b) ⊎ (b < a))
-three-ways a b = elim (le_or_lt a b) [
-  | inr above ↦ inr (inr above)
-  | inl low ↦ elim (le_or_lt b a) [
-    | inl high ↦ inr (inl (omega (arith, low, high)))
-    | inr below ↦ inl below
-  ]
-]
-
-turned-down : (c p : Point) → is_below p c ≡ false → IsBelow p c → is_below c p ≡ true
-turned-down c p high low = let met : is_below p c ≡ true = below-from p c low in absurd (cc)
-
--- of two points that are not the same one is below the other
-pub total : (c p : Point) → is_same_point c p ≡ false → is_below p c ≡ false → is_below c p ≡ true
-total c p other high = elim (three-ways c.region p.region) [
-  | inl low ↦ below-from c p (inl low)
-  | inr (inr above) ↦ turned-down c p high (inl above)
-  | inr (inl region) ↦ elim (three-ways c.address p.address) [
-    | inl low ↦ below-from c p (inr (region, inl low))
-    | inr (inr above) ↦ turned-down c p high (inr (sym region, inl above))
-    | inr (inl address) ↦ elim (three-ways (number_of c.slot) (number_of p.slot)) [
-      | inl low ↦ below-from c p (inr (region, inr (address, low)))
-      | inr (inr above) ↦ turned-down c p high (inr (sym region, inr (sym address, above)))
-      | inr (inl number) ↦ let same : is_same_point c p ≡ true = same-from c p region address number in absurd (cc)
-    ]
-  ]
-]
 
 -- ---- neighbours
 
@@ -100,25 +41,25 @@ neighbours-right (first ∷ left) right known = neighbours-right left right
 
 pub skip-left : (n : ℕ) (left : List CutPoint) (c : CutPoint) (right : List CutPoint) (p : Point) →
     neighbours_pass stands_before (left ++ (c ∷ right)) ≡ true →
-    ((f : Point) → is_below f c.point ≡ true → is_same_point f p ≡ false) →
+    ((f : Point) → is_below f c.point ≡ true → is_same f p ≡ false) →
     index_from n (left ++ (c ∷ right)) p ≡ index_from (n + length left) (c ∷ right) p
 unfolding index_from
 skip-left n [] c right p known apart =
     let same : n ≡ n + length {A = CutPoint} [] = omega arith in ap (λ (k : ℕ). index_from k (c ∷ right) p) same
 skip-left n (f ∷ left) c right p known apart =
     let same : suc n + length left ≡ n + length (f ∷ left) = omega arith in
-    cond-false (is_same_point f.point p) (Some n) (index_from (suc n) (left ++ (c ∷ right)) p)
+    cond-false (is_same f.point p) (Some n) (index_from (suc n) (left ++ (c ∷ right)) p)
     (apart f.point (first-below f left right c known))
     ∙ skip-left (suc n) left c right p (neighbours-behind f (left ++ (c ∷ right)) known) apart
     ∙ ap (λ (k : ℕ). index_from k (c ∷ right) p) same
 
 pub found-here : (n : ℕ) (left : List CutPoint) (c : CutPoint) (right : List CutPoint) (p : Point) →
-    neighbours_pass stands_before (left ++ (c ∷ right)) ≡ true → is_same_point c.point p ≡ true →
+    neighbours_pass stands_before (left ++ (c ∷ right)) ≡ true → is_same c.point p ≡ true →
     index_from n (left ++ (c ∷ right)) p ≡ Some (n + length left)
 unfolding index_from
 found-here n left c right p known same =
     skip-left n left c right p known (apart-same c.point p same)
-    ∙ cond-true (is_same_point c.point p) (Some (n + length left)) (index_from (suc (n + length left)) right p) same
+    ∙ cond-true (is_same c.point p) (Some (n + length left)) (index_from (suc (n + length left)) right p) same
 
 pub found-right : (n : ℕ) (left : List CutPoint) (c : CutPoint) (right : List CutPoint) (p : Point) →
     neighbours_pass stands_before (left ++ (c ∷ right)) ≡ true → is_below c.point p ≡ true →
@@ -126,7 +67,7 @@ pub found-right : (n : ℕ) (left : List CutPoint) (c : CutPoint) (right : List 
 unfolding index_from
 found-right n left c right p known low =
     skip-left n left c right p known (apart-below c.point p low)
-    ∙ cond-false (is_same_point c.point p) (Some (n + length left)) (index_from (suc (n + length left)) right p)
+    ∙ cond-false (is_same c.point p) (Some (n + length left)) (index_from (suc (n + length left)) right p)
     (below-other c.point p low)
 
 none-behind : (n : ℕ) (c : CutPoint) (right : List CutPoint) (p : Point) →
@@ -136,7 +77,7 @@ none-behind n c [] p known low = refl
 none-behind n c (r ∷ right) p known low =
     let next = and_parts (is_below c.point r.point) _ known in
     let lower : is_below p r.point ≡ true = below-trans p c.point r.point low next.0 in
-    cond-false (is_same_point r.point p) (Some n) (index_from (suc n) right p)
+    cond-false (is_same r.point p) (Some n) (index_from (suc n) right p)
     (other-sym p r.point (below-other p r.point lower))
     ∙ none-behind (suc n) r right p (neighbours-behind c (r ∷ right) known) lower
 
@@ -145,11 +86,11 @@ pub found-left : (n : ℕ) (left : List CutPoint) (c : CutPoint) (right : List C
     index_from n (left ++ (c ∷ right)) p ≡ index_from n left p
 unfolding index_from
 found-left n [] c right p known low =
-    cond-false (is_same_point c.point p) (Some n) (index_from (suc n) right p)
+    cond-false (is_same c.point p) (Some n) (index_from (suc n) right p)
     (other-sym p c.point (below-other p c.point low))
     ∙ none-behind (suc n) c right p known low
 found-left n (f ∷ left) c right p known low =
-    ap (λ (o : Option ℕ). if is_same_point f.point p then Some n else o)
+    ap (λ (o : Option ℕ). if is_same f.point p then Some n else o)
     (found-left (suc n) left c right p (neighbours-behind f (left ++ (c ∷ right)) known) low)
 
 -- ---- the search
@@ -190,7 +131,7 @@ step-of part left (first ∷ others) right points c middle from point known fron
     }
 
 pub step-here : (part left : List CutPoint) (c : CutPoint) (right points : List CutPoint) (from : ℕ) (point : Point) →
-    IsStep part left c right points from point → is_same_point c.point point ≡ true →
+    IsStep part left c right points from point → is_same c.point point ≡ true →
     Some (from + length left) ≡ index_from 0 points point
 step-here part left c right points from point step same =
     sym (found-here from left c right point step.ascends same) ∙ step.same
@@ -205,10 +146,10 @@ step-left part left c right points from point step low = record {
 
 pub step-right : (part left : List CutPoint) (c : CutPoint) (right points : List CutPoint) (from next : ℕ)
     (point : Point) →
-    IsStep part left c right points from point → is_same_point c.point point ≡ false → is_below point c.point ≡ false →
+    IsStep part left c right points from point → is_same c.point point ≡ false → is_below point c.point ≡ false →
     next ≡ from + length left + 1 → IsPart right points next point
 step-right part left c right points from next point step other high is =
-    let low : is_below c.point point ≡ true = total c.point point other high in
+    let low : is_below c.point point ≡ true = below-total c.point point other high in
     let moved : next ≡ suc (from + length left) = omega (arith, is) in
     record {
       ascends = neighbours-behind c right (neighbours-right left (c ∷ right) step.ascends);

@@ -10,9 +10,10 @@ use Rattle.std.proofs.lemmas.List.Folds.{list_all_more}
 use Rattle.flow_base.specs.declared.points.Point.{Point}
 use Rattle.cut_file.specs.declared.points.CutPoint.{CutPoint}
 use Rattle.flow_base.specs.Points.{is_slot, width_of}
+use Rattle.flow_base.proofs.PointOrders.{one-same, same-one}
+use Rattle.flow_base.specs.PointOrders.{is_same}
 use Rattle.cut_file.specs.Cuts.{are_points, is_cut_point}
-use Rattle.cut_file.proofs.CutMasks.{same-width, same-slot, slot-known}
-use Rattle.cut_file.specs.Masks.{MaskAt, is_same_point, listed_masks, mask_of, repeated}
+use Rattle.cut_file.specs.Masks.{MaskAt, listed_masks, mask_of, repeated}
 use Rattle.crossing_bits.proofs.Feeding.{le_or_lt}
 use Rattle.replay_machine.specs.declared.cursors.Cursor.{Cursor}
 use Rattle.replay_machine.specs.Runs.{Masks, times_passed, mask_at}
@@ -20,21 +21,20 @@ use Rattle.replay_machine.specs.Visits.{IsAhead, MovesOn}
 use Rattle.replay_machine.specs.Tables.{first_cursor, ahead_of, all_ahead, index_from, is_marked, mark_place}
 use Rattle.replay_machine.proofs.RunsAhead.{masked, list-pass}
 use Rattle.cut_file.proofs.Repeats.{masks-ended}
-use Rattle.replay_machine.proofs.Searching.{same-parts, same-sym, same-with}
 
 -- ---- indices
 
 pub index-low : (n : ℕ) (points : List CutPoint) (point : Point) (m : ℕ) → index_from n points point ≡ Some m → n ≤ m
 unfolding index_from
 index-low n [] point m e = absurd (cc)
-index-low n (q ∷ points) point m e = elim (cases_Bool (is_same_point q.point point)) [
+index-low n (q ∷ points) point m e = elim (cases_Bool (is_same q.point point)) [
   | inl same ↦
-      let here : Some n ≡ Some m = sym (cond-true (is_same_point q.point point) (Some n)
+      let here : Some n ≡ Some m = sym (cond-true (is_same q.point point) (Some n)
       (index_from (suc n) points point) same) ∙ e in
       let at : n ≡ m = cc in omega (arith, at)
   | inr other ↦
       let later =
-      index-low (suc n) points point m (sym (cond-false (is_same_point q.point point) (Some n)
+      index-low (suc n) points point m (sym (cond-false (is_same q.point point) (Some n)
       (index_from (suc n) points point) other) ∙ e) in
       omega (arith, later)
 ]
@@ -43,14 +43,14 @@ pub index-high : (n : ℕ) (points : List CutPoint) (point : Point) (m : ℕ) �
     m < n + length points
 unfolding index_from
 index-high n [] point m e = absurd (cc)
-index-high n (q ∷ points) point m e = elim (cases_Bool (is_same_point q.point point)) [
+index-high n (q ∷ points) point m e = elim (cases_Bool (is_same q.point point)) [
   | inl same ↦
-      let here : Some n ≡ Some m = sym (cond-true (is_same_point q.point point) (Some n)
+      let here : Some n ≡ Some m = sym (cond-true (is_same q.point point) (Some n)
       (index_from (suc n) points point) same) ∙ e in
       let at : n ≡ m = cc in omega (arith, at)
   | inr other ↦
       let later =
-      index-high (suc n) points point m (sym (cond-false (is_same_point q.point point) (Some n)
+      index-high (suc n) points point m (sym (cond-false (is_same q.point point) (Some n)
       (index_from (suc n) points point) other) ∙ e) in
       omega (arith, later)
 ]
@@ -62,26 +62,26 @@ none-mask : (n : ℕ) (points : List CutPoint) (cursors : List Cursor) (point : 
 unfolding index_from all_ahead
 none-mask n [] cursors point visit none = refl
 none-mask n (q ∷ points) [] point visit none = refl
-none-mask n (q ∷ points) (d ∷ cursors) point visit none = elim (cases_Bool (is_same_point q.point point)) [
+none-mask n (q ∷ points) (d ∷ cursors) point visit none = elim (cases_Bool (is_same q.point point)) [
   | inl same ↦
-      let here : Some n ≡ None = sym (cond-true (is_same_point q.point point) (Some n)
+      let here : Some n ≡ None = sym (cond-true (is_same q.point point) (Some n)
       (index_from (suc n) points point) same) ∙ none in
       absurd (cc)
   | inr other ↦
-      cond-false (is_same_point q.point point) (mask_of (ahead_of q d) visit)
+      cond-false (is_same q.point point) (mask_of (ahead_of q d) visit)
       (MaskAt (all_ahead points cursors) point visit) other
-      ∙ none-mask (suc n) points cursors point visit (sym (cond-false (is_same_point q.point point) (Some n)
+      ∙ none-mask (suc n) points cursors point visit (sym (cond-false (is_same q.point point) (Some n)
       (index_from (suc n) points point) other) ∙ none)
 ]
 
 -- points that are the same have the same index
-index-same : (n : ℕ) (points : List CutPoint) (a b : Point) → is_same_point a b ≡ true →
+index-same : (n : ℕ) (points : List CutPoint) (a b : Point) → is_same a b ≡ true →
     index_from n points a ≡ index_from n points b
 unfolding index_from
 index-same n [] a b same = refl
 index-same n (q ∷ points) a b same =
-    ap (λ (t : Bool). if t then Some n else index_from (suc n) points a) (same-with q.point a b same)
-    ∙ ap (λ (o : Option ℕ). if is_same_point q.point b then Some n else o) (index-same (suc n) points a b same)
+    ap (λ (t : Bool). if t then Some n else index_from (suc n) points a) (ap (λ (p : Point). is_same q.point p) (same-one a b same))
+    ∙ ap (λ (o : Option ℕ). if is_same q.point b then Some n else o) (index-same (suc n) points a b same)
 
 pub none-one : (points : List CutPoint) (cursors : List Cursor) (point : Point) →
     index_from 0 points point ≡ None → 0 ≡ MaskAt (all_ahead points cursors) point 1
@@ -89,14 +89,14 @@ none-one points cursors point none = sym (none-mask 0 points cursors point 1 non
 
 pub none-moves : (points : List CutPoint) (cursors : List Cursor) (point : Point) → index_from 0 points point ≡ None →
     MovesOn point (all_ahead points cursors) (all_ahead points cursors)
-none-moves points cursors point none = λ other visit first. elim (cases_Bool (is_same_point other point)) [
+none-moves points cursors point none = λ other visit first. elim (cases_Bool (is_same other point)) [
   | inl same ↦
       let gone : index_from 0 points other ≡ None = index-same 0 points other point same ∙ none in
       none-mask 0 points cursors other visit gone
-      ∙ sym (none-mask 0 points cursors other (if is_same_point other point then suc visit else visit) gone)
+      ∙ sym (none-mask 0 points cursors other (if is_same other point then suc visit else visit) gone)
   | inr apart ↦
       ap (λ (v : ℕ). MaskAt (all_ahead points cursors) other v)
-      (sym (cond-false (is_same_point other point) (suc visit) visit apart))
+      (sym (cond-false (is_same other point) (suc visit) visit apart))
 ]
 
 -- ---- a point that is there
@@ -115,54 +115,54 @@ unfolding index_from all_ahead
 found-mask n i [] cursors point p d visit e long ip id = absurd (cc)
 found-mask n i (q ∷ points) [] point p d visit e long ip id = absurd (omega (arith, long))
 found-mask n zero (q ∷ points) (c ∷ cursors) point p d visit e long ip id =
-    elim (cases_Bool (is_same_point q.point point)) [
+    elim (cases_Bool (is_same q.point point)) [
       | inl same ↦
           ap (λ (r : CutPoint). mask_of (ahead_of r d) visit) ip ∙ ap (λ (r : Cursor). mask_of (ahead_of q r) visit) id
-          ∙ sym (cond-true (is_same_point q.point point) (mask_of (ahead_of q c) visit)
+          ∙ sym (cond-true (is_same q.point point) (mask_of (ahead_of q c) visit)
           (MaskAt (all_ahead points cursors) point visit) same)
       | inr other ↦
           let later = index-low (suc n) points point (n + 0) (sym
-          (cond-false (is_same_point q.point point) (Some n) (index_from (suc n) points point) other) ∙ e) in
+          (cond-false (is_same q.point point) (Some n) (index_from (suc n) points point) other) ∙ e) in
           absurd (omega (arith, later))
     ]
 found-mask n (suc i) (q ∷ points) (c ∷ cursors) point p d visit e long ip id =
-    elim (cases_Bool (is_same_point q.point point)) [
+    elim (cases_Bool (is_same q.point point)) [
       | inl same ↦
-          let here : Some n ≡ Some (n + suc i) = sym (cond-true (is_same_point q.point point) (Some n)
+          let here : Some n ≡ Some (n + suc i) = sym (cond-true (is_same q.point point) (Some n)
           (index_from (suc n) points point) same) ∙ e in
           let at : n ≡ n + suc i = cc in
           absurd (omega (arith, at))
       | inr other ↦
           let moved : n + suc i ≡ suc n + i = omega arith in
           let later : index_from (suc n) points point ≡ Some (suc n + i) =
-          sym (cond-false (is_same_point q.point point) (Some n) (index_from (suc n) points point) other) ∙ e
+          sym (cond-false (is_same q.point point) (Some n) (index_from (suc n) points point) other) ∙ e
           ∙ ap (λ (k : ℕ). Some k) moved in
           found-mask (suc n) i points cursors point p d visit later (omega (arith, long)) ip id
-          ∙ sym (cond-false (is_same_point q.point point) (mask_of (ahead_of q c) visit)
+          ∙ sym (cond-false (is_same q.point point) (mask_of (ahead_of q c) visit)
           (MaskAt (all_ahead points cursors) point visit) other)
     ]
 
 pub found-same : (n i : ℕ) (points : List CutPoint) (point : Point) (p : CutPoint) →
-    index_from n points point ≡ Some (n + i) → p ≡ get_or points i p → is_same_point p.point point ≡ true
+    index_from n points point ≡ Some (n + i) → p ≡ get_or points i p → is_same p.point point ≡ true
 unfolding index_from
 found-same n i [] point p e ip = absurd (cc)
-found-same n zero (q ∷ points) point p e ip = elim (cases_Bool (is_same_point q.point point)) [
-  | inl same ↦ ap (λ (r : CutPoint). is_same_point r.point point) ip ∙ same
+found-same n zero (q ∷ points) point p e ip = elim (cases_Bool (is_same q.point point)) [
+  | inl same ↦ ap (λ (r : CutPoint). is_same r.point point) ip ∙ same
   | inr other ↦
       let later = index-low (suc n) points point (n + 0) (sym
-      (cond-false (is_same_point q.point point) (Some n) (index_from (suc n) points point) other) ∙ e) in
+      (cond-false (is_same q.point point) (Some n) (index_from (suc n) points point) other) ∙ e) in
       absurd (omega (arith, later))
 ]
-found-same n (suc i) (q ∷ points) point p e ip = elim (cases_Bool (is_same_point q.point point)) [
+found-same n (suc i) (q ∷ points) point p e ip = elim (cases_Bool (is_same q.point point)) [
   | inl same ↦
-      let here : Some n ≡ Some (n + suc i) = sym (cond-true (is_same_point q.point point) (Some n)
+      let here : Some n ≡ Some (n + suc i) = sym (cond-true (is_same q.point point) (Some n)
       (index_from (suc n) points point) same) ∙ e in
       let at : n ≡ n + suc i = cc in
       absurd (omega (arith, at))
   | inr other ↦
       let moved : n + suc i ≡ suc n + i = omega arith in
       let later : index_from (suc n) points point ≡ Some (suc n + i) =
-      sym (cond-false (is_same_point q.point point) (Some n) (index_from (suc n) points point) other) ∙ e
+      sym (cond-false (is_same q.point point) (Some n) (index_from (suc n) points point) other) ∙ e
       ∙ ap (λ (k : ℕ). Some k) moved in
       found-same (suc n) i points point p later ip
 ]
@@ -186,57 +186,58 @@ pub found-width : (i : ℕ) (points : List CutPoint) (point : Point) (p : CutPoi
 found-width i points point p mask e ip known slot within =
     let same = found-same 0 i points point p (from-zero points point i e) ip in
     let width : width_of p.point.slot ≡ width_of point.slot =
-    same-width p.point.slot point.slot (slot-known p known) slot (same-slot p.point point same) in
+    ap (λ (q : Point). width_of q.slot) (same-one p.point point same) in
     subst (λ (w : ℕ). mask ≤ w) width within
 
 -- the masks of a first point and of those behind it
 moves-head : (q : CutPoint) (c d : Cursor) (others : List CutPoint) (point : Point) →
-    is_same_point q.point point ≡ true → Passes q c d →
+    is_same q.point point ≡ true → Passes q c d →
     MovesOn point (ahead_of q c ∷ others) (ahead_of q d ∷ others)
-moves-head q c d others point same passes = λ other visit first. elim (cases_Bool (is_same_point other point)) [
+moves-head q c d others point same passes = λ other visit first. elim (cases_Bool (is_same other point)) [
   | inl alike ↦
-      let mine : is_same_point q.point other ≡ true = same-with q.point other point alike ∙ same in
-      cond-true (is_same_point q.point other) (mask_of (ahead_of q d) visit) (MaskAt others other visit) mine
+      let mine : is_same q.point other ≡ true =
+      ap (λ (p : Point). is_same q.point p) (same-one other point alike) ∙ same in
+      cond-true (is_same q.point other) (mask_of (ahead_of q d) visit) (MaskAt others other visit) mine
       ∙ passes visit first
-      ∙ sym (cond-true (is_same_point q.point other) (mask_of (ahead_of q c) (suc visit))
+      ∙ sym (cond-true (is_same q.point other) (mask_of (ahead_of q c) (suc visit))
       (MaskAt others other (suc visit)) mine)
       ∙ ap (λ (v : ℕ). MaskAt (ahead_of q c ∷ others) other v)
-      (sym (cond-true (is_same_point other point) (suc visit) visit alike))
+      (sym (cond-true (is_same other point) (suc visit) visit alike))
   | inr apart ↦
-      let theirs : is_same_point q.point other ≡ false = elim (cases_Bool (is_same_point q.point other)) [
+      let theirs : is_same q.point other ≡ false = elim (cases_Bool (is_same q.point other)) [
         | inl mine ↦
-            let turned : is_same_point other q.point ≡ is_same_point other point = same-with other q.point point same in
-            let back : is_same_point other q.point ≡ true = same-sym q.point other mine in
+            let back : is_same other point ≡ true =
+            one-same other point (sym (same-one q.point other mine) ∙ same-one q.point point same) in
             absurd (cc)
         | inr different ↦ different
       ] in
-      cond-false (is_same_point q.point other) (mask_of (ahead_of q d) visit) (MaskAt others other visit) theirs
-      ∙ sym (cond-false (is_same_point q.point other) (mask_of (ahead_of q c) visit) (MaskAt others other visit) theirs)
+      cond-false (is_same q.point other) (mask_of (ahead_of q d) visit) (MaskAt others other visit) theirs
+      ∙ sym (cond-false (is_same q.point other) (mask_of (ahead_of q c) visit) (MaskAt others other visit) theirs)
       ∙ ap (λ (v : ℕ). MaskAt (ahead_of q c ∷ others) other v)
-      (sym (cond-false (is_same_point other point) (suc visit) visit apart))
+      (sym (cond-false (is_same other point) (suc visit) visit apart))
 ]
 
 moves-tail : (q : CutPoint) (before after : List CutPoint) (point : Point) →
-    is_same_point q.point point ≡ false → MovesOn point before after → MovesOn point (q ∷ before) (q ∷ after)
-moves-tail q before after point apart moves = λ other visit first. elim (cases_Bool (is_same_point q.point other)) [
+    is_same q.point point ≡ false → MovesOn point before after → MovesOn point (q ∷ before) (q ∷ after)
+moves-tail q before after point apart moves = λ other visit first. elim (cases_Bool (is_same q.point other)) [
   | inl mine ↦
-      let not : is_same_point other point ≡ false = elim (cases_Bool (is_same_point other point)) [
+      let not : is_same other point ≡ false = elim (cases_Bool (is_same other point)) [
         | inl alike ↦
-            let turned : is_same_point q.point other ≡ is_same_point q.point point =
-            same-with q.point other point alike in
+            let turned : is_same q.point other ≡ is_same q.point point =
+            ap (λ (p : Point). is_same q.point p) (same-one other point alike) in
             absurd (cc)
         | inr different ↦ different
       ] in
-      cond-true (is_same_point q.point other) (mask_of q visit) (MaskAt after other visit) mine
-      ∙ sym (cond-true (is_same_point q.point other) (mask_of q visit) (MaskAt before other visit) mine)
-      ∙ ap (λ (v : ℕ). MaskAt (q ∷ before) other v) (sym (cond-false (is_same_point other point) (suc visit) visit not))
+      cond-true (is_same q.point other) (mask_of q visit) (MaskAt after other visit) mine
+      ∙ sym (cond-true (is_same q.point other) (mask_of q visit) (MaskAt before other visit) mine)
+      ∙ ap (λ (v : ℕ). MaskAt (q ∷ before) other v) (sym (cond-false (is_same other point) (suc visit) visit not))
   | inr theirs ↦
-      cond-false (is_same_point q.point other) (mask_of q visit) (MaskAt after other visit) theirs
+      cond-false (is_same q.point other) (mask_of q visit) (MaskAt after other visit) theirs
       ∙ moves other visit first
       ∙
       sym
-      (cond-false (is_same_point q.point other) (mask_of q (if is_same_point other point then suc visit else visit))
-      (MaskAt before other (if is_same_point other point then suc visit else visit)) theirs)
+      (cond-false (is_same q.point other) (mask_of q (if is_same other point then suc visit else visit))
+      (MaskAt before other (if is_same other point then suc visit else visit)) theirs)
 ]
 
 pub found-moves : (n i : ℕ) (points : List CutPoint) (cursors : List Cursor) (point : Point) (p : CutPoint)
@@ -248,26 +249,26 @@ unfolding index_from all_ahead
 found-moves n i [] cursors point p c d e long ip ic passes = absurd (cc)
 found-moves n i (q ∷ points) [] point p c d e long ip ic passes = absurd (omega (arith, long))
 found-moves n zero (q ∷ points) (x ∷ cursors) point p c d e long ip ic passes =
-    elim (cases_Bool (is_same_point q.point point)) [
+    elim (cases_Bool (is_same q.point point)) [
       | inl same ↦
           moves-head q x d (all_ahead points cursors) point same
           (subst (λ (r : Cursor). Passes q r d) ic (subst (λ (r : CutPoint). Passes r c d) ip passes))
       | inr other ↦
           let later = index-low (suc n) points point (n + 0) (sym
-          (cond-false (is_same_point q.point point) (Some n) (index_from (suc n) points point) other) ∙ e) in
+          (cond-false (is_same q.point point) (Some n) (index_from (suc n) points point) other) ∙ e) in
           absurd (omega (arith, later))
     ]
 found-moves n (suc i) (q ∷ points) (x ∷ cursors) point p c d e long ip ic passes =
-    elim (cases_Bool (is_same_point q.point point)) [
+    elim (cases_Bool (is_same q.point point)) [
       | inl same ↦
-          let here : Some n ≡ Some (n + suc i) = sym (cond-true (is_same_point q.point point) (Some n)
+          let here : Some n ≡ Some (n + suc i) = sym (cond-true (is_same q.point point) (Some n)
           (index_from (suc n) points point) same) ∙ e in
           let at : n ≡ n + suc i = cc in
           absurd (omega (arith, at))
       | inr other ↦
           let moved : n + suc i ≡ suc n + i = omega arith in
           let later : index_from (suc n) points point ≡ Some (suc n + i) =
-          sym (cond-false (is_same_point q.point point) (Some n) (index_from (suc n) points point) other) ∙ e
+          sym (cond-false (is_same q.point point) (Some n) (index_from (suc n) points point) other) ∙ e
           ∙ ap (λ (k : ℕ). Some k) moved in
           moves-tail (ahead_of q x) (all_ahead points cursors) (all_ahead points (slice_set cursors i d)) point other
           (found-moves (suc n) i points cursors point p c d later (omega (arith, long)) ip ic passes)
@@ -278,19 +279,19 @@ found-moves n (suc i) (q ∷ points) (x ∷ cursors) point p c d e long ip ic pa
 pub ahead-moves : (before after : List CutPoint) (masks : Masks) (past : List Point) (point : Point) →
     MovesOn point before after → IsAhead before masks past → IsAhead after masks (point ∷ past)
 ahead-moves before after masks past point moves ahead = λ other visit first. elim
-    (cases_Bool (is_same_point other point)) [
+    (cases_Bool (is_same other point)) [
       | inl alike ↦
           let count : times_passed other past + suc visit ≡ times_passed other (point ∷ past) + visit =
           rw alike (omega arith) in
           moves other visit first
-          ∙ ap (λ (v : ℕ). MaskAt before other v) (cond-true (is_same_point other point) (suc visit) visit alike)
+          ∙ ap (λ (v : ℕ). MaskAt before other v) (cond-true (is_same other point) (suc visit) visit alike)
           ∙ ahead other (suc visit) (omega arith)
           ∙ ap (λ (v : ℕ). masks other v) count
       | inr apart ↦
           let count : times_passed other past + visit ≡ times_passed other (point ∷ past) + visit =
           rw apart refl in
           moves other visit first
-          ∙ ap (λ (v : ℕ). MaskAt before other v) (cond-false (is_same_point other point) (suc visit) visit apart)
+          ∙ ap (λ (v : ℕ). MaskAt before other v) (cond-false (is_same other point) (suc visit) visit apart)
           ∙ ahead other visit first
           ∙ ap (λ (v : ℕ). masks other v) count
     ]
@@ -308,11 +309,11 @@ first-masks : (points : List CutPoint) (point : Point) (visit : ℕ) → 1 ≤ v
 unfolding all_ahead
 first-masks [] point visit first = refl
 first-masks (q ∷ points) point visit first =
-    ap (λ (m : ℕ). if is_same_point q.point point then m else MaskAt
+    ap (λ (m : ℕ). if is_same q.point point then m else MaskAt
     (all_ahead points (replicate (length points) first_cursor)) point visit)
     (masked _ _ _ _ (ap (λ (l : List ℕ). repeated l (listed_masks q.rest) (visit - 1))
     (masks-ended 0 0 q.runs refl)) refl)
-    ∙ ap (λ (m : ℕ). if is_same_point q.point point then mask_of q visit else m) (first-masks points point visit first)
+    ∙ ap (λ (m : ℕ). if is_same q.point point then mask_of q visit else m) (first-masks points point visit first)
 
 from-none : (visit : ℕ) → visit ≡ 0 + visit
 from-none visit = omega arith
@@ -369,12 +370,12 @@ unfolding index_from
 unmarked-none n marks [] point all clear = refl
 unmarked-none n marks (q ∷ points) point all clear =
     let both = and_parts (is_marked marks q) (list_all (is_marked marks) points) all in
-    elim (cases_Bool (is_same_point q.point point)) [
+    elim (cases_Bool (is_same q.point point)) [
       | inl same ↦
-          let address : q.point.address ≡ point.address = (same-parts q.point point same).1.0 in
+          let address : q.point.address ≡ point.address = ap (λ (p : Point). p.address) (same-one q.point point same) in
           let marked : get_or marks (mark_place point.address) false ≡ true = rw address at both.0 in
           absurd (cc)
       | inr other ↦
-          cond-false (is_same_point q.point point) (Some n) (index_from (suc n) points point) other
+          cond-false (is_same q.point point) (Some n) (index_from (suc n) points point) other
           ∙ unmarked-none (suc n) marks points point both.1 clear
     ]

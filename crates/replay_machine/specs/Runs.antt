@@ -3,7 +3,7 @@ use Rattle.std.specs.Prelude.{ℕ, zero, suc, List, [], ◌∷◌, Option, Some,
 use Rattle.flow_base.specs.declared.points.Point.{Point}
 use Rattle.flow_base.specs.Words.{bit_count, patched}
 use Rattle.crossing_bits.specs.Askers.{Asker, Asks, Over, then_ask}
-use Rattle.cut_file.specs.Masks.{is_same_point}
+use Rattle.flow_base.specs.PointOrders.{is_same}
 use Rattle.rv32im_machine.specs.State.{State}
 use Rattle.rv32im_machine.specs.Language.{Walk, Looked, Passed, Moved, Saved, Restored, Ended}
 use Rattle.region_machine.specs.Enclosures.{Enclosures}
@@ -27,7 +27,7 @@ Masks = Point → ℕ → ℕ
 abbrev pub times_passed : Point → List Point → ℕ
 times_passed point [] = 0
 times_passed point (other ∷ past) =
-    if is_same_point point other then suc (times_passed point past) else times_passed point past
+    if is_same point other then suc (times_passed point past) else times_passed point past
 
 -- the mask at the next visit of a point
 abbrev pub mask_at : Masks → List Point → Point → ℕ

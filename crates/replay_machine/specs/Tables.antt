@@ -4,7 +4,7 @@ use Rattle.std.specs.Prelude.{if◌then◌else◌}
 use Rattle.flow_base.specs.declared.points.Point.{Point}
 use Rattle.cut_file.specs.declared.points.CutPoint.{CutPoint}
 use Rattle.cut_file.specs.declared.points.Run.{Run}
-use Rattle.cut_file.specs.Masks.{is_same_point}
+use Rattle.flow_base.specs.PointOrders.{is_same}
 use Rattle.replay_machine.specs.declared.cursors.Cursor.{Cursor}
 
 -- at the start no run has begun
@@ -33,7 +33,7 @@ all_ahead (cut_point ∷ points) (cursor ∷ cursors) = ahead_of cut_point curso
 unfoldable pub index_from : ℕ → List CutPoint → Point → Option ℕ
 index_from index [] point = None
 index_from index (cut_point ∷ points) point =
-    if is_same_point cut_point.point point then Some index else index_from (suc index) points point
+    if is_same cut_point.point point then Some index else index_from (suc index) points point
 
 abbrev pub index_of : List CutPoint → Point → Option ℕ
 index_of points point = index_from 0 points point

@@ -1,8 +1,9 @@
 -- The masks of the visits that are ahead, as points with masks that begin at the next visit.
 use Rattle.std.specs.Prelude.{◌≡◌, ℕ, suc, ◌+◌, ◌≤◌, List, if◌then◌else◌}
 use Rattle.flow_base.specs.declared.points.Point.{Point}
+use Rattle.flow_base.specs.PointOrders.{is_same}
 use Rattle.cut_file.specs.declared.points.CutPoint.{CutPoint}
-use Rattle.cut_file.specs.Masks.{MaskAt, is_same_point}
+use Rattle.cut_file.specs.Masks.{MaskAt}
 use Rattle.replay_machine.specs.Runs.{Masks, times_passed}
 
 -- once these points have been passed, the masks ahead are those of the visits after
@@ -14,4 +15,4 @@ IsAhead ahead masks past =
 abbrev pub MovesOn : Point → List CutPoint → List CutPoint → Type 0
 MovesOn point before after =
     (other : Point) (visit : ℕ) → 1 ≤ visit →
-    MaskAt after other visit ≡ MaskAt before other (if is_same_point other point then suc visit else visit)
+    MaskAt after other visit ≡ MaskAt before other (if is_same other point then suc visit else visit)

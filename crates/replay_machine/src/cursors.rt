@@ -5,7 +5,6 @@ ghost use Rattle.flow_base.specs.Points.{width_of};
 ghost use Rattle.replay_machine.specs.Tables.{ahead_of, runs_at};
 
 use cut_file::{CutPoint, Run};
-use flow_base::slot_width;
 
 /// Where the masks of a point have come to.
 #[derive(Clone, Copy, Debug, PartialEq, Eq)]
@@ -86,6 +85,6 @@ impl Cursor {
             left: ready.left - 1,
             ..ready
         };
-        ready.mask & slot_width(point.point.slot)
+        ready.mask & point.point.slot.width()
     }
 }

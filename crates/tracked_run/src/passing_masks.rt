@@ -5,7 +5,7 @@ ghost use Rattle.run_labels.specs.Masks.{work_mask as mask_worked};
 ghost use Rattle.tracked_run.specs.Labels.{listed_masks};
 
 use crate::source_masks::{SourceMasks, shaped_mask};
-use flow_base::{Slot, slot_width};
+use flow_base::Slot;
 use rv32im_machine::{Aim, Operation, Work};
 
 /// The mask of what is computed, by the rule's answer: a decision has one bit.
@@ -37,6 +37,6 @@ pub(crate) fn aimed_mask(aim: Aim, slot: Slot, mask: u32) -> u32
     match aim {
         Aim::Put(_) => mask,
         Aim::Decide => mask,
-        Aim::Give(_) => slot_width(slot),
+        Aim::Give(_) => slot.width(),
     }
 }

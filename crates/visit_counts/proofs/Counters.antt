@@ -11,15 +11,16 @@ use Rattle.std.proofs.lemmas.List.{get_or-replicate, get_or-set_same, get_or-set
 use Rattle.std.proofs.lemmas.Option.{slice_get-map}
 use Rattle.flow_base.specs.declared.points.Point.{Point}
 use Rattle.flow_base.specs.declared.points.Slot.{Slot}
-use Rattle.flow_base.specs.declared.points.Slot.TheVariants.{OutReg, OutRange}
 use Rattle.flow_base.specs.contracts.points.SlotPartialEq.TheImpl as slot_eq_impl
-use Rattle.flow_graph.specs.EventGraphs.{is_same}
+use Rattle.flow_base.proofs.PointOrders.{same-one}
+use Rattle.flow_base.specs.Points.{is_output_slot}
+use Rattle.flow_base.specs.PointOrders.{is_same}
 use Rattle.indexmap.specs.IndexMap.{IndexMap, keys, set_value_at}
 use Rattle.indexmap.proofs.CallerLemmas.{updates-with_value_at}
 use Rattle.location_collapse.proofs.Same.{point_eq, points_alike, points_same, same_tests}
 use Rattle.visit_counts.specs.declared.rows.Row.{Row}
 use Rattle.visit_counts.specs.declared.visit_counts.VisitCounts.{VisitCounts}
-use Rattle.visit_counts.specs.Counts.{StandsAt, column_of, count_at, count_of, is_counted, is_output, page_of}
+use Rattle.visit_counts.specs.Counts.{StandsAt, column_of, count_at, count_of, is_counted, page_of}
 use Rattle.visit_counts.specs.Counts.{row_counts}
 
 -- the row of a page is written, and that of no other
@@ -162,8 +163,8 @@ eq_parts p q = refl
 same_place : (p q : Point) → is_counted p ≡ true → is_counted q ≡ true →
     (is_same (page_of p) (page_of q) && (column_of p == column_of q)) ≡ is_same p q
 same_place p q first second =
-    let fa : (p.address % 4 == 0) ≡ true = (and_parts (not (is_output p.slot)) (p.address % 4 == 0) first).1 in
-    let fb : (q.address % 4 == 0) ≡ true = (and_parts (not (is_output q.slot)) (q.address % 4 == 0) second).1 in
+    let fa : (p.address % 4 == 0) ≡ true = (and_parts (not (is_output_slot p.slot)) (p.address % 4 == 0) first).1 in
+    let fb : (q.address % 4 == 0) ≡ true = (and_parts (not (is_output_slot q.slot)) (q.address % 4 == 0) second).1 in
     ap (λ eq. eq (page_of p) (page_of q) && (column_of p == column_of q)) (sym points_same)
     ∙ (ap (λ b. b && (column_of p == column_of q)) (eq_parts (page_of p) (page_of q))
     ∙ (parts_moved (p.region == q.region) (p.address / 4096 * 4096 == q.address / 4096 * 4096) (slot_eq p.slot q.slot)
@@ -171,32 +172,8 @@ same_place p q first second =
     ∙ (ap (λ b. (p.region == q.region) && (b && slot_eq p.slot q.slot)) (same_address p.address q.address fa fb)
     ∙ (sym (eq_parts p q) ∙ ap (λ eq. eq p q) points_same))))
 
--- slots that are equal are both outputs, or none of them is
-outputs_alike : (s t : Slot) → slot_eq s t ≡ true → is_output s ≡ is_output t
-unfolding slot_eq
-outputs_alike (OutReg n) (OutReg m) same = refl
-outputs_alike (OutReg n) (OutRange m) same = refl
-outputs_alike (OutReg n) t same = absurd (false≢true same)
-outputs_alike (OutRange n) (OutReg m) same = refl
-outputs_alike (OutRange n) (OutRange m) same = refl
-outputs_alike (OutRange n) t same = absurd (false≢true same)
-outputs_alike s (OutReg m) same = absurd (false≢true same)
-outputs_alike s (OutRange m) same = absurd (false≢true same)
-outputs_alike s t same = refl
-
--- points that are the same have one address, and one slot of them is an output where the other is
-one_place : (p q : Point) → is_same p q ≡ true → (p.address ≡ q.address) × (is_output p.slot ≡ is_output q.slot)
-one_place p q e =
-    let parts = and_parts (p.address == q.address) (slot_eq p.slot q.slot)
-    (and_parts (p.region == q.region) ((p.address == q.address) && slot_eq p.slot q.slot)
-    (sym (eq_parts p q) ∙ (ap (λ eq. eq p q) points_same ∙ e))).1 in
-    (eqb-true p.address q.address parts.0, outputs_alike p.slot q.slot parts.1)
-
 counted_alike : (p q : Point) → is_same p q ≡ true → is_counted p ≡ is_counted q
-counted_alike p q e =
-    let place = one_place p q e in
-    ap (λ output. not output && (p.address % 4 == 0)) place.1
-    ∙ ap (λ a. not (is_output q.slot) && (a % 4 == 0)) place.0
+counted_alike p q e = ap is_counted (same-one p q e)
 
 -- the counter of a point is written, and no other
 pub counted : (old new : VisitCounts) (p : Point) (n : ℕ) → is_counted p ≡ true → ((q : Point) (other : ℕ) →
@@ -222,7 +199,7 @@ counted old new p n own writes q =
 pub count_alike : (counts : VisitCounts) (p q : Point) → is_same p q ≡ true → count_of counts p ≡ count_of counts q
 unfolding count_of
 count_alike counts p q e =
-    let at : p.address ≡ q.address = (one_place p q e).0 in
+    let at : p.address ≡ q.address = ap (λ (x : Point). x.address) (same-one p q e) in
     ⊎_elim
     (λ (own : is_counted p ≡ true).
     let other : is_counted q ≡ true = sym (counted_alike p q e) ∙ own in

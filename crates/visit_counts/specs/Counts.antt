@@ -1,11 +1,10 @@
 -- What is counted of points.
-use Rattle.std.specs.Prelude.{◌≡◌, ℕ, ◌+◌, ◌*◌, ◌/◌, ◌%◌, ◌==◌, ◌&&◌, Bool, true, false, not, cond, List, [], Option}
+use Rattle.std.specs.Prelude.{◌≡◌, ℕ, ◌+◌, ◌*◌, ◌/◌, ◌%◌, ◌==◌, ◌&&◌, Bool, true, not, cond, List, [], Option}
 use Rattle.std.specs.Prelude.{Some, None, slice_get, slice_index_or}
 use Rattle.std.specs.Map.{lookup}
 use Rattle.flow_base.specs.declared.points.Point.{Point}
-use Rattle.flow_base.specs.declared.points.Slot.{Slot}
-use Rattle.flow_base.specs.declared.points.Slot.TheVariants.{OutReg, OutRange}
-use Rattle.flow_graph.specs.EventGraphs.{is_same}
+use Rattle.flow_base.specs.PointOrders.{is_same}
+use Rattle.flow_base.specs.Points.{is_output_slot}
 use Rattle.visit_counts.specs.declared.rows.Row.{Row}
 use Rattle.visit_counts.specs.declared.visit_counts.VisitCounts.{VisitCounts}
 
@@ -24,15 +23,9 @@ page_of point = record { region = point.region; address = point.address / 4096 *
 abbrev pub column_of : Point → ℕ
 column_of point = point.address % 4096 / 4
 
--- whether a slot is that of an output of a region
-abbrev pub is_output : Slot → Bool
-is_output (OutReg register) = true
-is_output (OutRange range) = true
-is_output other = false
-
 -- instructions have addresses that are multiples of 4; what leaves a region is not counted
 abbrev pub is_counted : Point → Bool
-is_counted point = not (is_output point.slot) && (point.address % 4 == 0)
+is_counted point = not (is_output_slot point.slot) && (point.address % 4 == 0)
 
 -- how often a point was counted; a point at an address that is no multiple of 4, or of an output of a region, never is
 unfoldable pub count_of : VisitCounts → Point → ℕ

@@ -3,7 +3,7 @@ ghost use Rattle.std.specs.Bool.{OnTrue};
 ghost use Rattle.std.specs.List.{IsDistinct};
 ghost use Rattle.std.specs.Map.{keys_of, lookup};
 ghost use Rattle.flow_base.specs.declared.points.Point.{Point as ThePoint};
-ghost use Rattle.flow_graph.specs.EventGraphs.{is_same};
+ghost use Rattle.flow_base.specs.PointOrders.{is_same};
 ghost use Rattle.visit_counts.specs.Counts.{Clears, CountsMore, StandsAt, count_at, count_of};
 ghost use Rattle.visit_counts.specs.Counts.{is_counted as counts_there, page_of as the_page_of};
 

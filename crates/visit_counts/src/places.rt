@@ -1,20 +1,7 @@
 ghost use Rattle.std.specs.Prelude.{◌≡◌, ◌<◌};
 ghost use Rattle.visit_counts.specs.Counts.{column_of as the_column_of, is_counted as counts_there, page_of as the_page_of};
-ghost use Rattle.visit_counts.specs.Counts.{is_output as is_an_output};
 
 use flow_base::{Point, Slot};
-
-/// Whether a slot is that of an output of a region.
-#[inline(always)]
-fn is_output(slot: Slot) -> bool
-    ensures { result ≡ is_an_output slot }
-{
-    match slot {
-        Slot::OutReg(_) => true,
-        Slot::OutRange(_) => true,
-        _ => false,
-    }
-}
 
 /// Whether a counter may stand for a point: instructions have addresses that are multiples of 4, and what leaves a region
 /// is not counted.
@@ -22,7 +9,7 @@ fn is_output(slot: Slot) -> bool
 pub(crate) fn is_counted(point: &Point) -> bool
     ensures { result ≡ counts_there point.now }
 {
-    !is_output(point.slot) && point.address % 4 == 0
+    !point.slot.is_output() && point.address % 4 == 0
 }
 
 /// The point of the same slot at the start of the page.

@@ -4,7 +4,8 @@ use Rattle.std.specs.BTreeMap.{is_at}
 use Rattle.std.specs.Map.{lookup}
 use Rattle.std.specs.List.{list_all}
 use Rattle.std.specs.List.Sorted.{IsStrictlySortedBy}
-use Rattle.flow_graph.specs.Graphs.{point_cmp, are_links}
+use Rattle.flow_base.specs.PointOrders.{point_cmp}
+use Rattle.flow_graph.specs.Graphs.{are_links}
 use Rattle.flow_graph.specs.EventGraphs.{named_links, is_among, named}
 use Rattle.flow_graph.specs.Builders.{arc_at}
 use Rattle.flow_graph.specs.Keeping.{is_sound}

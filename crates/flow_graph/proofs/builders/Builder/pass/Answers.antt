@@ -3,8 +3,7 @@ use Rattle.std.specs.BTreeMap as tree
 use Rattle.std.specs.Prelude.{count_ones}
 use Rattle.std.proofs.lemmas.Bool.{cases_Bool}
 use Rattle.flow_base.specs.Words.{bit_count}
-use Rattle.flow_graph.specs.Graphs.{point_cmp}
-use Rattle.flow_graph.specs.EventGraphs.{is_same}
+use Rattle.flow_base.specs.PointOrders.{point_cmp, is_same}
 use Rattle.flow_graph.specs.Keeping.{is_positive}
 use Rattle.flow_graph.proofs.Bits.{bit_count-zero, bit_count-ones, ones_some}
 use Rattle.flow_graph.proofs.Points.{get_alike}

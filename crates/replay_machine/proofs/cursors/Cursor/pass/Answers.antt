@@ -7,7 +7,7 @@ pub returns-clause-mask : goal.returns-clause-mask
 returns-clause-mask c =
     let ready = c.ready-ready.result in
     masked _ _ _ _ (sym (run-one ready.left ready.mask (drop ready.run (runs_at c.args.point.now ready))
-    c.args.point.now.rest c.ready-ready.ensures.some)) c.slot_width.ensures
+    c.args.point.now.rest c.ready-ready.ensures.some)) c.width.ensures
     ∙ c.ready-ready.ensures.same 1
 
 pub returns-clause-later : goal.returns-clause-later

@@ -1,5 +1,5 @@
 use Rattle.std.proofs.Common.{sym, ap, ◌∙◌, cond}
-use Rattle.flow_graph.specs.EventGraphs.{is_same}
+use Rattle.flow_base.specs.PointOrders.{is_same}
 use Rattle.visit_counts.proofs.Counters.{clear_already, never_counted, same_counts}
 use Rattle.visit_counts.proofs.visit_counts.VisitCounts.clear.Goals as goal
 

@@ -1,7 +1,7 @@
 use Rattle.std.proofs.Common.{sym, ap, subst, ◌∙◌}
 use Rattle.std.specs.Map.{lookup}
 use Rattle.std.proofs.lemmas.Option.{slice_get_within}
-use Rattle.flow_graph.specs.EventGraphs.{is_same}
+use Rattle.flow_base.specs.PointOrders.{is_same}
 use Rattle.visit_counts.specs.Counts.{StandsAt, page_of}
 use Rattle.visit_counts.proofs.Counters.{never_counted, no_row, value_from}
 use Rattle.visit_counts.proofs.visit_counts.VisitCounts.count.Goals as goal

@@ -1,5 +1,5 @@
 use Rattle.std.proofs.Common.{ap, cond, ◌∙◌, ◌+◌}
-use Rattle.flow_graph.specs.EventGraphs.{is_same}
+use Rattle.flow_base.specs.PointOrders.{is_same}
 use Rattle.visit_counts.proofs.Counters.{same_counts}
 use Rattle.visit_counts.proofs.visit_counts.VisitCounts.more.Goals as goal
 
