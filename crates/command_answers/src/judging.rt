@@ -19,7 +19,7 @@ use elf32_loader::Image;
 use enclosure_regions::Regions;
 use flow_base::{Bytes, NoMemory};
 use leak_report::verdict_line;
-use lockstep_replay::{Lockstep, Verdict};
+use lockstep_replay::{Lockstep, Memories, Verdict};
 use std::alloc::Global;
 
 /// The verdict on a secret, from a fresh start of the program.
@@ -38,7 +38,39 @@ pub fn judge(
         (task_of (picture_of image.now) public_input.now regions.now.items (cut_of cut.now)) (limits_of limits)
         secret.now) }
 {
-    let lockstep = Lockstep::new(
+    let memories = Memories::new(alloc)?;
+    let (verdict, _memories) = judge_in(
+        memories,
+        alloc,
+        image,
+        public_input,
+        secret,
+        regions,
+        cut,
+        limits,
+    )?;
+    Ok(verdict)
+}
+
+/// The same in the guest memories of another secret, and these for the next one.
+fn judge_in(
+    memories: Memories,
+    alloc: Global,
+    image: &Image,
+    public_input: &Bytes,
+    secret: &Bytes,
+    regions: &Regions,
+    cut: &Cut,
+    limits: Limits,
+) -> Result<(Verdict, Memories), NoMemory>
+    requires short { length secret.now ≤ 65536 }
+    requires within { limits.budget ≤ highest_budget }
+    ensures { IfOk result (λ judged. judgement_of judged.0 ≡ First
+        (task_of (picture_of image.now) public_input.now regions.now.items (cut_of cut.now)) (limits_of limits)
+        secret.now) }
+{
+    let lockstep = Lockstep::new_in(
+        memories,
         alloc,
         image,
         public_input,
@@ -48,7 +80,7 @@ pub fn judge(
         limits.budget,
         limits.turns,
     )?;
-    Ok(lockstep.run())
+    Ok(lockstep.run_keeping())
 }
 
 /// 1 for a secret that is accepted, 0 for one that is rejected.
@@ -87,7 +119,7 @@ struct Lines {
     accepted: usize,
 }
 
-/// The lines of secrets, each judged from a fresh start.
+/// The lines of secrets, each judged from a fresh start, one after another in the same guest memories.
 fn lines_of(
     alloc: Global,
     image: &Image,
@@ -109,9 +141,20 @@ fn lines_of(
     let mut text = Vec::new(alloc);
     let mut number: u32 = 0;
     let mut accepted = 0;
+    let mut memories = Memories::new(alloc)?;
     for secret in secrets {
         number = next(number)?;
-        let verdict = judge(alloc, image, public_input, secret, regions, cut, limits)?;
+        let (verdict, used) = judge_in(
+            memories,
+            alloc,
+            image,
+            public_input,
+            secret,
+            regions,
+            cut,
+            limits,
+        )?;
+        memories = used;
         let line = verdict_line(alloc, number, &verdict)?;
         text.extend_from_slice(line.as_slice())?;
         accepted += accepted_by(&verdict);
