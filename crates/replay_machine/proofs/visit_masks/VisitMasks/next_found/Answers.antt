@@ -2,7 +2,7 @@ use Rattle.std.proofs.Common.{◌≡◌, ◌∙◌, ap, sym, subst, List, None}
 use Rattle.cut_file.specs.declared.points.CutPoint.{CutPoint}
 use Rattle.cut_file.specs.Masks.{MaskAt}
 use Rattle.replay_machine.specs.Visits.{MovesOn}
-use Rattle.replay_machine.specs.Tables.{index_from}
+use Rattle.replay_machine.specs.Tables.{all_ahead, index_from}
 use Rattle.replay_machine.proofs.Tables.{none-one, none-moves, ahead-mask, ahead-moves}
 use Rattle.replay_machine.proofs.visit_masks.VisitMasks.next_found.Goals as goal
 
@@ -22,3 +22,9 @@ returns-in-None-clause-counted c = λ masks past ahead.
     ahead-moves c.args.self.now c.args.self.now masks past c.args.point
     (subst (λ (l : List CutPoint). MovesOn c.args.point l l) c.self.view_is
     (none-moves c.self.inside.points.items c.self.inside.cursors.items c.args.point (gone-sought c))) ahead
+
+pub returns-in-Some-clause-counted : goal.returns-in-Some-clause-counted
+returns-in-Some-clause-counted c = λ masks past ahead.
+    let after : List CutPoint = all_ahead c.self.inside.points.items c.pass_at.new.cursors.items in
+    ahead-moves c.args.self.now after masks past c.args.point
+    (subst (λ (l : List CutPoint). MovesOn c.args.point l after) c.self.view_is c.pass_at.ensures.moves) ahead
