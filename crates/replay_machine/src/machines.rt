@@ -205,31 +205,11 @@ impl Replay {
                 region: outside.region,
                 range: outside.range,
             },
-            None => self.inside_turn(bits),
-        }
-    }
-
-    /// The turn of a replay that no range has ended and that wants nothing.
-    #[inline(always)]
-    fn inside_turn(&mut self, bits: &mut Bits) -> ReplayTurn
-        requires wants { self.old.missing ≡ 0 }
-        requires outside { self.old.outside ≡ None }
-        ensures turn { (masks : Masks) (place : ReplayPlace) → Stands self.old masks place →
-            Turned masks (feed (replay_turn self.old.enclosures masks place) (left_of bits.old)) self.new bits.new
-            result }
-        ensures enclosures { self.new.enclosures ≡ self.old.enclosures }
-        ensures answer { result ≡ turn_answer self.new.missing self.new.outside self.new.state.control.mode }
-        ensures ended { self.old.state.control.mode ≢ Ran → (self.new ≡ self.old) × (bits.new ≡ bits.old) }
-        ensures bits { bits.new.bits ≡ bits.old.bits }
-        ensures room { bits.new.room ≡ bits.old.room }
-        ensures taken { self.new.taken ≡ taken_after self.old.taken bits.old bits.new }
-        ensures output { self.new.missing ≡ 0 →
-            (more : Seq ℕ) × (self.new.state.control.output ≡ self.old.state.control.output ++ more) }
-    {
-        match self.machine.mode() {
-            Stepped::Ran => self.run_turn(bits),
-            Stepped::Exited(status) => ReplayTurn::Exited(status),
-            Stepped::Stopped(fault) => ReplayTurn::Stopped(fault),
+            None => match self.machine.mode() {
+                Stepped::Ran => self.run_turn(bits),
+                Stepped::Exited(status) => ReplayTurn::Exited(status),
+                Stepped::Stopped(fault) => ReplayTurn::Stopped(fault),
+            },
         }
     }
 

@@ -11,7 +11,7 @@ use Rattle.replay_machine.proofs.ReplayEnds.{replay_kind_extends}
 use Rattle.replay_machine.proofs.Tables.{ahead-self}
 use Rattle.replay_machine.proofs.Passings.{comes-bits, comes-room, comes-so}
 use Rattle.replay_machine.proofs.Stillness.{ended-turn, none-or}
-use Rattle.replay_machine.proofs.machines.Replay.inside_turn.Goals as goal
+use Rattle.replay_machine.proofs.machines.Replay.turn.Goals as goal
 
 pub returns-in-Ran-clause-bits : goal.returns-in-Ran-clause-bits
 returns-in-Ran-clause-bits c = elim (none-or c.run_turn.new.self.outside) [
@@ -45,11 +45,11 @@ returns-in-Ran-clause-output c = λ enough. elim (none-or c.run_turn.new.self.ou
 pub returns-in-Exited-clause-turn : goal.returns-in-Exited-clause-turn
 returns-in-Exited-clause-turn c = λ masks place stands.
     ended-turn c.args.self.now.enclosures masks place c.args.self.now c.args.bits.now
-    (Stepped.Exited c.in-Exited.status) _ stands c.requires.outside
+    (Stepped.Exited c.in-Exited.status) _ stands (sym (ap (λ (s : Standing). s.outside) c.self.view_is) ∙ c.in-None.is)
     (sym c.in-Exited.is ∙ c.mode.ensures ∙ ap (λ (s : Standing). s.state.control.mode) c.self.view_is) tt refl
 
 pub returns-in-Stopped-clause-turn : goal.returns-in-Stopped-clause-turn
 returns-in-Stopped-clause-turn c = λ masks place stands.
     ended-turn c.args.self.now.enclosures masks place c.args.self.now c.args.bits.now
-    (Stepped.Stopped c.in-Stopped.fault) _ stands c.requires.outside
+    (Stepped.Stopped c.in-Stopped.fault) _ stands (sym (ap (λ (s : Standing). s.outside) c.self.view_is) ∙ c.in-None.is)
     (sym c.in-Stopped.is ∙ c.mode.ensures ∙ ap (λ (s : Standing). s.state.control.mode) c.self.view_is) tt refl
