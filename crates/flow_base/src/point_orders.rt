@@ -26,5 +26,4 @@ impl Point {
 pub fn points_are_ordered()
     ensures same { AreSameWhereOne }
     ensures order { AreOrderedByNumber }
-{
-}
+{}

@@ -4,9 +4,7 @@ ghost use Rattle.std.specs.Prelude.{IfSome, IsTrue};
 ghost use Rattle.flow_base.specs.Points.{is_slot};
 
 use crate::input::{number, put_line};
-use flow_base::{
-    Bytes, List, Output, Registers, Slot, hex_digits, hex_word,
-};
+use flow_base::{Bytes, List, Output, Registers, Slot, hex_digits, hex_word};
 use std::alloc::Global;
 use std::io;
 
