@@ -179,7 +179,8 @@ pub const SKIPPED: [Row; 6] = [
             (
                 "r",
                 Text(
-                    r#"{"regions":[{"id":1,"enter":"0x10018","leave":"0x10058","outs":["s2","s3","s4","t0","t1","t3","t4"]}]}"#,
+                    r#"{"regions":[{"id":1,"enter":"0x10018","leave":"0x10058",
+                "outs":["s2","s3","s4","t0","t1","t3","t4"]}]}"#,
                 ),
             ),
             ("t1", Text("?.?x??a?")),
