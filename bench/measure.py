@@ -4,9 +4,10 @@
 Times `measure` of the built program beside `check` of the same guest with the cut that was measured: a tight loop, the
 same with 256 regions that it never enters, a loop through a region, a copy of memory byte by byte, each of about so
 many turns (2,000,000 without the word), the tight loop of ten times as many, a loop that carries a secret byte through
-60,000 points, a loop in which a point's mask changes at every visit, once and of ten times as many rounds, 4,000,000
-instructions in a row, a point that is passed 1,000,000 times before it is secret, and a region with a range of 65,536
-bytes that is entered 66,000 times, whose `check` is left out.
+60,000 points, a run whose graph has nearly as many points and links as a graph may have, a loop in which a point's
+mask changes at every visit, once and of ten times as many rounds, 4,000,000 instructions in a row, a point that is
+passed 1,000,000 times before it is secret, and a region with a range of 65,536 bytes that is entered 66,000 times,
+whose `check` is left out.
 Prints for each the turns of the run, the seconds of both commands, how many times as long `measure` took, and the most
 memory that each had; of the last one the nanoseconds for each of the 4,325,376,000 visits of its point. Every other run
 must be accepted with its own cut and number, and the cut of the point that turns secret must begin with its clean
@@ -28,6 +29,17 @@ def carried(rounds, instructions):
     lines += ["xori t1, t1, 1"] * instructions
     lines += ["beq t0, x0, out", "j loop", "out: addi a0, t1, 0", "addi a7, x0, 93", "ecall"]
     return Guest(lines, rounds * (instructions + 3) + 16)
+
+
+def largest(stores, loads, instructions):
+    """A secret byte goes through so many instructions, two points each, and is stored in so many places by a point each,
+    each of which as many loads read in turn as are named, so that each load is linked from each store."""
+    lines = READ_A_BYTE + ["xori t1, t1, 1"] * instructions + ["li a2, 0x90000"]
+    lines += [f"sb t1, {place}(a2)" for place in range(stores)]
+    lines += ["li t0, 0x90000", f"li t4, {0x90000 + stores}", "li t3, 0", "loop: addi t0, t0, 1"]
+    lines += ["lbu t2, -1(t0)", "xor t3, t3, t2"] * loads
+    lines += ["beq t0, t4, out", "j loop", "out: addi a0, t3, 0", "addi a7, x0, 93", "ecall"]
+    return Guest(lines, instructions + stores + stores * (2 * loads + 3) + 24)
 
 
 def changing(rounds):
@@ -126,6 +138,7 @@ def main():
         ("loop through a region", region_loop(turns // 6, False)),
         ("copy of memory", copy_loop(max(1, turns // 327_688), 65_536)),
         ("60,000 points", carried(max(1, turns // 30_000), 30_000)),
+        ("largest graph", largest(1_000, 940, 29_600)),
         ("changing masks", changing(turns // 50)),
         ("the same, ten times", changing(turns // 5)),
         ("4,000,000 in a row", straight(4_000_000)),
