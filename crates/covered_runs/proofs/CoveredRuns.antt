@@ -12,16 +12,16 @@ use Rattle.lockstep_replay.specs.Acceptance.{HasExited}
 use Rattle.lockstep_replay.specs.Crossing.{cross_after}
 use Rattle.lockstep_replay.specs.Tasks.{task_of, replay_start}
 use Rattle.lockstep_replay.proofs.Bounds.{greater_limits_law}
-use Rattle.lockstep_replay.proofs.Runs.{cross_grows}
+use Rattle.lockstep_replay.proofs.RunsGrow.{cross_grows}
 use Rattle.run_labels.specs.Runs.{run_after, unlabelled}
 use Rattle.covered_runs.specs.Laws.{CoveredLaw}
-use Rattle.covered_runs.proofs.Accepted.{zero_bytes, length_zeros, follows_at, exits_alike}
+use Rattle.covered_runs.proofs.CoveredRunAccepted.{zero_bytes, length_zeros, follows_at, exits_alike}
 use Rattle.covered_runs.proofs.GraphEvents.{named-closed}
 use Rattle.covered_runs.proofs.GraphTurns.{run_named}
 use Rattle.covered_runs.proofs.ProperRows.{proper_law}
 use Rattle.covered_runs.proofs.ProperRuns.{proper_events_law}
 use Rattle.covered_runs.proofs.RunFacts.{Premises, run_facts}
-use Rattle.covered_runs.proofs.Standing.{state_of}
+use Rattle.covered_runs.proofs.StepsKeepStanding.{state_of}
 
 pub covered_law : CoveredLaw
 covered_law program public_input regions secret cut side answers budget turns output rules measured shorter same covers

@@ -23,7 +23,7 @@ use Rattle.run_labels.specs.TurnLabels.{TurnLabels}
 use Rattle.run_labels.specs.Flowing.{labels_in, events_in}
 use Rattle.run_labels.specs.Looking.{secret_look}
 use Rattle.covered_runs.specs.Sides.{NamedSide}
-use Rattle.covered_runs.proofs.Beside.{Beside}
+use Rattle.covered_runs.proofs.WritesKeepRelation.{Beside}
 use Rattle.covered_runs.proofs.Turns.{first-none, look_equal}
 
 -- the ranges start at the same addresses

@@ -30,12 +30,12 @@ use Rattle.run_labels.specs.Looking.{secret_look}
 use Rattle.run_labels.specs.Answers.{EachAnswer}
 use Rattle.covered_runs.specs.Sides.{NamedSide}
 use Rattle.covered_runs.specs.Proper.{IsPlace, place_limit}
-use Rattle.covered_runs.proofs.Beside.{Close, close_refl, Beside, not_alike, apart_of}
+use Rattle.covered_runs.proofs.WritesKeepRelation.{Close, close_refl, Beside, not_alike, apart_of}
 use Rattle.covered_runs.proofs.Turns.{SameCounts}
-use Rattle.covered_runs.proofs.Kept.{CoveredTurn, KeptTurn}
+use Rattle.covered_runs.proofs.TurnsKeepRelation.{CoveredTurn, KeptTurn}
 use Rattle.covered_runs.proofs.Outputs.{Output, AreOutputs, given}
-use Rattle.covered_runs.proofs.Giving.{waiting_of, given_kept, gives_given, outputs_of, register_outputs}
-use Rattle.covered_runs.proofs.Giving.{byte_outputs, range_outputs}
+use Rattle.covered_runs.proofs.RegionOutputsPass.{waiting_of, given_kept, gives_given, outputs_of, register_outputs}
+use Rattle.covered_runs.proofs.RegionOutputsPass.{byte_outputs, range_outputs}
 use Rattle.covered_runs.proofs.Entering.{SameStarts}
 
 -- ---- the outputs of a region

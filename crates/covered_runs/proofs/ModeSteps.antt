@@ -16,8 +16,8 @@ use Rattle.region_machine.specs.Enclosures.{is_enclosed_kind}
 use Rattle.region_machine.specs.Guests.{kind_walk}
 use Rattle.region_machine.specs.Breaking.{kind_break}
 use Rattle.region_machine.specs.Runs.{passed, has_exited}
-use Rattle.region_machine.proofs.Keeping.{numbered, entered-found}
-use Rattle.region_machine.proofs.Enclosed.{enclosed_runs_on}
+use Rattle.region_machine.proofs.RangesStayInside.{numbered, entered-found}
+use Rattle.region_machine.proofs.NoExitInside.{enclosed_runs_on}
 use Rattle.replay_machine.specs.Runs.{Masks}
 use Rattle.shadow_masks.specs.Writes.{LabelMap}
 use Rattle.run_labels.specs.Flowing.{labels_in}
@@ -26,14 +26,14 @@ use Rattle.run_labels.specs.TurnLabels.{at_start}
 use Rattle.covered_runs.specs.Sides.{NamedSide}
 use Rattle.covered_runs.specs.Proper.{AreBytes}
 use Rattle.covered_runs.specs.ProperLaws.{ProperTurnsLaw}
-use Rattle.covered_runs.proofs.Kept.{CoveredTurn}
-use Rattle.covered_runs.proofs.Standing.{state_of, placed, Stood, step_stands}
+use Rattle.covered_runs.proofs.TurnsKeepRelation.{CoveredTurn}
+use Rattle.covered_runs.proofs.StepsKeepStanding.{state_of, placed, Stood, step_stands}
 use Rattle.covered_runs.proofs.RegionTurns.{entry_stands, leave_stands}
 use Rattle.covered_runs.proofs.SkippedTurns.{Skips, skip_enters, skip_steps, skip_leaves}
 use Rattle.covered_runs.proofs.TurnKinds.{enters_outside, leaves_inside, steps_inside, inside_turn, numbered_rules}
 use Rattle.covered_runs.proofs.TurnKinds.{numbered_id}
-use Rattle.covered_runs.proofs.Modes.{enclosures, the_run, the_real, control_at, store_at, Comes, Outside, Inside}
-use Rattle.covered_runs.proofs.Modes.{Facts, Next, Known, Later, to_outside, to_inside}
+use Rattle.covered_runs.proofs.StandsOrSkips.{enclosures, the_run, the_real, control_at, store_at, Comes, Outside}
+use Rattle.covered_runs.proofs.StandsOrSkips.{Inside, Facts, Next, Known, Later, to_outside, to_inside}
 use Rattle.covered_runs.proofs.RunFacts.{Premises, earlier, run_facts, next_turn, turn_known}
 
 ran_of : (mode : Stepped) → has_exited mode ≡ false → stopped_fault mode ≡ None → mode ≡ Ran

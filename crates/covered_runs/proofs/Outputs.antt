@@ -18,7 +18,7 @@ use Rattle.shadow_masks.specs.declared.labels.Label.{Label}
 use Rattle.run_labels.specs.TurnLabels.{TurnLabels, label_at, put_label}
 use Rattle.covered_runs.specs.Sides.{NamedSide}
 use Rattle.covered_runs.specs.Proper.{IsPlace}
-use Rattle.covered_runs.proofs.Beside.{Close, set_hit, not_alike, apart_of}
+use Rattle.covered_runs.proofs.WritesKeepRelation.{Close, set_hit, not_alike, apart_of}
 
 -- ---- the outputs of a region as a list
 

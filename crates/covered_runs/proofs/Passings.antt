@@ -38,9 +38,9 @@ use Rattle.covered_runs.specs.Sides.{NamedSide}
 use Rattle.covered_runs.specs.ClosedEvents.{AreClosedEvents}
 use Rattle.covered_runs.specs.Proper.{AreBytes, IsSource, AreSources, place_limit, source_limit, FitsShape, FitsSlot}
 use Rattle.covered_runs.specs.Proper.{AreOperands, operation_limit}
-use Rattle.covered_runs.proofs.Agreeing.{agree_refl, agree_width, patched_below_width}
-use Rattle.covered_runs.proofs.Beside.{Close, close_equal, Beside}
-use Rattle.covered_runs.proofs.Makings.{AgreeAll, BytesBelow, shaped_agree}
+use Rattle.covered_runs.proofs.AgreeOutsideMask.{agree_refl, agree_width, patched_below_width}
+use Rattle.covered_runs.proofs.WritesKeepRelation.{Close, close_equal, Beside}
+use Rattle.covered_runs.proofs.ShapesAgree.{AgreeAll, BytesBelow, shaped_agree}
 
 -- ---- widths of slots
 

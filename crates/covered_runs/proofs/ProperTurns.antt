@@ -39,7 +39,7 @@ use Rattle.run_labels.specs.Flowing.{passing_events, labels_in, events_in}
 use Rattle.run_labels.specs.Answers.{IsSoundAnswer, EachAnswer}
 use Rattle.covered_runs.specs.ClosedEvents.{IsProperEvent, AreProperEvents}
 use Rattle.covered_runs.specs.Proper.{AreWords, AreBytes, IsGuest, IsMove, AreSources, FitsSlot, IsProper, place_limit}
-use Rattle.covered_runs.proofs.Beside.{put_limits, put_label_limits, put_kept, put_label_kept}
+use Rattle.covered_runs.proofs.WritesKeepRelation.{put_limits, put_label_limits, put_kept, put_label_kept}
 use Rattle.covered_runs.proofs.Passings.{made_fits, mask_fits, slot_word}
 use Rattle.covered_runs.proofs.Turns.{label_of_limit, seen_word}
 use Rattle.covered_runs.proofs.GraphEvents.{all-append}

@@ -17,7 +17,7 @@ use Rattle.region_machine.specs.Enclosures.{Enclosures, Enters, Leaves, kind_of,
 use Rattle.region_machine.specs.Guests.{entry, leave, skip as skip_turn}
 use Rattle.region_machine.specs.Runs.{passed}
 use Rattle.region_machine.specs.Within.{are_inside}
-use Rattle.region_machine.proofs.Keeping.{inside_at_entry}
+use Rattle.region_machine.proofs.RangesStayInside.{inside_at_entry}
 use Rattle.replay_machine.specs.ReplayTurns.{replay_kind_walk, kind_outside_range, outside_of}
 use Rattle.replay_machine.specs.Runs.{Masks, replayed, replay_inside}
 use Rattle.lockstep_replay.specs.Crossing.{crossing}
@@ -26,14 +26,14 @@ use Rattle.run_labels.specs.TurnLabels.{label_at, at_start}
 use Rattle.run_labels.specs.Flowing.{labels_in}
 use Rattle.covered_runs.specs.Sides.{NamedSide}
 use Rattle.covered_runs.specs.Proper.{IsPlace, place_limit}
-use Rattle.covered_runs.proofs.Beside.{Close, Beside, put_kept}
-use Rattle.covered_runs.proofs.Kept.{CoveredTurn, KeptTurn}
+use Rattle.covered_runs.proofs.WritesKeepRelation.{Close, Beside, put_kept}
+use Rattle.covered_runs.proofs.TurnsKeepRelation.{CoveredTurn, KeptTurn}
 use Rattle.covered_runs.proofs.Outputs.{Output, output_place, given}
-use Rattle.covered_runs.proofs.Giving.{outputs_of, gives_given}
+use Rattle.covered_runs.proofs.RegionOutputsPass.{outputs_of, gives_given}
 use Rattle.covered_runs.proofs.Entering.{SameStarts, same_starts, outside_same, entry_end, entry_passed}
 use Rattle.covered_runs.proofs.Entering.{entry_crossing, entry_replayed, entry_labels}
 use Rattle.covered_runs.proofs.Leaving.{leave_kept, none-mapped}
-use Rattle.covered_runs.proofs.Standing.{state_of, placed, InsideBeside, Stands, Stood, HasRules}
+use Rattle.covered_runs.proofs.StepsKeepStanding.{state_of, placed, InsideBeside, Stands, Stood, HasRules}
 
 -- ---- where the outputs of a region end
 

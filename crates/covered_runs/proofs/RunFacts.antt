@@ -27,10 +27,10 @@ use Rattle.covered_runs.specs.ClosedEvents.{AreClosedEvents}
 use Rattle.covered_runs.specs.Covers.{AreContained}
 use Rattle.covered_runs.proofs.Turns.{first-none}
 use Rattle.covered_runs.proofs.Passings.{closed_append}
-use Rattle.covered_runs.proofs.Kept.{CoveredTurn}
-use Rattle.covered_runs.proofs.Standing.{state_of}
+use Rattle.covered_runs.proofs.TurnsKeepRelation.{CoveredTurn}
+use Rattle.covered_runs.proofs.StepsKeepStanding.{state_of}
 use Rattle.covered_runs.proofs.TurnKinds.{none_enclosed}
-use Rattle.covered_runs.proofs.Pasts.{pasts, pasts_append, events_past, contained_parts}
+use Rattle.covered_runs.proofs.PastsOfEvents.{pasts, pasts_append, events_past, contained_parts}
 
 -- ---- what no turn changes
 

@@ -18,7 +18,7 @@ use Rattle.region_machine.specs.Enclosures.{Enclosures, Enters, Leaves, Steps, k
 use Rattle.region_machine.specs.Guests.{entry, leave, skip as skip_turn}
 use Rattle.region_machine.specs.Runs.{passed}
 use Rattle.region_machine.specs.Within.{are_inside}
-use Rattle.region_machine.proofs.Keeping.{inside_at_entry}
+use Rattle.region_machine.proofs.RangesStayInside.{inside_at_entry}
 use Rattle.replay_machine.specs.ReplayTurns.{replay_kind_walk, kind_outside_range, outside_of}
 use Rattle.replay_machine.specs.Runs.{Masks, replayed, replay_inside}
 use Rattle.lockstep_replay.specs.Crossing.{crossing}
@@ -28,22 +28,22 @@ use Rattle.run_labels.specs.Flowing.{labels_in}
 use Rattle.covered_runs.specs.Sides.{NamedSide}
 use Rattle.covered_runs.specs.Proper.{AreBytes, IsGuest, place_limit}
 use Rattle.covered_runs.specs.ProperLaws.{ProperTurnsLaw}
-use Rattle.covered_runs.proofs.Beside.{Beside}
+use Rattle.covered_runs.proofs.WritesKeepRelation.{Beside}
 use Rattle.covered_runs.proofs.Turns.{SameCounts}
-use Rattle.covered_runs.proofs.Kept.{CoveredTurn}
+use Rattle.covered_runs.proofs.TurnsKeepRelation.{CoveredTurn}
 use Rattle.covered_runs.proofs.Unchanged.{real_ends}
 use Rattle.covered_runs.proofs.Entering.{SameStarts, same_starts, outside_same, entry_end, entry_passed, entry_labels}
-use Rattle.covered_runs.proofs.Standing.{state_of, placed, Stands, Stood, HasRules}
+use Rattle.covered_runs.proofs.StepsKeepStanding.{state_of, placed, Stands, Stood, HasRules}
 use Rattle.rv32im_machine.specs.State.{moved_to}
 use Rattle.region_machine.specs.Breaking.{walk_break}
 use Rattle.region_machine.specs.Enclosures.{kind_in, kind_within}
 use Rattle.region_machine.specs.Runs.{has_exited}
 use Rattle.run_labels.specs.Answers.{IsSoundAnswer, EachAnswer}
 use Rattle.covered_runs.proofs.RegionTurns.{left_stands, ranges_unbroken}
-use Rattle.covered_runs.proofs.Standing.{proper_turn}
-use Rattle.covered_runs.proofs.Skipped.{SkippedTo, skip_kept}
+use Rattle.covered_runs.proofs.StepsKeepStanding.{proper_turn}
+use Rattle.covered_runs.proofs.SkipsKeepRelation.{SkippedTo, skip_kept}
 use Rattle.covered_runs.proofs.Unchanged.{declared, SamePlace}
-use Rattle.covered_runs.proofs.Quiet.{SameInside, step_quiet}
+use Rattle.covered_runs.proofs.QuietInsideRegions.{SameInside, step_quiet}
 use Rattle.std.proofs.lemmas.Bool.{eqb-true}
 
 -- inside a skipped region: the replay stands at its entry, where the control was this

@@ -20,9 +20,10 @@ use Rattle.rv32im_machine.specs.Language.{Turn, Ends, Moves, walked, Held, none_
 use Rattle.region_machine.specs.Guests.{gives, clears_registers, clears_bytes, clears_ranges, skip}
 use Rattle.replay_machine.specs.Runs.{Masks, replayed}
 use Rattle.covered_runs.specs.Proper.{IsPlace, place_limit}
-use Rattle.covered_runs.proofs.Beside.{put_limits, put_registers, put_memory, put_kept, not_alike, apart_of}
+use Rattle.covered_runs.proofs.WritesKeepRelation.{put_limits, put_registers, put_memory, put_kept, not_alike, apart_of}
 use Rattle.covered_runs.proofs.Outputs.{Output, OfRegister, OfByte, output_place, IsOutput, AreOutputs, IsAmong, given}
-use Rattle.covered_runs.proofs.Giving.{gives_given, outputs_of, register_outputs, byte_outputs, range_outputs}
+use Rattle.covered_runs.proofs.RegionOutputsPass.{gives_given, outputs_of, register_outputs, byte_outputs}
+use Rattle.covered_runs.proofs.RegionOutputsPass.{range_outputs}
 
 -- ---- outputs become 0
 

@@ -11,7 +11,7 @@ use Rattle.rv32im_machine.specs.declared.stepping.Stepped.TheVariants.{Ran, Exit
 use Rattle.rv32im_machine.specs.State.{Control}
 use Rattle.region_machine.specs.Enclosures.{Kind, Enters, Leaves, Steps, kind_in, kind_within, kind_outside}
 use Rattle.region_machine.specs.Enclosures.{region_numbered, region_entered_at, is_enclosed_kind}
-use Rattle.covered_runs.proofs.Standing.{HasRules}
+use Rattle.covered_runs.proofs.StepsKeepStanding.{HasRules}
 
 -- ---- kinds
 

@@ -45,8 +45,8 @@ use Rattle.covered_runs.specs.ClosedEvents.{AreClosedEvents}
 use Rattle.covered_runs.specs.Covers.{IsWithin, AreContained, past_after}
 use Rattle.covered_runs.specs.RunCuts.{is_inner}
 use Rattle.covered_runs.specs.Proper.{place_limit, IsLook}
-use Rattle.covered_runs.proofs.Agreeing.{agree_zero, patched_agrees, patched_covers, patched_same}
-use Rattle.covered_runs.proofs.Beside.{close_equal, Beside}
+use Rattle.covered_runs.proofs.AgreeOutsideMask.{agree_zero, patched_agrees, patched_covers, patched_same}
+use Rattle.covered_runs.proofs.WritesKeepRelation.{close_equal, Beside}
 
 -- ---- bits that are asked for
 

@@ -36,8 +36,8 @@ use Rattle.run_labels.specs.Masks.{masks_of, work_mask, answers_after, moved_lab
 use Rattle.shadow_masks.specs.Pages.{label_of}
 use Rattle.run_labels.specs.Flowing.{labels_in}
 use Rattle.covered_runs.specs.Proper.{AreBytes, IsPlace, place_limit, IsProper, IsMove}
-use Rattle.covered_runs.proofs.Beside.{put_limits, put_label_limits, put_registers, put_memory, put_kept}
-use Rattle.covered_runs.proofs.Beside.{put_label_kept, not_alike, apart_of}
+use Rattle.covered_runs.proofs.WritesKeepRelation.{put_limits, put_label_limits, put_registers, put_memory, put_kept}
+use Rattle.covered_runs.proofs.WritesKeepRelation.{put_label_kept, not_alike, apart_of}
 use Rattle.covered_runs.proofs.Passings.{slot_word, made_fits, mask_fits}
 use Rattle.covered_runs.proofs.Turns.{NeverInner, inner_step, seen_word, label_of_limit}
 

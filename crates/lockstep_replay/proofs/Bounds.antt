@@ -18,8 +18,8 @@ use Rattle.lockstep_replay.specs.Acceptance.{HasExited, EndAlike, SameMark, Done
 use Rattle.lockstep_replay.specs.Acceptance.{IsCross, CrossesLaw, IsOutput, BoundLaw, GreaterLimitsLaw}
 use Rattle.region_machine.proofs.Stillness.{IsOver}
 use Rattle.lockstep_replay.proofs.Stillness.{real_later, cross_later, replay_later}
-use Rattle.lockstep_replay.proofs.Runs.{common_grows, common_most}
-use Rattle.lockstep_replay.proofs.Exits.{exposed_exit}
+use Rattle.lockstep_replay.proofs.RunsGrow.{common_grows, common_most}
+use Rattle.lockstep_replay.proofs.ExitsAreExposed.{exposed_exit}
 
 -- ---- the replay of an accepted secret
 

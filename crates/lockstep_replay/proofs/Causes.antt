@@ -16,7 +16,7 @@ use Rattle.lockstep_replay.specs.declared.verdicts.Why.TheVariants.{OutputDiffer
 use Rattle.lockstep_replay.specs.Verdicts.{Judgement, Rejects, why_after, judged_mode, judged_after}
 use Rattle.lockstep_replay.specs.Verdicts.{judged_from}
 use Rattle.lockstep_replay.specs.VerdictLaws.{Agrees, Arises, Cause, CausesLaw}
-use Rattle.lockstep_replay.proofs.Exits.{ran_enclosed}
+use Rattle.lockstep_replay.proofs.ExitsAreExposed.{ran_enclosed}
 use Rattle.lockstep_replay.proofs.Conditions.{holds_of}
 use Rattle.lockstep_replay.proofs.Accepting.{FineAt, fine_at, follows_fine, place_fine}
 

@@ -18,11 +18,11 @@ use Rattle.lockstep_replay.specs.Verdicts.{Judgement, Accepts, Rejects, fed_of, 
 use Rattle.lockstep_replay.specs.Verdicts.{judged_mode, judged_after, judged_from}
 use Rattle.lockstep_replay.specs.VerdictLaws.{AcceptsLaw, RejectedLaw}
 use Rattle.region_machine.proofs.Stillness.{IsOver}
-use Rattle.region_machine.proofs.Growth.{Longer}
+use Rattle.region_machine.proofs.OutputGrows.{Longer}
 use Rattle.lockstep_replay.proofs.Stillness.{real_later, unbroken_before, cross_later}
-use Rattle.lockstep_replay.proofs.Runs.{cross_begins, cross_grows, common_most, written, rewritten, real_run_grows}
-use Rattle.lockstep_replay.proofs.Runs.{replay_more_grows, same_beginning}
-use Rattle.lockstep_replay.proofs.Exits.{ran_enclosed}
+use Rattle.lockstep_replay.proofs.RunsGrow.{cross_begins, cross_grows, common_most, written, rewritten, real_run_grows}
+use Rattle.lockstep_replay.proofs.RunsGrow.{replay_more_grows, same_beginning}
+use Rattle.lockstep_replay.proofs.ExitsAreExposed.{ran_enclosed}
 use Rattle.lockstep_replay.proofs.Bounds.{over_exited, follows_later, later_follows, done_law}
 use Rattle.lockstep_replay.proofs.Conditions.{NotStopped, Alike, none_of, same_alike}
 use Rattle.lockstep_replay.proofs.Accepting.{FineAt, exit_output}

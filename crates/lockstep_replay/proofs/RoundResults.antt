@@ -19,9 +19,9 @@ use Rattle.replay_machine.specs.Runs.{ReplayPlace, Masks}
 use Rattle.replay_machine.specs.Standing.{Standing, Stands}
 use Rattle.replay_machine.specs.Visits.{IsAhead}
 use Rattle.region_machine.specs.Within.{may_leave}
-use Rattle.region_machine.proofs.Growth.{real_grows}
-use Rattle.region_machine.proofs.Keeping.{guest_keeps}
-use Rattle.replay_machine.proofs.Tables.{ahead-self}
+use Rattle.region_machine.proofs.OutputGrows.{real_grows}
+use Rattle.region_machine.proofs.RangesStayInside.{guest_keeps}
+use Rattle.replay_machine.proofs.MasksAhead.{ahead-self}
 use Rattle.lockstep_replay.specs.declared.tallies.Tallying.{Tallying}
 use Rattle.region_machine.specs.declared.real_turns.RealTurn.{RealTurn}
 use Rattle.lockstep_replay.specs.declared.verdicts.Why.{Why}

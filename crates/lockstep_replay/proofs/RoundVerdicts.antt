@@ -30,7 +30,7 @@ use Rattle.lockstep_replay.specs.Verdicts.{Judgement, Accepts, Rejects, why_afte
 use Rattle.lockstep_replay.specs.Verdicts.{why_common, why_replay, fed_of}
 use Rattle.lockstep_replay.specs.Verdicts.{judged_from, judged_after, judged_mode}
 use Rattle.lockstep_replay.proofs.Conditions.{none_broken}
-use Rattle.lockstep_replay.proofs.Runs.{real_next, cross_next, IsAt, fed_next, at_enclosed}
+use Rattle.lockstep_replay.proofs.RunsGrow.{real_next, cross_next, IsAt, fed_next, at_enclosed}
 
 -- where the two runs of a task stand after so many turns of the real one
 pub record StandsAt (task : Task) (limits : Limits) (secret : List ℕ) (turns : ℕ) (real : State) (tally : Tallying)

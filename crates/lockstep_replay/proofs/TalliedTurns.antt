@@ -14,7 +14,7 @@ use Rattle.region_machine.specs.Guests.{guest_walk, kind_walk}
 use Rattle.region_machine.specs.Runs.{passed, visited}
 use Rattle.replay_machine.specs.Runs.{Masks}
 use Rattle.replay_machine.specs.Visits.{IsAhead}
-use Rattle.replay_machine.proofs.Tables.{ahead-self}
+use Rattle.replay_machine.proofs.MasksAhead.{ahead-self}
 use Rattle.lockstep_replay.specs.declared.tallies.Tallying.{Tallying}
 use Rattle.lockstep_replay.specs.Crossing.{crossing, crossing_unless}
 use Rattle.lockstep_replay.specs.Ends.{tallies-none}

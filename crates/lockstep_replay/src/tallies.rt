@@ -143,7 +143,7 @@ impl Passer for Tallying {
 
 impl Observer for Tallying {
     ghost use Rattle.std.specs.Prelude.{[]};
-    ghost use Rattle.replay_machine.proofs.Tables.{ahead-self};
+    ghost use Rattle.replay_machine.proofs.MasksAhead.{ahead-self};
     ghost use Rattle.cut_file.specs.Masks.{MaskAt};
     ghost use Rattle.rv32im_machine.specs.Folds.{real_end};
     ghost use Rattle.region_machine.specs.Runs.{passed};

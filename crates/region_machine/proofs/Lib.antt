@@ -1,9 +1,9 @@
-pub mod Staying
-pub mod Ending
-pub mod Growth
-pub mod Keeping
-pub mod Enclosed
+pub mod KeptRegistersStay
+pub mod CarriedToEnds
+pub mod OutputGrows
+pub mod RangesStayInside
+pub mod NoExitInside
 pub mod Stillness
-pub mod Guarded
+pub mod GuardCalls
 pub mod NextTurns
 pub mod Marking

@@ -1,8 +1,8 @@
 pub mod RunsAhead
 pub mod Searching
-pub mod Tables
-pub mod Widths
-pub mod Feeds
+pub mod MasksAhead
+pub mod PatchesKeepWidth
+pub mod FedAskersSplit
 pub mod ReplayEnds
 pub mod Passings
 pub mod Stillness

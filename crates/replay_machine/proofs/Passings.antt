@@ -10,7 +10,7 @@ use Rattle.rv32im_machine.specs.State.{State}
 use Rattle.rv32im_machine.specs.Playing.{Played, Finished, Halted, outcome}
 use Rattle.replay_machine.specs.Runs.{ReplayPlace as Place, Masks, replayed}
 use Rattle.rv32im_machine.specs.Language.{Walk}
-use Rattle.region_machine.proofs.Ending.{AtEnds}
+use Rattle.region_machine.proofs.CarriedToEnds.{AtEnds}
 use Rattle.replay_machine.proofs.ReplayEnds.{replayed_at_end}
 use Rattle.replay_machine.specs.Sides.{Side, Comes, Replays, fed_of}
 

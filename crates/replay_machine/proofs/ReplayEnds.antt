@@ -11,14 +11,15 @@ use Rattle.enclosure_regions.specs.declared.region_parts.Region.{Region}
 use Rattle.enclosure_regions.specs.Regions.{are_regions}
 use Rattle.region_machine.specs.Enclosures.{Enclosures, Kind, Enters, Leaves, Steps, is_skipped, kind_of}
 use Rattle.region_machine.specs.Within.{can_skip, may_leave}
-use Rattle.region_machine.proofs.Ending.{AtEnds}
-use Rattle.region_machine.proofs.Growth.{EndsLonger, either_walk, entry_extends, leave_extends, skip_extends}
-use Rattle.region_machine.proofs.Growth.{step_extends}
-use Rattle.region_machine.proofs.Keeping.{CanGoOn, inside_at_entry, kind_keeps, leave_keeps, skip_keeps, step_keeps}
+use Rattle.region_machine.proofs.CarriedToEnds.{AtEnds}
+use Rattle.region_machine.proofs.OutputGrows.{EndsLonger, either_walk, entry_extends, leave_extends, skip_extends}
+use Rattle.region_machine.proofs.OutputGrows.{step_extends}
+use Rattle.region_machine.proofs.RangesStayInside.{CanGoOn, inside_at_entry, kind_keeps, leave_keeps, skip_keeps}
+use Rattle.region_machine.proofs.RangesStayInside.{step_keeps}
 use Rattle.replay_machine.specs.ReplayTurns.{kind_outside_range, outside_of, range_outside}
 use Rattle.replay_machine.specs.ReplayTurns.{replay_kind_walk, replay_walk}
 use Rattle.replay_machine.specs.Runs.{ReplayPlace, Masks, mask_at, replayed}
-use Rattle.replay_machine.proofs.Feeds.{feed_back}
+use Rattle.replay_machine.proofs.FedAskersSplit.{feed_back}
 
 pub replayed_at_end :
     (P : State → Type 0) (masks : Masks) (past : List Point) (walk : Walk) (bits : List Bool) (place : ReplayPlace)

@@ -5,8 +5,8 @@ use Rattle.rv32im_machine.specs.Folds.{real_end}
 use Rattle.enclosure_regions.specs.declared.region_parts.Region.{Region}
 use Rattle.region_machine.specs.Enclosures.{Kind, Enters, Leaves, Steps, kind_of}
 use Rattle.region_machine.specs.Guests.{guest_walk, kind_walk}
-use Rattle.region_machine.proofs.Ending.{AtEnds, Carries, CarriesCalls, step_ends, real_at_end}
-use Rattle.region_machine.proofs.Growth.{entry_ends, leave_ends}
+use Rattle.region_machine.proofs.CarriedToEnds.{AtEnds, Carries, CarriesCalls, step_ends, real_at_end}
+use Rattle.region_machine.proofs.OutputGrows.{entry_ends, leave_ends}
 
 abbrev HasSetting : Setting → State → Type 0
 HasSetting setting state = state.setting ≡ setting

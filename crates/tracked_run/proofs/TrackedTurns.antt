@@ -17,7 +17,7 @@ use Rattle.region_machine.specs.Breaking.{Breaks}
 use Rattle.region_machine.specs.Enclosures.{Kind, Enters, Leaves, Steps, is_enclosed_kind, kind_of}
 use Rattle.region_machine.specs.Guests.{guest_walk}
 use Rattle.region_machine.specs.Within.{may_leave}
-use Rattle.region_machine.proofs.Keeping.{guest_keeps}
+use Rattle.region_machine.proofs.RangesStayInside.{guest_keeps}
 use Rattle.run_labels.specs.declared.faults.MeasureFault.{MeasureFault}
 use Rattle.run_labels.specs.Looking.{first_fault, secret_look}
 use Rattle.run_labels.specs.Runs.{LabelledRun, enclosing, entered_number, broken_fault, stopped_fault, turn_fault}

@@ -1,7 +1,7 @@
 use Rattle.std.proofs.Common.{◌∙◌, ℕ, List, drop, ap, sym, arith}
 use Rattle.std.proofs.lemmas.List.{take_rest, drop_all}
 use Rattle.lockstep_replay.specs.Differences.{byte_difference}
-use Rattle.lockstep_replay.proofs.Differing.{byte_difference-from}
+use Rattle.lockstep_replay.proofs.FirstDifference.{byte_difference-from}
 use Rattle.lockstep_replay.proofs.differences.output_difference.Goals as goal
 
 pub returns-then-from-real : goal.returns-then-from-real

@@ -4,8 +4,8 @@ use Rattle.crossing_bits.specs.Streams.{left_of}
 use Rattle.replay_machine.specs.Runs.{replay_turn}
 use Rattle.lockstep_replay.specs.Standings.{why_answered}
 use Rattle.lockstep_replay.specs.Turning.{fed_turn}
-use Rattle.lockstep_replay.proofs.Beside.{self_place, beside-why, joins-of, in_step-of, missing-none, runs-of, stands-self}
-use Rattle.lockstep_replay.proofs.Beside.{begins-alike, begins-short, taken-of}
+use Rattle.lockstep_replay.proofs.AnswersTellReasons.{self_place, beside-why, joins-of, in_step-of, missing-none}
+use Rattle.lockstep_replay.proofs.AnswersTellReasons.{runs-of, stands-self, begins-alike, begins-short, taken-of}
 use Rattle.rv32im_machine.specs.declared.stepping.Stepped.TheVariants.{Ran}
 use Rattle.lockstep_replay.proofs.replay_turns.keeps_up.Goals as goal
 

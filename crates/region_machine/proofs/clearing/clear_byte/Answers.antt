@@ -1,4 +1,4 @@
-use Rattle.region_machine.proofs.Staying.{stays_byte}
+use Rattle.region_machine.proofs.KeptRegistersStay.{stays_byte}
 use Rattle.region_machine.proofs.clearing.clear_byte.Goals as goal
 
 pub returns-clause-stays : goal.returns-clause-stays

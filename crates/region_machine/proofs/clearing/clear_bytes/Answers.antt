@@ -1,5 +1,5 @@
 use Rattle.std.proofs.Common.{arith, ◌≡◌, ◌+◌, ◌-◌}
-use Rattle.region_machine.proofs.Staying.{clears_bytes-none, clears_bytes-more, stays_more}
+use Rattle.region_machine.proofs.KeptRegistersStay.{clears_bytes-none, clears_bytes-more, stays_more}
 use Rattle.region_machine.proofs.clearing.clear_bytes.Goals as goal
 
 pub returns-in-Err-clause-goes : goal.returns-in-Err-clause-goes

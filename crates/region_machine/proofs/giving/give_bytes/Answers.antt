@@ -1,5 +1,5 @@
 use Rattle.std.proofs.Common.{arith, ◌≡◌, ◌+◌, ◌-◌}
-use Rattle.region_machine.proofs.Staying.{gives_bytes-none, gives_bytes-more, stays_more}
+use Rattle.region_machine.proofs.KeptRegistersStay.{gives_bytes-none, gives_bytes-more, stays_more}
 use Rattle.region_machine.proofs.giving.give_bytes.Goals as goal
 
 pub returns-in-Err-clause-goes : goal.returns-in-Err-clause-goes

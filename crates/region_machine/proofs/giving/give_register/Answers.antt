@@ -1,4 +1,4 @@
-use Rattle.region_machine.proofs.Staying.{stays_register}
+use Rattle.region_machine.proofs.KeptRegistersStay.{stays_register}
 use Rattle.region_machine.proofs.giving.give_register.Goals as goal
 
 pub returns-clause-stays : goal.returns-clause-stays

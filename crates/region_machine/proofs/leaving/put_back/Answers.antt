@@ -1,4 +1,4 @@
-use Rattle.region_machine.proofs.Staying.{stays_restored}
+use Rattle.region_machine.proofs.KeptRegistersStay.{stays_restored}
 use Rattle.region_machine.proofs.leaving.put_back.Goals as goal
 
 pub returns-then-branch-clause-stays : goal.returns-then-branch-clause-stays

@@ -1,5 +1,5 @@
 use Rattle.std.proofs.Common.{arith, ◌<◌, length}
-use Rattle.replay_machine.proofs.Tables.{mark-one}
+use Rattle.replay_machine.proofs.MasksAhead.{mark-one}
 use Rattle.replay_machine.proofs.marking.marks_of.Goals as goal
 
 pub loop-cut_point-preserved : goal.loop-cut_point-preserved

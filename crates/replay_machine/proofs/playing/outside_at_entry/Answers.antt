@@ -1,5 +1,5 @@
 use Rattle.std.proofs.Common.{sym}
-use Rattle.region_machine.proofs.Keeping.{inside_at_entry}
+use Rattle.region_machine.proofs.RangesStayInside.{inside_at_entry}
 use Rattle.replay_machine.proofs.playing.outside_at_entry.Goals as goal
 
 pub returns-in-None-clause-inside : goal.returns-in-None-clause-inside

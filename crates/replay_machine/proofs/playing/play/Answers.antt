@@ -4,9 +4,9 @@ use Rattle.cut_file.specs.Masks.{MaskAt}
 use Rattle.replay_machine.specs.ReplayTurns.{replay_kind_walk}
 use Rattle.region_machine.specs.Within.{seen}
 use Rattle.region_machine.specs.Enclosures.{Enclosures}
-use Rattle.replay_machine.proofs.Tables.{ahead-self}
+use Rattle.replay_machine.proofs.MasksAhead.{ahead-self}
 use Rattle.replay_machine.proofs.Passings.{comes-so}
-use Rattle.region_machine.proofs.Keeping.{CanGoOn}
+use Rattle.region_machine.proofs.RangesStayInside.{CanGoOn}
 use Rattle.replay_machine.proofs.ReplayEnds.{replay_kind_keeps}
 use Rattle.replay_machine.proofs.playing.play.Goals as goal
 

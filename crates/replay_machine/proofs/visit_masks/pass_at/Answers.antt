@@ -1,5 +1,5 @@
 use Rattle.std.proofs.Common.{◌≡◌, length, arith, ◌∙◌}
-use Rattle.replay_machine.proofs.Tables.{index-high, found-mask, found-moves, found-point, found-width, from-zero}
+use Rattle.replay_machine.proofs.MasksAhead.{index-high, found-mask, found-moves, found-point, found-width, from-zero}
 use Rattle.replay_machine.proofs.visit_masks.pass_at.Goals as goal
 
 pub index_mut-requires : goal.index_mut-requires

@@ -5,7 +5,7 @@ use Rattle.region_machine.specs.Runs.{passed}
 use Rattle.replay_machine.specs.Runs.{mask_at}
 use Rattle.lockstep_replay.specs.Crossing.{crossing}
 use Rattle.lockstep_replay.specs.Sides.{tally_of}
-use Rattle.lockstep_replay.proofs.Tapes.{crosses-more}
+use Rattle.lockstep_replay.proofs.TalliesJoin.{crosses-more}
 use Rattle.lockstep_replay.proofs.tallies.TallyingPasser.pass.Goals as goal
 
 pub returns-clause-goes : goal.returns-clause-goes

@@ -1,4 +1,4 @@
-use Rattle.region_machine.proofs.Guarded.{guards-looked}
+use Rattle.region_machine.proofs.GuardCalls.{guards-looked}
 use Rattle.region_machine.proofs.guards.GuardingPasser.look.Goals as goal
 
 pub returns-clause-goes : goal.returns-clause-goes

@@ -1,5 +1,5 @@
 use Rattle.std.proofs.Common.{sym}
-use Rattle.region_machine.proofs.Guarded.{guards-moved}
+use Rattle.region_machine.proofs.GuardCalls.{guards-moved}
 use Rattle.region_machine.proofs.guards.GuardingPasser.move_to.Goals as goal
 
 pub returns-clause-goes : goal.returns-clause-goes

@@ -1,5 +1,5 @@
 use Rattle.std.proofs.Common.{sym}
-use Rattle.region_machine.proofs.Guarded.{guards-passed}
+use Rattle.region_machine.proofs.GuardCalls.{guards-passed}
 use Rattle.region_machine.proofs.guards.GuardingPasser.pass.Goals as goal
 
 pub returns-clause-goes : goal.returns-clause-goes

@@ -1,4 +1,4 @@
-use Rattle.region_machine.proofs.Guarded.{guards-restored}
+use Rattle.region_machine.proofs.GuardCalls.{guards-restored}
 use Rattle.region_machine.proofs.guards.GuardingPasser.restore.Goals as goal
 
 pub returns-clause-goes : goal.returns-clause-goes

@@ -1,4 +1,4 @@
-use Rattle.region_machine.proofs.Guarded.{guards-saved}
+use Rattle.region_machine.proofs.GuardCalls.{guards-saved}
 use Rattle.region_machine.proofs.guards.GuardingPasser.save.Goals as goal
 
 pub returns-clause-goes : goal.returns-clause-goes

@@ -6,9 +6,9 @@ use Rattle.rv32im_machine.specs.State.{State}
 use Rattle.region_machine.specs.Enclosures.{kind_of}
 use Rattle.replay_machine.specs.ReplayTurns.{replay_walk}
 use Rattle.replay_machine.specs.Standing.{Standing}
-use Rattle.region_machine.proofs.Growth.{EndsLonger, longer_self}
+use Rattle.region_machine.proofs.OutputGrows.{EndsLonger, longer_self}
 use Rattle.replay_machine.proofs.ReplayEnds.{replay_kind_extends}
-use Rattle.replay_machine.proofs.Tables.{ahead-self}
+use Rattle.replay_machine.proofs.MasksAhead.{ahead-self}
 use Rattle.replay_machine.proofs.Passings.{comes-bits, comes-room, comes-so}
 use Rattle.replay_machine.proofs.Stillness.{ended-turn, none-or}
 use Rattle.replay_machine.proofs.machines.Replay.turn.Goals as goal

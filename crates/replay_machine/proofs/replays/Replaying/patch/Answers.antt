@@ -2,7 +2,7 @@ use Rattle.std.proofs.Common.{◌≡◌, ◌≤◌, ◌∙◌, ℕ, ap, refl, sy
 use Rattle.flow_base.specs.Points.{width_of}
 use Rattle.crossing_bits.specs.Streams.{Stream, left_of}
 use Rattle.flow_base.specs.Words.{bit_count}
-use Rattle.replay_machine.proofs.Widths.{patched_width}
+use Rattle.replay_machine.proofs.PatchesKeepWidth.{patched_width}
 use Rattle.replay_machine.proofs.Passings.{replays-lacking, patched-goes, short-goes}
 use Rattle.replay_machine.proofs.replays.Replaying.patch.Goals as goal
 

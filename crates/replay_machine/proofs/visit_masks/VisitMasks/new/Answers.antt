@@ -3,7 +3,7 @@ use Rattle.cut_file.specs.declared.points.CutPoint.{CutPoint}
 use Rattle.cut_file.specs.Masks.{MaskAt}
 use Rattle.replay_machine.specs.Tables.{all_ahead, first_cursor}
 use Rattle.replay_machine.specs.Visits.{IsAhead}
-use Rattle.replay_machine.proofs.Tables.{first-ahead}
+use Rattle.replay_machine.proofs.MasksAhead.{first-ahead}
 use Rattle.replay_machine.proofs.visit_masks.VisitMasks.new.Goals as goal
 
 pub returns : goal.returns

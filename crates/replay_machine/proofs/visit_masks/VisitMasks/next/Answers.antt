@@ -3,7 +3,7 @@ use Rattle.cut_file.specs.declared.points.CutPoint.{CutPoint}
 use Rattle.cut_file.specs.Masks.{MaskAt}
 use Rattle.replay_machine.specs.Visits.{MovesOn}
 use Rattle.replay_machine.specs.Tables.{index_from}
-use Rattle.replay_machine.proofs.Tables.{clear-mark, unmarked-none, none-one, none-moves, ahead-mask, ahead-moves}
+use Rattle.replay_machine.proofs.MasksAhead.{clear-mark, unmarked-none, none-one, none-moves, ahead-mask, ahead-moves}
 use Rattle.replay_machine.proofs.visit_masks.VisitMasks.next.Goals as goal
 
 gone-unmarked : (c : goal.Then-not-index) → index_from 0 c.self.inside.points.items c.args.point ≡ None

@@ -27,8 +27,8 @@ use Rattle.region_machine.specs.Guests.{entry, guest_walk, kind_walk, leave}
 use Rattle.region_machine.specs.Guests.{skip}
 use Rattle.region_machine.specs.Breaking.{Breaks, kind_break}
 use Rattle.region_machine.specs.Within.{are_inside, can_skip, may_leave, may_leave_of}
-use Rattle.region_machine.proofs.Ending.{AtEnds, Carries, CarriesCalls, Follows, step_ends, real_at_end}
-use Rattle.region_machine.proofs.Growth.{after_entry, entry_ends, leave_ends, skip_ends}
+use Rattle.region_machine.proofs.CarriedToEnds.{AtEnds, Carries, CarriesCalls, Follows, step_ends, real_at_end}
+use Rattle.region_machine.proofs.OutputGrows.{after_entry, entry_ends, leave_ends, skip_ends}
 
 -- ---- the ranges
 

@@ -36,7 +36,7 @@ use Rattle.rv32im_machine.specs.Calls.{kind_row, call_row, read_plan, write_plan
 use Rattle.rv32im_machine.specs.Rows.{load_checked, store_at, store_checked, jumps, links, branches, row}
 use Rattle.rv32im_machine.specs.Rows.{fetched, turn_in, walk_of}
 use Rattle.rv32im_machine.specs.Folds.{real_end}
-use Rattle.region_machine.proofs.Staying.{kept_restored}
+use Rattle.region_machine.proofs.KeptRegistersStay.{kept_restored}
 
 -- ---- what is so at each end of a turn
 

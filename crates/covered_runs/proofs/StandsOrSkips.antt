@@ -1,6 +1,5 @@
 -- After each turn of a covered run the replay that was fed the crossing bits stands beside the real run, or at the
--- entry
--- of the skipped region that the real run is in.
+-- entry of the skipped region that the real run is in.
 use Rattle.std.proofs.Common.{◌≡◌, ℕ, suc, ◌⊎◌, Bool, true, false, List, [], ◌∷◌, ◌++◌, length}
 use Rattle.std.proofs.Common.{sym, ap, ap₂, subst, ◌∙◌, append-nil}
 use Rattle.crossing_bits.specs.Askers.{feed, Fed'}
@@ -13,12 +12,12 @@ use Rattle.region_machine.specs.Enclosures.{Enclosures, is_enclosed}
 use Rattle.region_machine.specs.Runs.{Place, passed, visited, common_turns}
 use Rattle.replay_machine.specs.Runs.{ReplayPlace, replay_fresh, Masks, Replay, replay_turn}
 use Rattle.lockstep_replay.specs.Crossing.{crossing, crossing_unless, cross_after}
-use Rattle.lockstep_replay.proofs.Runs.{common_enclosed, common_exposed}
+use Rattle.lockstep_replay.proofs.RunsGrow.{common_enclosed, common_exposed}
 use Rattle.run_labels.specs.Flowing.{labels_in}
 use Rattle.run_labels.specs.Runs.{LabelledRun}
 use Rattle.run_labels.specs.TurnLabels.{at_start}
 use Rattle.covered_runs.specs.Sides.{NamedSide}
-use Rattle.covered_runs.proofs.Standing.{state_of, placed, Stands, Stood}
+use Rattle.covered_runs.proofs.StepsKeepStanding.{state_of, placed, Stands, Stood}
 use Rattle.covered_runs.proofs.SkippedTurns.{Skips}
 use Rattle.covered_runs.proofs.RunFacts.{begun, skipping, run, real, control_of, store_of, turn, RunFacts, NextTurn}
 use Rattle.covered_runs.proofs.RunFacts.{TurnKnown}

@@ -26,10 +26,11 @@ use Rattle.shadow_masks.specs.Writes.{default_map}
 use Rattle.covered_runs.specs.Sides.{NamedSide}
 use Rattle.covered_runs.specs.Proper.{AreBytes, IsGuest, IsPlace, place_limit}
 use Rattle.covered_runs.specs.ProperLaws.{ProperTurnsLaw}
-use Rattle.covered_runs.proofs.Beside.{Close, close_refl}
-use Rattle.covered_runs.proofs.Standing.{state_of, placed, Stands}
+use Rattle.covered_runs.proofs.WritesKeepRelation.{Close, close_refl}
+use Rattle.covered_runs.proofs.StepsKeepStanding.{state_of, placed, Stands}
 use Rattle.covered_runs.proofs.RunFacts.{Premises, earlier, run_facts, next_turn, turn_known}
-use Rattle.covered_runs.proofs.Modes.{the_start, enclosures, the_run, the_real, control_at, copy_start, Outside, Inside}
+use Rattle.covered_runs.proofs.StandsOrSkips.{the_start, enclosures, the_run, the_real, control_at, copy_start, Outside}
+use Rattle.covered_runs.proofs.StandsOrSkips.{Inside}
 use Rattle.covered_runs.proofs.ModeSteps.{modes, after_common}
 
 pub zero_bytes : (count : ℕ) → AreBytes (zeros count)

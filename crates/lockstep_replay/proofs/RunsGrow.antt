@@ -11,8 +11,8 @@ use Rattle.replay_machine.specs.ReplayTurns.{Outside, range_outside}
 use Rattle.region_machine.specs.Runs.{Place, turn_unless, real_turn, real_after, common_turns}
 use Rattle.replay_machine.specs.Runs.{ReplayPlace, Masks}
 use Rattle.replay_machine.specs.Runs.{replay_inside, replay_unless, replay_turn, Replay}
-use Rattle.replay_machine.proofs.Feeds.{Between, between}
-use Rattle.region_machine.proofs.Growth.{Longer, longer_self, longer_more, real_grows}
+use Rattle.replay_machine.proofs.FedAskersSplit.{Between, between}
+use Rattle.region_machine.proofs.OutputGrows.{Longer, longer_self, longer_more, real_grows}
 use Rattle.replay_machine.proofs.ReplayEnds.{replay_grows}
 use Rattle.lockstep_replay.specs.Crossing.{crossing_unless, crossing_unbroken, crossing_of, cross_after}
 

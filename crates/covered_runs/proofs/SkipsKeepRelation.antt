@@ -22,11 +22,11 @@ use Rattle.run_labels.specs.TurnLabels.{TurnLabels, label_at, at_start, restore_
 use Rattle.run_labels.specs.Flowing.{labels_in}
 use Rattle.covered_runs.specs.Sides.{NamedSide}
 use Rattle.covered_runs.specs.Proper.{IsPlace, place_limit}
-use Rattle.covered_runs.proofs.Beside.{Close, close_refl, Beside}
+use Rattle.covered_runs.proofs.WritesKeepRelation.{Close, close_refl, Beside}
 use Rattle.covered_runs.proofs.Turns.{SameCounts}
-use Rattle.covered_runs.proofs.Kept.{CoveredTurn, KeptTurn}
+use Rattle.covered_runs.proofs.TurnsKeepRelation.{CoveredTurn, KeptTurn}
 use Rattle.covered_runs.proofs.Outputs.{Output, AreOutputs, IsAmong, given, Waits}
-use Rattle.covered_runs.proofs.Giving.{Waiting, given_kept, gives_given, outputs_of, register_outputs}
+use Rattle.covered_runs.proofs.RegionOutputsPass.{Waiting, given_kept, gives_given, outputs_of, register_outputs}
 use Rattle.covered_runs.proofs.Unchanged.{declared, SamePlace}
 use Rattle.covered_runs.proofs.Entering.{SameStarts}
 use Rattle.covered_runs.proofs.Leaving.{same_outputs, outputs_are, kept_same, leave_covered}

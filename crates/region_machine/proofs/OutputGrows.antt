@@ -14,8 +14,8 @@ use Rattle.region_machine.specs.Enclosures.{Kind, Enters, Leaves, Steps, kind_of
 use Rattle.region_machine.specs.Guests.{entry, gives, gives_bytes, gives_ranges, gives_registers}
 use Rattle.region_machine.specs.Guests.{clears_bytes, clears_ranges, clears_registers, guest_walk, kind_walk, leave}
 use Rattle.region_machine.specs.Guests.{looks, looks_at, skip}
-use Rattle.region_machine.proofs.Ending.{Always, AtEnds, Carries, CarriesCalls, Follows, ends_walked, step_ends}
-use Rattle.region_machine.proofs.Ending.{real_at_end}
+use Rattle.region_machine.proofs.CarriedToEnds.{Always, AtEnds, Carries, CarriesCalls, Follows, ends_walked, step_ends}
+use Rattle.region_machine.proofs.CarriedToEnds.{real_at_end}
 
 -- the output begins with these bytes
 abbrev pub Longer : List ℕ → List ℕ → Type 0

@@ -1,5 +1,4 @@
--- What is made of sources beside each other: it agrees outside its mask, it is equal where no source comes from the
--- side, and it fits its slot.
+-- What a shape makes of values that agree outside masks agrees outside what it makes of the masks.
 use Rattle.std.proofs.Common.{◌≡◌, ℕ, ◌+◌, ◌*◌, ◌/◌, ◌%◌, ◌^◌, ◌<◌, ◌≤◌}
 use Rattle.std.proofs.Common.{Bool, true, false, List, [], ◌∷◌, refl, sym, subst, arith}
 use Rattle.std.specs.Prelude.{nat_lt, if◌then◌else◌}
@@ -14,7 +13,7 @@ use Rattle.rv32im_machine.specs.declared.language.Shape.{Shape}
 use Rattle.rv32im_machine.specs.declared.language.Shape.TheVariants.{Copied, Extended, Part as PartShape}
 use Rattle.rv32im_machine.specs.State.{joined}
 use Rattle.rv32im_machine.specs.Language.{shaped, part_of}
-use Rattle.covered_runs.proofs.Agreeing.{agree_refl, agree_part, agree_joined, agree_extended, repeated_from}
+use Rattle.covered_runs.proofs.AgreeOutsideMask.{agree_refl, agree_part, agree_joined, agree_extended, repeated_from}
 
 -- ---- shapes
 

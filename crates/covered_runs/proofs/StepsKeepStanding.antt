@@ -26,9 +26,9 @@ use Rattle.run_labels.specs.Flowing.{labels_in}
 use Rattle.covered_runs.specs.Sides.{NamedSide}
 use Rattle.covered_runs.specs.Proper.{AreBytes, IsGuest, IsProper}
 use Rattle.covered_runs.specs.ProperLaws.{ProperTurnsLaw}
-use Rattle.covered_runs.proofs.Beside.{Close, Beside}
+use Rattle.covered_runs.proofs.WritesKeepRelation.{Close, Beside}
 use Rattle.covered_runs.proofs.Turns.{SameCounts}
-use Rattle.covered_runs.proofs.Kept.{CoveredTurn, turn_kept}
+use Rattle.covered_runs.proofs.TurnsKeepRelation.{CoveredTurn, turn_kept}
 use Rattle.covered_runs.proofs.Unchanged.{real_ends}
 use Rattle.covered_runs.proofs.Entering.{SameStarts}
 use Rattle.covered_runs.proofs.Leaving.{KeptBeside}

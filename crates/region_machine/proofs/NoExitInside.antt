@@ -21,8 +21,8 @@ use Rattle.region_machine.specs.Enclosures.{kind_in, kind_of}
 use Rattle.region_machine.specs.Guests.{guest_walk, kind_walk}
 use Rattle.region_machine.specs.Breaking.{Breaks, kind_break, walk_break}
 use Rattle.region_machine.specs.Runs.{has_exited}
-use Rattle.region_machine.proofs.Ending.{Always, Carries, CallHas, always_row, ends_walked, real_at_end}
-use Rattle.region_machine.proofs.Growth.{entry_ends}
+use Rattle.region_machine.proofs.CarriedToEnds.{Always, Carries, CallHas, always_row, ends_walked, real_at_end}
+use Rattle.region_machine.proofs.OutputGrows.{entry_ends}
 
 abbrev pub GoesOn : Control → Type 0
 GoesOn control = has_exited control.mode ≡ false

@@ -9,8 +9,8 @@ use Rattle.region_machine.specs.Enclosures.{Enclosures, is_enclosed}
 use Rattle.region_machine.specs.Guests.{guest_walk}
 use Rattle.region_machine.specs.Runs.{Place, turn_unless, real_turn, real_after}
 use Rattle.region_machine.specs.Runs.{has_exited}
-use Rattle.region_machine.proofs.Enclosed.{enclosed_runs_on}
-use Rattle.lockstep_replay.proofs.Runs.{real_next}
+use Rattle.region_machine.proofs.NoExitInside.{enclosed_runs_on}
+use Rattle.lockstep_replay.proofs.RunsGrow.{real_next}
 
 stays_unless : (broken : Option Break) (enclosures : Enclosures) (place : Place) (status : ℕ) → place.broken ≡ broken →
     is_enclosed enclosures place.state.control ≡ true → (turn_unless broken enclosures place).broken ≡ None →

@@ -1,5 +1,6 @@
--- A turn of the replay beside a real run.
-use Rattle.std.proofs.Common.{◌≡◌, ℕ, zero, suc, ◌+◌, ◌-◌, ◌≤◌, ◌<◌, List, [], length, length-drop, length-append, ap, sym, refl, ◌∙◌}
+-- A turn of the replay beside a real run: what it answers tells the reason why the replay fails, or that none does.
+use Rattle.std.proofs.Common.{◌≡◌, ℕ, zero, suc, ◌+◌, ◌-◌, ◌≤◌, ◌<◌, List, [], length, length-drop, length-append, ap}
+use Rattle.std.proofs.Common.{sym, refl, ◌∙◌}
 use Rattle.std.proofs.Common.{Bool, true, arith, Option, Some, None}
 use Rattle.std.proofs.Common.{take, ◌++◌}
 use Rattle.std.proofs.Math.Seq.{take-append_seam}
@@ -29,7 +30,7 @@ use Rattle.lockstep_replay.specs.Turning.{why_compared, Joins, InStep}
 use Rattle.lockstep_replay.specs.Verdicts.{why_output, why_marks, why_stopped, why_copy, why_replay}
 use Rattle.lockstep_replay.proofs.Conditions.{NotStopped, SameMarks, marks_same, first_none, none_output, none_marks}
 use Rattle.lockstep_replay.proofs.Conditions.{none_copy, no_byte, feed_rest}
-use Rattle.replay_machine.proofs.Tables.{ahead-self}
+use Rattle.replay_machine.proofs.MasksAhead.{ahead-self}
 
 one_turn : (first second : Stepped) → mode_answer first ≡ mode_answer second → first ≡ second
 one_turn Ran Ran e = refl

@@ -38,8 +38,9 @@ use Rattle.covered_runs.specs.ClosedEvents.{AreClosedEvents, Stays, ends_in}
 use Rattle.covered_runs.specs.Covers.{IsWithin, IsContained, AreContained}
 use Rattle.covered_runs.specs.RunCuts.{is_inner}
 use Rattle.covered_runs.specs.Proper.{AreBytes, place_limit, IsPassing, IsPut, IsMove, IsProper}
-use Rattle.covered_runs.proofs.Beside.{Close, close_refl, close_label_of, Beside, put_beside, put_kept, fresh_beside}
-use Rattle.covered_runs.proofs.Makings.{AgreeAll, BytesBelow, shaped_agree}
+use Rattle.covered_runs.proofs.WritesKeepRelation.{Close, close_refl, close_label_of, Beside, put_beside, put_kept}
+use Rattle.covered_runs.proofs.WritesKeepRelation.{fresh_beside}
+use Rattle.covered_runs.proofs.ShapesAgree.{AgreeAll, BytesBelow, shaped_agree}
 use Rattle.covered_runs.proofs.Passings.{slot_word, patched_slot, made_fits, mask_fits, made_agrees, sources_equal}
 use Rattle.covered_runs.proofs.Passings.{closed_append}
 use Rattle.covered_runs.proofs.Turns.{none_if, feed_bits, SameCounts, counts_step, mask_same, outside_never, NoPasses}

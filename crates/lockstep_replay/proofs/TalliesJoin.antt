@@ -1,4 +1,4 @@
--- One passing on the real side.
+-- One passing on the real side: bits that are tallied and then others are tallied as one string.
 use Rattle.std.proofs.Common.{◌+◌, ◌≤◌, ◌<◌, List, ◌++◌, length, Bool, ◌∙◌, ap, arith, append_assoc, length-append}
 use Rattle.flow_base.specs.declared.points.Point.{Point}
 use Rattle.rv32im_machine.specs.State.{State}

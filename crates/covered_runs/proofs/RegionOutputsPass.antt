@@ -41,13 +41,13 @@ use Rattle.covered_runs.specs.ClosedEvents.{AreClosedEvents}
 use Rattle.covered_runs.specs.Covers.{IsWithin, IsContained, AreContained}
 use Rattle.covered_runs.specs.RunCuts.{is_inner}
 use Rattle.covered_runs.specs.Proper.{IsPlace, place_limit}
-use Rattle.covered_runs.proofs.Beside.{close_label_of, Beside, put_limits, put_label_limits, put_registers}
-use Rattle.covered_runs.proofs.Beside.{put_memory, put_kept, not_alike, fresh_beside}
+use Rattle.covered_runs.proofs.WritesKeepRelation.{close_label_of, Beside, put_limits, put_label_limits, put_registers}
+use Rattle.covered_runs.proofs.WritesKeepRelation.{put_memory, put_kept, not_alike, fresh_beside}
 use Rattle.covered_runs.proofs.Passings.{slot_word, slot_agree, link_equal, patched_slot, closed_append}
 use Rattle.covered_runs.proofs.Turns.{none_if, feed_bits, NeverInner, SameCounts, counts_step, mask_same}
 use Rattle.covered_runs.proofs.Turns.{none_append, none_sources, none_aim, contained_after, CloseAt, patched_close}
 use Rattle.covered_runs.proofs.Turns.{closed_if, label_of_limit}
-use Rattle.covered_runs.proofs.Kept.{CoveredTurn, KeptTurn}
+use Rattle.covered_runs.proofs.TurnsKeepRelation.{CoveredTurn, KeptTurn}
 use Rattle.covered_runs.proofs.Outputs.{Output, OfRegister, OfByte, output_slot, output_place, IsOutput, AreOutputs}
 use Rattle.covered_runs.proofs.Outputs.{IsAmong, given, Waits, waits_put}
 

@@ -19,7 +19,7 @@ use Rattle.rv32im_machine.specs.declared.stepping.Fault.TheVariants.{FetchOutsid
 use Rattle.enclosure_regions.specs.declared.region_parts.Region.{Region}
 use Rattle.region_machine.specs.Breaking.{walk_break}
 use Rattle.region_machine.specs.Runs.{has_exited}
-use Rattle.region_machine.proofs.Ending.{Always, Carries, CallHas, always_row, ends_walked, real_at_end}
+use Rattle.region_machine.proofs.CarriedToEnds.{Always, Carries, CallHas, always_row, ends_walked, real_at_end}
 
 -- all but the address and the mode is as it was
 pub record SameInside (before control : Control) : Type 0 where

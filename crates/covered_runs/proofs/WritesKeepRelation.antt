@@ -16,7 +16,7 @@ use Rattle.shadow_masks.specs.Pages.{label_of}
 use Rattle.run_labels.specs.TurnLabels.{TurnLabels, label_at, put_label, at_start}
 use Rattle.covered_runs.specs.Sides.{NamedSide}
 use Rattle.covered_runs.specs.Proper.{IsPlace, place_limit}
-use Rattle.covered_runs.proofs.Agreeing.{agree_refl, agree_zero}
+use Rattle.covered_runs.proofs.AgreeOutsideMask.{agree_refl, agree_zero}
 
 -- two values agree outside a label's mask, and are equal where the second half of its point is outside the side
 abbrev pub Close : NamedSide → Label → ℕ → ℕ → Type 0
