@@ -3,6 +3,7 @@ pub mod CapacityMaps
 pub mod LinkMarks
 pub mod Limiting
 pub mod EventSteps
+pub mod EventsInTurn
 pub mod SortedCollapses
 pub mod ExceedingEvents
 pub mod LatestLinks

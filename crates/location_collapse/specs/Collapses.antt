@@ -1,10 +1,11 @@
 -- What a collapse of events as they come stands for.
-use Rattle.std.specs.Prelude.{◌≡◌, ◌&&◌, cond, Bool, true, false, List, [], ◌∷◌, Result, Ok, Err}
+use Rattle.std.specs.Prelude.{◌≡◌, ◌==◌, ◌&&◌, cond, Bool, true, false, List, [], ◌∷◌, Result, Ok, Err}
 use Rattle.flow_base.specs.declared.points.Point.{Point}
 use Rattle.flow_graph.specs.declared.events.Event.{Event}
 use Rattle.flow_graph.specs.declared.named_links.NamedLink.{NamedLink}
 use Rattle.flow_graph.specs.EventGraphs.{bits_at, links_by}
 use Rattle.flow_graph.specs.Keeping.{Keeps, is_known, is_there}
+use Rattle.location_collapse.specs.LatestLinks.{has_flow, has_output}
 use Rattle.location_collapse.specs.declared.collapses.Collapse.{Collapse}
 use Rattle.location_collapse.specs.declared.faults.CollapseFault.{CollapseFault}
 use Rattle.location_collapse.specs.declared.faults.CollapseFault.TheVariants.{Limit, Memory}
@@ -29,6 +30,12 @@ has_ends has link = is_there has link.source && is_there has link.target
 pub record Makes (has : Point → Bool) (event : Event) (link : NamedLink) : Type 0 where
   pub made : links_by has event ≡ cond (has_ends has link) (link ∷ []) []
   pub no_bits : (q : Point) → bits_at q event ≡ 0
+
+-- the point is one of a region, and the links of an output that gives out again what it gave before have occurred
+pub record HasAgainLinks (collapse : Collapse) (point : Point) : Type 0 where
+  pub in_region : (point.region == 0) ≡ false
+  pub flow : has_flow collapse.links.named.keys point point ≡ true
+  pub output : has_output collapse.links.named.keys point.region point ≡ true
 
 -- whether the answer is that a limit is exceeded
 abbrev pub is_limit : Result (Unit {0}) CollapseFault → Bool

@@ -5,12 +5,13 @@ ghost use Rattle.flow_graph.specs.declared.events.Event.TheVariants.{Pass as Pas
 ghost use Rattle.flow_graph.specs.Again.{again_events};
 ghost use Rattle.flow_graph.specs.Keeping.{is_there, may_lead};
 ghost use Rattle.location_collapse.specs.Limits.{ExceedsLimit};
-ghost use Rattle.location_collapse.specs.Collapses.{KeepsAll, Makes, StandsFor, has_ends, is_limit, knows};
+ghost use Rattle.location_collapse.specs.Collapses.{HasAgainLinks, KeepsAll, Makes, StandsFor, has_ends, is_limit, knows};
 
 use crate::collapses::Collapse;
 use crate::faults::CollapseFault;
 use crate::kept_links::KeptLinks;
 use crate::kept_points::KeptPoints;
+use crate::laws::more_events_exceed;
 use flow_base::{NoMemory, Point};
 use flow_graph::{Event, NamedEnd, NamedLink, outlet};
 use std::alloc::Global;
@@ -146,31 +147,67 @@ impl Collapse {
         taken
     }
 
-    /// Takes the events of an output that gives out again what it gave before, where both of its links are the latest
-    /// of their kinds. False where nothing is taken: they are not, or a limit is exceeded, or memory is short.
+    /// Whether the links of an output that gives out again what it gave before are the latest ones of their kinds, and
+    /// so have occurred; the output is one of a region then.
     #[inline(always)]
-    pub fn add_again(&mut self, point: &Point, mask: u32) -> bool
-        ensures yes { OnTrue result ((events : Seq AnEvent) → StandsFor self.old events → StandsFor self.new
-            (events ++ again_events point.now mask)) }
-        ensures some { OnTrue result (self.old.is_full ≡ false) }
-        ensures no { result ≡ false → KeepsAll self.old self.new }
-        ensures full { self.new.is_full ≡ self.old.is_full }
+    fn has_latest_links(&self, point: &Point) -> bool
+        ensures { OnTrue result (HasAgainLinks self.now point.now) }
     {
-        if self.is_full {
-            return false;
+        point.region != 0
+            && self.links.is_latest_flow(point, point)
+            && self.links.is_latest_output(point.region, point)
+    }
+
+    /// Takes the events of an output that gives out again what it gave before, one after the other; see
+    /// [`Collapse::add_again`].
+    #[inline(never)]
+    fn add_in_turn(&mut self, point: Point, mask: u32) -> Result<(), CollapseFault>
+        ensures ok { OnOk result ((events : Seq AnEvent) → StandsFor self.old events → StandsFor self.new
+            (events ++ again_events point mask)) }
+        ensures within { OnOk result ((events : Seq AnEvent) → StandsFor self.old events → ExceedsLimit
+            (events ++ again_events point mask) → ⊥) }
+        ensures limit { result ≡ Err CollapseFault.Limit → self.old.is_full ≡ true ⊎ ((events : Seq AnEvent) →
+            StandsFor self.old events → ExceedsLimit (events ++ again_events point mask)) }
+        ensures again { self.old.is_full ≡ true → result ≡ Err CollapseFault.Limit }
+        ensures full { self.new.is_full ≡ (self.old.is_full || is_limit result) }
+    {
+        more_events_exceed();
+        self.add(Event::Pass { point, mask })?;
+        self.add(Event::Link {
+            source: point,
+            target: point,
+        })?;
+        self.add(Event::Out {
+            region: point.region,
+            point,
+        })
+    }
+
+    /// Takes the three events of an output that gives out again what it gave before: where both of its links are the
+    /// latest of their kinds it only counts. `Limit` comes exactly where the graph of the events taken with these exceeds
+    /// a limit, or an earlier event was not taken for one. Where it answers an error, a first part of them may be taken.
+    #[inline(always)]
+    pub fn add_again(&mut self, point: &Point, mask: u32) -> Result<(), CollapseFault>
+        ensures ok { OnOk result ((events : Seq AnEvent) → StandsFor self.old events → StandsFor self.new
+            (events ++ again_events point.now mask)) }
+        ensures within { OnOk result ((events : Seq AnEvent) → StandsFor self.old events → ExceedsLimit
+            (events ++ again_events point.now mask) → ⊥) }
+        ensures limit { result ≡ Err CollapseFault.Limit → self.old.is_full ≡ true ⊎ ((events : Seq AnEvent) →
+            StandsFor self.old events → ExceedsLimit (events ++ again_events point.now mask)) }
+        ensures again { self.old.is_full ≡ true → result ≡ Err CollapseFault.Limit }
+        ensures full { self.new.is_full ≡ (self.old.is_full || is_limit result) }
+    {
+        if self.is_full || !self.has_latest_links(point) {
+            return self.add_in_turn(*point, mask);
         }
-        if point.region == 0 {
-            return false;
-        }
-        if !self.links.is_latest_flow(point, point) {
-            return false;
-        }
-        if !self.links.is_latest_output(point.region, point) {
-            return false;
-        }
+        more_events_exceed();
         match self.pass(*point, mask) {
-            Ok(()) => true,
-            Err(_) => false,
+            Ok(()) => Ok(()),
+            Err(CollapseFault::Limit) => {
+                self.is_full = true;
+                Err(CollapseFault::Limit)
+            }
+            Err(CollapseFault::Memory) => Err(CollapseFault::Memory),
         }
     }
 }
