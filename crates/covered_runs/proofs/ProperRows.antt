@@ -3,7 +3,7 @@ use Rattle.std.proofs.Common.{◌≡◌, ◌≢◌, ℕ, zero, suc, ◌+◌, ◌
 use Rattle.std.proofs.Common.{length, refl, sym, ap, ◌∙◌, arith, inl, inr, nat_le, Option, Some, None}
 use Rattle.std.specs.Prelude.{if◌then◌else◌, IfSome}
 use Rattle.std.proofs.lemmas.Bool.{and_parts, or_cases, leb-true, eqb-true, eqb-false}
-use Rattle.flow_base.specs.Guests.{memory_size}
+use Rattle.flow_base.specs.Guests.{is_inside, memory_size}
 use Rattle.flow_base.specs.declared.points.Slot.{Slot}
 use Rattle.flow_base.specs.declared.points.Slot.TheVariants.{Address, Result as ResultSlot, Decision as DecisionSlot}
 use Rattle.flow_base.specs.declared.points.Slot.TheVariants.{Number, Arg0, Arg1, Arg2}
@@ -26,7 +26,7 @@ use Rattle.guest_calls.specs.declared.kinds.CallKind.TheVariants.{Read, Write as
 use Rattle.guest_calls.specs.declared.kinds.CallKind.TheVariants.{Brk as BrkCall, Unknown}
 use Rattle.guest_calls.specs.declared.writing.WriteCheck.{WriteCheck}
 use Rattle.guest_calls.specs.declared.writing.WriteCheck.TheVariants.{Append, BadAddress, OverLimit}
-use Rattle.guest_calls.specs.Calls.{is_inside, kind_of, unknown_call, bytes_read, is_public_input, is_secret_input}
+use Rattle.guest_calls.specs.Calls.{kind_of, unknown_call, bytes_read, is_public_input, is_secret_input}
 use Rattle.guest_calls.specs.Calls.{is_output, checked_write}
 use Rattle.rv32im_machine.specs.declared.stepping.Fault.{Fault}
 use Rattle.rv32im_machine.specs.declared.stepping.Fault.TheVariants.{Illegal, FetchOutside, FetchUnaligned}
