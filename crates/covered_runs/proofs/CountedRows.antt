@@ -19,7 +19,8 @@ use Rattle.guest_calls.specs.declared.kinds.CallKind.{CallKind}
 use Rattle.guest_calls.specs.declared.kinds.CallKind.TheVariants.{Read, Write as WriteCall, Exit as ExitCall}
 use Rattle.guest_calls.specs.declared.kinds.CallKind.TheVariants.{Brk as BrkCall, Unknown}
 use Rattle.guest_calls.specs.declared.writing.WriteCheck.TheVariants.{Append, BadAddress, OverLimit}
-use Rattle.guest_calls.specs.Calls.{bytes_read, is_inside, is_output, is_public_input, is_secret_input, kind_of}
+use Rattle.flow_base.specs.Guests.{is_inside}
+use Rattle.guest_calls.specs.Calls.{bytes_read, is_output, is_public_input, is_secret_input, kind_of}
 use Rattle.enclosure_regions.specs.declared.region_parts.Range.{Range}
 use Rattle.enclosure_regions.specs.declared.region_parts.Region.{Region}
 use Rattle.enclosure_regions.specs.Regions.{is_register}

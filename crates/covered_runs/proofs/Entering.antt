@@ -3,11 +3,12 @@ use Rattle.std.proofs.Common.{◌≡◌, ℕ, ◌+◌, ◌%◌, ◌^◌, List, [
 use Rattle.std.proofs.Common.{refl, ap, ap₂, ◌∙◌}
 use Rattle.std.specs.Prelude.{not, cond}
 use Rattle.std.specs.List.{AllByRecursion, position_from}
+use Rattle.flow_base.specs.Guests.{is_inside}
 use Rattle.flow_base.specs.declared.points.Point.{Point}
 use Rattle.crossing_bits.specs.Askers.{Over}
 use Rattle.enclosure_regions.specs.declared.region_parts.Range.{Range}
 use Rattle.enclosure_regions.specs.declared.region_parts.Region.{Region}
-use Rattle.enclosure_regions.specs.Breaks.{is_in_memory, outside_range}
+use Rattle.enclosure_regions.specs.Breaks.{outside_range}
 use Rattle.enclosure_regions.specs.Turns.{base_value, start_of}
 use Rattle.rv32im_machine.specs.declared.language.Seen.{Seen}
 use Rattle.rv32im_machine.specs.declared.language.Seen.TheVariants.{Base}
@@ -177,9 +178,9 @@ pub outside_same : (region : Region) (registers others : List ℕ) (base : ℕ) 
 outside_same region registers others base same = go 0 region.ranges same
   where
     go : (place : ℕ) (ranges : List Range) → SameStarts ranges registers others →
-        position_from (λ range. not (is_in_memory base (start_of registers range) range.length)) place ranges
-        ≡ position_from (λ range. not (is_in_memory base (start_of others range) range.length)) place ranges
+        position_from (λ range. not (is_inside base (start_of registers range) range.length)) place ranges
+        ≡ position_from (λ range. not (is_inside base (start_of others range) range.length)) place ranges
     go place [] h = refl
     go place (range ∷ ranges) h =
-        ap₂ (λ start rest. cond (not (is_in_memory base start range.length)) (Some place) rest) h.0
+        ap₂ (λ start rest. cond (not (is_inside base start range.length)) (Some place) rest) h.0
         (go (place + 1) ranges h.1)

@@ -6,10 +6,11 @@ use Rattle.std.specs.Prelude.{◌-◌, ◌==◌, ◌||◌, nat_le, not, if◌the
 use Rattle.std.specs.List.{find, list_all}
 use Rattle.std.proofs.lemmas.Bool.{cases_lt, eqb-true, leb-true, and_parts}
 use Rattle.std.proofs.lemmas.List.{get_or-set_same, get_or-set_other, get_or_past, length-set}
+use Rattle.flow_base.specs.Guests.{is_inside}
 use Rattle.flow_base.specs.declared.points.Point.{Point}
 use Rattle.enclosure_regions.specs.declared.region_parts.Range.{Range}
 use Rattle.enclosure_regions.specs.declared.region_parts.Region.{Region}
-use Rattle.enclosure_regions.specs.Breaks.{has_changed, changed_register, register_changed, keep_break, is_in_memory}
+use Rattle.enclosure_regions.specs.Breaks.{has_changed, changed_register, register_changed, keep_break}
 use Rattle.enclosure_regions.specs.Regions.{is_register}
 use Rattle.enclosure_regions.specs.Turns.{start_of}
 use Rattle.rv32im_machine.specs.declared.language.Place.{Place}
@@ -37,6 +38,7 @@ use Rattle.covered_runs.proofs.Outputs.{Output, AreOutputs, given}
 use Rattle.covered_runs.proofs.RegionOutputsPass.{waiting_of, given_kept, gives_given, outputs_of, register_outputs}
 use Rattle.covered_runs.proofs.RegionOutputsPass.{byte_outputs, range_outputs}
 use Rattle.covered_runs.proofs.Entering.{SameStarts}
+use Rattle.covered_runs.proofs.InsideMemory.{inside_begins}
 
 -- ---- the outputs of a region
 
@@ -68,19 +70,24 @@ bytes_are base number address zero from = tt
 bytes_are base number address (suc count) from =
     (from, bytes_are base number (address + 1) count (omega (arith, from)))
 
+inside_are : (base number address count : ℕ) → is_inside base address count ≡ true →
+    AreOutputs base (byte_outputs number address count)
+unfolding byte_outputs
+inside_are base number address zero inside = tt
+inside_are base number address (suc count) inside =
+    bytes_are base number address (suc count) (inside_begins base address (suc count) (omega arith) inside)
+
 ranges_are : (base : ℕ) (registers : List ℕ) (number : ℕ) (ranges : List Range) →
     are_inside ranges registers base ≡ true → AreOutputs base (range_outputs registers number ranges)
 unfolding range_outputs
 ranges_are base registers number [] h = tt
 ranges_are base registers number (range ∷ ranges) h =
-    let parts = and_parts (is_in_memory base (start_of registers range) range.length)
+    let parts = and_parts (is_inside base (start_of registers range) range.length)
     (are_inside ranges registers base) h
-    in
-    let from = leb-true base (start_of registers range) (and_parts (nat_le base (start_of registers range)) _ parts.0).0
     in
     outputs_append base (byte_outputs number (start_of registers range) range.length)
     (range_outputs registers (number + 1) ranges)
-    (bytes_are base number (start_of registers range) range.length from)
+    (inside_are base number (start_of registers range) range.length parts.0)
     (ranges_are base registers (number + 1) ranges parts.1)
 
 pub outputs_are : (base : ℕ) (region : Region) (registers : List ℕ) → list_all is_register region.outs ≡ true →

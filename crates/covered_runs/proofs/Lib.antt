@@ -22,6 +22,7 @@ pub mod MaskRuns
 pub mod FewRuns
 pub mod ProperValues
 pub mod SecretSides
+pub mod InsideMemory
 pub mod ProperRows
 pub mod ProperTurns
 pub mod ProperRuns

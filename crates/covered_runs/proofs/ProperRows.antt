@@ -1,9 +1,9 @@
 -- The turn of each instruction is proper.
 use Rattle.std.proofs.Common.{◌≡◌, ◌≢◌, ℕ, zero, suc, ◌+◌, ◌-◌, ◌%◌, ◌^◌, ◌≤◌, ◌<◌, ◌==◌, ◌&&◌, Bool, true, false, List}
-use Rattle.std.proofs.Common.{length, refl, sym, ap, ◌∙◌, arith, inl, inr, nat_le, Option, Some, None}
+use Rattle.std.proofs.Common.{length, refl, sym, ap, ◌∙◌, arith, nat_le, Option, Some, None}
 use Rattle.std.specs.Prelude.{if◌then◌else◌, IfSome}
-use Rattle.std.proofs.lemmas.Bool.{and_parts, or_cases, leb-true, eqb-true, eqb-false}
-use Rattle.flow_base.specs.Guests.{memory_size}
+use Rattle.std.proofs.lemmas.Bool.{eqb-false}
+use Rattle.flow_base.specs.Guests.{is_inside, memory_size}
 use Rattle.flow_base.specs.declared.points.Slot.{Slot}
 use Rattle.flow_base.specs.declared.points.Slot.TheVariants.{Address, Result as ResultSlot, Decision as DecisionSlot}
 use Rattle.flow_base.specs.declared.points.Slot.TheVariants.{Number, Arg0, Arg1, Arg2}
@@ -26,7 +26,7 @@ use Rattle.guest_calls.specs.declared.kinds.CallKind.TheVariants.{Read, Write as
 use Rattle.guest_calls.specs.declared.kinds.CallKind.TheVariants.{Brk as BrkCall, Unknown}
 use Rattle.guest_calls.specs.declared.writing.WriteCheck.{WriteCheck}
 use Rattle.guest_calls.specs.declared.writing.WriteCheck.TheVariants.{Append, BadAddress, OverLimit}
-use Rattle.guest_calls.specs.Calls.{is_inside, kind_of, unknown_call, bytes_read, is_public_input, is_secret_input}
+use Rattle.guest_calls.specs.Calls.{kind_of, unknown_call, bytes_read, is_public_input, is_secret_input}
 use Rattle.guest_calls.specs.Calls.{is_output, checked_write}
 use Rattle.rv32im_machine.specs.declared.stepping.Fault.{Fault}
 use Rattle.rv32im_machine.specs.declared.stepping.Fault.TheVariants.{Illegal, FetchOutside, FetchUnaligned}
@@ -54,6 +54,7 @@ use Rattle.rv32im_machine.specs.Rows.{load_checked, loaded_from, store_at, store
 use Rattle.rv32im_machine.specs.Rows.{fetched, running, stops, first_used, second_used, addressed}
 use Rattle.covered_runs.specs.Proper.{AreBytes, IsPassing, AreSources, AreOperands, operation_limit, IsProper}
 use Rattle.covered_runs.specs.ProperLaws.{ProperTurnsLaw}
+use Rattle.covered_runs.proofs.InsideMemory.{inside_begins}
 use Rattle.covered_runs.proofs.ProperValues.{computed_fits, part_fits, byte_fits, half_fits, whole_fits}
 use Rattle.covered_runs.proofs.ProperValues.{fits-12, fits-immediate}
 
@@ -182,14 +183,6 @@ module _ (base region : ℕ) where
       either (taken == 0) _ _ (λ none. ends (onward control) (goes region control is))
       (jump-proper ((control.pc + offset) % 2 ^ 32) control is)
 
-  inside-base : (address count : ℕ) → 0 < count → is_inside base address count ≡ true → base ≤ address
-  inside-base address count some inside =
-      elim (or_cases (count == 0) (nat_le base address && (nat_le (address + count) (base + memory_size)
-      && nat_le (address + count) (2 ^ 32))) inside) [
-        | inl none ↦ absurd (let e : count ≡ 0 = eqb-true count 0 none in omega (arith, e, some))
-        | inr there ↦ leb-true base address (and_parts (nat_le base address) _ there).0
-      ]
-
   loads : (kind : LoadKind) (rd address : ℕ) (control : Control) → IsControl region control → base ≤ address →
       IsPassing base region (point control ResultSlot) (Shaped (Extended kind)) (loaded_from kind address)
   loads Lb rd address control is low =
@@ -226,7 +219,7 @@ module _ (base region : ℕ) where
   load-proper kind rd address setting control same is =
       either (is_inside setting.base address (load_size kind)) _ _
       (λ inside. put-result control rd (Shaped (Extended kind)) (loaded_from kind address)
-      (loads kind rd address control is (inside-base address (load_size kind) (load-some kind)
+      (loads kind rd address control is (inside_begins base address (load_size kind) (load-some kind)
       (ap (λ b. is_inside b address (load_size kind)) (sym same) ∙ inside))) is)
       (stopped (LoadOutside control.pc address) control is)
 
@@ -250,7 +243,7 @@ module _ (base region : ℕ) where
       IsControl region control → IsProper base region (store_checked kind setting control address)
   store-proper kind address setting control same is =
       either (is_inside setting.base address (store_size kind)) _ _
-      (λ inside. store-at kind address control (inside-base address (store_size kind) (store-some kind)
+      (λ inside. store-at kind address control (inside_begins base address (store_size kind) (store-some kind)
       (ap (λ b. is_inside b address (store_size kind)) (sym same) ∙ inside)) is)
       (stopped (StoreOutside control.pc address) control is)
 
@@ -337,7 +330,7 @@ module _ (base region : ℕ) where
       either-plan (count == 0) _ _ (λ none. omega arith)
       (λ some. either-plan (is_inside setting.base to count) _ _
       (λ inside.
-      (inside-base to count (some-count count some) (ap (λ b. is_inside b to count) (sym same) ∙ inside), word))
+      (inside_begins base to count (some-count count some) (ap (λ b. is_inside b to count) (sym same) ∙ inside), word))
       (λ outside. omega arith))
 
   secret-plan : (setting : Setting) (to count : ℕ) → setting.base ≡ base → count < 2 ^ 32 →
@@ -346,7 +339,7 @@ module _ (base region : ℕ) where
       either-plan (count == 0) _ _ (λ none. omega arith)
       (λ some. either-plan (is_inside setting.base to count) _ _
       (λ inside.
-      (inside-base to count (some-count count some) (ap (λ b. is_inside b to count) (sym same) ∙ inside), word))
+      (inside_begins base to count (some-count count some) (ap (λ b. is_inside b to count) (sym same) ∙ inside), word))
       (λ outside. omega arith))
 
   read-plan : (setting : Setting) (control : Control) (descriptor to count : ℕ) → setting.base ≡ base →
@@ -376,7 +369,8 @@ module _ (base region : ℕ) where
       either-check from (count == 0) _ _ (λ none. absurd (cc))
       (λ other. either-check from (is_inside start from count) _ _
       (λ inside. either-check from (nat_le (written + count) limit) _ _
-      (λ within. inside-base from count (some-count count some) (ap (λ b. is_inside b from count) (sym same) ∙ inside))
+      (λ within. inside_begins base from count (some-count count some)
+      (ap (λ b. is_inside b from count) (sym same) ∙ inside))
       (λ beyond. tt))
       (λ outside. tt))
 
@@ -524,7 +518,7 @@ module _ (base region : ℕ) where
       IsControl region control → IsProper base region (running setting control)
   running-proper setting control same bytes is =
       either (is_inside setting.base control.pc 4) _ _
-      (λ inside. looks-proper setting control (inside-base control.pc 4 (omega arith)
+      (λ inside. looks-proper setting control (inside_begins base control.pc 4 (omega arith)
       (ap (λ b. is_inside b control.pc 4) (sym same) ∙ inside)) same bytes is)
       (stopped (FetchOutside control.pc) control is)
 

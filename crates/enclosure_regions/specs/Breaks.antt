@@ -1,8 +1,8 @@
 -- What breaks a region, each as a function of the region and of registers and addresses.
-use Rattle.std.specs.Prelude.{ℕ, ◌+◌, ◌^◌, ◌==◌, ◌&&◌, ◌||◌, nat_le, nat_lt, not, Bool, List, slice_index, Option, Some}
+use Rattle.std.specs.Prelude.{ℕ, ◌+◌, ◌==◌, ◌&&◌, ◌||◌, nat_le, nat_lt, not, Bool, List, slice_index, Option, Some}
 use Rattle.std.specs.Prelude.{None, option_map, if◌then◌else◌}
 use Rattle.std.specs.List.{find, list_any, position_from}
-use Rattle.flow_base.specs.Guests.{memory_size}
+use Rattle.flow_base.specs.Guests.{is_inside}
 use Rattle.enclosure_regions.specs.declared.region_parts.Region.{Region}
 use Rattle.enclosure_regions.specs.declared.break_kinds.Break.{Break}
 use Rattle.enclosure_regions.specs.declared.break_kinds.Break.TheVariants.{UndeclaredWrite, KeepBroken, CallInRegion}
@@ -62,15 +62,10 @@ call_break region pc = Some (CallInRegion region.id pc)
 
 -- ---- the entry
 
--- each byte of a range is one of guest memory, whose lowest address is the base, and none is past the last address
-abbrev pub is_in_memory : ℕ → ℕ → ℕ → Bool
-is_in_memory base start count =
-    nat_le base start && (nat_le (start + count) (base + memory_size) && nat_le (start + count) (2 ^ 32))
-
 -- the first range that is not inside guest memory, counted from 0
 abbrev pub outside_range : Region → List ℕ → ℕ → Option ℕ
 outside_range region registers base =
-    position_from (λ range. not (is_in_memory base (start_of registers range) range.length)) 0 region.ranges
+    position_from (λ range. not (is_inside base (start_of registers range) range.length)) 0 region.ranges
 
 abbrev pub range_break : Region → List ℕ → ℕ → Option Break
 range_break region registers base =

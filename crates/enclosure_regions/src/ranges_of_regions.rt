@@ -1,10 +1,10 @@
 ghost use Rattle.std.specs.Prelude.{◌≡◌, ◌<◌, length, option_copied, IsTrue, IfSome};
-ghost use Rattle.enclosure_regions.specs.Breaks.{declares_byte, is_in_memory, outside_range};
+ghost use Rattle.enclosure_regions.specs.Breaks.{declares_byte, outside_range};
 ghost use Rattle.enclosure_regions.specs.Regions.{is_range, is_region};
 ghost use Rattle.enclosure_regions.specs.Turns.{start_of};
 
 use crate::region_parts::{Range, Region};
-use flow_base::{MEMORY_SIZE, Registers};
+use flow_base::{Registers, is_inside};
 
 /// Where a range starts, an address, by the registers at the region's entry, for whoever goes over its bytes.
 pub fn range_start(registers: &Registers, range: Range) -> u32
@@ -15,15 +15,6 @@ pub fn range_start(registers: &Registers, range: Range) -> u32
         Some(register) => registers.get(register).wrapping_add(range.offset),
         None => range.offset,
     }
-}
-
-// Whether each byte is one of guest memory, whose lowest address is the base.
-fn is_inside(base: u32, start: u32, length: u32) -> bool
-    ensures { result ≡ is_in_memory base start length }
-{
-    let end = u64::from(start) + u64::from(length);
-    let memory_end = u64::from(base) + u64::from(MEMORY_SIZE);
-    base <= start && end <= memory_end && end <= 0x1_0000_0000
 }
 
 /// The first range that is not inside guest memory at the entry, counted from 0, for the runs that enter or skip a

@@ -1,6 +1,6 @@
 -- The guest's calls, as functions of numbers (call and error numbers are those of Linux for RISC-V).
 use Rattle.std.specs.Prelude.{ℕ, ◌+◌, ◌-◌, ◌^◌, ◌==◌, ◌&&◌, ◌||◌, min, nat_le, Bool, if◌then◌else◌}
-use Rattle.flow_base.specs.Guests.{memory_size}
+use Rattle.flow_base.specs.Guests.{is_inside}
 use Rattle.guest_calls.specs.declared.kinds.CallKind.{CallKind}
 use Rattle.guest_calls.specs.declared.kinds.CallKind.TheVariants.{Read, Write, Exit, Brk, Unknown}
 use Rattle.guest_calls.specs.declared.writing.WriteCheck.{WriteCheck}
@@ -41,15 +41,6 @@ bad_address = 2 ^ 32 - 14
 -- an unknown call: -38 (ENOSYS)
 abbrev pub unknown_call : ℕ
 unknown_call = 2 ^ 32 - 38
-
--- ---- bytes of guest memory
-
--- each of so many bytes from the address on is one of guest memory; no bytes are inside anywhere, and bytes past the
--- last address that there is are not inside
-abbrev pub is_inside : ℕ → ℕ → ℕ → Bool
-is_inside base address count =
-    (count == 0)
-    || (nat_le base address && (nat_le (address + count) (base + memory_size) && nat_le (address + count) (2 ^ 32)))
 
 -- ---- read, write and brk
 

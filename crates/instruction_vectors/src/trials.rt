@@ -1,5 +1,5 @@
 ghost use Rattle.std.specs.Prelude.{◌≡◌, IsTrue, ◌↔◌, if◌then◌else◌};
-ghost use Rattle.guest_calls.specs.Calls.{is_inside};
+ghost use Rattle.flow_base.specs.Guests.{is_inside};
 ghost use Rattle.rv32im_machine.specs.State.{byte_of};
 ghost use Rattle.instruction_vectors.specs.Trials.{IsSeenOf};
 

@@ -15,7 +15,8 @@ use Rattle.rv32im_decode.specs.Encoding.{decoded}
 use Rattle.guest_calls.specs.declared.kinds.CallKind.{CallKind}
 use Rattle.guest_calls.specs.declared.kinds.CallKind.TheVariants.{Read, Write as WriteCall, Exit as ExitCall}
 use Rattle.guest_calls.specs.declared.kinds.CallKind.TheVariants.{Brk as BrkCall, Unknown}
-use Rattle.guest_calls.specs.Calls.{is_inside, kind_of, unknown_call}
+use Rattle.flow_base.specs.Guests.{is_inside}
+use Rattle.guest_calls.specs.Calls.{kind_of, unknown_call}
 use Rattle.rv32im_machine.specs.declared.stepping.Fault.{Fault}
 use Rattle.rv32im_machine.specs.declared.stepping.Fault.TheVariants.{Illegal, FetchOutside, FetchUnaligned}
 use Rattle.rv32im_machine.specs.declared.stepping.Fault.TheVariants.{LoadOutside, StoreOutside, Breakpoint}

@@ -6,7 +6,7 @@ use Rattle.rv32im_decode.specs.declared.instructions.Instr.TheVariants.{Lui, Aui
 use Rattle.rv32im_decode.specs.declared.instructions.Instr.TheVariants.{Store as StoreInstr, OpImm, Op, Fence, Ecall}
 use Rattle.rv32im_decode.specs.declared.instructions.Instr.TheVariants.{Ebreak}
 use Rattle.rv32im_decode.specs.Encoding.{decoded}
-use Rattle.guest_calls.specs.Calls.{is_inside}
+use Rattle.flow_base.specs.Guests.{is_inside}
 use Rattle.rv32im_machine.specs.declared.language.Seen.TheVariants.{Word}
 use Rattle.rv32im_machine.specs.declared.stepping.Stepped.{Stepped}
 use Rattle.rv32im_machine.specs.declared.stepping.Stepped.TheVariants.{Ran, Exited, Stopped}

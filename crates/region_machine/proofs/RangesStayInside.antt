@@ -7,6 +7,7 @@ use Rattle.std.specs.Prelude.{nat_le, option_map}
 use Rattle.std.specs.List.{find, list_all, position_from}
 use Rattle.std.proofs.lemmas.Bool.{and_parts, and_from, cases_Bool, cond-false, cond-true, eqb-true, eq-eqb}
 use Rattle.std.proofs.lemmas.Bool.{not_from_true, or_left, or_right}
+use Rattle.flow_base.specs.Guests.{is_inside}
 use Rattle.rv32im_machine.specs.declared.stepping.Stepped.{Stepped}
 use Rattle.rv32im_machine.specs.declared.stepping.Stepped.TheVariants.{Ran, Exited, Stopped}
 use Rattle.rv32im_machine.specs.State.{State, Setting, Control, onward, moved_to, entered, ended, public_taken}
@@ -17,7 +18,7 @@ use Rattle.rv32im_machine.specs.Folds.{real_end}
 use Rattle.enclosure_regions.specs.declared.break_kinds.Break.{Break}
 use Rattle.enclosure_regions.specs.declared.region_parts.Range.{Range}
 use Rattle.enclosure_regions.specs.declared.region_parts.Region.{Region}
-use Rattle.enclosure_regions.specs.Breaks.{is_in_memory, outside_range}
+use Rattle.enclosure_regions.specs.Breaks.{outside_range}
 use Rattle.enclosure_regions.specs.Regions.{are_distinct, are_regions, ids_of, is_region}
 use Rattle.enclosure_regions.specs.Regions.{is_region_number, stands_in}
 use Rattle.enclosure_regions.specs.Turns.{start_of}
@@ -53,7 +54,7 @@ all-inside test place (range ∷ ranges) e = elim (cases_Bool (test range)) [
 pub inside_at_entry : (region : Region) (registers : List ℕ) (base : ℕ) → outside_range region registers base ≡ None →
     are_inside region.ranges registers base ≡ true
 inside_at_entry region registers base e =
-    all-inside (λ range. is_in_memory base (start_of registers range) range.length) 0 region.ranges e
+    all-inside (λ range. is_inside base (start_of registers range) range.length) 0 region.ranges e
 
 none-broken : (region : Region) (range : Option ℕ) →
     option_map (λ range. Break.RangeOutside region.id range) range ≡ None → range ≡ None

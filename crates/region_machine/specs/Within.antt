@@ -1,10 +1,10 @@
 -- What a turn of a guest with regions needs: the ranges whose bytes pass lie inside guest memory.
 use Rattle.std.specs.Prelude.{◌≡◌, ℕ, List, Bool, true, Option, Some, None, option_copied}
 use Rattle.std.specs.List.{list_all}
+use Rattle.flow_base.specs.Guests.{is_inside}
 use Rattle.rv32im_machine.specs.State.{State}
 use Rattle.enclosure_regions.specs.declared.region_parts.Range.{Range}
 use Rattle.enclosure_regions.specs.declared.region_parts.Region.{Region}
-use Rattle.enclosure_regions.specs.Breaks.{is_in_memory}
 use Rattle.enclosure_regions.specs.Regions.{is_region}
 use Rattle.enclosure_regions.specs.Turns.{start_of}
 use Rattle.region_machine.specs.declared.kinds.GuestTurn.{GuestTurn}
@@ -28,7 +28,7 @@ has_rules (Steps (Some region)) = is_region region
 -- each range is inside guest memory, whose lowest address is the base, where these are the registers at the entry
 abbrev pub are_inside : List Range → List ℕ → ℕ → Bool
 are_inside ranges registers base =
-    list_all (λ range. is_in_memory base (start_of registers range) range.length) ranges
+    list_all (λ range. is_inside base (start_of registers range) range.length) ranges
 
 -- if the turn is a leave, the ranges are inside where these registers were kept
 abbrev pub can_leave : Kind → List ℕ → ℕ → Bool

@@ -2,7 +2,7 @@
 
 ghost use Rattle.std.specs.Prelude.{◌≡◌, ◌+◌, ◌≤◌, ◌<◌, ◌^◌, length, IsTrue};
 ghost use Rattle.std.specs.List.{list_all};
-ghost use Rattle.guest_calls.specs.Calls.{is_inside};
+ghost use Rattle.flow_base.specs.Guests.{is_inside};
 ghost use Rattle.rv32im_machine.specs.declared.language.Place.TheVariants.{Register, Byte};
 ghost use Rattle.rv32im_machine.specs.declared.language.Shape.TheVariants.{Copied};
 ghost use Rattle.rv32im_machine.specs.declared.language.Source.TheVariants.{Constant};

@@ -4,7 +4,7 @@ ghost use Rattle.std.specs.Prelude.{◌≡◌, ◌+◌, ◌≤◌, ◌<◌, ◌^
 ghost use Rattle.std.specs.List.{list_all};
 ghost use Rattle.flow_base.specs.declared.points.Slot.TheVariants.{OutReg, OutRange};
 ghost use Rattle.flow_base.specs.Points.{is_slot};
-ghost use Rattle.guest_calls.specs.Calls.{is_inside};
+ghost use Rattle.flow_base.specs.Guests.{is_inside};
 ghost use Rattle.rv32im_machine.specs.declared.language.Place.TheVariants.{Register, Byte};
 ghost use Rattle.rv32im_machine.specs.Language.{Turn, Gives, turn_walk};
 ghost use Rattle.rv32im_machine.specs.Playing.{Goes, Knows};

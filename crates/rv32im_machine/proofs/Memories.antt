@@ -1,7 +1,7 @@
 -- Bytes inside guest memory, for whoever keeps something of them.
 use Rattle.std.proofs.Common.{ℕ, subst, sym}
 use Rattle.std.specs.Prelude.{IsTrue, Option, Some, None}
-use Rattle.guest_calls.specs.Calls.{is_inside}
+use Rattle.flow_base.specs.Guests.{is_inside}
 use Rattle.rv32im_machine.specs.Playing.{Knows, InMemory}
 
 -- what lies inside the memory of the guest lies inside the memory that is known

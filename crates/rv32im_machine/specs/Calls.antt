@@ -1,6 +1,6 @@
 -- The guest's calls: what each does once its arguments have gone on. In a plan no value of memory is named.
 use Rattle.std.specs.Prelude.{◌≤◌, IsTrue, ℕ, zero, suc, ◌+◌, ◌-◌, ◌^◌, ◌==◌, List, length, slice_index, if◌then◌else◌}
-use Rattle.flow_base.specs.Guests.{memory_size}
+use Rattle.flow_base.specs.Guests.{is_inside, memory_size}
 use Rattle.flow_base.specs.declared.points.Point.{Point}
 use Rattle.flow_base.specs.declared.points.Slot.{Slot}
 use Rattle.flow_base.specs.declared.points.Slot.TheVariants.{Arg0, Arg1, Arg2, SecretIn, ByteOut, Status}
@@ -8,7 +8,7 @@ use Rattle.guest_calls.specs.declared.kinds.CallKind.{CallKind}
 use Rattle.guest_calls.specs.declared.kinds.CallKind.TheVariants.{Read, Write as WriteCall, Exit as ExitCall, Brk as BrkCall, Unknown}
 use Rattle.guest_calls.specs.declared.writing.WriteCheck.{WriteCheck}
 use Rattle.guest_calls.specs.declared.writing.WriteCheck.TheVariants.{Append, BadAddress, OverLimit}
-use Rattle.guest_calls.specs.Calls.{kind_of, is_public_input, is_secret_input, is_output, bad_descriptor, bad_address, unknown_call, is_inside, bytes_read, checked_write, moved_break}
+use Rattle.guest_calls.specs.Calls.{kind_of, is_public_input, is_secret_input, is_output, bad_descriptor, bad_address, unknown_call, bytes_read, checked_write, moved_break}
 use Rattle.rv32im_machine.specs.declared.stepping.Fault.TheVariants.{OutputLimit}
 use Rattle.rv32im_machine.specs.declared.stepping.Stepped.TheVariants.{Exited, Stopped}
 use Rattle.rv32im_machine.specs.declared.stepping.Arguments.{Arguments}

@@ -7,7 +7,7 @@ use Rattle.rv32im_decode.specs.declared.instructions.Instr.TheVariants.{Lui, Aui
 use Rattle.rv32im_decode.specs.declared.instructions.LoadKind.{LoadKind}
 use Rattle.rv32im_decode.specs.Encoding.{decoded}
 use Rattle.rv32im_decode.specs.Operations.{word_of, operation_of, upper_of, op_result, is_taken, address_of, target_of, load_size, store_size, extended}
-use Rattle.guest_calls.specs.Calls.{is_inside}
+use Rattle.flow_base.specs.Guests.{is_inside}
 use Rattle.rv32im_machine.specs.declared.stepping.Fault.{Fault}
 use Rattle.rv32im_machine.specs.declared.stepping.Fault.TheVariants.{Illegal, FetchOutside, LoadOutside, StoreOutside}
 use Rattle.rv32im_machine.specs.State.{Store, State, register_of, word_at, joined}

@@ -10,7 +10,7 @@ use Rattle.rv32im_machine.specs.declared.language.Sources.{Sources}
 use Rattle.rv32im_machine.specs.declared.language.Sources.TheVariants.{One, Two, Byte as BytesOne, Half as BytesTwo, Word as BytesFour}
 use Rattle.rv32im_machine.specs.declared.language.Seen.{Seen}
 use Rattle.rv32im_machine.specs.declared.language.Seen.TheVariants.{Word, Base}
-use Rattle.guest_calls.specs.Calls.{is_inside}
+use Rattle.flow_base.specs.Guests.{is_inside}
 use Rattle.rv32im_machine.specs.State.{State}
 use Rattle.rv32im_machine.specs.Language.{Walk}
 

@@ -2,7 +2,7 @@
 
 ghost use Rattle.std.specs.Prelude.{◌≡◌, ℕ, ◌+◌, ◌^◌, ◌<◌, ◌≤◌, length, IsTrue};
 ghost use Rattle.flow_base.specs.Points.{is_slot, width_of};
-ghost use Rattle.guest_calls.specs.Calls.{is_inside};
+ghost use Rattle.flow_base.specs.Guests.{is_inside};
 ghost use Rattle.rv32im_machine.specs.State.{register_of};
 ghost use Rattle.rv32im_machine.specs.Language.{turn_walk};
 ghost use Rattle.rv32im_machine.specs.Rows.{row_walk};

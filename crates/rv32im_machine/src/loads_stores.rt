@@ -3,7 +3,7 @@
 ghost use Rattle.std.specs.Prelude.{◌≡◌, ◌+◌, ◌^◌, ◌<◌, ◌≤◌, IsTrue};
 ghost use Rattle.rv32im_decode.specs.Operations.{load_size, store_size};
 ghost use Rattle.rv32im_decode.specs.Encoding.{InRange};
-ghost use Rattle.guest_calls.specs.Calls.{is_inside};
+ghost use Rattle.flow_base.specs.Guests.{is_inside};
 ghost use Rattle.rv32im_machine.specs.State.{joined};
 ghost use Rattle.rv32im_machine.specs.Language.{shaped, part_of, turn_walk, walk, Held, bytes_at};
 ghost use Rattle.rv32im_machine.specs.Rows.{row_walk, load_checked, store_checked, stores, store_at, loaded_from};

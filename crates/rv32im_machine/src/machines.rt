@@ -1,9 +1,9 @@
 #![tactic(auto, unfolding(crate::specs::State::with_register, crate::specs::State::with_byte, crate::specs::State::saved, crate::specs::State::moved_to, crate::specs::State::entered, crate::specs::State::onward, crate::specs::State::ended, crate::specs::State::public_taken, crate::specs::State::secret_taken, crate::specs::State::break_moved, crate::specs::State::emitted))]
 
 ghost use Rattle.std.specs.Prelude.{◌≡◌, ◌+◌, ◌-◌, ◌^◌, ◌<◌, ◌≤◌, [], length, slice_index, vec_len, vec_capacity, IsTrue};
-ghost use Rattle.flow_base.specs.Guests.{memory_size};
+ghost use Rattle.flow_base.specs.Guests.{is_inside, memory_size};
 ghost use Rattle.flow_base.specs.Points.{is_slot};
-ghost use Rattle.guest_calls.specs.Calls.{is_inside, checked_write, moved_break};
+ghost use Rattle.guest_calls.specs.Calls.{checked_write, moved_break};
 ghost use Rattle.rv32im_machine.specs.State.{State, register_of, byte_of, word_at, with_register, with_byte, saved, moved_to, entered, onward, ended, public_taken, secret_taken, break_moved, emitted};
 ghost use Rattle.rv32im_machine.specs.Language.{with_store, with_control};
 ghost use Rattle.rv32im_machine.specs.Calls.{point};
@@ -212,10 +212,7 @@ impl Machine {
         ensures inside { result ≡ is_inside self.now.setting.base address count }
         ensures below { IsTrue result → address + count ≤ 2 ^ 32 }
     {
-        count == 0
-            || (self.base <= address
-                && u64::from(address) + u64::from(count)
-                    <= u64::from(self.base) + u64::from(MEMORY_SIZE))
+        flow_base::is_inside(self.base, address, count)
     }
 
     /// The byte of guest memory at an address.

@@ -1,19 +1,12 @@
 -- What a shadow holds, and what the calls that change it do.
-use Rattle.std.specs.Prelude.{◌≡◌, ℕ, ◌+◌, ◌-◌, ◌/◌, ◌%◌, ◌^◌, ◌<◌, ◌==◌, ◌&&◌, ◌||◌, nat_lt, nat_le, Bool, List}
+use Rattle.std.specs.Prelude.{◌≡◌, ℕ, ◌+◌, ◌-◌, ◌/◌, ◌%◌, ◌<◌, ◌==◌, ◌&&◌, nat_lt, nat_le, Bool, List}
 use Rattle.std.specs.Prelude.{Option, None}
 use Rattle.std.specs.Prelude.{if◌then◌else◌, slice_index_or, length}
 use Rattle.std.specs.List.{list_any}
-use Rattle.flow_base.specs.Guests.{memory_size}
 use Rattle.shadow_masks.specs.declared.labels.Label.{Label}
 use Rattle.shadow_masks.specs.Labels.{clean}
 use Rattle.shadow_masks.specs.Points.{page_size}
 use Rattle.shadow_masks.specs.Pages.{PageShades, label_in, is_in_range, listed_label}
-
--- each of so many bytes from the address on is one of guest memory; no bytes are inside anywhere
-abbrev pub is_inside : ℕ → ℕ → ℕ → Bool
-is_inside base address count =
-    (count == 0)
-    || (nat_le base address && (nat_le (address + count) (base + memory_size) && nat_le (address + count) (2 ^ 32)))
 
 -- the labels of the 32 registers, those that were kept, where memory begins, and the pages of memory; None is a page in
 -- which no label with a mask other than 0 was ever set

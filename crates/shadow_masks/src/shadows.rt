@@ -3,8 +3,8 @@ ghost use Rattle.std.specs.Prelude.{length};
 ghost use Rattle.std.specs.Prelude.{replicate, ℕ, None, true};
 ghost use Rattle.shadow_masks.specs.Labels.{clean, IsLabel, IsByteLabel};
 ghost use Rattle.shadow_masks.specs.Pages.{label_from, labels_from, AreClean};
-ghost use Rattle.flow_base.specs.Guests.{memory_size};
-ghost use Rattle.shadow_masks.specs.Shades.{is_inside, register_label, byte_label, page_at, IsNew};
+ghost use Rattle.flow_base.specs.Guests.{is_inside, memory_size};
+ghost use Rattle.shadow_masks.specs.Shades.{register_label, byte_label, page_at, IsNew};
 ghost use Rattle.shadow_masks.specs.Shades.{SetsRegister, SetsByte, SetsLabels, SetsRange, SetsFirstPart};
 ghost use Rattle.shadow_masks.specs.Shades.{SetsFirstLabels, Saves};
 ghost use Rattle.shadow_masks.specs.Shades.{Restores};
@@ -12,7 +12,7 @@ ghost use Rattle.shadow_masks.specs.Shades.{Restores};
 use crate::labels::Label;
 use crate::page_slots::{is_clean_in, labels_in, listed, set_all_in, set_in};
 use crate::pages::Page;
-use flow_base::{List, MEMORY_SIZE, NoMemory};
+use flow_base::{List, NoMemory};
 use std::alloc::Global;
 use std::marker::Model;
 
@@ -83,8 +83,7 @@ impl Shadow {
     pub fn is_inside(&self, address: u32, count: u32) -> bool
         ensures { result ≡ is_inside self.now.base address count }
     {
-        let end = u64::from(address) + u64::from(count);
-        count == 0 || address >= self.base && end <= u64::from(self.base) + u64::from(MEMORY_SIZE)
+        flow_base::is_inside(self.base, address, count)
     }
 
     /// The label of a register, 0 to 31.

@@ -5,7 +5,8 @@ use Rattle.std.specs.Prelude.{◌%◌, ◌^◌, ◌==◌, if◌then◌else◌, R
 use Rattle.std.specs.List.{range_with_len}
 use Rattle.guest_calls.specs.declared.kinds.CallKind.{CallKind}
 use Rattle.guest_calls.specs.declared.kinds.CallKind.TheVariants.{Read, Write, Exit, Brk, Unknown}
-use Rattle.guest_calls.specs.Calls.{is_inside, kind_of}
+use Rattle.flow_base.specs.Guests.{is_inside}
+use Rattle.guest_calls.specs.Calls.{kind_of}
 use Rattle.rv32im_decode.specs.declared.instructions.Instr.{Instr}
 use Rattle.rv32im_decode.specs.declared.instructions.Instr.TheVariants.{Lui, Auipc, Jal, Jalr, Branch, Load, Store as StoreInstr, OpImm, Op, Fence, Ecall, Ebreak}
 use Rattle.rv32im_decode.specs.declared.instructions.LoadKind.{LoadKind}

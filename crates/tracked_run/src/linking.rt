@@ -1,5 +1,5 @@
 ghost use Rattle.std.specs.Prelude.{◌+◌, ◌^◌, ◌<◌, ◌∷◌, [], Some, OnOk, IsTrue};
-ghost use Rattle.guest_calls.specs.Calls.{is_inside};
+ghost use Rattle.flow_base.specs.Guests.{is_inside};
 ghost use Rattle.rv32im_machine.specs.Playing.{IsSource, AreSources};
 ghost use Rattle.run_labels.specs.Flowing.{link_from, source_events, sources_events, aim_events, flow_events};
 ghost use Rattle.run_labels.specs.Flowing.{byte_events};

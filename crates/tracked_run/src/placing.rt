@@ -1,5 +1,5 @@
 ghost use Rattle.std.specs.Prelude.{◌≡◌, ◌<◌, ◌^◌, Some, OnOk, IsTrue};
-ghost use Rattle.guest_calls.specs.Calls.{is_inside};
+ghost use Rattle.flow_base.specs.Guests.{is_inside};
 ghost use Rattle.rv32im_machine.specs.Playing.{IsAim, IsPlace};
 ghost use Rattle.shadow_masks.specs.Labels.{IsLabel};
 ghost use Rattle.shadow_masks.specs.Pages.{label_of};

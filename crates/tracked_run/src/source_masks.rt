@@ -1,5 +1,5 @@
 ghost use Rattle.std.specs.Prelude.{◌≡◌, ◌<◌, ◌≤◌, Some, IfSome, IsTrue};
-ghost use Rattle.guest_calls.specs.Calls.{is_inside};
+ghost use Rattle.flow_base.specs.Guests.{is_inside};
 ghost use Rattle.rv32im_machine.specs.Playing.{IsSource, AreSources};
 ghost use Rattle.rv32im_machine.specs.State.{joined};
 ghost use Rattle.rv32im_machine.specs.Language.{part_of, shaped};
