@@ -1,2 +1,4 @@
 pub mod HexText
 pub mod PointOrders
+pub mod NameTables
+pub mod NamePlaces

@@ -1,5 +1,5 @@
--- Words in hexadecimal, in lower case.
-use Rattle.std.specs.Prelude.{ℕ, ◌+◌, ◌/◌, ◌%◌, nat_lt, List, [], ◌∷◌, if◌then◌else◌}
+-- Words in hexadecimal, in lower case, and the values of digits of either case.
+use Rattle.std.specs.Prelude.{ℕ, ◌+◌, ◌-◌, ◌/◌, ◌%◌, ◌&&◌, nat_le, nat_lt, List, [], ◌∷◌, if◌then◌else◌}
 
 -- a digit below 16
 abbrev pub hex_digit : ℕ → ℕ
@@ -15,3 +15,10 @@ hex_digits word =
 -- 0x and the eight digits of a word
 abbrev pub hex_word : ℕ → List ℕ
 hex_word word = 48 ∷ 120 ∷ hex_digits word
+
+-- the value of a digit of either case; 16 for every other byte
+abbrev pub digit_of : ℕ → ℕ
+digit_of byte =
+    if nat_le 48 byte && nat_le byte 57 then byte - 48 else
+    if nat_le 97 byte && nat_le byte 102 then byte - 87 else
+    if nat_le 65 byte && nat_le byte 70 then byte - 55 else 16

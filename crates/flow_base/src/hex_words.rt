@@ -1,6 +1,7 @@
-ghost use Rattle.std.specs.Prelude.{◌≡◌, ◌<◌, Some};
+ghost use Rattle.std.specs.Prelude.{◌≡◌, ◌<◌, ◌≤◌, Some};
 ghost use Rattle.std.specs.Fmt.{DisplaysOnOk};
-ghost use Rattle.flow_base.specs.HexWords.{hex_digit, hex_digits as hex_digits_of, hex_word as hex_word_of};
+ghost use Rattle.flow_base.specs.HexWords.{digit_of, hex_digit, hex_digits as hex_digits_of};
+ghost use Rattle.flow_base.specs.HexWords.{hex_word as hex_word_of};
 
 use std::fmt;
 
@@ -13,6 +14,19 @@ fn glyph(digit: u32) -> u8
         48 + digit as u8
     } else {
         87 + digit as u8
+    }
+}
+
+/// The value of a hexadecimal digit of either case; 16 for every other byte.
+pub fn digit(byte: u8) -> u32
+    ensures exact { result ≡ digit_of byte }
+    ensures small { result ≤ 16 }
+{
+    match byte {
+        b'0'..=b'9' => u32::from(byte - b'0'),
+        b'a'..=b'f' => u32::from(byte - b'a') + 10,
+        b'A'..=b'F' => u32::from(byte - b'A') + 10,
+        _ => 16,
     }
 }
 

@@ -14,9 +14,10 @@ mod point_orders;
 mod points;
 mod putting;
 mod register_file;
+mod register_names;
 
 pub use guests::{MEMORY_SIZE, is_inside};
-pub use hex_words::{HexWord, hex_digits, hex_word};
+pub use hex_words::{HexWord, digit, hex_digits, hex_word};
 pub use host::{DiskFiles, StandardOut};
 pub use lists::{Bytes, List, NoMemory};
 pub use loading::{Files, LoadFault};
@@ -27,3 +28,4 @@ pub use point_orders::points_are_ordered;
 pub use points::{Point, Slot};
 pub use putting::{Sink, SinkFault};
 pub use register_file::Registers;
+pub use register_names::register_named;
