@@ -1,2 +1,4 @@
 pub mod HexText
 pub mod PointOrders
+pub mod JoinedPieces
+pub mod WantedTexts

@@ -10,3 +10,4 @@ pub mod Reading
 pub mod Writing
 pub mod Guests
 pub mod HexWords
+pub mod TextPieces

@@ -14,6 +14,7 @@ mod point_orders;
 mod points;
 mod putting;
 mod register_file;
+mod text_pieces;
 
 pub use guests::{MEMORY_SIZE, is_inside};
 pub use hex_words::{HexWord, hex_digits, hex_word};
@@ -27,3 +28,4 @@ pub use point_orders::points_are_ordered;
 pub use points::{Point, Slot};
 pub use putting::{Sink, SinkFault};
 pub use register_file::Registers;
+pub use text_pieces::{after, put, put_number, put_slot};
