@@ -8,16 +8,17 @@ use Rattle.std.specs.Str.{bytes_eq}
 use Rattle.std.proofs.lemmas.Slice.Eq.{bytes_eq-Decides}
 use Rattle.cut_file.specs.declared.lines.Line.{Line}
 use Rattle.cut_file.specs.declared.lines.Line.TheVariants as forms
+use Rattle.flow_base.specs.TextPieces.{after_text}
+use Rattle.flow_base.proofs.WantedTexts.{after-found, after-own}
 use Rattle.cut_file.specs.declared.points.CutPoint.{CutPoint}
 use Rattle.cut_file.specs.Cuts.{is_region, is_version, is_word}
 use Rattle.cut_file.specs.Texts.{is_line, line_text}
-use Rattle.cut_file.specs.Reading.{after_text, is_short, line_in, number_behind, number_in}
+use Rattle.cut_file.specs.Reading.{is_short, line_in, number_behind, number_in}
 use Rattle.cut_file.specs.Reading.{number_line_in, point_in, tested_number}
 use Rattle.cut_file.proofs.Numbers.{clean-append, decimal-clean, number-found, number-own}
 use Rattle.cut_file.proofs.Parts.{has_byte}
 use Rattle.cut_file.proofs.PointLines.{point-found, point-own, point_line-clean}
-use Rattle.cut_file.proofs.Steps.{after-found, after-own, else-found, kept-found, map-found}
-use Rattle.cut_file.proofs.Steps.{then-found, then-own}
+use Rattle.cut_file.proofs.Steps.{else-found, kept-found, map-found, then-found, then-own}
 
 pub record IsLineOf (version : ℕ) (text : List ℕ) (line : Line) : Type 0 where
   pub known : is_line version line ≡ true

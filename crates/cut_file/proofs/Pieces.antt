@@ -93,9 +93,3 @@ cut-pieces cut =
     ∙ ap (λ (l : List ℕ). l ++ codes "end\n") (lines-append cut.version head (skips ++ points)
     ∙ ap (λ (l : List ℕ). text head ++ l) (lines-append cut.version skips points)
     ∙ sym (append_assoc (text head) (text skips) (text points))))
-
--- two pieces are one
-pub joins : (before first middle second after : List ℕ) → middle ≡ before ++ first → after ≡ middle ++ second →
-    after ≡ before ++ (first ++ second)
-joins before first middle second after e f =
-    f ∙ ap (λ (l : List ℕ). l ++ second) e ∙ append_assoc before first second

@@ -19,9 +19,11 @@ use Rattle.cut_file.specs.declared.points.Run.{Run}
 use Rattle.cut_file.specs.Cuts.{are_runs, have_other_masks, is_cut_point, is_point, is_point_of, is_rest, is_run}
 use Rattle.cut_file.specs.Cuts.{is_empty, is_single, is_word}
 use Rattle.flow_base.specs.HexWords.{hex_word}
+use Rattle.flow_base.specs.TextPieces.{after_text}
+use Rattle.flow_base.proofs.WantedTexts.{after-found, after-own}
 use Rattle.cut_file.specs.declared.lines.Line.TheVariants as forms
 use Rattle.cut_file.specs.Texts.{joined, line_text, point_words, rest_text, run_text}
-use Rattle.cut_file.specs.Reading.{◌>>=◌, after_text, divided, first_of, may_follow}
+use Rattle.cut_file.specs.Reading.{◌>>=◌, divided, first_of, may_follow}
 use Rattle.cut_file.specs.Reading.{number_in, others_of, parts}
 use Rattle.cut_file.specs.Reading.{only_mask_in, pattern_in, place_in, point_in, point_in_words, rest_in}
 use Rattle.cut_file.specs.Reading.{run_in, runs_in, single_in}
@@ -31,8 +33,7 @@ use Rattle.cut_file.proofs.Following.{kept-step, list-push}
 use Rattle.cut_file.proofs.Numbers.{clean-append, clean-cons, decimal-clean, number-found, number-own}
 use Rattle.cut_file.proofs.Hexadecimal.{hex_word-clean, word-found, word-own}
 use Rattle.cut_file.proofs.Slots.{slot-clean, slot-found, slot-own}
-use Rattle.cut_file.proofs.Steps.{after-found, after-own, below-word, kept-found, the-same, then-found, then-own}
-use Rattle.cut_file.proofs.Steps.{word-below}
+use Rattle.cut_file.proofs.Steps.{below-word, kept-found, the-same, then-found, then-own, word-below}
 
 -- ---- runs
 

@@ -1,11 +1,9 @@
--- Steps that may fail, and texts that are wanted.
-use Rattle.std.proofs.Common.{◌≡◌, ◌⊎◌, ℕ, ◌<◌, Bool, true, false, List, [], ◌∷◌, ◌++◌, if◌then◌else◌, inl, inr}
+-- Steps that may fail.
+use Rattle.std.proofs.Common.{◌≡◌, ◌⊎◌, ℕ, ◌<◌, Bool, true, false, if◌then◌else◌, inl, inr}
 use Rattle.std.proofs.Common.{Option, Some, None, refl, ap, subst, arith}
 use Rattle.std.specs.Prelude.{option_map}
 use Rattle.cut_file.specs.Cuts.{is_word}
-use Rattle.cut_file.specs.Reading.{◌>>=◌, after_text, or_else}
-
--- ---- steps that may fail
+use Rattle.cut_file.specs.Reading.{◌>>=◌, or_else}
 
 pub record IsThen {A B : Type 0} (first : Option A) (next : A → Option B) (answer : B) : Type 0 where
   pub value : A
@@ -58,14 +56,3 @@ map-found form (Some value) answer e = (value, refl, the-same (form value) answe
 pub not-both : {A : Type 0} (o : Option A) (value : A) → o ≡ None → o ≡ Some value → ⊥
 not-both None value e f = absurd cc
 not-both (Some x) value e f = absurd cc
-
--- ---- wanted texts
-
-pub after-found : (wanted bytes rest : List ℕ) → after_text wanted bytes ≡ Some rest → bytes ≡ wanted ++ rest
-after-found [] bytes rest e = the-same bytes rest e
-after-found (first ∷ wanted) [] rest e = absurd cc
-after-found (first ∷ wanted) (byte ∷ more) rest e = grind (arith, after-found wanted more rest)
-
-pub after-own : (wanted rest : List ℕ) → after_text wanted (wanted ++ rest) ≡ Some rest
-after-own [] rest = refl
-after-own (first ∷ wanted) rest = grind (arith, after-own wanted rest)

@@ -18,6 +18,7 @@ use Rattle.cut_file.specs.Cuts.{CutPicture, have_other_masks, is_empty, is_regio
 use Rattle.cut_file.specs.Fronts.{Front, followed, version_of}
 use Rattle.cut_file.specs.Fronts.Front.{Nothing, Versioned, Sized, Listed, Whole}
 use Rattle.flow_base.specs.HexWords.{hex_word}
+use Rattle.flow_base.specs.TextPieces.{after_text}
 use Rattle.cut_file.specs.Texts.{joined}
 
 -- ---- parts
@@ -41,12 +42,6 @@ abbrev pub parts : ℕ → List ℕ → List (List ℕ)
 parts separator [] = [] ∷ []
 parts separator (byte ∷ bytes) =
     if byte == separator then [] ∷ parts separator bytes else onto_first byte (parts separator bytes)
-
--- the rest after a wanted text
-abbrev pub after_text : List ℕ → List ℕ → Option (List ℕ)
-after_text [] bytes = Some bytes
-after_text (first ∷ wanted) [] = None
-after_text (first ∷ wanted) (byte ∷ bytes) = if first == byte then after_text wanted bytes else None
 
 -- the first of a list, and the others
 abbrev pub first_of : List (List ℕ) → Option (List ℕ)

@@ -7,8 +7,8 @@ ghost use Rattle.cut_file.specs.Reading.{point_in_words, rest_in, runs_in, singl
 use crate::line_words::LineWords;
 use crate::lines::Line;
 use crate::points::{CutPoint, Run};
-use crate::words::{after, number, run, slot, word};
-use flow_base::{List, NoMemory, Point};
+use crate::words::{number, run, slot, word};
+use flow_base::{List, NoMemory, Point, after};
 use std::alloc::Global;
 
 /// The length in bytes that a secret may have at most.

@@ -1,5 +1,5 @@
 ghost use Rattle.std.specs.Prelude.{◌≡◌, ◌≤◌, ◌<◌, ◌+◌, length, option_map, IfSome};
-ghost use Rattle.cut_file.specs.Reading.{after_text, digit_of, digits_in, divided};
+ghost use Rattle.cut_file.specs.Reading.{digit_of, digits_in, divided};
 ghost use Rattle.cut_file.specs.Reading.{has_leading_zero as begins_with_zero};
 ghost use Rattle.cut_file.specs.Reading.{named_slot as slot_named, number_in, numbered_slot as slot_numbered, run_in};
 ghost use Rattle.cut_file.specs.Reading.{slot_in, slot_of as slot_from, word_in, word_of};
@@ -18,25 +18,6 @@ pub(crate) fn divide(separator: u8, bytes: &[u8]) -> Option<(&[u8], &[u8])>
         }
     }
     None
-}
-
-/// The rest after a wanted text; None where the bytes do not begin with it.
-pub(crate) fn after<'a>(wanted: &[u8], bytes: &'a [u8]) -> Option<&'a [u8]>
-    ensures { option_map (λ rest. rest.now) result ≡ after_text wanted.now bytes.entry.now }
-{
-    let mut left = wanted;
-    let mut rest = bytes;
-    while let [first, others @ ..] = left {
-        let [byte, more @ ..] = rest else {
-            return None;
-        };
-        if *first != *byte {
-            return None;
-        }
-        left = others;
-        rest = more;
-    }
-    Some(rest)
 }
 
 // Whether a word of several bytes begins with 0.

@@ -1,6 +1,4 @@
 ghost use Rattle.std.specs.Prelude.{◌≡◌, ◌++◌, ◌∷◌, ℕ, IfOk, OnOk, map, codes, []};
-ghost use Rattle.std.specs.Fmt.{decimal};
-ghost use Rattle.flow_base.specs.Points.{slot_text};
 ghost use Rattle.cut_file.specs.Pictures.{picture_of};
 ghost use Rattle.cut_file.specs.Writing.{led, point_pieces};
 ghost use Rattle.cut_file.specs.Texts.{CutText, lines_text, rest_text, run_text};
@@ -8,38 +6,14 @@ ghost use Rattle.cut_file.specs.declared.lines.Line.TheVariants.{Bits, Point, Se
 
 use crate::cuts::Cut;
 use crate::points::{CutPoint, Run};
-use flow_base::{Bytes, List, NoMemory, Slot, hex_word};
+use flow_base::{Bytes, List, NoMemory, hex_word, put, put_number, put_slot};
 use std::alloc::Global;
-
-// Puts bytes at the end of a text.
-fn put(text: &mut Vec<u8>, bytes: &[u8]) -> Result<(), NoMemory>
-    ensures { OnOk result (text.new.items ≡ text.old.items ++ bytes.now) }
-{
-    text.extend_from_slice(bytes)?;
-    Ok(())
-}
-
-// Puts a number in decimal at the end of a text.
-fn put_number(alloc: Global, text: &mut Vec<u8>, number: u32) -> Result<(), NoMemory>
-    ensures { OnOk result (text.new.items ≡ text.old.items ++ decimal number) }
-{
-    let digits = format!(in alloc; "{number}")?;
-    put(text, digits.as_bytes())
-}
-
-// Puts the text of a slot at the end of a text.
-fn put_slot(alloc: Global, text: &mut Vec<u8>, slot: Slot) -> Result<(), NoMemory>
-    ensures { OnOk result (text.new.items ≡ text.old.items ++ slot_text slot) }
-{
-    let word = format!(in alloc; "{slot}")?;
-    put(text, word.as_bytes())
-}
 
 // Puts a run at the end of a text.
 fn put_run(alloc: Global, text: &mut Vec<u8>, run: &Run) -> Result<(), NoMemory>
     ensures { OnOk result (text.new.items ≡ text.old.items ++ run_text run.now) }
 {
-    put_number(alloc, text, run.count)?;
+    put_number(alloc, text, u64::from(run.count))?;
     put(text, b"*")?;
     put(text, &hex_word(run.mask))?;
     Ok(())
@@ -88,7 +62,7 @@ fn put_point(
     ensures { OnOk result (text.new.items ≡ text.old.items ++ point_pieces version point.now) }
 {
     put(text, b"point ")?;
-    put_number(alloc, text, u32::from(point.point.region))?;
+    put_number(alloc, text, u64::from(point.point.region))?;
     put(text, b" ")?;
     put(text, &hex_word(point.point.address))?;
     put(text, b" ")?;
@@ -122,7 +96,7 @@ fn put_regions(alloc: Global, text: &mut Vec<u8>, regions: &[u16]) -> Result<(),
 {
     for region in regions {
         put(text, b"skip ")?;
-        put_number(alloc, text, u32::from(*region))?;
+        put_number(alloc, text, u64::from(*region))?;
         put(text, b"\n")?;
     }
     Ok(())
@@ -135,11 +109,11 @@ fn head(alloc: Global, version: u8, secret_len: u32, bits: u32) -> Result<Vec<u8
 {
     let mut text = Vec::new(alloc);
     put(&mut text, b"flowcheck-cut ")?;
-    put_number(alloc, &mut text, u32::from(version))?;
+    put_number(alloc, &mut text, u64::from(version))?;
     put(&mut text, b"\nsecret ")?;
-    put_number(alloc, &mut text, secret_len)?;
+    put_number(alloc, &mut text, u64::from(secret_len))?;
     put(&mut text, b"\nbits ")?;
-    put_number(alloc, &mut text, bits)?;
+    put_number(alloc, &mut text, u64::from(bits))?;
     put(&mut text, b"\n")?;
     Ok(text)
 }

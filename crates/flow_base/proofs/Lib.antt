@@ -2,3 +2,5 @@ pub mod HexText
 pub mod PointOrders
 pub mod NameTables
 pub mod NamePlaces
+pub mod JoinedPieces
+pub mod WantedTexts

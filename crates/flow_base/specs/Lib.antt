@@ -11,3 +11,4 @@ pub mod Writing
 pub mod Guests
 pub mod HexWords
 pub mod RegisterNames
+pub mod TextPieces

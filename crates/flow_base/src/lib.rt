@@ -15,6 +15,7 @@ mod points;
 mod putting;
 mod register_file;
 mod register_names;
+mod text_pieces;
 
 pub use guests::{MEMORY_SIZE, is_inside};
 pub use hex_words::{HexWord, digit, hex_digits, hex_word};
@@ -29,3 +30,4 @@ pub use points::{Point, Slot};
 pub use putting::{Sink, SinkFault};
 pub use register_file::Registers;
 pub use register_names::register_named;
+pub use text_pieces::{after, put, put_number, put_slot};

@@ -8,14 +8,15 @@ use Rattle.std.proofs.lemmas.Fmt.{decimal_by_steps}
 use Rattle.std.proofs.lemmas.Bool.{and_parts, lt-ltb, ltb-true}
 use Rattle.flow_base.specs.HexWords.{hex_digit, hex_digits, hex_word}
 use Rattle.flow_base.specs.Points.{is_slot, slot_text}
+use Rattle.flow_base.specs.TextPieces.{after_text}
+use Rattle.flow_base.proofs.WantedTexts.{after-found, after-own}
 use Rattle.flow_base.specs.declared.points.Slot.{Slot}
 use Rattle.flow_base.specs.declared.points.Slot.TheVariants.{First, Second, Address, Result, Decision, Number, Arg0}
 use Rattle.flow_base.specs.declared.points.Slot.TheVariants.{Arg1, Arg2, SecretIn, ByteOut, Status, OutReg, OutRange}
 use Rattle.flow_graph.specs.declared.ends.End.{End}
 use Rattle.flow_graph.specs.declared.ends.End.TheVariants as ends
 use Rattle.flow_certificate.specs.Guessing.{below, digit_of, digits_at, end_at, grown, is_digit, number_at, slot_at}
-use Rattle.flow_certificate.specs.Guessing.{after_text, guess, half_of, line_in, link_at, point_at, relay_at, with_line}
-use Rattle.flow_certificate.specs.Guessing.{word_at}
+use Rattle.flow_certificate.specs.Guessing.{guess, half_of, line_in, link_at, point_at, relay_at, with_line, word_at}
 use Rattle.flow_certificate.specs.Keeping.{is_number, is_place, is_region}
 use Rattle.flow_certificate.specs.Lines.{half_text, inside_text, is_end, is_line, line_text, link_text, point_text}
 use Rattle.flow_certificate.specs.Lines.{relay_text}
@@ -291,26 +292,6 @@ unfolding line_or
 pair-same a b x y e =
     let same : (a, x) ≡ (b, y) = ap (line_or (a, x)) e in
     (ap (λ p. p.0) same, ap (λ p. p.1) same)
-
-abbrev a_rest : List ℕ → Option (List ℕ)
-a_rest rest = Some rest
-
-rest_or : List ℕ → Option (List ℕ) → List ℕ
-rest_or other None = other
-rest_or other (Some rest) = rest
-
-some-same : (a b : List ℕ) → a_rest a ≡ a_rest b → a ≡ b
-unfolding rest_or
-some-same a b e = ap (rest_or a) e
-
-pub after-found : (wanted bytes rest : List ℕ) → after_text wanted bytes ≡ Some rest → bytes ≡ wanted ++ rest
-after-found [] bytes rest e = some-same bytes rest e
-after-found (first ∷ wanted) [] rest e = absurd cc
-after-found (first ∷ wanted) (byte ∷ more) rest e = grind (arith, after-found wanted more rest)
-
-pub after-own : (wanted rest : List ℕ) → after_text wanted (wanted ++ rest) ≡ Some rest
-after-own [] rest = refl
-after-own (first ∷ wanted) rest = grind (arith, after-own wanted rest)
 
 -- the text of a line is read as that line
 pub line-own : (line : Line) (rest : List ℕ) → is_line line ≡ true →

@@ -4,7 +4,6 @@ pub mod Blocks
 pub mod Sides
 pub mod SideCapacity
 pub mod Verified
-pub mod Pieces
 pub mod Guesses
 pub mod LastItems
 pub mod DraftedPictures

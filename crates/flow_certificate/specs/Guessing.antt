@@ -3,6 +3,7 @@ use Rattle.std.specs.Prelude.{ℕ, ◌+◌, ◌-◌, ◌*◌, ◌%◌, ◌^◌, 
 use Rattle.std.specs.Prelude.{slice_index, if◌then◌else◌, Option, Some, None, option_map}
 use Rattle.flow_base.specs.declared.points.Slot.{Slot}
 use Rattle.flow_base.specs.declared.points.Slot.TheVariants as slots
+use Rattle.flow_base.specs.TextPieces.{after_text}
 use Rattle.flow_graph.specs.declared.ends.End.{End}
 use Rattle.flow_graph.specs.declared.ends.End.TheVariants as ends
 use Rattle.max_flow.specs.declared.answers.Half.{Half}
@@ -121,12 +122,6 @@ guess bytes =
     else if slice_index bytes 0 == 118 then forms.Value ((number_at (drop 6 bytes)).0)
     else if slice_index bytes 0 == 102 then forms.Version
     else forms.End
-
--- the rest after a wanted text
-abbrev pub after_text : List ℕ → List ℕ → Option (List ℕ)
-after_text [] bytes = Some bytes
-after_text (first ∷ wanted) [] = None
-after_text (first ∷ wanted) (byte ∷ bytes) = if first == byte then after_text wanted bytes else None
 
 -- a line with what it says
 abbrev pub with_line : Line → List ℕ → Line × List ℕ

@@ -1,5 +1,5 @@
 ghost use Rattle.std.specs.Prelude.{◌≡◌, IfOk, nat_lt, option_map};
-ghost use Rattle.flow_certificate.specs.Guessing.{after_text, line_in};
+ghost use Rattle.flow_certificate.specs.Guessing.{line_in};
 ghost use Rattle.flow_certificate.specs.Keeping.{is_number as is_known_number, is_place as is_known_place};
 ghost use Rattle.flow_certificate.specs.Keeping.{is_region as is_known_region};
 ghost use Rattle.flow_certificate.specs.Lines.{is_end as is_known_end, is_line as is_known_line};
@@ -7,31 +7,12 @@ ghost use Rattle.flow_certificate.specs.Lines.{is_end as is_known_end, is_line a
 use crate::guessing::guess;
 use crate::line_texts::put_line;
 use crate::lines::Line;
-use flow_base::{NoMemory, Point};
+use flow_base::{NoMemory, Point, after};
 use flow_graph::End;
 use std::alloc::Global;
 
 /// Numbers of a certificate are below this one, 2^48.
 pub const LIMIT: u64 = 281_474_976_710_656;
-
-/// The rest after a wanted text; None where the bytes do not begin with it.
-fn after<'a>(wanted: &[u8], bytes: &'a [u8]) -> Option<&'a [u8]>
-    ensures { option_map (λ rest. rest.now) result ≡ after_text wanted.now bytes.entry.now }
-{
-    let mut left = wanted;
-    let mut rest = bytes;
-    while let [first, others @ ..] = left {
-        let [byte, more @ ..] = rest else {
-            return None;
-        };
-        if *first != *byte {
-            return None;
-        }
-        left = others;
-        rest = more;
-    }
-    Some(rest)
-}
 
 /// Whether a number of 16 bits can be that of a region: each can.
 pub fn is_region(region: u16) -> bool

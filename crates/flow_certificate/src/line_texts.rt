@@ -1,30 +1,13 @@
 ghost use Rattle.std.specs.Prelude.{◌≡◌, ◌++◌, ◌∷◌, [], OnOk, codes};
 ghost use Rattle.std.specs.Fmt.{decimal};
 ghost use Rattle.flow_certificate.specs.Lines.{half_text, inside_text, line_text, link_text, point_text, relay_text};
-ghost use Rattle.flow_base.specs.Points.{slot_text};
 ghost use Rattle.flow_certificate.specs.VerdictTexts.{end_text};
 
 use crate::lines::{Line, LinkLine, PointLine, RelayLine};
-use flow_base::{NoMemory, Slot, hex_word};
+use flow_base::{NoMemory, hex_word, put, put_number, put_slot};
 use flow_graph::End;
 use max_flow::Half;
 use std::alloc::Global;
-
-/// Puts bytes at the end of a text.
-pub fn put(text: &mut Vec<u8>, bytes: &[u8]) -> Result<(), NoMemory>
-    ensures { OnOk result (text.new.items ≡ text.old.items ++ bytes.now) }
-{
-    text.extend_from_slice(bytes)?;
-    Ok(())
-}
-
-/// Puts a number in decimal at the end of a text.
-fn put_number(alloc: Global, text: &mut Vec<u8>, number: u64) -> Result<(), NoMemory>
-    ensures { OnOk result (text.new.items ≡ text.old.items ++ decimal number) }
-{
-    let digits = format!(in alloc; "{number}")?;
-    put(text, digits.as_bytes())
-}
 
 /// Puts a letter and a number at the end of a text.
 fn put_lettered(alloc: Global, text: &mut Vec<u8>, letter: u8, number: u64) -> Result<(), NoMemory>
@@ -32,14 +15,6 @@ fn put_lettered(alloc: Global, text: &mut Vec<u8>, letter: u8, number: u64) -> R
 {
     put(text, &[letter])?;
     put_number(alloc, text, number)
-}
-
-/// Puts the text of a slot at the end of a text.
-fn put_slot(alloc: Global, text: &mut Vec<u8>, slot: Slot) -> Result<(), NoMemory>
-    ensures { OnOk result (text.new.items ≡ text.old.items ++ slot_text slot) }
-{
-    let word = format!(in alloc; "{slot}")?;
-    put(text, word.as_bytes())
 }
 
 /// Puts the text of an end of a link at the end of a text.

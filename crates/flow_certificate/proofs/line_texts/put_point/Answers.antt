@@ -2,7 +2,7 @@ use Rattle.std.proofs.Common.{◌≡◌, List, ℕ, codes, ap, ◌++◌, ◌∙�
 use Rattle.std.specs.Fmt.{decimal}
 use Rattle.flow_base.specs.HexWords.{hex_word}
 use Rattle.flow_base.specs.Points.{slot_text}
-use Rattle.flow_certificate.proofs.Pieces.{joins}
+use Rattle.flow_base.proofs.JoinedPieces.{joins}
 use Rattle.flow_certificate.proofs.line_texts.put_point.Goals as goal
 
 pub returns : goal.returns

@@ -1,7 +1,6 @@
--- The pieces of a text that is written.
+-- Two pieces that are put behind a text are one.
 use Rattle.std.proofs.Common.{◌≡◌, ℕ, List, ◌++◌, ap, ◌∙◌, append_assoc}
 
--- two pieces are one
 pub joins : (before first middle second after : List ℕ) → middle ≡ before ++ first → after ≡ middle ++ second →
     after ≡ before ++ (first ++ second)
 joins before first middle second after e f =

@@ -1,0 +1,40 @@
+ghost use Rattle.std.specs.Prelude.{◌≡◌, ◌++◌, OnOk, option_map};
+ghost use Rattle.std.specs.Fmt.{decimal};
+ghost use Rattle.flow_base.specs.Points.{slot_text};
+ghost use Rattle.flow_base.specs.TextPieces.{after_text};
+
+use crate::lists::NoMemory;
+use crate::points::Slot;
+use std::alloc::Global;
+
+/// The rest after a wanted text; None where the bytes do not begin with it.
+#[tactic(auto, using(crate::proofs::WantedTexts::stripped_prefix))]
+pub fn after<'a>(wanted: &[u8], bytes: &'a [u8]) -> Option<&'a [u8]>
+    ensures { option_map (λ rest. rest.now) result ≡ after_text wanted.now bytes.entry.now }
+{
+    bytes.strip_prefix(wanted)
+}
+
+/// Puts bytes at the end of a text.
+pub fn put(text: &mut Vec<u8>, bytes: &[u8]) -> Result<(), NoMemory>
+    ensures { OnOk result (text.new.items ≡ text.old.items ++ bytes.now) }
+{
+    text.extend_from_slice(bytes)?;
+    Ok(())
+}
+
+/// Puts a number in decimal at the end of a text.
+pub fn put_number(alloc: Global, text: &mut Vec<u8>, number: u64) -> Result<(), NoMemory>
+    ensures { OnOk result (text.new.items ≡ text.old.items ++ decimal number) }
+{
+    let digits = format!(in alloc; "{number}")?;
+    put(text, digits.as_bytes())
+}
+
+/// Puts the text of a slot at the end of a text.
+pub fn put_slot(alloc: Global, text: &mut Vec<u8>, slot: Slot) -> Result<(), NoMemory>
+    ensures { OnOk result (text.new.items ≡ text.old.items ++ slot_text slot) }
+{
+    let word = format!(in alloc; "{slot}")?;
+    put(text, word.as_bytes())
+}
