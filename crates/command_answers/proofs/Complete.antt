@@ -30,7 +30,7 @@ use Rattle.lockstep_replay.proofs.Accepting.{accepted_law}
 use Rattle.lockstep_replay.proofs.Judging.{rejected_law}
 use Rattle.measuring.specs.declared.measured.Measured.{Measured}
 use Rattle.measuring.specs.Deciding.{IsDeciding}
-use Rattle.measuring.proofs.Excluded.{measured_have_no_cause}
+use Rattle.measuring.proofs.MeasuredWithoutCause.{measured_have_no_cause}
 use Rattle.rv32im_asm.specs.Assembling.{assembled}
 use Rattle.trial_guests.specs.Programs.{picture_of_number}
 use Rattle.trial_guests.specs.Secrets.{secret_of}

@@ -10,7 +10,7 @@ use Rattle.cut_file.proofs.FileTexts.{cut-no_fault, one-cut}
 use Rattle.lockstep_replay.specs.Tasks.{task_of}
 use Rattle.measuring.specs.declared.measured.Measured.{Measured}
 use Rattle.measuring.specs.Deciding.{IsDeciding}
-use Rattle.measuring.proofs.Excluded.{measured_have_no_cause}
+use Rattle.measuring.proofs.MeasuredWithoutCause.{measured_have_no_cause}
 use Rattle.trial_guests.specs.Programs.{picture_of_number}
 use Rattle.trial_guests.specs.Secrets.{secret_of}
 use Rattle.command_words.specs.declared.limits.Limits.{Limits}

@@ -9,7 +9,7 @@ use Rattle.location_collapse.specs.declared.faults.CollapseFault.TheVariants.{Li
 use Rattle.location_collapse.specs.Collapses.{StandsFor, is_limit}
 use Rattle.location_collapse.specs.LimitLaws.{MoreExceed}
 use Rattle.location_collapse.specs.Limits.{ExceedsLimit}
-use Rattle.location_collapse.proofs.Limiting.{not_exceeding}
+use Rattle.location_collapse.proofs.CollapseLimits.{not_exceeding}
 
 -- it stands for these events more
 abbrev pub Gains : Collapse → Collapse → List Event → Type 0
@@ -46,33 +46,34 @@ takes_one old new e answer done ok gains full = record {
   full = full ∙ (ap (λ r. old.is_full || is_limit r) ok ∙ or_false old.is_full);
 }
 
-pub gains_behind : (old mid new : Collapse) (first more : List Event) → Takes old mid first → Gains mid new more → Gains old
-    new (first ++ more)
+pub gains_behind : (old mid new : Collapse) (first more : List Event) → Takes old mid first → Gains mid new more →
+    Gains old new (first ++ more)
 gains_behind old mid new first more takes gains events stands =
     subst (StandsFor new) (append_assoc events first more) (gains (events ++ first) (takes.gains events stands))
 
-pub takes_behind : (old mid new : Collapse) (first more : List Event) → Takes old mid first → Takes mid new more → Takes old
-    new (first ++ more)
+pub takes_behind : (old mid new : Collapse) (first more : List Event) → Takes old mid first → Takes mid new more →
+    Takes old new (first ++ more)
 takes_behind old mid new first more takes later = record {
   gains = gains_behind old mid new first more takes later.gains;
   full = later.full ∙ takes.full;
 }
 
-pub allows_behind : (old mid : Collapse) (first more : List Event) → Takes old mid first → Allows mid more → Allows old
-    (first ++ more)
+pub allows_behind : (old mid : Collapse) (first more : List Event) → Takes old mid first → Allows mid more →
+    Allows old (first ++ more)
 allows_behind old mid first more takes allows events stands exceeds =
     allows (events ++ first) (takes.gains events stands)
     (subst ExceedsLimit (sym (append_assoc events first more)) exceeds)
 
-pub refuses_behind : (old mid : Collapse) (first more : List Event) → Takes old mid first → Refuses mid more → Refuses old
-    (first ++ more)
+pub refuses_behind : (old mid : Collapse) (first more : List Event) → Takes old mid first → Refuses mid more →
+    Refuses old (first ++ more)
 refuses_behind old mid first more takes refuses =
     ⊎_elim (λ (was : mid.is_full ≡ true). inl (sym takes.full ∙ was))
     (λ (exceeding : (events : List Event) → StandsFor mid events → ExceedsLimit (events ++ more)).
     inr (λ events stands. subst ExceedsLimit (append_assoc events first more)
     (exceeding (events ++ first) (takes.gains events stands)))) refuses
 
-pub refuses_rest : (old : Collapse) (first more : List Event) → MoreExceed → Refuses old first → Refuses old (first ++ more)
+pub refuses_rest : (old : Collapse) (first more : List Event) → MoreExceed → Refuses old first →
+    Refuses old (first ++ more)
 refuses_rest old first more goes_on refuses =
     ⊎_elim (λ (was : old.is_full ≡ true). inl was)
     (λ (exceeding : (events : List Event) → StandsFor old events → ExceedsLimit (events ++ first)).
@@ -80,7 +81,7 @@ refuses_rest old first more goes_on refuses =
     (goes_on (events ++ first) more (exceeding events stands)))) refuses
 
 -- a limit that is handed on was answered
-pub limit_given : (answer given : Result (Unit {0}) CollapseFault) (fault : CollapseFault) → answer ≡ Err fault → IsErrAnd
-    given (λ other. other ≡ fault) → given ≡ Err Limit → answer ≡ Err Limit
+pub limit_given : (answer given : Result (Unit {0}) CollapseFault) (fault : CollapseFault) → answer ≡ Err fault →
+    IsErrAnd given (λ other. other ≡ fault) → given ≡ Err Limit → answer ≡ Err Limit
 limit_given answer (Ok done) fault was gives limit = absurd gives
 limit_given answer (Err other) fault was gives limit = was ∙ (ap Err (sym gives) ∙ limit)

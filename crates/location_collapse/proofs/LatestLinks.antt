@@ -7,7 +7,7 @@ use Rattle.flow_graph.specs.declared.named_links.NamedLink.{NamedLink}
 use Rattle.flow_graph.specs.declared.named_links.NamedEnd.TheVariants.{At, Relay}
 use Rattle.flow_graph.specs.EventGraphs.{is_among}
 use Rattle.location_collapse.specs.LatestLinks.{has_flow, has_output}
-use Rattle.location_collapse.proofs.Same.{point_eq, link_eq, links_same}
+use Rattle.location_collapse.proofs.EqualityByOrder.{point_eq, link_eq, links_same}
 use Rattle.location_collapse.proofs.LinkMarks.{among_alike}
 
 -- what equals a link that has occurred has occurred

@@ -1,7 +1,7 @@
-pub mod Same
+pub mod EqualityByOrder
 pub mod CapacityMaps
 pub mod LinkMarks
-pub mod Limiting
+pub mod CollapseLimits
 pub mod EventSteps
 pub mod EventsInTurn
 pub mod SortedCollapses

@@ -10,7 +10,7 @@ use Rattle.flow_graph.specs.Keeping.{TakesLinks}
 use Rattle.flow_graph.proofs.Adding.{put_links}
 use Rattle.indexmap.specs.IndexSet.{insert_key}
 use Rattle.location_collapse.specs.Limits.{is_same_link}
-use Rattle.location_collapse.proofs.Same.{links_alike, link_eq, links_same, contains-among}
+use Rattle.location_collapse.proofs.EqualityByOrder.{links_alike, link_eq, links_same, contains-among}
 
 chosen : (test : NamedLink → Bool) (b : Bool) (keys : List NamedLink) (link : NamedLink) → list_all test keys ≡ true →
     list_all test (link ∷ []) ≡ true → list_all test (if b then keys else keys ++ link ∷ []) ≡ true

@@ -5,7 +5,8 @@ ghost use Rattle.flow_graph.specs.declared.events.Event.TheVariants.{Pass as Pas
 ghost use Rattle.flow_graph.specs.Again.{again_events};
 ghost use Rattle.flow_graph.specs.Keeping.{is_there, may_lead};
 ghost use Rattle.location_collapse.specs.Limits.{ExceedsLimit};
-ghost use Rattle.location_collapse.specs.Collapses.{HasAgainLinks, KeepsAll, Makes, StandsFor, has_ends, is_limit, knows};
+ghost use Rattle.location_collapse.specs.Collapses.{HasAgainLinks, KeepsAll, Makes, StandsFor};
+ghost use Rattle.location_collapse.specs.Collapses.{has_ends, is_limit, knows};
 
 use crate::collapses::Collapse;
 use crate::faults::CollapseFault;
@@ -184,8 +185,9 @@ impl Collapse {
     }
 
     /// Takes the three events of an output that gives out again what it gave before: where both of its links are the
-    /// latest of their kinds it only counts. `Limit` comes exactly where the graph of the events taken with these exceeds
-    /// a limit, or an earlier event was not taken for one. Where it answers an error, a first part of them may be taken.
+    /// latest of their kinds it only counts. `Limit` comes exactly where the graph of the events taken with these
+    /// exceeds a limit, or an earlier event was not taken for one. Where it answers an error, a first part of them may
+    /// be taken.
     #[inline(always)]
     pub fn add_again(&mut self, point: &Point, mask: u32) -> Result<(), CollapseFault>
         ensures ok { OnOk result ((events : Seq AnEvent) → StandsFor self.old events → StandsFor self.new

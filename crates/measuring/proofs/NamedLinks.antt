@@ -32,7 +32,7 @@ use Rattle.flow_graph.specs.EventGraphs.{no_point}
 use Rattle.flow_graph.specs.Graphs.{arc_cmp, ascend, is_link, is_origin}
 use Rattle.flow_graph.specs.Graphs.{is_target, leads_on, node_cmp}
 use Rattle.location_collapse.specs.Limits.{is_same_link}
-use Rattle.location_collapse.proofs.Same.{links_alike}
+use Rattle.location_collapse.proofs.EqualityByOrder.{links_alike}
 use Rattle.measuring.proofs.Splits.{above, nodes_chain}
 
 behind : {A : Type 0} (cmp : A → A → Ordering) (x : A) (xs : List A) → ascend cmp (x ∷ xs) ≡ true → ascend cmp xs ≡ true

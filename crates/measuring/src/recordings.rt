@@ -57,17 +57,11 @@ impl Events for Recording {
         ensures { OnOk result ((events : Seq AnEvent) → Records self.old events → Records self.new
             (events ++ again_events point mask)) }
     {
-        if self.collapse.add_again(&point, mask) {
-            return self.visits.take(Event::Pass { point, mask });
+        more_events_exceed();
+        match self.collapse.add_again(&point, mask) {
+            Ok(()) => self.visits.take(Event::Pass { point, mask }),
+            Err(CollapseFault::Limit) => Ok(()),
+            Err(CollapseFault::Memory) => Err(NoMemory),
         }
-        self.add(Event::Pass { point, mask })?;
-        self.add(Event::Link {
-            source: point,
-            target: point,
-        })?;
-        self.add(Event::Out {
-            region: point.region,
-            point,
-        })
     }
 }

@@ -3,7 +3,7 @@ use Rattle.region_machine.specs.Runs.{has_exited}
 use Rattle.tracked_run.specs.Outcomes.{spent_by}
 use Rattle.tracked_run.specs.declared.outcomes.TrackedTurn.TheVariants.{Ran, Exited, Refused}
 use Rattle.std.proofs.Common.{Ok}
-use Rattle.measuring.proofs.Turns.{starts, ran, exits, is_refused, turn_is}
+use Rattle.measuring.proofs.FollowedTurns.{starts, ran, exits, is_refused, turn_is}
 use Rattle.measuring.proofs.following.follow.Goals as goal
 
 pub loop-made-init : goal.loop-made-init

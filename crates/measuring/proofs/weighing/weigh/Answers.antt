@@ -2,7 +2,7 @@ use Rattle.std.proofs.Common.{refl}
 use Rattle.cut_file.proofs.Following.{is_true}
 use Rattle.measuring.proofs.RunCut.{cut_is}
 use Rattle.measuring.proofs.CutNames.{cut_is_in}
-use Rattle.measuring.proofs.Within.{recorded_within, recorded_exceeds_none}
+use Rattle.measuring.proofs.GraphWithinLimits.{recorded_within, recorded_exceeds_none}
 use Rattle.measuring.proofs.weighing.weigh.Goals as goal
 
 pub solve-requires : goal.solve-requires

@@ -10,7 +10,8 @@ pub returns-in_err-add-clause-limit : goal.returns-in_err-add-clause-limit
 returns-in_err-add-clause-limit c = λ e.
     let p = c.args.point in
     let limit : c.add.result ≡ Err Limit =
-    limit_given c.add.result c.from_residual.result c.in_err-add.field-0.0 c.in_err-add.was c.from_residual.ensures.1 e in
+    limit_given c.add.result c.from_residual.result c.in_err-add.field-0.0 c.in_err-add.was
+    c.from_residual.ensures.1 e in
     refuses_rest c.args.self.now (Pass p c.args.mask ∷ []) (Link p p ∷ Out p.region p ∷ [])
     c.more_events_exceed.ensures (c.add.ensures.limit limit)
 

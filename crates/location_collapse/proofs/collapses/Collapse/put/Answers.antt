@@ -4,7 +4,7 @@ use Rattle.flow_graph.specs.Keeping.{Keeps}
 use Rattle.std.proofs.lemmas.Result.{on_ok_weaker}
 use Rattle.std.proofs.Common.{inr, inl}
 use Rattle.location_collapse.proofs.EventSteps.{known_link, missing_end, new_link, made_alone}
-use Rattle.location_collapse.proofs.Limiting.{exceeds_links}
+use Rattle.location_collapse.proofs.CollapseLimits.{exceeds_links}
 use Rattle.location_collapse.proofs.collapses.Collapse.put.Goals as goal
 
 pub returns-in-Some-clause-ok : goal.returns-in-Some-clause-ok

@@ -1,5 +1,5 @@
 use Rattle.std.proofs.Common.{◌∙◌}
-use Rattle.location_collapse.proofs.Same.{contains-among}
+use Rattle.location_collapse.proofs.EqualityByOrder.{contains-among}
 use Rattle.location_collapse.proofs.kept_links.KeptLinks.find.Goals as goal
 
 pub returns-in-None : goal.returns-in-None

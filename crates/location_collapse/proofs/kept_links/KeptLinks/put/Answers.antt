@@ -1,6 +1,6 @@
 use Rattle.std.proofs.Common.{subst, arith}
 use Rattle.std.specs.List.{IsDistinct}
-use Rattle.location_collapse.proofs.Same.{links_same}
+use Rattle.location_collapse.proofs.EqualityByOrder.{links_same}
 use Rattle.location_collapse.proofs.LinkMarks.{takes_put}
 use Rattle.location_collapse.proofs.kept_links.KeptLinks.put.Goals as goal
 

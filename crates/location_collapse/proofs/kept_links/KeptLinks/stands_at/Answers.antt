@@ -1,6 +1,6 @@
 use Rattle.std.proofs.Common.{sym, ◌∙◌}
 use Rattle.std.proofs.lemmas.Bool.{OnTrue_from}
-use Rattle.location_collapse.proofs.Same.{among_at}
+use Rattle.location_collapse.proofs.EqualityByOrder.{among_at}
 use Rattle.location_collapse.proofs.kept_links.KeptLinks.stands_at.Goals as goal
 
 pub returns-in-Some : goal.returns-in-Some

@@ -1,6 +1,6 @@
 use Rattle.std.proofs.Common.{ap, ◌∙◌, ◌++◌, replicate}
 use Rattle.std.proofs.lemmas.Result.{on_ok_weaker}
-use Rattle.measuring.proofs.Keeping.{adds, puts_at, value_at}
+use Rattle.measuring.proofs.AddedVisits.{adds, puts_at, value_at}
 use Rattle.measuring.proofs.kept_visits.KeptVisits.again.Goals as goal
 
 pub returns-clause-ok : goal.returns-clause-ok

@@ -1,4 +1,4 @@
-use Rattle.measuring.proofs.Keeping.{starts_empty}
+use Rattle.measuring.proofs.AddedVisits.{starts_empty}
 use Rattle.measuring.proofs.kept_visits.KeptVisits.new.Goals as goal
 
 pub returns : goal.returns

@@ -1,7 +1,7 @@
 use Rattle.std.proofs.Common.{sym, subst, ◌∙◌, refl}
 use Rattle.std.proofs.lemmas.Result.{on_ok_weaker}
 use Rattle.visit_counts.specs.Counts.{Clears}
-use Rattle.measuring.proofs.Keeping.{adds_none, settled}
+use Rattle.measuring.proofs.AddedVisits.{adds_none, settled}
 use Rattle.measuring.proofs.kept_visits.KeptVisits.settle.Goals as goal
 
 pub returns-then-count-eq0 : goal.returns-then-count-eq0

@@ -3,7 +3,7 @@ use Rattle.std.proofs.lemmas.List.{append-nil}
 use Rattle.std.proofs.lemmas.Result.{on_ok_weaker}
 use Rattle.covered_runs.specs.RunCuts.{mask_at_event}
 use Rattle.measuring.specs.Visits.{all_masks}
-use Rattle.measuring.proofs.Keeping.{takes, no_mask}
+use Rattle.measuring.proofs.AddedVisits.{takes, no_mask}
 use Rattle.measuring.proofs.kept_visits.KeptVisits.take.Goals as goal
 
 pub returns-in-Pass : goal.returns-in-Pass

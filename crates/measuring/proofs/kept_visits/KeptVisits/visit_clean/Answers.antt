@@ -1,7 +1,7 @@
 use Rattle.std.proofs.Common.{refl, subst, cond}
 use Rattle.std.proofs.lemmas.Result.{on_ok_weaker}
 use Rattle.visit_counts.specs.Counts.{CountsMore}
-use Rattle.measuring.proofs.Keeping.{counts_visit, uncounted}
+use Rattle.measuring.proofs.AddedVisits.{counts_visit, uncounted}
 use Rattle.measuring.proofs.kept_visits.KeptVisits.visit_clean.Goals as goal
 
 pub returns-then-counted : goal.returns-then-counted

@@ -1,5 +1,5 @@
 use Rattle.std.proofs.lemmas.Result.{on_ok_weaker}
-use Rattle.measuring.proofs.Keeping.{visited}
+use Rattle.measuring.proofs.AddedVisits.{visited}
 use Rattle.measuring.proofs.kept_visits.KeptVisits.visit_in_runs.Goals as goal
 
 pub returns : goal.returns

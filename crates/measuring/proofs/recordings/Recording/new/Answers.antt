@@ -1,6 +1,6 @@
 use Rattle.std.proofs.Common.{sym, ◌∙◌}
 use Rattle.std.proofs.lemmas.Bool.{false≢true}
-use Rattle.measuring.proofs.Keeping.{none_for}
+use Rattle.measuring.proofs.AddedVisits.{none_for}
 use Rattle.measuring.proofs.recordings.Recording.new.Goals as goal
 
 pub returns : goal.returns

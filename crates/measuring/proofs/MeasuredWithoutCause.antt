@@ -26,7 +26,7 @@ use Rattle.measuring.specs.declared.measured.Measured.{Measured}
 use Rattle.measuring.specs.Deciding.{IsDeciding, MeasuredHaveNoCause}
 use Rattle.measuring.specs.Measures.{HasCause, IsTooLarge, Measures}
 use Rattle.measuring.specs.RunCauses.{Exits, GoesOn, IsRefused, mode_of}
-use Rattle.measuring.proofs.Decided.{runs_are_decided, refusals_are_decided}
+use Rattle.measuring.proofs.DecidedRuns.{runs_are_decided, refusals_are_decided}
 
 -- ---- a guest that has exited stands still
 
