@@ -3,7 +3,6 @@ pub mod Turns
 pub mod Breaks
 pub mod Texts
 pub mod Watching
-pub mod RegisterNames
 pub mod Words
 pub mod Shapes
 pub mod RangeItems

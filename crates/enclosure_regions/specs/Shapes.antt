@@ -1,9 +1,9 @@
 -- Parts of a region file as values of JSON.
-use Rattle.std.specs.Prelude.{ℕ, ◌&&◌, nat_le, Bool, true, false, List, [], ◌∷◌, ◌++◌, Option, Some, None}
+use Rattle.std.specs.Prelude.{ℕ, ◌==◌, ◌&&◌, nat_le, Bool, true, false, List, [], ◌∷◌, ◌++◌, Option, Some, None}
 use Rattle.std.specs.Prelude.{option_and_then, if◌then◌else◌}
+use Rattle.flow_base.specs.RegisterNames.{register_named}
 use Rattle.serde_json.specs.Data.{Data, Items, no_items, item, Members, no_members, member}
 use Rattle.serde_json.specs.Find.{as_array, as_i64, as_number, as_object, as_str, as_u64}
-use Rattle.enclosure_regions.specs.RegisterNames.{register_named}
 use Rattle.enclosure_regions.specs.Words.{place_in, word_of}
 
 -- ---- objects
@@ -40,9 +40,13 @@ word_at d = option_and_then word_of (option_and_then as_i64 (as_number d))
 abbrev pub place_at : Data → Option ℕ
 place_at d = option_and_then place_in (as_str d)
 
+-- the register that a region may name: any but 0
+abbrev pub not_zero : ℕ → Option ℕ
+not_zero register = if register == 0 then None else Some register
+
 -- the register of a name
 abbrev pub register_at : Data → Option ℕ
-register_at d = option_and_then register_named (as_str d)
+register_at d = option_and_then not_zero (option_and_then register_named (as_str d))
 
 -- ---- arrays of register names
 

@@ -1,13 +1,7 @@
 -- Addresses as texts, and whole numbers as words.
 use Rattle.std.specs.Prelude.{ℕ, ◌+◌, ◌-◌, ◌*◌, ◌%◌, ◌==◌, ◌&&◌, nat_le, nat_lt, ℤ, pos, negsuc, List, [], ◌∷◌, length}
 use Rattle.std.specs.Prelude.{Option, Some, None, option_and_then, if◌then◌else◌}
-
--- the value of a hexadecimal digit of either case; 16 for every other byte
-abbrev pub digit_of : ℕ → ℕ
-digit_of byte =
-    if nat_le 48 byte && nat_le byte 57 then byte - 48
-    else (if nat_le 97 byte && nat_le byte 102 then (byte - 97) + 10
-    else (if nat_le 65 byte && nat_le byte 70 then (byte - 65) + 10 else 16))
+use Rattle.flow_base.specs.HexWords.{digit_of}
 
 -- the word whose digits follow those of another word; none where a byte is no digit, or past 32 bits
 abbrev pub digits_after : ℕ → List ℕ → Option ℕ

@@ -18,7 +18,6 @@ mod region_files;
 mod region_items;
 mod region_lists;
 mod region_parts;
-mod register_names;
 mod shapes;
 mod turn_kinds;
 mod turning;

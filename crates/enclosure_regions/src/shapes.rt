@@ -6,9 +6,8 @@ ghost use Rattle.enclosure_regions.specs.Shapes.{number_within, place_at, regist
 ghost use Rattle.enclosure_regions.specs.Shapes.{registers_if, word_at};
 ghost use Rattle.serde_json.specs.View.{items_view};
 
-use crate::register_names::register as register_named;
 use crate::words::{offset, place as place_in};
-use flow_base::{List, NoMemory};
+use flow_base::{List, NoMemory, register_named};
 use serde_json::Value;
 use std::alloc::Global;
 
@@ -41,12 +40,13 @@ pub fn place(value: &Value) -> Option<u32>
     place_in(value.as_str()?.as_bytes())
 }
 
-/// A register by its name.
+/// A register from 1 to 31 by its name.
 pub fn register(value: &Value) -> Option<u8>
     ensures exact { result ≡ register_at (view value.now) }
     ensures register { IfSome result (λ register. IsTrue (is_register register)) }
 {
-    register_named(value.as_str()?.as_bytes())
+    let register = register_named(value.as_str()?.as_bytes())?;
+    if register == 0 { None } else { Some(register) }
 }
 
 // The registers of the items.

@@ -1,20 +1,9 @@
-ghost use Rattle.std.specs.Prelude.{◌≡◌, ◌≤◌, ◌<◌, IfSome, IsTrue};
+ghost use Rattle.std.specs.Prelude.{◌≡◌, IfSome, IsTrue};
 ghost use Rattle.enclosure_regions.specs.Regions.{is_place};
-ghost use Rattle.enclosure_regions.specs.Words.{aligned as aligned_word, digit_of, digits_after, digits_in, place_in};
+ghost use Rattle.enclosure_regions.specs.Words.{aligned as aligned_word, digits_after, digits_in, place_in};
 ghost use Rattle.enclosure_regions.specs.Words.{word_in, word_of};
 
-// The value of a hexadecimal digit of either case; 16 for every other byte.
-fn digit(byte: u8) -> u32
-    ensures exact { result ≡ digit_of byte }
-    ensures small { result ≤ 16 }
-{
-    match byte {
-        b'0'..=b'9' => u32::from(byte - b'0'),
-        b'a'..=b'f' => u32::from(byte - b'a') + 10,
-        b'A'..=b'F' => u32::from(byte - b'A') + 10,
-        _ => 16,
-    }
-}
+use flow_base::digit;
 
 // The word of hexadecimal digits, or of none; None where a byte is no digit, or past 32 bits.
 fn all_digits(text: &[u8]) -> Option<u32>

@@ -4,7 +4,8 @@ use Rattle.std.proofs.Common.{[], ◌∷◌, option_map, None, Some, Option, ℤ
 use Rattle.std.proofs.lemmas.Grind.{common_steps}
 use Rattle.std.proofs.Math.Nat.{le-mul_of_pos_right}
 use Rattle.std.specs.Option.{option_and_then}
-use Rattle.rv32im_asm.specs.Operands.{digit_of, at_most, digits_after}
+use Rattle.flow_base.specs.HexWords.{digit_of}
+use Rattle.rv32im_asm.specs.Operands.{at_most, digits_after}
 
 abbrev pub bound : ℕ
 bound = 4294967296

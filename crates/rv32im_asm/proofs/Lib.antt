@@ -8,4 +8,3 @@ pub mod Fronts
 pub mod LabelSteps
 pub mod ProgramSteps
 pub mod Listings
-pub mod NamePlaces

@@ -1,7 +1,6 @@
 pub mod Kinds
 pub mod FaultTexts
 pub mod Lines
-pub mod Registers
 pub mod FirstWords
 pub mod Operands
 pub mod Statements

@@ -1,20 +1,14 @@
 -- Operands: numbers, and a number with a register in parentheses.
-use Rattle.std.specs.Prelude.{ℕ, ℤ, pos, neg_ℤ, ◌+◌, ◌-◌, ◌*◌, ◌==◌, ◌&&◌, nat_le, nat_lt, Bool, true, false, List}
+use Rattle.std.specs.Prelude.{ℕ, ℤ, pos, neg_ℤ, ◌+◌, ◌*◌, ◌==◌, ◌&&◌, nat_le, nat_lt, Bool, true, false, List}
 use Rattle.std.specs.Prelude.{[], ◌∷◌, Option, Some, None, option_map, if◌then◌else◌}
 use Rattle.std.specs.Option.{option_and_then}
+use Rattle.flow_base.specs.HexWords.{digit_of}
+use Rattle.flow_base.specs.RegisterNames.{register_named}
 use Rattle.rv32im_asm.specs.Lines.{cut_at, is_name}
-use Rattle.rv32im_asm.specs.Registers.{register_of}
 use Rattle.rv32im_asm.specs.declared.statements.Wanted.{Wanted}
 use Rattle.rv32im_asm.specs.declared.statements.Wanted.TheVariants.{Number, Target, Label}
 
 -- ---- numbers
-
--- the value of a digit of either case; 16 for every other byte
-abbrev pub digit_of : ℕ → ℕ
-digit_of byte =
-    if nat_le 48 byte && nat_le byte 57 then byte - 48 else
-    if nat_le 97 byte && nat_le byte 102 then byte - 87 else
-    if nat_le 65 byte && nat_le byte 70 then byte - 55 else 16
 
 -- the number whose digits in a base follow those of another number; none where a byte is no digit
 abbrev pub digits_after : ℕ → ℕ → List ℕ → Option ℕ
@@ -71,7 +65,7 @@ all_three make (Some a) second third = both (make a) second third
 -- the register before a closing parenthesis that ends the text
 abbrev pub closed : Option (List ℕ × List ℕ) → Option ℕ
 closed None = None
-closed (Some parts) = if is_empty parts.1 then register_of parts.0 else None
+closed (Some parts) = if is_empty parts.1 then register_named parts.0 else None
 
 abbrev pub in_parentheses : Option (List ℕ × List ℕ) → Option (ℤ × ℕ)
 in_parentheses None = None

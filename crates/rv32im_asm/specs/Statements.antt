@@ -2,8 +2,8 @@
 use Rattle.std.specs.Prelude.{ℕ, ℤ, pos, ◌<◌, ⊤, Bool, true, false, List, [], ◌∷◌, Option, Some, None, option_map}
 use Rattle.std.specs.Prelude.{if◌then◌else◌}
 use Rattle.std.specs.Option.{option_and_then, option_copied}
+use Rattle.flow_base.specs.RegisterNames.{register_named}
 use Rattle.rv32im_asm.specs.Lines.{body_of, first_word, one_of, operands_of, three_of, two_of}
-use Rattle.rv32im_asm.specs.Registers.{register_of}
 use Rattle.rv32im_asm.specs.FirstWords.{mnemonic_of}
 use Rattle.rv32im_asm.specs.Operands.{Value, all_three, both, place_of, plain, value_in}
 use Rattle.rv32im_asm.specs.declared.statements.Mnemonic.{Mnemonic}
@@ -46,31 +46,31 @@ has_no_operand (a ∷ operands) = false
 abbrev pub three_registers : List (List ℕ) → Option (ℕ × ℕ × ℕ)
 three_registers operands =
     option_and_then (λ texts. all_three (λ first second third. (first, second, third))
-    (register_of texts.0) (register_of texts.1) (register_of texts.2)) (three_of operands)
+    (register_named texts.0) (register_named texts.1) (register_named texts.2)) (three_of operands)
 
 -- rd, rs
 abbrev pub two_registers : List (List ℕ) → Option (ℕ × ℕ)
 two_registers operands =
-    option_and_then (λ texts. both (λ first second. (first, second)) (register_of texts.0) (register_of texts.1))
+    option_and_then (λ texts. both (λ first second. (first, second)) (register_named texts.0) (register_named texts.1))
     (two_of operands)
 
 -- two registers and a value
 abbrev pub registers_and : Wanted → List (List ℕ) → Option (ℕ × ℕ × Value)
 registers_and wanted operands =
     option_and_then (λ texts. all_three (λ first second value. (first, second, value))
-    (register_of texts.0) (register_of texts.1) (value_in wanted texts.2)) (three_of operands)
+    (register_named texts.0) (register_named texts.1) (value_in wanted texts.2)) (three_of operands)
 
 -- a register and a value
 abbrev pub register_and : Wanted → List (List ℕ) → Option (ℕ × Value)
 register_and wanted operands =
-    option_and_then (λ texts. both (λ first value. (first, value)) (register_of texts.0) (value_in wanted texts.1))
+    option_and_then (λ texts. both (λ first value. (first, value)) (register_named texts.0) (value_in wanted texts.1))
     (two_of operands)
 
 -- a register, and a number with a register in parentheses
 abbrev pub register_and_place : List (List ℕ) → Option (ℕ × ℤ × ℕ)
 register_and_place operands =
-    option_and_then (λ texts. both (λ first place. (first, place.0, place.1)) (register_of texts.0) (place_of texts.1))
-    (two_of operands)
+    option_and_then (λ texts. both (λ first place. (first, place.0, place.1))
+    (register_named texts.0) (place_of texts.1)) (two_of operands)
 
 -- a value
 abbrev pub one_value : Wanted → List (List ℕ) → Option Value

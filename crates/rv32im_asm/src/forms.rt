@@ -10,8 +10,8 @@ ghost use Rattle.rv32im_asm.specs.Statements.{three_registers as three_in, two_r
 use crate::cutting::is_name;
 use crate::lines::{one, three, two};
 use crate::numbers::{number, place};
-use crate::registers::register;
 use crate::statements::{Operation, Statement, Value, Wanted};
+use flow_base::register_named;
 
 /// The value of a number that is given.
 pub fn plain(number: i64) -> Value<'static>
@@ -67,9 +67,9 @@ pub fn three_registers(text: &[u8]) -> Option<(u8, u8, u8)>
     ensures below { IfSome result (λ found. (found.0 < 32) × (found.1 < 32) × (found.2 < 32)) }
 {
     let (first, second, third) = three(text)?;
-    let first = register(first)?;
-    let second = register(second)?;
-    let third = register(third)?;
+    let first = register_named(first)?;
+    let second = register_named(second)?;
+    let third = register_named(third)?;
     Some((first, second, third))
 }
 
@@ -79,8 +79,8 @@ pub fn two_registers(text: &[u8]) -> Option<(u8, u8)>
     ensures below { IfSome result (λ found. (found.0 < 32) × (found.1 < 32)) }
 {
     let (first, second) = two(text)?;
-    let first = register(first)?;
-    let second = register(second)?;
+    let first = register_named(first)?;
+    let second = register_named(second)?;
     Some((first, second))
 }
 
@@ -91,8 +91,8 @@ pub fn registers_and<'a>(wanted: Wanted, text: &'a [u8]) -> Option<(u8, u8, Valu
     ensures below { IfSome result (λ found. (found.0 < 32) × (found.1 < 32)) }
 {
     let (first, second, third) = three(text)?;
-    let first = register(first)?;
-    let second = register(second)?;
+    let first = register_named(first)?;
+    let second = register_named(second)?;
     let value = value(wanted, third)?;
     Some((first, second, value))
 }
@@ -104,7 +104,7 @@ pub fn register_and<'a>(wanted: Wanted, text: &'a [u8]) -> Option<(u8, Value<'a>
     ensures below { IfSome result (λ found. found.0 < 32) }
 {
     let (first, second) = two(text)?;
-    let first = register(first)?;
+    let first = register_named(first)?;
     let value = value(wanted, second)?;
     Some((first, value))
 }
@@ -115,7 +115,7 @@ pub fn register_and_place(text: &[u8]) -> Option<(u8, i64, u8)>
     ensures below { IfSome result (λ found. (found.0 < 32) × (found.2 < 32)) }
 {
     let (first, second) = two(text)?;
-    let register = register(first)?;
+    let register = register_named(first)?;
     let (number, base) = place(second)?;
     Some((register, number, base))
 }

@@ -15,7 +15,6 @@ mod numbers;
 mod pieces;
 mod places;
 mod placing;
-mod registers;
 mod statements;
 mod texts;
 

@@ -1,29 +1,16 @@
 //! Numbers, and a number with a register in parentheses.
 
 ghost use Rattle.std.specs.Prelude.{◌≡◌, ◌<◌, ◌≤◌, min, option_map, IfSome, pos, neg_ℤ};
-ghost use Rattle.rv32im_asm.specs.Operands.{at_most as at_most_of, digit_of, digits_in, magnitude_of, negative_of};
+ghost use Rattle.rv32im_asm.specs.Operands.{at_most as at_most_of, digits_in, magnitude_of, negative_of};
 ghost use Rattle.rv32im_asm.specs.Operands.{number_of, place_of, positive_of};
 ghost use Rattle.rv32im_asm.specs.Operands.{closed as closed_in};
 ghost use Rattle.rv32im_asm.specs.Lines.{cut_at as parts_at};
 
 use crate::cutting::cut_at;
-use crate::registers::register;
+use flow_base::{digit, register_named};
 
 /// A bound above every magnitude that a number may have.
 const ABOVE: u64 = 0x1_0000_0000;
-
-/// The value of a digit of either case; 16 for every other byte.
-fn digit(byte: u8) -> u64
-    ensures exact { result ≡ digit_of byte }
-    ensures small { result ≤ 16 }
-{
-    match byte {
-        b'0'..=b'9' => u64::from(byte - b'0'),
-        b'a'..=b'f' => u64::from(byte - b'a') + 10,
-        b'A'..=b'F' => u64::from(byte - b'A') + 10,
-        _ => 16,
-    }
-}
 
 /// The number of one or more digits, or a bound where that is higher; None where a byte is no digit.
 fn digits(base: u64, text: &[u8]) -> Option<u64>
@@ -37,7 +24,7 @@ fn digits(base: u64, text: &[u8]) -> Option<u64>
     let mut number: u64 = 0;
     let mut rest = text;
     while let [byte, more @ ..] = rest {
-        let digit = digit(*byte);
+        let digit = u64::from(digit(*byte));
         if digit >= base {
             return None;
         }
@@ -112,7 +99,7 @@ fn closed(text: &[u8]) -> Option<u8>
 {
     let (name, rest) = cut_at(b')', text)?;
     if rest.is_empty() {
-        register(name)
+        register_named(name)
     } else {
         None
     }

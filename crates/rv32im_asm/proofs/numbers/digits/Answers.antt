@@ -6,7 +6,7 @@ use Rattle.rv32im_asm.proofs.numbers.digits.Goals as goal
 
 pub loop-rest-preserved : goal.loop-rest-preserved
 loop-rest-preserved c =
-    let grown = c.loop-rest.number * c.args.base + c.digit-digit.result in
+    let grown = c.loop-rest.number * c.args.base + c.from-digit.result in
     let same : option_map (min bound) (digits_after c.args.base c.min-number.result (drop 1 c.loop-rest.rest.now))
     ≡ option_map (min bound) (digits_after c.args.base grown (drop 1 c.loop-rest.rest.now)) =
     digits-bounded c.args.base c.requires.base_at_least (drop 1 c.loop-rest.rest.now) c.min-number.result grown
