@@ -14,7 +14,7 @@ use Rattle.cut_file.specs.Cuts.{CutPicture, has_slot}
 use Rattle.flow_base.specs.PointOrders.{is_same}
 use Rattle.flow_graph.specs.declared.events.Event.{Event}
 use Rattle.flow_graph.specs.declared.events.Event.TheVariants.{Pass, Link, FromSecret, Implicit, Out}
-use Rattle.flow_graph.proofs.Bits.{bit_count-zero}
+use Rattle.flow_graph.proofs.MaskBitCounts.{bit_count-zero}
 use Rattle.lockstep_replay.specs.Crossing.{crossing}
 use Rattle.region_machine.specs.Runs.{passed}
 use Rattle.replay_machine.specs.Runs.{Masks, times_passed, mask_at}

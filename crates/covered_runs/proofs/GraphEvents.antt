@@ -16,8 +16,8 @@ use Rattle.flow_graph.specs.declared.named_links.NamedEnd.{NamedEnd}
 use Rattle.flow_graph.specs.declared.named_links.NamedEnd.TheVariants.{Source, At, Relay}
 use Rattle.flow_graph.specs.EventGraphs.{bits_at, passed, has_passed, one_if, outlet_of, links_after}
 use Rattle.flow_base.specs.PointOrders.{point_cmp, is_same}
-use Rattle.flow_graph.proofs.Bits.{bit_count-ones, ones_some}
-use Rattle.flow_graph.proofs.Keeping.{passed-push}
+use Rattle.flow_graph.proofs.MaskBitCounts.{bit_count-ones, ones_some}
+use Rattle.flow_graph.proofs.KeptAfterEvent.{passed-push}
 use Rattle.flow_base.proofs.PointOrders.{point_total}
 use Rattle.covered_runs.specs.Sides.{NamedSide}
 use Rattle.covered_runs.specs.ClosedEvents.{Stays, IsClosedFor, AreClosedEvents}

@@ -29,7 +29,7 @@ use Rattle.flow_graph.specs.declared.named_links.NamedLink.{NamedLink}
 use Rattle.flow_graph.specs.EventGraphs.{has_passed, one_if, outlet_of, links_after, named_links, link_cmp}
 use Rattle.flow_graph.specs.EventGraphs.{is_among, is_relay_of, names_relay, no_point, named_end, named, IsGraphOf}
 use Rattle.flow_graph.specs.Graphs.{ascend, node_cmp, has_capacity, is_origin, is_target, is_link}
-use Rattle.flow_graph.proofs.Naming.{link_total, named_end_cmp}
+use Rattle.flow_graph.proofs.LinksByIndex.{link_total, named_end_cmp}
 use Rattle.max_flow.specs.declared.answers.Half.{Half}
 use Rattle.max_flow.specs.Flows.{tail_of, head_of, halves_from, network_of, marks, relay_in, member, has_first}
 use Rattle.max_flow.specs.Flows.{has_second}

@@ -27,7 +27,7 @@ use Rattle.flow_graph.specs.Builders.{has_point, ArePositive, StandsFor}
 use Rattle.flow_graph.specs.Keeping.{is_positive, is_sound}
 use Rattle.flow_base.proofs.PointOrders.{point_total}
 use Rattle.flow_graph.proofs.Indices.{is_in}
-use Rattle.flow_graph.proofs.Keeping.{all_more, known-same}
+use Rattle.flow_graph.proofs.KeptAfterEvent.{all_more, known-same}
 
 abbrev pub pair_of : Node → Point × ℕ
 pair_of node = (node.point, node.capacity)

@@ -1,11 +1,11 @@
 pub mod Again
-pub mod Bits
-pub mod Points
-pub mod Keeping
-pub mod Adding
+pub mod MaskBitCounts
+pub mod SamePointLookups
+pub mod KeptAfterEvent
+pub mod BuilderAfterEvent
 pub mod Indices
-pub mod Naming
-pub mod Regions
+pub mod LinksByIndex
+pub mod SameLinksSameRelays
 pub mod CapacityEntries
 pub mod Relays
 pub mod FewPoints

@@ -19,7 +19,7 @@ use Rattle.flow_graph.specs.declared.events.Event.TheVariants.{Pass}
 use Rattle.flow_graph.specs.declared.named_links.NamedLink.{NamedLink}
 use Rattle.flow_graph.specs.EventGraphs.{bits_at, passed, has_passed, named_links, is_among, links_by}
 use Rattle.flow_graph.specs.Keeping.{Keeps, count_in, is_known}
-use Rattle.flow_graph.proofs.Keeping.{known-same, passed-push, among-push}
+use Rattle.flow_graph.proofs.KeptAfterEvent.{known-same, passed-push, among-push}
 use Rattle.location_collapse.specs.Limits.{ExceedsLimit, HasMorePoints, HasMoreLinks, HasCapacity}
 use Rattle.location_collapse.specs.Limits.{HasAllLinks, LacksRoom, is_same_link, is_small}
 use Rattle.location_collapse.proofs.EqualityByOrder.{points_alike, links_alike, same_tests, any_flipped}

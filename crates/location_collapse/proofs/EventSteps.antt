@@ -12,7 +12,7 @@ use Rattle.flow_graph.specs.Again.{again_events}
 use Rattle.flow_graph.specs.EventGraphs.{is_among, links_by, one_if, outlet_of}
 use Rattle.flow_graph.specs.Keeping.{Keeps, TakesLinks, is_known, is_there}
 use Rattle.flow_graph.proofs.Again.{again-in-turn}
-use Rattle.flow_graph.proofs.Keeping.{keeps_links}
+use Rattle.flow_graph.proofs.KeptAfterEvent.{keeps_links}
 use Rattle.location_collapse.specs.Collapses.{Makes, has_ends}
 use Rattle.location_collapse.specs.LatestLinks.{has_flow, has_output}
 use Rattle.location_collapse.proofs.LinkMarks.{known_takes, no_link}

@@ -14,7 +14,7 @@ use Rattle.flow_graph.specs.declared.named_links.NamedLink.{NamedLink}
 use Rattle.flow_graph.specs.declared.nodes.Node.{Node}
 use Rattle.flow_graph.specs.EventGraphs.{bits_at, passed, has_passed, named_links, is_among, links_by, capacity_at}
 use Rattle.flow_graph.specs.EventGraphs.{named, IsGraphOf}
-use Rattle.flow_graph.proofs.Keeping.{passed-push, among-push}
+use Rattle.flow_graph.proofs.KeptAfterEvent.{passed-push, among-push}
 use Rattle.location_collapse.specs.Limits.{ExceedsLimit, is_same_link}
 use Rattle.location_collapse.specs.LimitLaws.{IsWithin, is_below}
 use Rattle.location_collapse.proofs.EqualityByOrder.{points_alike, links_alike, any_flipped}

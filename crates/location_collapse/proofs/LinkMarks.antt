@@ -7,7 +7,7 @@ use Rattle.std.proofs.lemmas.List.Folds.{list_all-append}
 use Rattle.flow_graph.specs.declared.named_links.NamedLink.{NamedLink}
 use Rattle.flow_graph.specs.EventGraphs.{is_among}
 use Rattle.flow_graph.specs.Keeping.{TakesLinks}
-use Rattle.flow_graph.proofs.Adding.{put_links}
+use Rattle.flow_graph.proofs.BuilderAfterEvent.{put_links}
 use Rattle.indexmap.specs.IndexSet.{insert_key}
 use Rattle.location_collapse.specs.Limits.{is_same_link}
 use Rattle.location_collapse.proofs.EqualityByOrder.{links_alike, link_eq, links_same, contains-among}

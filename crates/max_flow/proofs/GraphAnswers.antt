@@ -13,7 +13,7 @@ use Rattle.max_flow.specs.Flows.{halves_from, tail_of, network_of, member, IsFlo
 use Rattle.max_flow.specs.Flows.{IsWithinLimits, is_small, flow_value, side_capacity}
 use Rattle.max_flow.specs.Searching.{is_found}
 use Rattle.max_flow.proofs.Graphs.{graph_net, length-halves, all_map}
-use Rattle.max_flow.proofs.Members.{IsMade, made_side, made-capacity, member_found}
+use Rattle.max_flow.proofs.FoundNodesAreMembers.{IsMade, made_side, made-capacity, member_found}
 use Rattle.max_flow.proofs.Tightness.{weak}
 
 pub edges-count : (graph : Graph) → length (network_of graph).tails ≡ length graph.points + length graph.links

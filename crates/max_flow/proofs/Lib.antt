@@ -3,11 +3,11 @@ pub mod Duality
 pub mod Tightness
 pub mod Graphs
 pub mod SearchSteps
-pub mod Scans
+pub mod ScannedQueueIsClosed
 pub mod WalksBack
 pub mod Amounts
-pub mod Rounds
-pub mod Members
+pub mod FirstAndLastFlows
+pub mod FoundNodesAreMembers
 pub mod GraphAnswers
 pub mod SmallSides
-pub mod Stacks
+pub mod LastNodeTakenOut

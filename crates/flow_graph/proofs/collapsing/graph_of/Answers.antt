@@ -2,7 +2,7 @@ use Rattle.std.proofs.Common.{◌≡◌, take, sym, ◌∙◌, subst, arith}
 use Rattle.std.proofs.lemmas.List.{take_more, take_all, length-take}
 use Rattle.flow_graph.specs.EventGraphs.{passed}
 use Rattle.flow_graph.specs.Builders.{StandsFor, count_at}
-use Rattle.flow_graph.proofs.Keeping.{passed_bound}
+use Rattle.flow_graph.proofs.KeptAfterEvent.{passed_bound}
 use Rattle.flow_graph.proofs.CapacityEntries.{few_kept}
 use Rattle.flow_graph.proofs.collapsing.graph_of.Goals as goal
 

@@ -1,4 +1,4 @@
-use Rattle.flow_graph.proofs.Regions.{relays_ascend}
+use Rattle.flow_graph.proofs.SameLinksSameRelays.{relays_ascend}
 use Rattle.flow_graph.proofs.finishing.relays_of.Goals as goal
 
 pub returns-clause-ascend : goal.returns-clause-ascend

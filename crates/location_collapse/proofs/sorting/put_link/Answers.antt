@@ -1,7 +1,7 @@
 use Rattle.std.proofs.Common.{◌||◌, ◌∷◌, [], sym, ap, ◌∙◌}
 use Rattle.flow_graph.specs.EventGraphs.{is_among}
-use Rattle.flow_graph.proofs.Adding.{put_links, all_inserted}
-use Rattle.flow_graph.proofs.Regions.{contains-among}
+use Rattle.flow_graph.proofs.BuilderAfterEvent.{put_links, all_inserted}
+use Rattle.flow_graph.proofs.SameLinksSameRelays.{contains-among}
 use Rattle.location_collapse.proofs.sorting.put_link.Goals as goal
 
 pub returns-in-Ok : goal.returns-in-Ok

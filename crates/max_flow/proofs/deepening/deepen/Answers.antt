@@ -3,7 +3,7 @@ use Rattle.max_flow.specs.Networks.{value_of}
 use Rattle.max_flow.specs.Searching.{IsStart}
 use Rattle.max_flow.specs.Solving.{net_of}
 use Rattle.max_flow.proofs.SearchSteps.{found_first}
-use Rattle.max_flow.proofs.Rounds.{value_small}
+use Rattle.max_flow.proofs.FirstAndLastFlows.{value_small}
 use Rattle.max_flow.proofs.deepening.deepen.Goals as goal
 
 pub add_walks-requires-clause-tree : goal.add_walks-requires-clause-tree

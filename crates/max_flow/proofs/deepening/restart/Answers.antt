@@ -1,5 +1,5 @@
 use Rattle.std.proofs.Common.{refl, arith}
-use Rattle.max_flow.proofs.Stacks.{stack_less}
+use Rattle.max_flow.proofs.LastNodeTakenOut.{stack_less}
 use Rattle.max_flow.proofs.deepening.restart.Goals as goal
 
 pub loop-tree-preserved : goal.loop-tree-preserved

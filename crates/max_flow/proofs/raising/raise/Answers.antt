@@ -1,7 +1,7 @@
 use Rattle.std.proofs.Common.{◌<◌, ◌-◌, ◌^◌, arith}
 use Rattle.max_flow.specs.Networks.{value_of}
 use Rattle.max_flow.specs.Solving.{net_of}
-use Rattle.max_flow.proofs.Rounds.{value_small}
+use Rattle.max_flow.proofs.FirstAndLastFlows.{value_small}
 use Rattle.max_flow.proofs.raising.raise.Goals as goal
 
 pub overflow_add-value : goal.overflow_add-value

@@ -1,7 +1,7 @@
 use Rattle.std.proofs.Common.{◌≡◌, ◌<◌, ◌-◌, length, slice_index, ap, ◌∙◌, arith}
 use Rattle.max_flow.specs.Solving.{net_of}
 use Rattle.max_flow.proofs.SearchSteps.{grown_on}
-use Rattle.max_flow.proofs.Scans.{reaches_head, left_next}
+use Rattle.max_flow.proofs.ScannedQueueIsClosed.{reaches_head, left_next}
 use Rattle.max_flow.proofs.scanning.scan_leaving.Goals as goal
 
 pub reach-requires-clause-reaches : goal.reach-requires-clause-reaches

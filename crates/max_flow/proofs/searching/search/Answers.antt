@@ -2,7 +2,7 @@ use Rattle.std.proofs.Common.{subst, arith}
 use Rattle.max_flow.specs.Searching.{IsStart}
 use Rattle.max_flow.specs.Solving.{net_of}
 use Rattle.max_flow.proofs.SearchSteps.{found_first}
-use Rattle.max_flow.proofs.Scans.{scanned_none}
+use Rattle.max_flow.proofs.ScannedQueueIsClosed.{scanned_none}
 use Rattle.max_flow.proofs.searching.search.Goals as goal
 
 pub loop-next-init : goal.loop-next-init

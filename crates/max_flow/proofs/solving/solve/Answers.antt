@@ -6,7 +6,7 @@ use Rattle.max_flow.specs.Flows.{network_of}
 use Rattle.max_flow.specs.Searching.{is_found}
 use Rattle.max_flow.specs.Solving.{net_of}
 use Rattle.max_flow.proofs.SmallSides.{small_side}
-use Rattle.max_flow.proofs.Members.{IsMade, made-capacity}
+use Rattle.max_flow.proofs.FoundNodesAreMembers.{IsMade, made-capacity}
 use Rattle.max_flow.proofs.GraphAnswers.{edges-count, flow_from, front_most, back_most, least_from, greatest_from}
 use Rattle.max_flow.proofs.solving.solve.Goals as goal
 

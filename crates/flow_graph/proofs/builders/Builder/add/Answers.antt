@@ -1,4 +1,4 @@
-use Rattle.flow_graph.proofs.Adding.{stands_pass, stands_link, stands_secret, stands_implicit, stands_out}
+use Rattle.flow_graph.proofs.BuilderAfterEvent.{stands_pass, stands_link, stands_secret, stands_implicit, stands_out}
 use Rattle.flow_graph.proofs.builders.Builder.add.Goals as goal
 
 pub returns-in_ok-pass-in-Pass-clause-ok : goal.returns-in_ok-pass-in-Pass-clause-ok

@@ -10,8 +10,8 @@ use Rattle.flow_graph.specs.EventGraphs.{named_links, is_among, named}
 use Rattle.flow_graph.specs.Builders.{arc_at}
 use Rattle.flow_graph.specs.Keeping.{is_sound}
 use Rattle.flow_graph.proofs.Indices.{is_in}
-use Rattle.flow_graph.proofs.Naming.{arcs_ascend, links_there, named-among}
-use Rattle.flow_graph.proofs.Regions.{same_relays, relay_there}
+use Rattle.flow_graph.proofs.LinksByIndex.{arcs_ascend, links_there, named-among}
+use Rattle.flow_graph.proofs.SameLinksSameRelays.{same_relays, relay_there}
 use Rattle.flow_graph.proofs.CapacityEntries.{capacity-lookup, sound_names, names_ordered, points_kept}
 use Rattle.flow_graph.proofs.builders.Builder.finish.Goals as goal
 

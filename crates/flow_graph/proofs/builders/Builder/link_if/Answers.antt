@@ -1,7 +1,7 @@
 use Rattle.std.proofs.Common.{◌||◌, ◌∷◌, [], refl, sym, ap, ◌∙◌}
 use Rattle.flow_graph.specs.EventGraphs.{is_among}
-use Rattle.flow_graph.proofs.Adding.{put_links, all_inserted}
-use Rattle.flow_graph.proofs.Regions.{contains-among}
+use Rattle.flow_graph.proofs.BuilderAfterEvent.{put_links, all_inserted}
+use Rattle.flow_graph.proofs.SameLinksSameRelays.{contains-among}
 use Rattle.flow_graph.proofs.builders.Builder.link_if.Goals as goal
 
 pub returns-in-Ok-clause-takes : goal.returns-in-Ok-clause-takes

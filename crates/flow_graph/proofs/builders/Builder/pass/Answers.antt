@@ -5,9 +5,9 @@ use Rattle.std.proofs.lemmas.Bool.{cases_Bool}
 use Rattle.flow_base.specs.Words.{bit_count}
 use Rattle.flow_base.specs.PointOrders.{point_cmp, is_same}
 use Rattle.flow_graph.specs.Keeping.{is_positive}
-use Rattle.flow_graph.proofs.Bits.{bit_count-zero, bit_count-ones, ones_some}
-use Rattle.flow_graph.proofs.Points.{get_alike}
-use Rattle.flow_graph.proofs.Adding.{positive_put, counted_put}
+use Rattle.flow_graph.proofs.MaskBitCounts.{bit_count-zero, bit_count-ones, ones_some}
+use Rattle.flow_graph.proofs.SamePointLookups.{get_alike}
+use Rattle.flow_graph.proofs.BuilderAfterEvent.{positive_put, counted_put}
 use Rattle.flow_graph.proofs.builders.Builder.pass.Goals as goal
 
 pub returns-then-mask-eq0-clause-counted : goal.returns-then-mask-eq0-clause-counted

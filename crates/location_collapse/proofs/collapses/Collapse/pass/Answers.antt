@@ -2,7 +2,7 @@ use Rattle.std.proofs.Common.{◌≡◌, sym, subst, true, inl, inr, ⊎_elim}
 use Rattle.std.specs.List.{list_all}
 use Rattle.std.proofs.lemmas.Result.{on_ok_weaker, on_err_weaker}
 use Rattle.flow_graph.specs.Keeping.{is_known, is_sound}
-use Rattle.flow_graph.proofs.Keeping.{all_more, keeps_pass}
+use Rattle.flow_graph.proofs.KeptAfterEvent.{all_more, keeps_pass}
 use Rattle.location_collapse.proofs.CapacityMaps.{either, both_ok, found_positive}
 use Rattle.location_collapse.proofs.CollapseLimits.{exceeds_points, exceeds_capacity}
 use Rattle.flow_base.specs.PointOrders.{is_same}

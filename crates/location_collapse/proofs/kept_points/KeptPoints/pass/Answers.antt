@@ -8,7 +8,7 @@ use Rattle.std.proofs.lemmas.Result.{on_ok_weaker}
 use Rattle.flow_base.specs.Words.{bit_count}
 use Rattle.flow_base.specs.PointOrders.{is_same}
 use Rattle.flow_graph.specs.Keeping.{capacity_in, count_in}
-use Rattle.flow_graph.proofs.Bits.{bit_count-zero, bit_count-ones, bit_count_bound, ones_some}
+use Rattle.flow_graph.proofs.MaskBitCounts.{bit_count-zero, bit_count-ones, bit_count_bound, ones_some}
 use Rattle.location_collapse.proofs.CapacityMaps.{found_small, raised, grows_put, counted_put}
 use Rattle.location_collapse.proofs.kept_points.KeptPoints.pass.Goals as goal
 

@@ -18,7 +18,7 @@ use Rattle.flow_graph.specs.declared.named_links.NamedEnd.{NamedEnd}
 use Rattle.flow_graph.specs.declared.named_links.NamedEnd.TheVariants.{Source, At, Relay, Sink}
 use Rattle.flow_graph.specs.Graphs.{are_relays, is_relay}
 use Rattle.flow_graph.specs.EventGraphs.{link_cmp, is_among, is_relay_of, names_relay}
-use Rattle.flow_graph.proofs.Naming.{named_end_cmp, link_total}
+use Rattle.flow_graph.proofs.LinksByIndex.{named_end_cmp, link_total}
 
 both_ways : (s t : Bool) → (s ≡ true → t ≡ true) → (t ≡ true → s ≡ true) → s ≡ t
 both_ways true t f g = sym (f refl)

@@ -20,7 +20,7 @@ use Rattle.flow_graph.specs.EventGraphs.{bits_at, passed, has_passed, one_if, ou
 use Rattle.flow_graph.specs.EventGraphs.{named_links, is_among}
 use Rattle.flow_graph.specs.Keeping.{Keeps, TakesLinks, capacity_in, count_in, is_known, is_positive}
 use Rattle.flow_graph.specs.Keeping.{is_sound, is_there, may_lead}
-use Rattle.flow_graph.proofs.Bits.{bit_count_bound}
+use Rattle.flow_graph.proofs.MaskBitCounts.{bit_count_bound}
 
 pub passed-push : (events : List Event) (e : Event) (q : Point) → passed (events ++ e ∷ []) q ≡ passed events q + bits_at
     q e

@@ -21,7 +21,7 @@ use Rattle.flow_graph.specs.EventGraphs.{bits_at, one_if, outlet_of, links_by}
 use Rattle.flow_graph.specs.EventGraphs.{link_cmp}
 use Rattle.flow_graph.specs.Builders.{StandsFor, Takes, ArePositive, count_at, has_point}
 use Rattle.flow_graph.specs.Keeping.{Keeps, is_positive}
-use Rattle.flow_graph.proofs.Keeping.{keeps_pass, keeps_links}
+use Rattle.flow_graph.proofs.KeptAfterEvent.{keeps_pass, keeps_links}
 
 pub stands_pass : (old new : Builder) (p : Point) (mask : ℕ) (events : List Event) → StandsFor old events →
     ArePositive new →
