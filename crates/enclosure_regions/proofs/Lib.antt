@@ -2,3 +2,4 @@ pub mod Keys
 pub mod Ordered
 pub mod Longer
 pub mod Searches
+pub mod AskedItems

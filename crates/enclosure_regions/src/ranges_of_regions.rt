@@ -40,13 +40,8 @@ pub fn has_byte(region: &Region, registers: &Registers, address: u32) -> bool
     requires { IsTrue (is_region region.now) }
     ensures { result ≡ declares_byte region.now registers.now address }
 {
-    let mut rest = region.ranges.as_slice();
-    while let [range, more @ ..] = rest {
+    region.ranges.as_slice().iter().any(|range| {
         let start = range_start(registers, *range);
-        if start <= address && u64::from(address) < u64::from(start) + u64::from(range.length) {
-            return true;
-        }
-        rest = more;
-    }
-    false
+        start <= address && u64::from(address) < u64::from(start) + u64::from(range.length)
+    })
 }
