@@ -5,11 +5,11 @@ use Rattle.std.specs.Prelude.{map}
 use Rattle.std.specs.Str.{bytes_eq}
 use Rattle.std.proofs.lemmas.Slice.Eq.{bytes_eq-Decides}
 use Rattle.flow_base.specs.HexWords.{hex_digit, hex_word}
-use Rattle.cut_file.specs.Reading.{digit_of, word_in, word_of}
+use Rattle.cut_file.specs.Reading.{nibble_of, word_in, word_of}
 use Rattle.cut_file.proofs.Parts.{has_byte}
 use Rattle.cut_file.proofs.Numbers.{clean-cons, some-same}
 
-digit-own : (digit : ℕ) → digit < 16 → digit_of (hex_digit digit) ≡ digit
+digit-own : (digit : ℕ) → digit < 16 → nibble_of (hex_digit digit) ≡ digit
 digit-own digit small = grind arith
 
 linear : (a b c d e f g h i j k l m n o p : ℕ) → a ≡ 16 * b + i → b ≡ 16 * c + j → c ≡ 16 * d + k → d ≡ 16 * e + l →
@@ -50,7 +50,7 @@ digits-own word small =
     )
     (digits-sum word small)
 
-digit-small : (byte : ℕ) → digit_of byte < 16
+digit-small : (byte : ℕ) → nibble_of byte < 16
 digit-small byte = grind arith
 
 bounded : (a b c d e f g h : ℕ) → a < 16 → b < 16 → c < 16 → d < 16 → e < 16 → f < 16 → g < 16 → h < 16 →

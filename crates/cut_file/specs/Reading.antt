@@ -17,7 +17,7 @@ use Rattle.cut_file.specs.declared.lines.Line.TheVariants as forms
 use Rattle.cut_file.specs.Cuts.{CutPicture, have_other_masks, is_empty, is_region, is_version, is_word, stands_before}
 use Rattle.cut_file.specs.Fronts.{Front, followed, version_of}
 use Rattle.cut_file.specs.Fronts.Front.{Nothing, Versioned, Sized, Listed, Whole}
-use Rattle.flow_base.specs.HexWords.{hex_word}
+use Rattle.flow_base.specs.HexWords.{digit_of, hex_word}
 use Rattle.flow_base.specs.TextPieces.{after_text}
 use Rattle.cut_file.specs.Texts.{joined}
 
@@ -81,17 +81,17 @@ abbrev pub number_in : List ℕ → Option ℕ
 number_in [] = None
 number_in (byte ∷ bytes) = if has_leading_zero (byte ∷ bytes) then None else digits_in 0 (byte ∷ bytes)
 
--- the value of a hexadecimal digit; of another byte, some number below 16
-abbrev pub digit_of : ℕ → ℕ
-digit_of byte = if nat_lt byte 58 then byte % 16 else (byte + 9) % 16
+-- the value of a hexadecimal digit; of another byte, 0
+abbrev pub nibble_of : ℕ → ℕ
+nibble_of byte = digit_of byte % 16
 
 -- the word whose eight digits stand behind two bytes
 abbrev pub word_of : List ℕ → ℕ
 word_of bytes =
-    digit_of (slice_index bytes 2) * 268435456 + digit_of (slice_index bytes 3) * 16777216
-    + digit_of (slice_index bytes 4) * 1048576 + digit_of (slice_index bytes 5) * 65536
-    + digit_of (slice_index bytes 6) * 4096 + digit_of (slice_index bytes 7) * 256
-    + digit_of (slice_index bytes 8) * 16 + digit_of (slice_index bytes 9)
+    nibble_of (slice_index bytes 2) * 268435456 + nibble_of (slice_index bytes 3) * 16777216
+    + nibble_of (slice_index bytes 4) * 1048576 + nibble_of (slice_index bytes 5) * 65536
+    + nibble_of (slice_index bytes 6) * 4096 + nibble_of (slice_index bytes 7) * 256
+    + nibble_of (slice_index bytes 8) * 16 + nibble_of (slice_index bytes 9)
 
 -- the word that stands as 0x and eight digits
 unfoldable pub word_in : List ℕ → Option ℕ

@@ -1,11 +1,11 @@
 ghost use Rattle.std.specs.Prelude.{◌≡◌, ◌≤◌, ◌<◌, ◌+◌, length, option_map, IfSome};
-ghost use Rattle.cut_file.specs.Reading.{digit_of, digits_in, divided};
+ghost use Rattle.cut_file.specs.Reading.{digits_in, divided, nibble_of};
 ghost use Rattle.cut_file.specs.Reading.{has_leading_zero as begins_with_zero};
 ghost use Rattle.cut_file.specs.Reading.{named_slot as slot_named, number_in, numbered_slot as slot_numbered, run_in};
 ghost use Rattle.cut_file.specs.Reading.{slot_in, slot_of as slot_from, word_in, word_of};
 
 use crate::points::Run;
-use flow_base::{Slot, hex_word};
+use flow_base::{Slot, digit, hex_word};
 
 /// The bytes in front of the first separator and those behind it; None where there is none.
 pub(crate) fn divide(separator: u8, bytes: &[u8]) -> Option<(&[u8], &[u8])>
@@ -58,16 +58,12 @@ pub(crate) fn number(word: &[u8]) -> Option<u32>
     digits(word)
 }
 
-// The value of a hexadecimal digit.
+// The value of a hexadecimal digit; 0 for every other byte.
 fn nibble(byte: u8) -> u32
-    ensures value { result ≡ digit_of byte }
+    ensures value { result ≡ nibble_of byte }
     ensures small { result < 16 }
 {
-    if byte < 58 {
-        u32::from(byte % 16)
-    } else {
-        (u32::from(byte) + 9) % 16
-    }
+    digit(byte) % 16
 }
 
 // The word whose eight digits stand behind two bytes.

@@ -1,18 +1,34 @@
 -- A search through a table.
-use Rattle.std.proofs.Common.{◌≡◌, ℕ, Bor, List, [], ◌∷◌, Option, Some, None, map, cond, refl, ap}
+use Rattle.std.proofs.Common.{◌≡◌, ℕ, Bor, Bool, true, false, List, [], ◌∷◌, Option, Some, None, map, cond, option_map}
+use Rattle.std.proofs.Common.{refl, ap, ◌∙◌}
+use Rattle.std.specs.List.{find}
 use Rattle.std.specs.Map.{lookup}
 use Rattle.std.specs.Str.{bytes_eq}
 use Rattle.rv32im_asm.specs.declared.statements.Mnemonic.{Mnemonic}
 
--- what a word stands for in a table
-abbrev pub found_in : List (Bor (List ℕ) × Mnemonic) → List ℕ → Option Mnemonic
-found_in [] word = None
-found_in (row ∷ rows) word = cond (bytes_eq row.0.now word) (Some row.1) (found_in rows word)
+found-step : (passes : Bool) (row : Bor (List ℕ) × Mnemonic) (found : Option (Bor (List ℕ) × Mnemonic))
+    (rest : Option Mnemonic) → option_map (λ other. other.1) found ≡ rest
+    → option_map (λ other. other.1) (cond passes (Some row) found) ≡ cond passes (Some row.1) rest
+found-step true row found rest same = refl
+found-step false row found rest same = same
 
-pub found_in-lookup : (rows : List (Bor (List ℕ) × Mnemonic)) (word : List ℕ)
-    → found_in rows word ≡ lookup (λ name. bytes_eq name word) (map (λ row. (row.0.now, row.1)) rows)
-found_in-lookup [] word = refl
-found_in-lookup (row ∷ rows) word =
-    ap (λ rest. cond (bytes_eq row.0.now word) (Some row.1) rest) (found_in-lookup rows word)
+-- what the first row of a word stands for is what is looked up
+found-lookup : (rows : List (Bor (List ℕ) × Mnemonic)) (word : List ℕ)
+    → option_map (λ row. row.1) (find (λ row. bytes_eq row.0.now word) rows)
+    ≡ lookup (λ name. bytes_eq name word) (map (λ row. (row.0.now, row.1)) rows)
+found-lookup [] word = refl
+found-lookup (row ∷ rows) word =
+    found-step (bytes_eq row.0.now word) row (find (λ other. bytes_eq other.0.now word) rows) _ (found-lookup rows word)
 
-pub ruleset founds = (found_in-lookup)
+read-first : (first : Option (Bor (Bor (List ℕ) × Mnemonic)))
+    → option_map (λ row. row.now.1) first ≡ option_map (λ row. row.1) (option_map (λ row. row.now) first)
+read-first None = refl
+read-first (Some row) = refl
+
+pub first-lookup : (rows : List (Bor (List ℕ) × Mnemonic)) (word : List ℕ)
+    (first : Option (Bor (Bor (List ℕ) × Mnemonic)))
+    → option_map (λ row. row.now) first ≡ find (λ row. bytes_eq row.0.now word) rows
+    → option_map (λ row. row.now.1) first
+    ≡ lookup (λ name. bytes_eq name word) (map (λ row. (row.0.now, row.1)) rows)
+first-lookup rows word first same =
+    read-first first ∙ (ap (option_map (λ row. row.1)) same ∙ found-lookup rows word)

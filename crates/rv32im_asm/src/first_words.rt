@@ -70,18 +70,13 @@ pub const FIRST_WORDS: [(&str, Mnemonic); 57] = [
 ];
 
 /// What a name stands for in a table.
-#[tactic(auto, using(crate::proofs::Found::founds))]
 fn find(table: &[(&str, Mnemonic)], word: &[u8]) -> Option<Mnemonic>
     ensures { result ≡ lookup (λ name. bytes_eq name word.now) (map (λ row. (row.0.now, row.1)) table.now) }
 {
-    let mut rest = table;
-    while let [row, more @ ..] = rest {
-        if row.0.as_bytes() == word {
-            return Some(row.1);
-        }
-        rest = more;
-    }
-    None
+    table
+        .iter()
+        .find(|row| row.0.as_bytes() == word)
+        .map(|row| row.1)
 }
 
 /// The mnemonic or directive of a word.
