@@ -1,6 +1,6 @@
 -- What a line may be, by its first letters and the numbers at their places. The text of what is guessed decides.
 use Rattle.std.specs.Prelude.{ℕ, ◌+◌, ◌-◌, ◌*◌, ◌%◌, ◌^◌, ◌==◌, ◌&&◌, nat_le, nat_lt, Bool, List, [], ◌∷◌, ◌++◌, drop}
-use Rattle.std.specs.Prelude.{slice_index, if◌then◌else◌, Option, Some, None, option_map}
+use Rattle.std.specs.Prelude.{slice_index, if◌then◌else◌, Option, None, option_map}
 use Rattle.flow_base.specs.declared.points.Slot.{Slot}
 use Rattle.flow_base.specs.declared.points.Slot.TheVariants as slots
 use Rattle.flow_base.specs.TextPieces.{after_text}
