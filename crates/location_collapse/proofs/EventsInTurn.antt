@@ -7,9 +7,9 @@ use Rattle.location_collapse.specs.declared.collapses.Collapse.{Collapse}
 use Rattle.location_collapse.specs.declared.faults.CollapseFault.{CollapseFault}
 use Rattle.location_collapse.specs.declared.faults.CollapseFault.TheVariants.{Limit}
 use Rattle.location_collapse.specs.Collapses.{StandsFor, is_limit}
-use Rattle.location_collapse.specs.LimitLaws.{MoreExceed}
 use Rattle.location_collapse.specs.Limits.{ExceedsLimit}
 use Rattle.location_collapse.proofs.CollapseLimits.{not_exceeding}
+use Rattle.location_collapse.proofs.ExceedingEvents.{more_exceed}
 
 -- it stands for these events more
 abbrev pub Gains : Collapse → Collapse → List Event → Type 0
@@ -72,13 +72,12 @@ refuses_behind old mid first more takes refuses =
     inr (λ events stands. subst ExceedsLimit (append_assoc events first more)
     (exceeding (events ++ first) (takes.gains events stands)))) refuses
 
-pub refuses_rest : (old : Collapse) (first more : List Event) → MoreExceed → Refuses old first →
-    Refuses old (first ++ more)
-refuses_rest old first more goes_on refuses =
+pub refuses_rest : (old : Collapse) (first more : List Event) → Refuses old first → Refuses old (first ++ more)
+refuses_rest old first more refuses =
     ⊎_elim (λ (was : old.is_full ≡ true). inl was)
     (λ (exceeding : (events : List Event) → StandsFor old events → ExceedsLimit (events ++ first)).
     inr (λ events stands. subst ExceedsLimit (append_assoc events first more)
-    (goes_on (events ++ first) more (exceeding events stands)))) refuses
+    (more_exceed (events ++ first) more (exceeding events stands)))) refuses
 
 -- a limit that is handed on was answered
 pub limit_given : (answer given : Result (Unit {0}) CollapseFault) (fault : CollapseFault) → answer ≡ Err fault →

@@ -1,4 +1,5 @@
-ghost use Rattle.std.specs.Prelude.{◌≡◌, ◌⊎◌, ◌||◌, ◌++◌, ◌∷◌, [], cond, true, false, List as Seq, OnOk, OnErr, IfOk, Err};
+ghost use Rattle.std.specs.Prelude.{◌≡◌, ◌⊎◌, ◌||◌, ◌++◌, ◌∷◌, [], cond, true, false, List as Seq};
+ghost use Rattle.std.specs.Prelude.{OnOk, OnErr, IfOk, Err};
 ghost use Rattle.std.specs.Bool.{OnTrue};
 ghost use Rattle.flow_graph.specs.declared.events.Event.{Event as AnEvent};
 ghost use Rattle.flow_graph.specs.declared.events.Event.TheVariants.{Pass as PassEvent};
@@ -12,7 +13,6 @@ use crate::collapses::Collapse;
 use crate::faults::CollapseFault;
 use crate::kept_links::KeptLinks;
 use crate::kept_points::KeptPoints;
-use crate::laws::more_events_exceed;
 use flow_base::{NoMemory, Point};
 use flow_graph::{Event, NamedEnd, NamedLink, outlet};
 use std::alloc::Global;
@@ -172,7 +172,6 @@ impl Collapse {
         ensures again { self.old.is_full ≡ true → result ≡ Err CollapseFault.Limit }
         ensures full { self.new.is_full ≡ (self.old.is_full || is_limit result) }
     {
-        more_events_exceed();
         self.add(Event::Pass { point, mask })?;
         self.add(Event::Link {
             source: point,
@@ -202,7 +201,6 @@ impl Collapse {
         if self.is_full || !self.has_latest_links(point) {
             return self.add_in_turn(*point, mask);
         }
-        more_events_exceed();
         match self.pass(*point, mask) {
             Ok(()) => Ok(()),
             Err(CollapseFault::Limit) => {

@@ -27,4 +27,4 @@ pub returns-in-Err-Limit-clause-limit : goal.returns-in-Err-Limit-clause-limit
 returns-in-Err-Limit-clause-limit c = λ e.
     let p = c.args.point.now in
     refuses_rest c.args.self.now (Pass p c.args.mask ∷ []) (Link p p ∷ Out p.region p ∷ [])
-    c.more_events_exceed.ensures (inr (c.pass.ensures.limit (c.in-Err-Limit.is ∙ ap Err c.in-Err-Limit.field-0-is)))
+    (inr (c.pass.ensures.limit (c.in-Err-Limit.is ∙ ap Err c.in-Err-Limit.field-0-is)))

@@ -13,7 +13,7 @@ returns-in_err-add-clause-limit c = λ e.
     limit_given c.add.result c.from_residual.result c.in_err-add.field-0.0 c.in_err-add.was
     c.from_residual.ensures.1 e in
     refuses_rest c.args.self.now (Pass p c.args.mask ∷ []) (Link p p ∷ Out p.region p ∷ [])
-    c.more_events_exceed.ensures (c.add.ensures.limit limit)
+    (c.add.ensures.limit limit)
 
 pub returns-in_err-add-2-clause-limit : goal.returns-in_err-add-2-clause-limit
 returns-in_err-add-2-clause-limit c = λ e.
@@ -24,8 +24,7 @@ returns-in_err-add-2-clause-limit c = λ e.
     refuses_behind c.args.self.now c.add.new.self (Pass p c.args.mask ∷ []) (Link p p ∷ Out p.region p ∷ [])
     (takes_one c.args.self.now c.add.new.self (Pass p c.args.mask) c.add.result c.in_ok-add.field-0 c.in_ok-add.was
     c.in_ok-add.ensures.ok c.add.ensures.full)
-    (refuses_rest c.add.new.self (Link p p ∷ []) (Out p.region p ∷ []) c.more_events_exceed.ensures
-    (c.add-2.ensures.limit limit))
+    (refuses_rest c.add.new.self (Link p p ∷ []) (Out p.region p ∷ []) (c.add-2.ensures.limit limit))
 
 pub returns-clause-ok : goal.returns-clause-ok
 returns-clause-ok c =
