@@ -1,4 +1,4 @@
-ghost use Rattle.std.specs.Prelude.{◌≡◌, ◌++◌, OnOk, option_map};
+ghost use Rattle.std.specs.Prelude.{◌≡◌, ◌++◌, OnOk, OnErr, option_map};
 ghost use Rattle.std.specs.Fmt.{decimal};
 ghost use Rattle.flow_base.specs.Points.{slot_text};
 ghost use Rattle.flow_base.specs.TextPieces.{after_text};
@@ -15,25 +15,28 @@ pub fn after<'a>(wanted: &[u8], bytes: &'a [u8]) -> Option<&'a [u8]>
     bytes.strip_prefix(wanted)
 }
 
-/// Puts bytes at the end of a text.
+/// Puts bytes at the end of a text. The one error is `NoMemory`; the text is then as it was.
 pub fn put(text: &mut Vec<u8>, bytes: &[u8]) -> Result<(), NoMemory>
-    ensures { OnOk result (text.new.items ≡ text.old.items ++ bytes.now) }
+    ensures ok { OnOk result (text.new.items ≡ text.old.items ++ bytes.now) }
+    ensures err { OnErr result (text.new.items ≡ text.old.items) }
 {
     text.extend_from_slice(bytes)?;
     Ok(())
 }
 
-/// Puts a number in decimal at the end of a text.
+/// Puts a number in decimal at the end of a text. The one error is `NoMemory`; the text is then as it was.
 pub fn put_number(alloc: Global, text: &mut Vec<u8>, number: u64) -> Result<(), NoMemory>
-    ensures { OnOk result (text.new.items ≡ text.old.items ++ decimal number) }
+    ensures ok { OnOk result (text.new.items ≡ text.old.items ++ decimal number) }
+    ensures err { OnErr result (text.new.items ≡ text.old.items) }
 {
     let digits = format!(in alloc; "{number}")?;
     put(text, digits.as_bytes())
 }
 
-/// Puts the text of a slot at the end of a text.
+/// Puts the text of a slot at the end of a text. The one error is `NoMemory`; the text is then as it was.
 pub fn put_slot(alloc: Global, text: &mut Vec<u8>, slot: Slot) -> Result<(), NoMemory>
-    ensures { OnOk result (text.new.items ≡ text.old.items ++ slot_text slot) }
+    ensures ok { OnOk result (text.new.items ≡ text.old.items ++ slot_text slot) }
+    ensures err { OnErr result (text.new.items ≡ text.old.items) }
 {
     let word = format!(in alloc; "{slot}")?;
     put(text, word.as_bytes())
