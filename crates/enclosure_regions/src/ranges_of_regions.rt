@@ -1,4 +1,6 @@
-ghost use Rattle.std.specs.Prelude.{◌≡◌, ◌<◌, length, option_copied, IsTrue, IfSome};
+ghost use Rattle.std.specs.Prelude.{◌≡◌, ◌<◌, length, not, IsTrue, IfSome};
+ghost use Rattle.std.specs.List.{list_all, position_from};
+ghost use Rattle.flow_base.specs.Guests.{is_inside as inside_of};
 ghost use Rattle.enclosure_regions.specs.Breaks.{declares_byte, outside_range};
 ghost use Rattle.enclosure_regions.specs.Regions.{is_range, is_region};
 ghost use Rattle.enclosure_regions.specs.Turns.{start_of};
@@ -17,22 +19,24 @@ pub fn range_start(registers: &Registers, range: Range) -> u32
     }
 }
 
+/// The place of the first range that is not inside guest memory at the entry.
+fn outside_place(ranges: &[Range], registers: &Registers, base: u32) -> Option<usize>
+    requires { IsTrue (list_all is_range ranges.now) }
+    ensures exact { result ≡ position_from (λ range. not (inside_of base (start_of registers.now range) range.length))
+        0 ranges.now }
+    ensures inside { IfSome result (λ place. place < length ranges.now) }
+{
+    ranges.iter().position(|range| !is_inside(base, range_start(registers, *range), range.length))
+}
+
 /// The first range that is not inside guest memory at the entry, counted from 0, for the runs that enter or skip a
 /// region. The base is the lowest address of guest memory.
 pub fn first_outside(region: &Region, registers: &Registers, base: u32) -> Option<u32>
     requires { IsTrue (is_region region.now) }
     ensures { result ≡ outside_range region.now registers.now base }
 {
-    let mut place: u32 = 0;
-    let mut rest = region.ranges.as_slice();
-    while let [range, more @ ..] = rest {
-        if !is_inside(base, range_start(registers, *range), range.length) {
-            return Some(place);
-        }
-        place += 1;
-        rest = more;
-    }
-    None
+    let place = outside_place(region.ranges.as_slice(), registers, base)?;
+    Some(place as u32)
 }
 
 /// Whether a range of the region has the byte at an address, by the registers at the region's entry.

@@ -58,14 +58,10 @@ fn first_changed(registers: &[u8], before: &Registers, after: &Registers) -> Opt
     ensures first { result ≡ find (λ register. has_changed before.now after.now register) registers.now }
     ensures below { IfSome result (λ register. register < 32) }
 {
-    let mut rest = registers;
-    while let [register, more @ ..] = rest {
-        if before.get(*register) != after.get(*register) {
-            return Some(*register);
-        }
-        rest = more;
-    }
-    None
+    registers
+        .iter()
+        .find(|register| before.get(**register) != after.get(**register))
+        .copied()
 }
 
 // A kept register whose values differ.
