@@ -13,7 +13,7 @@ loop-run-preserved c =
     let none : Run = record { count = 0; mask = 0 } in
     let here : Run = get_or c.args.rest.now c.loop-run.run-index none in
     let put : c.put_rest_run.new.text.items ≡ c.loop-run.text.items ++ (codes " " ++ piece here) =
-    joins _ (codes " ") _ _ _ c.in_ok-put.ensures c.in_ok-put_rest_run.ensures in
+    joins _ (codes " ") _ _ _ c.in_ok-put.ensures.ok c.in_ok-put_rest_run.ensures in
     let more : List ℕ = led (map (rest_text c.args.version) (drop (c.loop-run.run-index + 1) c.args.rest.now)) in
     ap (λ (l : List ℕ). l ++ more) put
     ∙ runs-step (rest_text c.args.version) c.args.rest.now c.loop-run.run-index none c.loop-run.text.items _

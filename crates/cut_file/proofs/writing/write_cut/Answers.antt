@@ -16,7 +16,7 @@ returns c =
     record {
       valid = cut-valid c.args.cut.now;
       text =
-          c.from_vec.ensures ∙ c.in_ok-put.ensures
+          c.from_vec.ensures ∙ c.in_ok-put.ensures.ok
           ∙ ap (λ (l : List ℕ). l ++ codes "end\n") (c.in_ok-put_points.ensures
           ∙ ap (λ (l : List ℕ). l ++ lines_text cut.version (map Point c.as_slice-2.result.now))
           (c.in_ok-put_regions.ensures cut.version
