@@ -2,7 +2,6 @@ pub mod Found
 pub mod Tables
 pub mod Cuts
 pub mod Commas
-pub mod Blanks
 pub mod Digits
 pub mod Fronts
 pub mod LabelSteps

@@ -59,27 +59,19 @@ pub fn is_blank(byte: u8) -> bool
 pub fn trim_start<'a>(text: &'a [u8]) -> &'a [u8]
     ensures { result.now ≡ without_blanks_before text.entry.now }
 {
-    let mut rest = text;
-    while let [byte, more @ ..] = rest {
-        if !is_blank(*byte) {
-            break;
-        }
-        rest = more;
+    match text.iter().position(|byte| !is_blank(*byte)) {
+        Some(start) => &text[start..],
+        None => &text[text.len()..],
     }
-    rest
 }
 
 fn trim_end<'a>(text: &'a [u8]) -> &'a [u8]
     ensures { result.now ≡ without_blanks_after text.entry.now }
 {
-    let mut rest = text;
-    while let [more @ .., byte] = rest {
-        if !is_blank(*byte) {
-            break;
-        }
-        rest = more;
+    match text.iter().rposition(|byte| !is_blank(*byte)) {
+        Some(last) => &text[..last + 1],
+        None => &text[..0],
     }
-    rest
 }
 
 /// A text without the blanks around it.

@@ -1,19 +1,35 @@
-use Rattle.std.proofs.Common.{◌≡◌, ◌-◌, ◌<◌, true, false, length, get_or, arith}
-use Rattle.std.proofs.lemmas.Grind.{common_steps}
-use Rattle.rv32im_asm.specs.Lines.{is_blank}
-use Rattle.rv32im_asm.proofs.Blanks.{shorter, whole}
+use Rattle.std.proofs.Common.{◌≡◌, ◌<◌, ℕ, zero, suc, true, false, List, [], ◌∷◌, length, take, get_or, refl, sym, ap, ◌∙◌}
+use Rattle.std.proofs.Common.{add-one, arith, rules}
+use Rattle.std.proofs.lemmas.Bool.{cond-true, cond-false}
+use Rattle.std.proofs.lemmas.List.Elements.{All-from_get_or}
+use Rattle.std.proofs.lemmas.List.Folds.{list_all_at}
+use Rattle.std.proofs.lemmas.List.Sums.{list_all-from_AllPass}
+use Rattle.rv32im_asm.specs.Lines.{is_blank, without_blanks_after}
 use Rattle.rv32im_asm.proofs.cutting.trim_end.Goals as goal
 
-pub loop-rest-preserved : goal.loop-rest-preserved
-loop-rest-preserved c =
-    let some : 0 < length c.loop-rest.rest.now = omega (arith, c.in-len1-up.len_at_least) in
-    let blank : is_blank (get_or c.loop-rest.rest.now (length c.loop-rest.rest.now - 1) 0) ≡ true =
-    grind (arith, common_steps) in
-    shorter c.loop-rest.rest.now c.args.text.now some blank c.loop-rest.invariant
+-- nothing is left of blanks
+none-left : (text : List ℕ) → ((place : ℕ) → place < length text → is_blank (get_or text place 0) ≡ true)
+    → [] ≡ without_blanks_after text
+none-left [] blanks = refl
+none-left (byte ∷ text) blanks =
+    sym (cond-true _ _ _ (list_all-from_AllPass is_blank (byte ∷ text) (All-from_get_or (λ value. is_blank value ≡ true) (byte ∷ text) 0 blanks)))
 
-pub returns-then-not-is_blank : goal.returns-then-not-is_blank
-returns-then-not-is_blank c =
-    let some : 0 < length c.loop-rest.rest.now = omega (arith, c.in-len1-up.len_at_least) in
-    let other : is_blank (get_or c.loop-rest.rest.now (length c.loop-rest.rest.now - 1) 0) ≡ false =
-    grind (arith, common_steps) in
-    whole c.loop-rest.rest.now c.args.text.now some other c.loop-rest.invariant
+-- what is left of a text ends with the last byte that is no blank
+to-last : (text : List ℕ) (last : ℕ) → last < length text → is_blank (get_or text last 0) ≡ false
+    → ((place : ℕ) → last < place → place < length text → is_blank (get_or text place 0) ≡ true)
+    → take (suc last) text ≡ without_blanks_after text
+to-last [] last inside other blanks = absurd (omega (arith, inside))
+to-last (byte ∷ text) zero inside other blanks =
+    ap (λ rest. byte ∷ rest) (none-left text (λ place before. blanks (suc place) (omega arith) (omega (arith, before))))
+    ∙ sym (cond-false _ _ _ (list_all_at is_blank (byte ∷ text) 0 0 inside other))
+to-last (byte ∷ text) (suc last) inside other blanks =
+    ap (λ rest. byte ∷ rest) (to-last text last (omega (arith, inside)) other (λ place behind before.
+    blanks (suc place) (omega (arith, behind)) (omega (arith, before))))
+    ∙ sym (cond-false _ _ _ (list_all_at is_blank (byte ∷ text) (suc last) 0 inside other))
+
+pub returns-in-Some : goal.returns-in-Some
+returns-in-Some c =
+    rw add-one (to-last c.args.text.now c.in-Some.last (search rules) (search rules) (search rules))
+
+pub returns-in-None : goal.returns-in-None
+returns-in-None c = none-left c.args.text.now (search rules)
