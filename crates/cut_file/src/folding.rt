@@ -52,19 +52,7 @@ fn masks_of(alloc: Global, runs: &[Run]) -> Result<Vec<u32>, NoMemory>
 fn begins_with(masks: &[u32], wanted: &[u32]) -> bool
     ensures { result ≡ begins masks.now wanted.now }
 {
-    let mut left = wanted;
-    let mut rest = masks;
-    while let [first, others @ ..] = left {
-        let [mask, more @ ..] = rest else {
-            return false;
-        };
-        if *mask != *first {
-            return false;
-        }
-        left = others;
-        rest = more;
-    }
-    true
+    masks.starts_with(wanted)
 }
 
 // Whether masks repeat by this many.
