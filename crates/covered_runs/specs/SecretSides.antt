@@ -1,5 +1,5 @@
 -- The largest flow of a run's graph.
-use Rattle.std.specs.Prelude.{◌≡◌, ℕ, ◌≤◌, Bool, true, List}
+use Rattle.std.specs.Prelude.{◌≡◌, ◌≤◌, Bool, true, List}
 use Rattle.std.specs.List.{list_all}
 use Rattle.flow_graph.specs.declared.events.Event.{Event}
 use Rattle.flow_graph.specs.declared.graphs.Graph.{Graph}

@@ -1,5 +1,5 @@
 -- The masks of a cut's points.
-use Rattle.std.proofs.Common.{◌≡◌, ℕ, nat_le, nat_lt, true, List, [], ◌∷◌, ◌++◌, if◌then◌else◌, inl, inr, refl, sym}
+use Rattle.std.proofs.Common.{◌≡◌, ℕ, nat_le, nat_lt, true, List, [], ◌∷◌, ◌++◌, inl, inr, refl, sym}
 use Rattle.std.proofs.Common.{◌∙◌, ap}
 use Rattle.std.specs.Prelude.{bit_and}
 use Rattle.std.specs.List.{list_all}

@@ -1,6 +1,6 @@
 -- The lines of events and of what turns answer. Numbers are decimal; an address, a word or a mask is 0x and eight digits
 -- in lower case.
-use Rattle.std.specs.Prelude.{ℕ, List, ◌∷◌, ◌++◌, codes}
+use Rattle.std.specs.Prelude.{ℕ, List, ◌++◌, codes}
 use Rattle.std.specs.Fmt.{decimal}
 use Rattle.flow_base.specs.HexWords.{hex_word}
 use Rattle.flow_base.specs.Points.{point_text}

@@ -1,6 +1,6 @@
 -- The answers of a table decide a run: for lists of answers that are all by table 1, or all by table 2, labels, events
 -- and refusals are the same.
-use Rattle.std.proofs.Common.{◌≡◌, ℕ, List, [], ◌∷◌, ◌++◌, length, Option, refl, sym, ap, ap₂, subst, ◌∙◌, arith, ⊎_elim}
+use Rattle.std.proofs.Common.{◌≡◌, ℕ, List, [], ◌∷◌, ◌++◌, refl, sym, ap, ap₂, subst, ◌∙◌, arith, ⊎_elim}
 use Rattle.std.specs.Prelude.{◌⊎◌, ◌==◌, if◌then◌else◌}
 use Rattle.enclosure_regions.specs.declared.region_parts.Region.{Region}
 use Rattle.flow_graph.specs.declared.events.Event.{Event}
@@ -18,12 +18,12 @@ use Rattle.shadow_masks.specs.Pages.{label_of}
 use Rattle.shadow_masks.specs.Writes.{LabelMap}
 use Rattle.transfer_rules.specs.declared.operands.Operands.{Operands}
 use Rattle.run_labels.specs.Answers.{EachAnswer, Holds, IsTableAnswer, operands_of}
-use Rattle.run_labels.specs.Flowing.{labels_in, events_in, passing_events, flow_events}
+use Rattle.run_labels.specs.Flowing.{labels_in, events_in, flow_events}
 use Rattle.run_labels.specs.Looking.{first_fault, look_fault, secret_look}
-use Rattle.run_labels.specs.Masks.{aimed_mask, answered_mask, answers_after, labels_after, mask_of, masks_of, moved_label}
+use Rattle.run_labels.specs.Masks.{aimed_mask, answered_mask, answers_after, mask_of, masks_of, moved_label}
 use Rattle.run_labels.specs.Masks.{work_mask}
 use Rattle.run_labels.specs.Runs.{LabelledRun, EachRunAnswer, broken_fault, enclosing, entered_number, next_run}
-use Rattle.run_labels.specs.Runs.{next_walk, run_after, stopped_fault, turn_events, turn_fault}
+use Rattle.run_labels.specs.Runs.{next_walk, run_after, stopped_fault}
 use Rattle.run_labels.specs.TurnLabels.{TurnLabels, aim_label, at_start, put_label, save_labels, restore_labels}
 use Rattle.measuring.specs.Deciding.{IsDeciding, RunsAreDecided, RefusalsAreDecided}
 

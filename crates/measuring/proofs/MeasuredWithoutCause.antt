@@ -1,20 +1,20 @@
 -- A run that is measured has no cause to be refused: its turns are decided, and after its exit it stands still.
-use Rattle.std.proofs.Common.{◌≡◌, ℕ, ◌+◌, ◌<◌, ◌≤◌, Bool, true, false, List, [], ◌∷◌, ◌++◌, length, Option, Some, None}
+use Rattle.std.proofs.Common.{◌≡◌, ℕ, ◌+◌, ◌<◌, ◌≤◌, true, false, List, [], ◌∷◌, ◌++◌, length, Option, Some, None}
 use Rattle.std.proofs.Common.{refl, sym, ap, subst, ◌∙◌, arith, ⊎_elim}
 use Rattle.std.proofs.lemmas.Bool.{cases_lt, false≢true}
 use Rattle.enclosure_regions.specs.declared.break_kinds.Break.{Break}
 use Rattle.enclosure_regions.specs.declared.region_parts.Region.{Region}
-use Rattle.region_machine.specs.Enclosures.{Enclosures, kind_in}
-use Rattle.region_machine.specs.Guests.{guest_walk, kind_walk}
+use Rattle.region_machine.specs.Enclosures.{kind_in}
+use Rattle.region_machine.specs.Guests.{kind_walk}
 use Rattle.region_machine.specs.Runs.{Place, has_exited, turn_unless}
 use Rattle.rv32im_machine.specs.declared.stepping.Stepped.{Stepped}
 use Rattle.rv32im_machine.specs.declared.stepping.Stepped.TheVariants.{Ran, Exited, Stopped}
 use Rattle.rv32im_machine.specs.Folds.{real_end}
 use Rattle.rv32im_machine.specs.Language.{none_held, walked}
-use Rattle.rv32im_machine.specs.Rows.{turn_in, walk_of}
+use Rattle.rv32im_machine.specs.Rows.{turn_in}
 use Rattle.rv32im_machine.specs.State.{Control, Setting, State, Store}
 use Rattle.run_labels.specs.Answers.{EachAnswer, IsTableAnswer}
-use Rattle.run_labels.specs.Runs.{LabelledRun, EachRunAnswer, IsUnrefused, enclosing, next_run, next_walk, run_after}
+use Rattle.run_labels.specs.Runs.{LabelledRun, EachRunAnswer, IsUnrefused, enclosing, next_walk, run_after}
 use Rattle.run_labels.specs.Runs.{turn_fault}
 use Rattle.run_labels.specs.TurnLabels.{at_start}
 use Rattle.run_labels.specs.declared.faults.MeasureFault.{MeasureFault}
@@ -24,7 +24,7 @@ use Rattle.flow_base.specs.declared.outputs.Output.{Output}
 use Rattle.location_collapse.specs.Limits.{ExceedsLimit}
 use Rattle.measuring.specs.declared.measured.Measured.{Measured}
 use Rattle.measuring.specs.Deciding.{IsDeciding, MeasuredHaveNoCause}
-use Rattle.measuring.specs.Measures.{HasCause, IsTooLarge, Measures}
+use Rattle.measuring.specs.Measures.{IsTooLarge, Measures}
 use Rattle.measuring.specs.RunCauses.{Exits, GoesOn, IsRefused, mode_of}
 use Rattle.measuring.proofs.DecidedRuns.{runs_are_decided, refusals_are_decided}
 

@@ -1,8 +1,8 @@
 -- Marks of the addresses at which regions are entered.
 use Rattle.std.proofs.Common.{◌≡◌, ℕ, ◌+◌, ◌<◌, ◌≤◌, ◌⊎◌, inl, inr, true, false, Bool, List, [], ◌∷◌, length, ◌==◌}
-use Rattle.std.proofs.Common.{get_or, not, take, refl, sym, ap, ◌∙◌, arith, Option, Some, None, nat_le}
+use Rattle.std.proofs.Common.{get_or, not, take, refl, sym, ap, ◌∙◌, arith, Some, None, nat_le}
 use Rattle.std.specs.Prelude.{slice_set}
-use Rattle.std.specs.List.{find, list_all}
+use Rattle.std.specs.List.{list_all}
 use Rattle.std.proofs.lemmas.Bool.{and_parts, and_from, cases_Bool, cond-false, eqb-true, leb-true, leb-false}
 use Rattle.std.proofs.lemmas.List.{get_or-set_other}
 use Rattle.std.proofs.lemmas.Grind.{get_or-set_at}

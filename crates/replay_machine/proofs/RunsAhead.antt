@@ -1,6 +1,6 @@
 -- The masks that a point has ahead, as its visits pass.
 use Rattle.std.proofs.Common.{◌≡◌, ℕ, suc, ◌+◌, ◌-◌, ◌<◌, ◌≤◌, inl, inr, List, [], ◌∷◌, length, drop, get_or, refl, sym}
-use Rattle.std.proofs.Common.{ap, subst, ◌∙◌, arith, drop-cons, add-one, IsTrue}
+use Rattle.std.proofs.Common.{ap, ◌∙◌, arith, drop-cons, add-one}
 use Rattle.std.proofs.Math.ListN.{drop_of_length-le}
 use Rattle.std.specs.Prelude.{bit_and}
 use Rattle.std.specs.Prelude.{nat_le, Bool, true}
@@ -9,9 +9,9 @@ use Rattle.std.proofs.lemmas.Bool.{and_parts, cases_Bool, leb-true}
 use Rattle.std.proofs.lemmas.List.Folds.{list_all_at}
 use Rattle.cut_file.specs.declared.points.Run.{Run}
 use Rattle.cut_file.specs.declared.points.CutPoint.{CutPoint}
-use Rattle.cut_file.specs.Cuts.{is_cut_point, is_point, are_runs, is_rest, is_run, is_word}
+use Rattle.cut_file.specs.Cuts.{is_cut_point, is_point, are_runs, is_rest, is_run}
 use Rattle.cut_file.specs.Masks.{listed_masks, repeated}
-use Rattle.cut_file.proofs.MaskLists.{masks-count, masks-none}
+use Rattle.cut_file.proofs.MaskLists.{masks-count}
 use Rattle.cut_file.proofs.Repeats.{repeated-first, repeated-later, repeated-round, masks-ended, masks-step}
 
 abbrev pub run_of : ℕ → ℕ → Run

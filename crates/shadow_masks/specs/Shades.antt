@@ -1,5 +1,5 @@
 -- What a shadow holds, and what the calls that change it do.
-use Rattle.std.specs.Prelude.{◌≡◌, ℕ, ◌+◌, ◌-◌, ◌/◌, ◌%◌, ◌<◌, ◌==◌, ◌&&◌, nat_lt, nat_le, Bool, List}
+use Rattle.std.specs.Prelude.{◌≡◌, ℕ, ◌-◌, ◌/◌, ◌%◌, ◌<◌, ◌==◌, ◌&&◌, nat_lt, nat_le, Bool, List}
 use Rattle.std.specs.Prelude.{Option, None}
 use Rattle.std.specs.Prelude.{if◌then◌else◌, slice_index_or, length}
 use Rattle.std.specs.List.{list_any}

@@ -1,4 +1,4 @@
-use Rattle.std.proofs.Common.{◌≡◌, ◌∙◌, ap, map, take, ◌+◌}
+use Rattle.std.proofs.Common.{◌≡◌, ◌∙◌, ap, map}
 use Rattle.serde_json.specs.View.{view}
 use Rattle.cut_file.specs.declared.points.CutPoint.{CutPoint}
 use Rattle.leak_report.specs.JsonReports.{point_data}

@@ -1,9 +1,8 @@
 use Rattle.std.proofs.Common.{◌≡◌, ◌∙◌, ap, rules}
 use Rattle.serde_json.specs.Data.{no_members, object}
-use Rattle.serde_json.specs.View.{members_view, view}
+use Rattle.serde_json.specs.View.{members_view}
 use Rattle.serde_json.proofs.OnLiterals.{serde_json_on_literals}
 use Rattle.serde_json.proofs.Views.{view-Object}
-use Rattle.leak_report.specs.JsonReports.{report_data}
 use Rattle.leak_report.specs.Members.{with_first, with_last}
 use Rattle.leak_report.proofs.json_reports.report_value.Goals as goal
 

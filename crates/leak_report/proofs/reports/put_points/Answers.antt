@@ -1,4 +1,4 @@
-use Rattle.std.proofs.Common.{◌≡◌, ◌∙◌, ◌+◌, ◌++◌, ℕ, List, ap, drop, get_or, refl}
+use Rattle.std.proofs.Common.{◌∙◌, ◌+◌, ◌++◌, ℕ, List, ap, drop, refl}
 use Rattle.cut_file.specs.declared.points.CutPoint.{CutPoint}
 use Rattle.leak_report.specs.Reports.{cut_line, cut_lines}
 use Rattle.leak_report.proofs.LineLists.{lines_step}

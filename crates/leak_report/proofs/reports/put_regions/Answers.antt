@@ -1,4 +1,4 @@
-use Rattle.std.proofs.Common.{◌≡◌, ◌∙◌, ◌+◌, ◌++◌, ℕ, List, ap, drop, get_or, refl}
+use Rattle.std.proofs.Common.{◌∙◌, ◌+◌, ◌++◌, ℕ, List, ap, drop, refl}
 use Rattle.leak_report.specs.Reports.{skip_line, skip_lines}
 use Rattle.leak_report.proofs.LineLists.{lines_step}
 use Rattle.leak_report.proofs.reports.put_regions.Goals as goal

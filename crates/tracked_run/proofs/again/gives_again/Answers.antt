@@ -1,4 +1,4 @@
-use Rattle.std.proofs.Common.{◌≡◌, Some, subst}
+use Rattle.std.proofs.Common.{Some, subst}
 use Rattle.rv32im_machine.specs.Playing.{AreSources}
 use Rattle.tracked_run.proofs.again.gives_again.Goals as goal
 
