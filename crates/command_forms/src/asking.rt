@@ -6,7 +6,7 @@ use std::alloc::{AllocError, Global};
 
 const VERSION: &str = "flowcheck 0.1.0\n";
 
-/// The text of the help: the commands, and then the form of each, as `clap` tells them.
+/// The text of the help: the commands, and then the form of each, as `clap` tells them. Its error is want of memory.
 pub fn help(alloc: Global) -> Result<String, AllocError> {
     let mut text = command_line(alloc)?.render_help()?;
     for mut form in forms(alloc)? {
@@ -17,7 +17,8 @@ pub fn help(alloc: Global) -> Result<String, AllocError> {
     Ok(text)
 }
 
-/// The text that a lone word `--help` or `--version` asks for; None exactly where the words are neither.
+/// The text that a lone word `--help` or `--version` asks for; None exactly where the words are neither. Its
+/// error is want of memory.
 pub fn text_asked(alloc: Global, words: &[String]) -> Result<Option<String>, AllocError>
     ensures asked { IfOk result (λ text. is_some text ≡ asks (map string_bytes words.now)) }
     ensures version { asks_version (map string_bytes words.now) ≡ true

@@ -40,6 +40,7 @@ fn wrong(alloc: Global, words: &[String]) -> Result<String, AllocError> {
 }
 
 /// What is wrong with words that are no command line, an empty line, and the form of their command with a line feed.
+/// Its error is want of memory.
 pub fn complaint(alloc: Global, words: &[String]) -> Result<String, AllocError>
     ensures { IfOk result (λ text. IsComplaint (string_bytes text)) }
 {

@@ -188,7 +188,8 @@ fn row_of<'a>(
     Ok(file_row(name, parts))
 }
 
-/// The command that words name; None exactly where they are no command line that is understood.
+/// The command that words name; None exactly where they are no command line that is understood. Its error is want of
+/// memory.
 pub fn command_words<'a>(
     alloc: Global,
     words: &'a [String],

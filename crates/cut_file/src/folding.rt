@@ -152,11 +152,11 @@ fn points_of(alloc: Global, cut: &Cut) -> Result<List<CutPoint>, NoMemory>
     Ok(folded)
 }
 
-/// The cut in version 2 in which each list of masks that repeats is a pattern instead: where a point lists at most
-/// 65,536 masks, and each is equal to the one that stands so many places later, for some number from 1 to 64 and at
-/// most half of theirs, it lists none and its pattern is the first so many, for the least such number. All other points
-/// stay. At each visit that the cut lists, its masks are the same. It takes time in 64 times the number of masks that
-/// are listed. Its error is want of memory.
+/// The cut in version 2, of one in version 1, in which each list of masks that repeats is a pattern instead: where a
+/// point lists at most 65,536 masks, and each is equal to the one that stands so many places later, for some number
+/// from 1 to 64 and at most half of theirs, it lists none and its pattern is the first so many, for the least such
+/// number. All other points stay. At each visit that the cut lists, its masks are the same. It takes time in 64 times
+/// the number of masks that are listed. Its error is want of memory.
 pub fn fold(alloc: Global, cut: &Cut) -> Result<Cut, NoMemory>
     requires { cut.now.version ≡ 1 }
     ensures { IfOk result (λ folded. IsFold (picture_of cut.now) (picture_of folded)) }

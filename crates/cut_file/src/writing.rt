@@ -118,7 +118,7 @@ fn head(alloc: Global, version: u8, secret_len: u32, bits: u32) -> Result<Vec<u8
     Ok(text)
 }
 
-/// The one text of a cut, as [`read_cut`](crate::read_cut) reads it.
+/// The one text of a cut, as [`read_cut`](crate::read_cut) reads it. Its error is want of memory.
 pub fn write_cut(alloc: Global, cut: &Cut) -> Result<Bytes, NoMemory>
     ensures { IfOk result (λ text. CutText text (picture_of cut.now)) }
 {

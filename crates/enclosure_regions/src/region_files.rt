@@ -69,10 +69,13 @@ fn regions(alloc: Global, value: &Value) -> Result<Regions, RegionFault>
 /// The regions of a file of JSON (RFC 8259), as `serde_json` reads it: an object with the one key `regions`, an array
 /// of objects. Each has `id`, a number from 1 to 65,535 that no other has, and `enter` and `leave`, texts of `0x` and
 /// one to eight hexadecimal digits of a multiple of 4. It may have `outs` and `keep`, arrays of register names, and
-/// `ranges`, an array of objects with `length` and perhaps `offset` and `base`.
+/// `ranges`, an array of at most 64 objects with `length`, 1 to 65,536 bytes and as many for all of them together, and
+/// perhaps `offset`, from -2,147,483,648 to 4,294,967,295 bytes, and `base`, the name of a register but x0, or null.
+/// There are no other keys.
 ///
 /// The error is the first fault: no JSON, the outer object, too many regions, and then for each region in order its
-/// form, equal addresses, a register that stands twice, an enter address that an earlier region has.
+/// form, equal addresses, a register that stands twice, an enter address that an earlier region has. Want of memory
+/// answers [`RegionFault::Memory`].
 pub fn read_regions(alloc: Global, file: &[u8]) -> Result<Regions, RegionFault>
     ensures ok { IfOk result (λ regions. Spells file.now regions.items) }
     ensures err { IfErr result (λ fault. fault ≢ RegionFault.Memory → FirstRegionFault file.now fault) }

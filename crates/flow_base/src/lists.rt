@@ -84,7 +84,7 @@ impl<T: Drop> List<T> {
 }
 
 impl List<u8> {
-    /// A copy of a slice of bytes.
+    /// A copy of a slice of bytes. The one error is `NoMemory`.
     pub fn from_slice(alloc: Global, bytes: &[u8]) -> Result<Bytes, NoMemory>
         ensures { IfOk result (λ copy. copy ≡ bytes.now) }
     {

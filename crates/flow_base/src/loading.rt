@@ -1,5 +1,6 @@
-ghost use Rattle.std.specs.Prelude.{◌≡◌, ◌+◌, ◌^◌, ◌<◌, ◌≤◌, ℕ, Option, option_map};
+ghost use Rattle.std.specs.Prelude.{◌≡◌, ◌≢◌, ◌+◌, ◌^◌, ◌<◌, ◌≤◌, ℕ, Option, Err, option_map};
 ghost use Rattle.flow_base.specs.Loads.{Told, after_load, Answers, HasCause};
+ghost use Rattle.flow_base.specs.declared.loading.LoadFault.TheVariants.{Failed};
 
 use crate::lists::{Bytes, NoMemory};
 use std::alloc::Global;
@@ -26,12 +27,14 @@ pub trait Files {
     /// loads, whatever it answers; at 2^64 - 1 that number stays.
     /// `Failed` comes only where the count of faults rose and, where told, exactly where this load's number is one that
     /// fails or the name is not held. `TooLarge(limit + 1)` comes, where told, exactly where the load does not fail and
-    /// more than `limit` bytes are held. `Memory` changes nothing but the number of loads.
+    /// more than `limit` bytes are held. `Memory` changes nothing but the number of loads, and no answer but `Failed`
+    /// changes the count of faults.
     fn load(&mut self, alloc: Global, name: &str, limit: u32) -> Result<Bytes, LoadFault>
         requires { limit + 1 < 2 ^ 32 }
         ensures counts { told self.new ≡ option_map after_load (told self.old) }
         ensures answers { Answers (told self.old) name.now limit result }
         ensures cause { HasCause limit (faults self.old) (faults self.new) result }
+        ensures kept { result ≢ Err Failed → faults self.new ≡ faults self.old }
         ensures faults { faults self.old ≤ faults self.new };
 }
 

@@ -1,4 +1,4 @@
-ghost use Rattle.std.specs.Prelude.{◌≡◌, ◌≤◌, IfOk, OnErr, Some, option_map, List as Seq};
+ghost use Rattle.std.specs.Prelude.{◌≡◌, ◌≤◌, IfOk, OnOk, OnErr, Some, option_map, List as Seq};
 ghost use Rattle.flow_base.specs.Counts.{Rose};
 ghost use Rattle.flow_base.specs.Puts.{Puts};
 ghost use Rattle.flow_base.specs.Room.{empty_sink, taken_of, fail_of, sink_after, put_answer};
@@ -52,7 +52,7 @@ fn fail_at(fails: &[SinkFail], call: u64) -> Option<u32>
 }
 
 impl MemorySink {
-    /// An empty sink with room for `room` bytes, whose listed puts fail.
+    /// An empty sink with room for `room` bytes, whose listed puts fail. The one error is `NoMemory`.
     pub fn new(alloc: Global, room: u32, fails: List<SinkFail>) -> Result<MemorySink, NoMemory>
         ensures { IfOk result (λ sink. sink ≡ empty_sink room fails) }
     {
@@ -85,6 +85,7 @@ impl Sink for MemorySink {
     fn put(&mut self, bytes: &[u8]) -> Result<(), SinkFault>
         ensures puts { Puts bytes.now result (Some (taken_of self.old)) (Some (taken_of self.new)) }
         ensures cause { OnErr result (Rose self.old.faults self.new.faults) }
+        ensures kept { OnOk result (self.new.faults ≡ self.old.faults) }
         ensures faults { self.old.faults ≤ self.new.faults }
         ensures answer { result ≡ put_answer self.old bytes.now }
         ensures after { self.new ≡ sink_after self.old bytes.now }

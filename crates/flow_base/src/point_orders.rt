@@ -22,7 +22,7 @@ impl Point {
 }
 
 /// Points are the same where they are one, and points with known slots are ordered by region, address and number of the
-/// slot.
+/// slot. It does nothing when it is called.
 pub fn points_are_ordered()
     ensures same { AreSameWhereOne }
     ensures order { AreOrderedByNumber }

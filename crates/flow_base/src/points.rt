@@ -4,8 +4,9 @@ ghost use Rattle.flow_base.specs.Points.{is_output_slot, is_slot, number_of, wid
 use crate::hex_words::HexWord;
 use std::fmt;
 
-/// A place within a turn at which a value passes. Slots are ordered by their number (see [`Slot::number`]). The registers
-/// of `OutReg` are 1 to 31 and the ranges of `OutRange` 0 to 63; a call that needs this says so.
+/// A place within a turn at which a value passes. Known slots (see [`Slot::is_known`]) are ordered by their number (see
+/// [`Slot::number`]). The registers of `OutReg` are 1 to 31 and the ranges of `OutRange` 0 to 63; a call that needs
+/// this says so.
 #[derive(Clone, Copy, Debug, PartialEq, Eq, PartialOrd, Ord, Hash)]
 pub enum Slot {
     /// `u1`: the value of rs1
@@ -38,17 +39,21 @@ pub enum Slot {
     OutRange(u8),
 }
 
-/// A slot of a place of the program: region (0 outside regions), address of the instruction, slot.
-/// Points are ordered by region, address and slot number. Its fields may hold any numbers; [`Slot`] says which are slots.
+/// A slot of a place of the program: region (0 outside regions), address of the instruction, slot. Points with known
+/// slots are ordered by region, address and slot number. Its fields may hold any numbers; [`Slot`] says which are
+/// slots.
 #[derive(Clone, Copy, Debug, PartialEq, Eq, PartialOrd, Ord, Hash)]
 pub struct Point {
+    /// The number of the region, 0 outside of regions.
     pub region: u16,
+    /// The address of the instruction.
     pub address: u32,
+    /// The place within a turn of the instruction.
     pub slot: Slot,
 }
 
 impl Slot {
-    /// The number by which slots are ordered, 1 to 107 where the slot is known.
+    /// The number by which known slots are ordered, 1 to 107.
     pub fn number(self) -> u16
         ensures { result ≡ number_of self }
     {

@@ -1,4 +1,4 @@
-ghost use Rattle.std.specs.Prelude.{◌≤◌, ℕ, Option, OnErr};
+ghost use Rattle.std.specs.Prelude.{◌≡◌, ◌≤◌, ℕ, Option, OnOk, OnErr};
 ghost use Rattle.flow_base.specs.Counts.{Rose};
 ghost use Rattle.flow_base.specs.Puts.{Taken, Puts};
 
@@ -17,9 +17,11 @@ pub trait Sink {
     ghost told: { Self → Option Taken };
 
     /// Appends all of `bytes`. Each put raises the number of puts, whatever it answers; at 2^64 - 1 that number stays.
-    /// `Failed` comes only where the count of faults rose, and a prefix of `bytes` was then appended.
+    /// `Failed` comes only where the count of faults rose, and a prefix of `bytes` was then appended. After Ok the
+    /// count is as it was.
     fn put(&mut self, bytes: &[u8]) -> Result<(), SinkFault>
         ensures puts { Puts bytes.now result (told self.old) (told self.new) }
         ensures cause { OnErr result (Rose (faults self.old) (faults self.new)) }
+        ensures kept { OnOk result (faults self.new ≡ faults self.old) }
         ensures faults { faults self.old ≤ faults self.new };
 }

@@ -114,7 +114,8 @@ fn put_links(
     Ok(())
 }
 
-/// The one text of a certificate, as [`read_certificate`](crate::read_certificate) reads it.
+/// The one text of a certificate, as [`read_certificate`](crate::read_certificate) reads it. Its error is want of
+/// memory.
 pub fn write_certificate(alloc: Global, certificate: &Certificate) -> Result<Bytes, NoMemory>
     ensures { IfOk result (λ text. CertText text (picture_of certificate.now.graph certificate.now.solved)) }
 {

@@ -16,7 +16,9 @@ use std::collections::{BTreeMap, BTreeSet};
 /// names of their ends.
 #[derive(Drop)]
 pub struct Builder {
+    /// The capacity of each point, in bits.
     pub capacities: BTreeMap<Point, u128>,
+    /// The links.
     pub links: BTreeSet<NamedLink>,
 }
 
@@ -127,8 +129,8 @@ impl Builder {
     }
 }
 
-/// Where what decides the way that a run goes on in a region flows on: to the relay of the region, and for region 0 to the
-/// sink.
+/// Where what decides the way that a run goes on in a region flows on: to the relay of the region, and for region 0 to
+/// the sink.
 pub fn outlet(region: u16) -> NamedEnd
     ensures { result ≡ outlet_of region }
 {

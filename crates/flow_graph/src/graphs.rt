@@ -13,8 +13,11 @@ use flow_base::List;
 /// `relays`.
 #[derive(Drop)]
 pub struct Graph {
+    /// The points with their capacities.
     pub points: List<Node>,
+    /// The numbers of the regions whose outputs what is implicit inside them flows to.
     pub relays: List<u16>,
+    /// The links, of no capacity of their own.
     pub links: List<Arc>,
     ghost points_ascend: { IsTrue (are_points points) },
     ghost relays_ascend: { IsTrue (are_relays relays) },

@@ -14,9 +14,9 @@ pub enum WriteCheck {
     OverLimit,
 }
 
-/// What a write of `length` bytes from an address on does, where `base` is the lowest address of guest memory, and the
-/// output has `written` bytes of at most `limit`. A write of no bytes appends them wherever they stand; a bad address
-/// is told before the limit is asked.
+/// What a write of `length` bytes from an address on does (write of Linux for RISC-V), where `base` is the lowest
+/// address of guest memory, and the output has `written` bytes of at most `limit`. A write of no bytes appends them
+/// wherever they stand; a bad address is told before the limit is asked.
 pub fn write_check(base: u32, address: u32, length: u32, written: u32, limit: u32) -> WriteCheck
     ensures { result ≡ checked_write base address length written limit }
 {

@@ -38,7 +38,7 @@ fn rejected_line(alloc: Global, number: u32, why: Why) -> Result<Bytes, NoMemory
 }
 
 /// The line of the secret with a number, counted from 1: that it is accepted, with its crossing bits as hexadecimal
-/// digits, or the first reason why it is rejected.
+/// digits, or the first reason why it is rejected. Its error is want of memory.
 pub fn verdict_line(alloc: Global, number: u32, verdict: &Verdict) -> Result<Bytes, NoMemory>
     ensures { IfOk result (λ text. text ≡ verdict_line_of number (judgement_of verdict.now)) }
 {

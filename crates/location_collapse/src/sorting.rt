@@ -72,7 +72,7 @@ fn sorted_links(alloc: Global, named: &IndexSet<NamedLink>) -> Result<BTreeSet<N
 }
 
 impl Collapse {
-    /// The graph of the events taken.
+    /// The graph of the events taken. Its error is want of memory.
     pub fn finish(self, alloc: Global) -> Result<Graph, NoMemory>
         ensures { IfOk result (λ graph. (events : Seq AnEvent) → StandsFor self events → IsGraphOf events graph) }
     {

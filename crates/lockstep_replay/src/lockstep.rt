@@ -49,8 +49,8 @@ pub struct Lockstep {
 impl Lockstep {
     ghost use Rattle.lockstep_replay.specs.Checks.{IsCheck};
 
-    /// A check of one secret against a cut, for one program with its regions and one public input, within a budget of
-    /// bits and a limit of turns.
+    /// A check of one secret of fewer than 2^32 bytes against a cut, for one program with its regions and one public
+    /// input, within a budget of fewer than 4,294,967,295 bits and a limit of turns.
     /// `NoMemory` where there is not enough; [`Lockstep::run`] takes none.
     pub fn new(
         alloc: Global,
@@ -74,9 +74,9 @@ impl Lockstep {
         )
     }
 
-    /// The same check in the guest memories that [`Lockstep::run_keeping`] has handed out: nothing of the check before is
-    /// left in them, so the verdict is that of a fresh start. It takes the time of what that check has written in place
-    /// of 32 MiB.
+    /// The same check in the guest memories that [`Lockstep::run_keeping`] has handed out: nothing of the check before
+    /// is left in them, so the verdict is that of a fresh start. It takes the time of what that check has written in
+    /// place of 32 MiB. `NoMemory` where there is not enough; the guest memories are then freed.
     pub fn new_in(
         memories: Memories,
         alloc: Global,

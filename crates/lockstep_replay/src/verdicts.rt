@@ -18,11 +18,12 @@ pub enum ReplayStop {
     Short { missing: u32 },
 }
 
-/// Why a secret is rejected: the first condition that fails, by turn, and within a turn in this order; but the last one
-/// is tested before the first turn.
+/// Why a secret is rejected: the first condition that fails, by turn, and within a turn in this order, but that the
+/// break of a region comes before a stop. The limit of turns comes after the last turn that may be made, and the length
+/// of the secret is tested before the first turn.
 #[derive(Clone, Copy, Debug, PartialEq, Eq, Error)]
 pub enum Why {
-    /// The real run is stopped in this turn.
+    /// The real run is stopped in this turn, and breaks no region in it.
     RealFault(Fault),
     /// The real run breaks a region in this turn.
     RegionBreak(Break),
@@ -47,6 +48,7 @@ pub enum Why {
 pub enum Verdict {
     /// The secret is accepted, with its crossing bits and the output of its run.
     Accepted { bits: Bits, output: Output },
+    /// The secret is rejected, for this reason.
     Rejected(Why),
 }
 

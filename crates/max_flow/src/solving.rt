@@ -11,7 +11,8 @@ use flow_graph::Graph;
 use std::alloc::Global;
 
 /// A maximum flow of a graph within the limits, its value, and the least minimum side, whose capacity is that value.
-/// Nothing circulates: no more bits flow through any point or over any link than the value.
+/// Nothing circulates: no more bits flow through any point or over any link than the value. Its error is want of
+/// memory.
 pub fn solve(alloc: Global, graph: &Graph) -> Result<Solved, NoMemory>
     requires { IsWithinLimits graph.now }
     ensures flow { IfOk result (λ solved. IsFlowOf graph.now solved.flow.points solved.flow.links) }

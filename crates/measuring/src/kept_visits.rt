@@ -18,8 +18,8 @@ use std::alloc::Global;
 use visit_counts::VisitCounts;
 
 /// The masks of the visits of each point that was visited, those of mask 0 too. Visits of mask 0 that are the latest of
-/// their point are counted; all before them are kept as runs of equal masks, the points in the order in which they first
-/// had such a run.
+/// their point are counted; all before them are kept as runs of equal masks, the points in the order in which they
+/// first had such a run.
 ///
 /// A run visits much the same points in much the same order again and again. So a point is first looked for where the
 /// latest one stands, and behind it.
@@ -206,7 +206,7 @@ impl KeptVisits {
         }
     }
 
-    /// Takes an event: a visit, if it is one.
+    /// Takes an event: a visit, if it is one. Its error is want of memory.
     #[inline(always)]
     pub fn take(&mut self, event: Event) -> Result<(), NoMemory>
         ensures { OnOk result ((events : Seq AnEvent) → HasVisits self.old events → HasVisits self.new

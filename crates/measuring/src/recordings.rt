@@ -11,12 +11,14 @@ use std::alloc::Global;
 /// graph exceeds a limit it notes that, and takes every event and keeps nothing more.
 #[derive(Drop)]
 pub struct Recording {
+    /// The graph of the events.
     pub collapse: Collapse,
+    /// The masks of the visits of each point.
     pub visits: KeptVisits,
 }
 
 impl Recording {
-    /// No events.
+    /// No events. Its error is want of memory.
     pub fn new(alloc: Global) -> Result<Recording, NoMemory>
         ensures { IfOk result (λ recording. Records recording []) }
     {

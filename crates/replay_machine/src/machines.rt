@@ -140,6 +140,7 @@ impl Replay {
     }
 
     /// The same replay before its first turn, in guest memory that may have been another's: what was there is gone.
+    /// `NoMemory` where there is not enough; the guest memory is then freed.
     pub fn new_in(
         memory: GuestMemory,
         alloc: Global,
@@ -178,9 +179,9 @@ impl Replay {
 
     /// One turn on the bits that are left of a string: an instruction, the entry or the leave of a region, or its skip.
     /// `Wants` comes exactly where a mask of the turn needs so many bits more than are left; the turn then goes on to
-    /// its end with the other values as they are. `RangeOutside` comes exactly where a region is entered or skipped one
-    /// of whose ranges is not inside guest memory; nothing is then done. After an answer other than `Ran` each later
-    /// call gives the same answer and changes nothing.
+    /// its end with the other values as they are, but no clause says where it ends. `RangeOutside` comes exactly where
+    /// a region is entered or skipped one of whose ranges is not inside guest memory; nothing is then done. After an
+    /// answer other than `Ran` each later call gives the same answer and changes nothing.
     #[inline(always)]
     pub fn turn(&mut self, bits: &mut Bits) -> ReplayTurn
         ensures turn { (masks : Masks) (place : ReplayPlace) → Stands self.old masks place →

@@ -55,7 +55,7 @@ fn pass_at(points: &Vec<CutPoint>, cursors: &mut Vec<Cursor>, index: usize, poin
 }
 
 impl VisitMasks {
-    /// The masks of a cut before the first visit of any point.
+    /// The masks of a cut before the first visit of any point. Its error is want of memory.
     pub fn new(alloc: Global, cut: &Cut) -> Result<VisitMasks, NoMemory>
         ensures { IfOk result (λ table. IsAhead table (MaskAt cut.now.points) []) }
     {

@@ -4,9 +4,10 @@ use rv32im_machine::Fault;
 use std::fmt;
 use thiserror::Error;
 
-/// Why a run is not measured: the first of these in the first turn in which one holds. Within one instruction a fetch
-/// outside of guest memory comes before secret code, and that before all else; at an entry a secret base register comes
-/// before a range outside of guest memory.
+/// Why a run is not measured, by the first turn that is refused. Within one instruction a fetch outside of guest memory
+/// comes before secret code, that before the break of a region, and that before every other stop of the guest; at an
+/// entry a secret base register comes before a range outside of guest memory. `TurnLimit` comes only where no turn
+/// within the limit is refused or exits, and `GraphLimit` only where none is refused and one exits.
 #[derive(Clone, Copy, Debug, PartialEq, Eq, Error)]
 pub enum MeasureFault {
     /// The guest is stopped.

@@ -22,7 +22,7 @@ fn read_word(pc: u32, word: u32) -> Result<Instr, Fault>
 
 impl Machine {
     /// The instruction at the program counter; `FetchOutside` where its four bytes are not inside guest memory, and
-    /// `Illegal` where they are no instruction of RV32IM. It takes no memory.
+    /// `Illegal` where they are no instruction of RV32IM (RISC-V Unprivileged ISA). It takes no memory.
     pub fn fetch(&self) -> Result<Instr, Fault>
         ensures fetch { result ≡ fetch_part self.now }
         ensures range { IfOk result (λ instr. InRange instr) }
@@ -107,10 +107,10 @@ impl Machine {
         }
     }
 
-    /// What an instruction at `pc` writes to rd, also where rd is x0: the value of the slot Result, which is `loaded` for
-    /// a load; for LUI and AUIPC their value, and for JAL and JALR the address of the next instruction; 0 for a branch, a
-    /// store, FENCE, ECALL and EBREAK. The values of rs1 and rs2 that have gone on are `first` and `second`. It takes no
-    /// memory.
+    /// What an instruction at `pc` writes to rd, also where rd is x0: the value of the slot Result, which is `loaded`
+    /// for a load; for LUI and AUIPC their value, and for JAL and JALR the address of the next instruction; 0 for a
+    /// branch, a store, FENCE, ECALL and EBREAK. The values of rs1 and rs2 that have gone on are `first` and `second`.
+    /// It takes no memory.
     pub fn result(instr: &Instr, pc: u32, first: u32, second: u32, loaded: u32) -> u32
         ensures { result ≡ result_part instr.now pc first second loaded }
     {

@@ -60,8 +60,8 @@ impl Passer for Plain {
 }
 
 impl Machine {
-    /// One turn of the real run: one instruction or call, unless the machine has exited or is stopped, for then it
-    /// stands still. The answer is the mode after it. It takes no memory.
+    /// One turn of the real run (RISC-V Unprivileged ISA, RV32IM): one instruction or call, unless the machine has
+    /// exited or is stopped, for then it stands still. The answer is the mode after it. It takes no memory.
     pub fn step(&mut self) -> Stepped
         ensures state { self.new ≡ Step self.old }
         ensures mode { result ≡ self.new.control.mode }

@@ -94,8 +94,10 @@ pub(crate) fn plan_break(machine: &Machine, request: u32) -> CallPlan
 }
 
 impl Machine {
-    /// What a call does, by the numbers of Linux for RISC-V, once its arguments have gone on. A call that asks for fewer
-    /// of them passes over the others; an exit's status is taken from a0 when the exit is carried out.
+    /// What a call does, by the numbers of Linux for RISC-V, once its arguments have gone on. A call that asks for
+    /// fewer of them passes over the others; an exit's status is taken from a0 when the exit is carried out. It answers
+    /// -9 for another descriptor, -14 for bytes that are not inside guest memory, and -38 for every other number; a
+    /// write beyond the limit of the output stops the guest.
     pub fn call_plan(&self, arguments: &Arguments) -> CallPlan
         ensures plan { result ≡ plan_of self.now.setting self.now.control arguments.now }
         ensures may { MayPerform result self.now }

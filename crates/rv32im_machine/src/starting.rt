@@ -68,8 +68,8 @@ impl Machine {
     /// the entry, and the registers are 0 but x2, the stack pointer, which is the memory's end minus 64. The break is
     /// the highest segment end rounded up to a multiple of 4,096.
     ///
-    /// It has copies of both inputs, and room for `output_limit` bytes of output, so no later call takes memory.
-    /// `NoMemory` comes where there is not enough.
+    /// It has copies of both inputs, a secret of fewer than 2^32 bytes among them, and room for `output_limit` bytes of
+    /// output, so no later call takes memory. `NoMemory` comes where there is not enough.
     pub fn new(
         alloc: Global,
         image: &Image,
@@ -87,7 +87,8 @@ impl Machine {
     }
 
     /// The same guest at its start in guest memory that may have been another's: what was there is gone, so a run from
-    /// here is that of a fresh start. It takes the time of what the other has written and of the image.
+    /// here is that of a fresh start. It takes the time of what the other has written and of the image. `NoMemory`
+    /// comes where there is not enough; the guest memory is then freed.
     #[tactic(auto, unfolding(crate::specs::Start::first_memory))]
     pub fn new_in(
         memory: GuestMemory,

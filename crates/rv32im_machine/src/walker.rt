@@ -18,7 +18,7 @@ use crate::stepping::{Fault, Stepped};
 use rv32im_decode::{Instr, decode};
 
 /// One turn of a machine, each of its values handed to a passer; a machine that has exited or is stopped stands still.
-/// Where the passer stops the turn, the machine is left in the middle of it.
+/// Where the passer stops the turn, the machine is left in the middle of it, and no clause says where.
 pub fn turn_by<P: Passer>(machine: &mut Machine, passer: &mut P) -> Result<(), P::Stop>
     requires memory { Knows (P.memory passer.old) machine.old.setting.base }
     ensures { P.Plays passer.old (walk_of machine.old) (outcome result machine.new (P.tape passer.new)) }

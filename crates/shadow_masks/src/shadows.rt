@@ -65,7 +65,8 @@ fn no_pages(alloc: Global, count: usize) -> Result<Vec<Option<Page>>, NoMemory>
 }
 
 impl Shadow {
-    /// All labels clean, those that are kept too, of a guest whose memory begins at an address.
+    /// All labels clean, those that are kept too, of a guest whose memory begins at an address and ends at 2^32 or
+    /// below. Its error is want of memory.
     pub fn new(alloc: Global, base: u32) -> Result<Shadow, NoMemory>
         requires { base + memory_size ≤ 2 ^ 32 }
         ensures { IfOk result (λ shadow. IsNew base shadow) }

@@ -29,7 +29,8 @@ fn put(bytes: &mut Vec<u8>, byte: u8) -> Result<(), NoMemory>
     }
 }
 
-/// The secret of a number: the highest bytes of the states of a generator that starts with it.
+/// The secret of a number, at most 2,000 bytes: the highest bytes of the states of a generator that starts with it. Its
+/// error is want of memory.
 pub fn secret(alloc: Global, number: u32) -> Result<Bytes, NoMemory>
     ensures is { IfOk result (λ secret. secret ≡ secret_of number) }
     ensures few { IfOk result (λ secret. length secret ≤ 2000) }
