@@ -1,6 +1,5 @@
 -- What it is that a cut covers a run: no link of the run's graph leaves the side, the cut skips the regions whose
--- relays
--- are in it, and it has at each visit of a split point the bits of the run's mask.
+-- relays are in it, and it has at each visit of a split point the bits of the run's mask.
 use Rattle.std.specs.Prelude.{◌≡◌, ℕ, true, false, List, [], ◌∷◌}
 use Rattle.std.specs.Int.{bit_at}
 use Rattle.flow_base.specs.declared.points.Point.{Point}

@@ -1,5 +1,6 @@
-//! Cuts that cover a run: the cut of a run and a side of its graph, what it is that a cut covers a run, and the law that
-//! a covered run is accepted.
+//! Cuts that cover a run: the cut of a run and a side of its graph, what it is that a cut covers a run, and the laws: a
+//! covered run is accepted, and so a measured one with its cut and with the fold of it; least sides and cuts are small;
+//! points are passed seldom.
 #![tactic(auto)]
 
 mod graph_laws;

@@ -1,4 +1,5 @@
-//! Cuts as texts: which bits of which values of a run cross, read from a text and written as one.
+//! Cuts as texts of two versions: which bits of which values of a run cross, read from a text and written as one; the
+//! mask at a visit, and lists of masks folded to patterns.
 #![tactic(auto)]
 
 mod copies;

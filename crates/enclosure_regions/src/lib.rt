@@ -1,5 +1,5 @@
-//! Enclosure regions: pieces of a program whose writes are declared, read from a file, and a monitor of a run that
-//! says where it enters and leaves them and whether it breaks what they declare.
+//! Enclosure regions: pieces of a program whose writes are declared, read from a file; what breaks one; and a monitor of
+//! a run that says where it enters and leaves them and whether it breaks what they declare.
 #![tactic(auto)]
 
 mod break_kinds;

@@ -1,5 +1,6 @@
-//! What every crate of Flowcheck speaks of: lists and bytes, the points of a run, registers, an output, and the
-//! outside: where files come from and where text goes.
+//! What the crates of Flowcheck speak of: lists and bytes, pieces of text, words in hexadecimal, the points of a run,
+//! registers and their names, what is inside guest memory, an output, and the outside: where files come from and where
+//! text goes.
 #![tactic(auto)]
 
 mod guests;

@@ -1,4 +1,5 @@
-//! How many bits of its secret can a program's output have given away?
+//! The program: the answer to its words over files on a disk and standard output, by books of both tables of mask rules;
+//! and texts for people.
 #![tactic(auto)]
 
 use command_answers::flowcheck;

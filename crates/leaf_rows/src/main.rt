@@ -1,6 +1,6 @@
-//! Answers the rows of a table: what texts of cuts are read as, what files and sinks answer, how words and slots are
-//! written, what strings of bits give back, which graph events make, and how visits are counted. What must be printed
-//! was found by hand.
+//! Answers the rows of a table: what texts of cuts are read as, what files and sinks answer, what the calls of a guest
+//! answer, how words and slots are written, what strings of bits give back, which graph events make, and how visits are
+//! counted. What must be printed was found by hand.
 #![tactic(auto)]
 
 mod call_rows;

@@ -12,7 +12,7 @@ use crate::kept_points::KeptPoints;
 pub struct Collapse {
     pub points: KeptPoints,
     pub links: KeptLinks,
-    /// Whether an earlier `add` answered `Limit`.
+    /// Whether an earlier `add` or `add_again` answered `Limit`.
     pub is_full: bool,
     ghost sound: { IsTrue (list_all (is_sound (is_known points.capacities.entries)) links.named.keys) },
 }

@@ -1,5 +1,5 @@
 //! The graph of events, as they come: points with their capacities in the order in which they are first seen, and the
-//! links by the names of their ends. No event is kept.
+//! links by the names of their ends, up to the limits of a graph. No event is kept.
 #![tactic(auto)]
 
 mod adding;

@@ -1,5 +1,5 @@
 //! Two machines in lockstep: the real run on a secret beside a replay that never sees it, with regions of which a cut
-//! may skip some, and the verdict on the secret.
+//! may skip some, the verdict on the secret, and the laws of acceptance and of the bound.
 #![tactic(auto)]
 
 mod differences;

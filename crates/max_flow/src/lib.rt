@@ -1,4 +1,4 @@
-//! The maximum flow of a graph of events and its least minimum side.
+//! A maximum flow of a graph of events and its least minimum side, and the laws of flows and sides.
 #![tactic(auto)]
 
 mod answers;

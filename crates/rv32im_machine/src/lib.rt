@@ -1,5 +1,5 @@
 //! The guest machine of RV32IM: its states, the language of one turn, a row for each instruction, and one walker of
-//! turns that hands each value that passes to whoever is interested in it.
+//! turns that hands each value that passes to whoever is interested in it. The parts of a step can be asked one by one.
 #![tactic(auto)]
 
 mod calls;
