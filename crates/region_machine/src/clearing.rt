@@ -28,6 +28,7 @@ fn clear_register<P: Passer>(
     ensures goes { (turn : Turn) → Goes result (λ done. P.Plays passer.new (turn_walk machine.new turn))
         (P.Plays passer.old (turn_walk machine.old (Moves (Register register) Copied (Constant 0) turn))) }
     ensures stays { Stays machine.old machine.new }
+    ensures same { P.memory passer.new ≡ P.memory passer.old }
 {
     passer.move_to(
         Place::Register(register),
@@ -47,6 +48,7 @@ fn clear_byte<P: Passer>(machine: &mut Machine, passer: &mut P, address: u32) ->
     ensures goes { (turn : Turn) → Goes result (λ done. P.Plays passer.new (turn_walk machine.new turn))
         (P.Plays passer.old (turn_walk machine.old (Moves (Byte address) Copied (Constant 0) turn))) }
     ensures stays { Stays machine.old machine.new }
+    ensures same { P.memory passer.new ≡ P.memory passer.old }
 {
     passer.move_to(Place::Byte(address), Shape::Copied, Source::Constant(0), 0)?;
     machine.set_byte(address, 0);
@@ -66,6 +68,7 @@ pub(crate) fn clear_registers<P: Passer>(
     ensures goes { (turn : Turn) → Goes result (λ done. P.Plays passer.new (turn_walk machine.new turn))
         (P.Plays passer.old (turn_walk machine.old (clears_registers registers.now turn))) }
     ensures stays { Stays machine.old machine.new }
+    ensures same { P.memory passer.new ≡ P.memory passer.old }
 {
     let [register, more @ ..] = registers else {
         return Ok(());
@@ -88,6 +91,7 @@ fn clear_bytes<P: Passer>(
     ensures goes { (turn : Turn) → Goes result (λ done. P.Plays passer.new (turn_walk machine.new turn))
         (P.Plays passer.old (turn_walk machine.old (clears_bytes address count turn))) }
     ensures stays { Stays machine.old machine.new }
+    ensures same { P.memory passer.new ≡ P.memory passer.old }
 {
     for i in 0..count {
         match clear_byte(machine, passer, address + i) {
@@ -113,6 +117,7 @@ pub(crate) fn clear_ranges<P: Passer>(
     ensures goes { (turn : Turn) → Goes result (λ done. P.Plays passer.new (turn_walk machine.new turn))
         (P.Plays passer.old (turn_walk machine.old (clears_ranges registers.now ranges.now turn))) }
     ensures stays { Stays machine.old machine.new }
+    ensures same { P.memory passer.new ≡ P.memory passer.old }
 {
     let [range, more @ ..] = ranges else {
         return Ok(());

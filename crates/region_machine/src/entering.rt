@@ -13,8 +13,9 @@ use rv32im_machine::{Machine, Passer, Seen};
 /// The base register of a range, if it has one, is looked at.
 fn look_at<P: Passer>(machine: &Machine, passer: &mut P, base: Option<u8>) -> Result<(), P::Stop>
     requires { IsTrue (is_base base) }
-    ensures { (turn : Turn) → Goes result (λ done. P.Plays passer.new (turn_walk machine.now turn))
+    ensures goes { (turn : Turn) → Goes result (λ done. P.Plays passer.new (turn_walk machine.now turn))
         (P.Plays passer.old (turn_walk machine.now (looks_at base turn))) }
+    ensures memory { P.memory passer.new ≡ P.memory passer.old }
 {
     match base {
         Some(register) => passer.look(Seen::Base(register), machine.register(register)),
@@ -30,8 +31,9 @@ fn look_at_bases<P: Passer>(
     ranges: &[Range],
 ) -> Result<(), P::Stop>
     requires { IsTrue (list_all is_range ranges.now) }
-    ensures { (turn : Turn) → Goes result (λ done. P.Plays passer.new (turn_walk machine.now turn))
+    ensures goes { (turn : Turn) → Goes result (λ done. P.Plays passer.new (turn_walk machine.now turn))
         (P.Plays passer.old (turn_walk machine.now (looks ranges.now turn))) }
+    ensures memory { P.memory passer.new ≡ P.memory passer.old }
 {
     let [range, more @ ..] = ranges else {
         return Ok(());
@@ -47,8 +49,10 @@ pub fn enter_by<P: Passer>(
     region: &Region,
 ) -> Result<(), P::Stop>
     requires { IsTrue (is_region region.now) }
-    ensures { P.Plays passer.old (turn_walk machine.old (entry region.now machine.old.control))
+    ensures plays { P.Plays passer.old (turn_walk machine.old (entry region.now machine.old.control))
         (outcome result machine.new (P.tape passer.new)) }
+    ensures memory { P.memory passer.new ≡ P.memory passer.old }
+    ensures setting { machine.new.setting ≡ machine.old.setting }
 {
     look_at_bases(machine, passer, region.ranges.as_slice())?;
     passer.save()?;

@@ -43,6 +43,7 @@ fn give_register<P: Passer>(
         (P.Plays passer.old (turn_walk machine.old
         (Gives (point_of region.now (OutReg register)) (Register register) turn))) }
     ensures stays { Stays machine.old machine.new }
+    ensures same { P.memory passer.new ≡ P.memory passer.old }
 {
     let place = Place::Register(register);
     let value = passer.pass(Passing {
@@ -72,6 +73,7 @@ fn give_byte<P: Passer>(
         (P.Plays passer.old (turn_walk machine.old
         (Gives (point_of region.now (OutRange range)) (Byte address) turn))) }
     ensures stays { Stays machine.old machine.new }
+    ensures same { P.memory passer.new ≡ P.memory passer.old }
 {
     let place = Place::Byte(address);
     let value = passer.pass(Passing {
@@ -99,6 +101,7 @@ fn give_registers<P: Passer>(
     ensures goes { (turn : Turn) → Goes result (λ done. P.Plays passer.new (turn_walk machine.new turn))
         (P.Plays passer.old (turn_walk machine.old (gives_registers region.now registers.now turn))) }
     ensures stays { Stays machine.old machine.new }
+    ensures same { P.memory passer.new ≡ P.memory passer.old }
 {
     let [register, more @ ..] = registers else {
         return Ok(());
@@ -124,6 +127,7 @@ fn give_bytes<P: Passer>(
     ensures goes { (turn : Turn) → Goes result (λ done. P.Plays passer.new (turn_walk machine.new turn))
         (P.Plays passer.old (turn_walk machine.old (gives_bytes region.now range address count turn))) }
     ensures stays { Stays machine.old machine.new }
+    ensures same { P.memory passer.new ≡ P.memory passer.old }
 {
     for i in 0..count {
         match give_byte(machine, passer, region, range, address + i) {
@@ -153,6 +157,7 @@ fn give_ranges<P: Passer>(
     ensures goes { (turn : Turn) → Goes result (λ done. P.Plays passer.new (turn_walk machine.new turn))
         (P.Plays passer.old (turn_walk machine.old (gives_ranges region.now registers.now number ranges.now turn))) }
     ensures stays { Stays machine.old machine.new }
+    ensures same { P.memory passer.new ≡ P.memory passer.old }
 {
     let [range, more @ ..] = ranges else {
         return Ok(());
@@ -177,6 +182,7 @@ pub(crate) fn give_outputs<P: Passer>(
     ensures goes { (turn : Turn) → Goes result (λ done. P.Plays passer.new (turn_walk machine.new turn))
         (P.Plays passer.old (turn_walk machine.old (gives region.now registers.now turn))) }
     ensures stays { Stays machine.old machine.new }
+    ensures same { P.memory passer.new ≡ P.memory passer.old }
 {
     give_registers(machine, passer, region, region.outs.as_slice())?;
     give_ranges(

@@ -23,6 +23,7 @@ fn put_back<P: Passer>(
     ensures goes { (turn : Turn) → Goes result (λ done. P.Plays passer.new (turn_walk machine.new turn))
         (P.Plays passer.old (turn_walk machine.old (Restores registers.now turn))) }
     ensures stays { Stays machine.old machine.new }
+    ensures same { P.memory passer.new ≡ P.memory passer.old }
 {
     if passer.restore(registers)? {
         machine.restore(registers);
@@ -40,8 +41,10 @@ pub fn leave_by<P: Passer>(
     requires memory { Knows (P.memory passer.old) machine.old.setting.base }
     requires rules { IsTrue (is_region region.now) }
     requires inside { IsTrue (are_inside region.now.ranges machine.old.store.kept machine.old.setting.base) }
-    ensures { P.Plays passer.old (turn_walk machine.old (leave region.now machine.old.store.kept machine.old.control))
+    ensures plays { P.Plays passer.old (turn_walk machine.old (leave region.now machine.old.store.kept machine.old.control))
         (outcome result machine.new (P.tape passer.new)) }
+    ensures memory { P.memory passer.new ≡ P.memory passer.old }
+    ensures setting { machine.new.setting ≡ machine.old.setting }
 {
     let registers = *machine.kept();
     put_back(machine, passer, region.keep.as_slice())?;

@@ -1,4 +1,4 @@
-ghost use Rattle.std.specs.Prelude.{◌≡◌, IfOk, IsTrue, List as Seq, true, false};
+ghost use Rattle.std.specs.Prelude.{◌≡◌, IfOk, IsOk, IsTrue, List as Seq, true, false};
 ghost use Rattle.rv32im_machine.specs.Folds.{real_end};
 ghost use Rattle.rv32im_machine.specs.Language.{turn_walk};
 ghost use Rattle.rv32im_machine.specs.Playing.{Knows};
@@ -42,6 +42,8 @@ fn enter<P: Observer>(
         broken ≡ range_break region.now machine.old.store.registers machine.old.setting.base) }
     ensures plays { P.Plays passer.old (turn_walk machine.old (entry region.now machine.old.control))
         (ending result machine.new (P.tape passer.new)) }
+    ensures memory { P.memory passer.new ≡ P.memory passer.old }
+    ensures setting { machine.new.setting ≡ machine.old.setting }
 {
     let broken = broken_at_entry(region, machine.registers(), machine.base());
     enter_by(machine, passer, region)?;
@@ -62,6 +64,8 @@ fn leave<P: Observer>(
         broken ≡ keep_break region.now machine.old.store.kept machine.old.store.registers) }
     ensures plays { P.Plays passer.old (turn_walk machine.old (leave region.now machine.old.store.kept machine.old.control))
         (ending result machine.new (P.tape passer.new)) }
+    ensures memory { P.memory passer.new ≡ P.memory passer.old }
+    ensures setting { machine.new.setting ≡ machine.old.setting }
 {
     let broken = broken_at_leave(region, machine.kept(), machine.registers());
     leave_by(machine, passer, region)?;
@@ -80,6 +84,8 @@ fn step_inside<P: Observer>(
     ensures broken { IfOk result (λ broken.
         broken ≡ walk_break region.now machine.old.store.kept machine.old.control.pc (walk_of machine.old)) }
     ensures plays { P.Plays passer.old (walk_of machine.old) (ending result machine.new (P.tape passer.new)) }
+    ensures memory { IfOk result (λ broken. P.memory passer.new ≡ P.memory passer.old) }
+    ensures setting { machine.new.setting ≡ machine.old.setting }
 {
     let mut side = Guarding {
         passer,
@@ -105,6 +111,8 @@ fn kind_turn<P: Observer>(
     ensures broken { IfOk result (λ broken. broken ≡ kind_break (seen turn.entry) machine.old) }
     ensures plays { P.Plays passer.old (kind_walk (seen turn.entry) machine.old)
         (ending result machine.new (P.tape passer.new)) }
+    ensures memory { IfOk result (λ broken. P.memory passer.new ≡ P.memory passer.old) }
+    ensures setting { machine.new.setting ≡ machine.old.setting }
 {
     match turn {
         GuestTurn::Enters(region) => enter(machine, passer, region),
@@ -138,6 +146,7 @@ fn unobserved_turn(machine: &mut Machine, turn: GuestTurn<'_>) -> Option<Break>
     requires leave { IsTrue (can_leave (seen turn) machine.old.store.kept machine.old.setting.base) }
     ensures broken { result ≡ kind_break (seen turn.entry) machine.old }
     ensures state { machine.new ≡ real_end (kind_walk (seen turn.entry) machine.old) }
+    ensures setting { machine.new.setting ≡ machine.old.setting }
 {
     let mut nobody = Plain;
     match kind_turn(machine, &mut nobody, turn) {
@@ -148,8 +157,9 @@ fn unobserved_turn(machine: &mut Machine, turn: GuestTurn<'_>) -> Option<Break>
 
 /// One turn of the real run of a guest with these regions, of which those with these numbers are skipped: an entry, a
 /// leave or a step. Each of its values is handed to an observer, but of the entry of a skipped region and of the turns
-/// inside it the observer is told nothing. The turn is played to its end also where it breaks a region; where the
-/// observer stops it, the machine is left in the middle of it. It takes no memory of its own.
+/// inside it the observer is told nothing, and does not stop it. The turn is played to its end also where it breaks a
+/// region; where the observer stops it, the machine is left in the middle of it and keeps what it was begun with. It
+/// takes no memory of its own.
 #[inline(always)]
 pub fn real_turn_by<P: Observer>(
     machine: &mut Machine,
@@ -165,9 +175,13 @@ pub fn real_turn_by<P: Observer>(
     ensures state { IfOk result (λ turn. machine.new ≡ real_end (guest_walk marked.now.regions.items machine.old)) }
     ensures untold { is_enclosed (record { regions = marked.now.regions.items; skip = skip.now }) machine.old.control ≡ true →
         observer.new ≡ observer.old }
+    ensures unstopped { is_enclosed (record { regions = marked.now.regions.items; skip = skip.now }) machine.old.control ≡ true →
+        IsOk result }
     ensures plays { is_enclosed (record { regions = marked.now.regions.items; skip = skip.now }) machine.old.control ≡ false →
         P.Plays observer.old (guest_walk marked.now.regions.items machine.old)
         (ending result machine.new (P.tape observer.new)) }
+    ensures memory { IfOk result (λ turn. P.memory observer.new ≡ P.memory observer.old) }
+    ensures setting { machine.new.setting ≡ machine.old.setting }
 {
     let turn = marked.next_turn(machine);
     if is_enclosed_turn(turn, skip) {

@@ -21,9 +21,11 @@ pub fn skip_by<P: Passer>(
     requires memory { Knows (P.memory passer.old) machine.old.setting.base }
     requires rules { IsTrue (is_region region.now) }
     requires inside { IsTrue (are_inside region.now.ranges machine.old.store.registers machine.old.setting.base) }
-    ensures { P.Plays passer.old
+    ensures plays { P.Plays passer.old
         (turn_walk machine.old (skip region.now machine.old.store.registers machine.old.control))
         (outcome result machine.new (P.tape passer.new)) }
+    ensures memory { P.memory passer.new ≡ P.memory passer.old }
+    ensures setting { machine.new.setting ≡ machine.old.setting }
 {
     let registers = *machine.registers();
     clear_registers(machine, passer, region.outs.as_slice())?;

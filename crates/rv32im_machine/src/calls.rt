@@ -21,8 +21,10 @@ use rv32im_decode::Instr;
 
 /// The answer of a call is put into a0.
 fn answer<P: Passer>(machine: &mut Machine, passer: &mut P, value: u32) -> Result<(), P::Stop>
-    ensures { P.Plays passer.old (turn_walk machine.old (answered value machine.old.control))
+    ensures plays { P.Plays passer.old (turn_walk machine.old (answered value machine.old.control))
         (outcome result machine.new (P.tape passer.new)) }
+    ensures memory { P.memory passer.new ≡ P.memory passer.old }
+    ensures setting { machine.new.setting ≡ machine.old.setting }
 {
     passer.move_to(
         Place::Register(10),
@@ -37,8 +39,10 @@ fn answer<P: Passer>(machine: &mut Machine, passer: &mut P, value: u32) -> Resul
 
 /// The exit: the low 8 bits of a0 are the status.
 fn exit<P: Passer>(machine: &mut Machine, passer: &mut P) -> Result<(), P::Stop>
-    ensures { P.Plays passer.old (turn_walk machine.old (exits machine.old.control))
+    ensures plays { P.Plays passer.old (turn_walk machine.old (exits machine.old.control))
         (outcome result machine.new (P.tape passer.new)) }
+    ensures memory { P.memory passer.new ≡ P.memory passer.old }
+    ensures setting { machine.new.setting ≡ machine.old.setting }
 {
     let status = passer.pass(Passing {
         point: machine.point(Slot::Status),
@@ -62,10 +66,12 @@ fn read_public<P: Passer>(
     requires inside { IsTrue (is_inside machine.old.setting.base to count) }
     requires below { to + count ≤ 2 ^ 32 }
     requires left { machine.old.control.public_at + count ≤ length machine.old.setting.public_input }
-    ensures { P.Plays passer.old
+    ensures plays { P.Plays passer.old
         (turn_walk machine.old
         (public_reads count to count machine.old.setting.public_input machine.old.control))
         (outcome result machine.new (P.tape passer.new)) }
+    ensures memory { P.memory passer.new ≡ P.memory passer.old }
+    ensures setting { machine.new.setting ≡ machine.old.setting }
 {
     for i in 0..count {
         let address = to + i;
@@ -98,8 +104,10 @@ fn read_secret<P: Passer>(
     requires inside { IsTrue (is_inside machine.old.setting.base to count) }
     requires below { to + count ≤ 2 ^ 32 }
     requires left { machine.old.control.secret_at + count ≤ machine.old.setting.secret_length }
-    ensures { P.Plays passer.old (turn_walk machine.old (secret_reads count to count machine.old.control))
+    ensures plays { P.Plays passer.old (turn_walk machine.old (secret_reads count to count machine.old.control))
         (outcome result machine.new (P.tape passer.new)) }
+    ensures memory { P.memory passer.new ≡ P.memory passer.old }
+    ensures setting { machine.new.setting ≡ machine.old.setting }
 {
     for i in 0..count {
         let address = to + i;
@@ -132,8 +140,10 @@ fn write_output<P: Passer>(
     requires inside { IsTrue (is_inside machine.old.setting.base from count) }
     requires below { from + count ≤ 2 ^ 32 }
     requires room { length machine.old.control.output + count ≤ machine.old.setting.output_limit }
-    ensures { P.Plays passer.old (turn_walk machine.old (writes count from count machine.old.control))
+    ensures plays { P.Plays passer.old (turn_walk machine.old (writes count from count machine.old.control))
         (outcome result machine.new (P.tape passer.new)) }
+    ensures memory { P.memory passer.new ≡ P.memory passer.old }
+    ensures setting { machine.new.setting ≡ machine.old.setting }
 {
     for i in 0..count {
         let address = from + i;
@@ -157,8 +167,10 @@ fn write_output<P: Passer>(
 fn perform<P: Passer>(machine: &mut Machine, passer: &mut P, plan: CallPlan) -> Result<(), P::Stop>
     requires memory { Knows (P.memory passer.old) machine.old.setting.base }
     requires plan { MayPerform plan machine.old }
-    ensures { P.Plays passer.old (turn_walk machine.old (planned plan machine.old.setting machine.old.control))
+    ensures plays { P.Plays passer.old (turn_walk machine.old (planned plan machine.old.setting machine.old.control))
         (outcome result machine.new (P.tape passer.new)) }
+    ensures memory { P.memory passer.new ≡ P.memory passer.old }
+    ensures setting { machine.new.setting ≡ machine.old.setting }
 {
     match plan {
         CallPlan::Answer(value) => answer(machine, passer, value),
@@ -180,10 +192,12 @@ fn perform<P: Passer>(machine: &mut Machine, passer: &mut P, plan: CallPlan) -> 
 /// A read call (63).
 fn read_turn<P: Passer>(machine: &mut Machine, passer: &mut P) -> Result<(), P::Stop>
     requires memory { Knows (P.memory passer.old) machine.old.setting.base }
-    ensures { P.Plays passer.old
+    ensures plays { P.Plays passer.old
         (turn_walk machine.old
         (with_arguments (read_plan machine.old.setting machine.old.control) machine.old.setting machine.old.control))
         (outcome result machine.new (P.tape passer.new)) }
+    ensures memory { P.memory passer.new ≡ P.memory passer.old }
+    ensures setting { machine.new.setting ≡ machine.old.setting }
 {
     let descriptor = operand(machine, passer, Slot::Arg0, Aim::Decide, 10)?;
     let to = operand(machine, passer, Slot::Arg1, Aim::Decide, 11)?;
@@ -195,10 +209,12 @@ fn read_turn<P: Passer>(machine: &mut Machine, passer: &mut P) -> Result<(), P::
 /// A write call (64).
 fn write_turn<P: Passer>(machine: &mut Machine, passer: &mut P) -> Result<(), P::Stop>
     requires memory { Knows (P.memory passer.old) machine.old.setting.base }
-    ensures { P.Plays passer.old
+    ensures plays { P.Plays passer.old
         (turn_walk machine.old
         (with_arguments (write_plan machine.old.setting machine.old.control) machine.old.setting machine.old.control))
         (outcome result machine.new (P.tape passer.new)) }
+    ensures memory { P.memory passer.new ≡ P.memory passer.old }
+    ensures setting { machine.new.setting ≡ machine.old.setting }
 {
     let descriptor = operand(machine, passer, Slot::Arg0, Aim::Decide, 10)?;
     let from = operand(machine, passer, Slot::Arg1, Aim::Decide, 11)?;
@@ -210,10 +226,12 @@ fn write_turn<P: Passer>(machine: &mut Machine, passer: &mut P) -> Result<(), P:
 /// A brk call (214).
 fn break_turn<P: Passer>(machine: &mut Machine, passer: &mut P) -> Result<(), P::Stop>
     requires memory { Knows (P.memory passer.old) machine.old.setting.base }
-    ensures { P.Plays passer.old
+    ensures plays { P.Plays passer.old
         (turn_walk machine.old
         (with_first (break_plan machine.old.setting machine.old.control) machine.old.setting machine.old.control))
         (outcome result machine.new (P.tape passer.new)) }
+    ensures memory { P.memory passer.new ≡ P.memory passer.old }
+    ensures setting { machine.new.setting ≡ machine.old.setting }
 {
     let request = operand(machine, passer, Slot::Arg0, Aim::Decide, 10)?;
     let plan = plan_break(machine, request);
@@ -227,8 +245,10 @@ fn kind_turn<P: Passer>(
     kind: CallKind,
 ) -> Result<(), P::Stop>
     requires memory { Knows (P.memory passer.old) machine.old.setting.base }
-    ensures { P.Plays passer.old (turn_walk machine.old (kind_row kind machine.old.setting machine.old.control))
+    ensures plays { P.Plays passer.old (turn_walk machine.old (kind_row kind machine.old.setting machine.old.control))
         (outcome result machine.new (P.tape passer.new)) }
+    ensures memory { P.memory passer.new ≡ P.memory passer.old }
+    ensures setting { machine.new.setting ≡ machine.old.setting }
 {
     match kind {
         CallKind::Read => read_turn(machine, passer),
@@ -242,8 +262,10 @@ fn kind_turn<P: Passer>(
 /// ECALL.
 pub(crate) fn call_turn<P: Passer>(machine: &mut Machine, passer: &mut P) -> Result<(), P::Stop>
     requires memory { Knows (P.memory passer.old) machine.old.setting.base }
-    ensures { P.Plays passer.old (row_walk Instr.Ecall machine.old)
+    ensures plays { P.Plays passer.old (row_walk Instr.Ecall machine.old)
         (outcome result machine.new (P.tape passer.new)) }
+    ensures memory { P.memory passer.new ≡ P.memory passer.old }
+    ensures setting { machine.new.setting ≡ machine.old.setting }
 {
     let number = operand(machine, passer, Slot::Number, Aim::Decide, 17)?;
     kind_turn(machine, passer, call_kind(number))

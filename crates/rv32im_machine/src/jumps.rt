@@ -1,6 +1,6 @@
 #![tactic(auto, unfolding(crate::specs::Language::walked))]
 
-ghost use Rattle.std.specs.Prelude.{◌<◌};
+ghost use Rattle.std.specs.Prelude.{◌≡◌, ◌<◌};
 ghost use Rattle.rv32im_decode.specs.Operations.{word_of};
 ghost use Rattle.rv32im_decode.specs.Encoding.{InRange};
 ghost use Rattle.rv32im_machine.specs.Language.{walk, Held};
@@ -23,8 +23,10 @@ pub(crate) fn jump_turn<P: Passer>(
     offset: i32,
 ) -> Result<(), P::Stop>
     requires { InRange (Instr.Jal rd offset) }
-    ensures { P.Plays passer.old (row_walk (Instr.Jal rd offset) machine.old)
+    ensures plays { P.Plays passer.old (row_walk (Instr.Jal rd offset) machine.old)
         (outcome result machine.new (P.tape passer.new)) }
+    ensures memory { P.memory passer.new ≡ P.memory passer.old }
+    ensures setting { machine.new.setting ≡ machine.old.setting }
 {
     let target = machine.pc().wrapping_add_signed(offset);
     link(machine, passer, rd, target)
@@ -39,8 +41,10 @@ pub(crate) fn jump_register_turn<P: Passer>(
     imm: i32,
 ) -> Result<(), P::Stop>
     requires { InRange (Instr.Jalr rd rs1 imm) }
-    ensures { P.Plays passer.old (row_walk (Instr.Jalr rd rs1 imm) machine.old)
+    ensures plays { P.Plays passer.old (row_walk (Instr.Jalr rd rs1 imm) machine.old)
         (outcome result machine.new (P.tape passer.new)) }
+    ensures memory { P.memory passer.new ≡ P.memory passer.old }
+    ensures setting { machine.new.setting ≡ machine.old.setting }
 {
     let first = operand(machine, passer, Slot::First, Aim::Put(Place::First), rs1)?;
     let second = imm.cast_unsigned();
@@ -65,8 +69,10 @@ pub(crate) fn branch_turn<P: Passer>(
     offset: i32,
 ) -> Result<(), P::Stop>
     requires { InRange (Instr.Branch kind rs1 rs2 offset) }
-    ensures { P.Plays passer.old (row_walk (Instr.Branch kind rs1 rs2 offset) machine.old)
+    ensures plays { P.Plays passer.old (row_walk (Instr.Branch kind rs1 rs2 offset) machine.old)
         (outcome result machine.new (P.tape passer.new)) }
+    ensures memory { P.memory passer.new ≡ P.memory passer.old }
+    ensures setting { machine.new.setting ≡ machine.old.setting }
 {
     let first = operand(machine, passer, Slot::First, Aim::Put(Place::First), rs1)?;
     let second = operand(machine, passer, Slot::Second, Aim::Put(Place::Second), rs2)?;
@@ -89,10 +95,12 @@ fn branch_to<P: Passer>(
     taken: u32,
     offset: i32,
 ) -> Result<(), P::Stop>
-    ensures { (held : Held) →
+    ensures plays { (held : Held) →
         P.Plays passer.old
         (walk machine.old (branches taken (word_of offset) machine.old.control) machine.old.store held)
         (outcome result machine.new (P.tape passer.new)) }
+    ensures memory { P.memory passer.new ≡ P.memory passer.old }
+    ensures setting { machine.new.setting ≡ machine.old.setting }
 {
     if taken == 0 {
         machine.onward();
@@ -105,9 +113,11 @@ fn branch_to<P: Passer>(
 
 /// A jump to a target, where it is a multiple of 4.
 fn jump<P: Passer>(machine: &mut Machine, passer: &mut P, target: u32) -> Result<(), P::Stop>
-    ensures { (held : Held) →
+    ensures plays { (held : Held) →
         P.Plays passer.old (walk machine.old (jumps target machine.old.control) machine.old.store held)
         (outcome result machine.new (P.tape passer.new)) }
+    ensures memory { P.memory passer.new ≡ P.memory passer.old }
+    ensures setting { machine.new.setting ≡ machine.old.setting }
 {
     if target % 4 == 0 {
         machine.set_pc(target);
@@ -126,9 +136,11 @@ fn link<P: Passer>(
     target: u32,
 ) -> Result<(), P::Stop>
     requires { rd < 32 }
-    ensures { (held : Held) →
+    ensures plays { (held : Held) →
         P.Plays passer.old (walk machine.old (links rd target machine.old.control) machine.old.store held)
         (outcome result machine.new (P.tape passer.new)) }
+    ensures memory { P.memory passer.new ≡ P.memory passer.old }
+    ensures setting { machine.new.setting ≡ machine.old.setting }
 {
     if target % 4 != 0 {
         let pc = machine.pc();

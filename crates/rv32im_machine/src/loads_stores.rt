@@ -28,8 +28,10 @@ pub(crate) fn load_turn<P: Passer>(
 ) -> Result<(), P::Stop>
     requires memory { Knows (P.memory passer.old) machine.old.setting.base }
     requires range { InRange (Instr.Load kind rd rs1 imm) }
-    ensures { P.Plays passer.old (row_walk (Instr.Load kind rd rs1 imm) machine.old)
+    ensures plays { P.Plays passer.old (row_walk (Instr.Load kind rd rs1 imm) machine.old)
         (outcome result machine.new (P.tape passer.new)) }
+    ensures memory { P.memory passer.new ≡ P.memory passer.old }
+    ensures setting { machine.new.setting ≡ machine.old.setting }
 {
     let first = operand(machine, passer, Slot::First, Aim::Put(Place::First), rs1)?;
     let address = decided_address(machine, passer, first, imm.cast_unsigned())?;
@@ -46,10 +48,12 @@ fn load_from<P: Passer>(
 ) -> Result<(), P::Stop>
     requires memory { Knows (P.memory passer.old) machine.old.setting.base }
     requires rd { rd < 32 }
-    ensures { (held : Held) →
+    ensures plays { (held : Held) →
         P.Plays passer.old (walk machine.old (load_checked kind rd machine.old.setting machine.old.control address)
         machine.old.store held)
         (outcome result machine.new (P.tape passer.new)) }
+    ensures memory { P.memory passer.new ≡ P.memory passer.old }
+    ensures setting { machine.new.setting ≡ machine.old.setting }
 {
     if !machine.is_inside(address, kind.size()) {
         let pc = machine.pc();
@@ -114,8 +118,10 @@ pub(crate) fn store_turn<P: Passer>(
 ) -> Result<(), P::Stop>
     requires memory { Knows (P.memory passer.old) machine.old.setting.base }
     requires range { InRange (Instr.Store kind rs1 rs2 imm) }
-    ensures { P.Plays passer.old (row_walk (Instr.Store kind rs1 rs2 imm) machine.old)
+    ensures plays { P.Plays passer.old (row_walk (Instr.Store kind rs1 rs2 imm) machine.old)
         (outcome result machine.new (P.tape passer.new)) }
+    ensures memory { P.memory passer.new ≡ P.memory passer.old }
+    ensures setting { machine.new.setting ≡ machine.old.setting }
 {
     store_by(machine, passer, kind, rs1, rs2, imm.cast_unsigned())
 }
@@ -132,9 +138,11 @@ fn store_by<P: Passer>(
     requires memory { Knows (P.memory passer.old) machine.old.setting.base }
     requires first { rs1 < 32 }
     requires second { rs2 < 32 }
-    ensures { P.Plays passer.old
+    ensures plays { P.Plays passer.old
         (turn_walk machine.old (stores kind rs1 rs2 immediate machine.old.setting machine.old.control))
         (outcome result machine.new (P.tape passer.new)) }
+    ensures memory { P.memory passer.new ≡ P.memory passer.old }
+    ensures setting { machine.new.setting ≡ machine.old.setting }
 {
     let first = operand(machine, passer, Slot::First, Aim::Put(Place::First), rs1)?;
     let word = operand(machine, passer, Slot::Second, Aim::Put(Place::Second), rs2)?;
@@ -153,10 +161,12 @@ fn checked_store<P: Passer>(
     word: u32,
 ) -> Result<(), P::Stop>
     requires memory { Knows (P.memory passer.old) machine.old.setting.base }
-    ensures { (held : Held) → held.second ≡ word →
+    ensures plays { (held : Held) → held.second ≡ word →
         P.Plays passer.old (walk machine.old (store_checked kind machine.old.setting machine.old.control address)
         machine.old.store held)
         (outcome result machine.new (P.tape passer.new)) }
+    ensures memory { P.memory passer.new ≡ P.memory passer.old }
+    ensures setting { machine.new.setting ≡ machine.old.setting }
 {
     if machine.is_inside(address, kind.size()) {
         store_to(machine, passer, kind, address, word)
@@ -178,9 +188,11 @@ fn store_to<P: Passer>(
     requires memory { Knows (P.memory passer.old) machine.old.setting.base }
     requires inside { IsTrue (is_inside machine.old.setting.base address (store_size kind)) }
     requires below { address + store_size kind ≤ 2 ^ 32 }
-    ensures { (held : Held) → held.second ≡ word →
+    ensures plays { (held : Held) → held.second ≡ word →
         P.Plays passer.old (walk machine.old (store_at kind address machine.old.control) machine.old.store held)
         (outcome result machine.new (P.tape passer.new)) }
+    ensures memory { P.memory passer.new ≡ P.memory passer.old }
+    ensures setting { machine.new.setting ≡ machine.old.setting }
 {
     match kind {
         StoreKind::Sb => store_byte_to(machine, passer, address, word),
@@ -198,9 +210,11 @@ fn store_byte_to<P: Passer>(
 ) -> Result<(), P::Stop>
     requires memory { Knows (P.memory passer.old) machine.old.setting.base }
     requires inside { IsTrue (is_inside machine.old.setting.base address 1) }
-    ensures { (held : Held) → held.second ≡ word →
+    ensures plays { (held : Held) → held.second ≡ word →
         P.Plays passer.old (walk machine.old (store_at StoreKind.Sb address machine.old.control) machine.old.store held)
         (outcome result machine.new (P.tape passer.new)) }
+    ensures memory { P.memory passer.new ≡ P.memory passer.old }
+    ensures setting { machine.new.setting ≡ machine.old.setting }
 {
     let byte = byte_of_word(Part::Byte0, word);
     passer.move_to(
@@ -224,9 +238,11 @@ fn store_half_to<P: Passer>(
     requires memory { Knows (P.memory passer.old) machine.old.setting.base }
     requires inside { IsTrue (is_inside machine.old.setting.base address 2) }
     requires below { address + 2 ≤ 2 ^ 32 }
-    ensures { (held : Held) → held.second ≡ word →
+    ensures plays { (held : Held) → held.second ≡ word →
         P.Plays passer.old (walk machine.old (store_at StoreKind.Sh address machine.old.control) machine.old.store held)
         (outcome result machine.new (P.tape passer.new)) }
+    ensures memory { P.memory passer.new ≡ P.memory passer.old }
+    ensures setting { machine.new.setting ≡ machine.old.setting }
 {
     let byte = byte_of_word(Part::Byte0, word);
     passer.move_to(
@@ -258,9 +274,11 @@ fn store_word_to<P: Passer>(
     requires memory { Knows (P.memory passer.old) machine.old.setting.base }
     requires inside { IsTrue (is_inside machine.old.setting.base address 4) }
     requires below { address + 4 ≤ 2 ^ 32 }
-    ensures { (held : Held) → held.second ≡ word →
+    ensures plays { (held : Held) → held.second ≡ word →
         P.Plays passer.old (walk machine.old (store_at StoreKind.Sw address machine.old.control) machine.old.store held)
         (outcome result machine.new (P.tape passer.new)) }
+    ensures memory { P.memory passer.new ≡ P.memory passer.old }
+    ensures setting { machine.new.setting ≡ machine.old.setting }
 {
     let byte = byte_of_word(Part::Byte0, word);
     passer.move_to(

@@ -1,5 +1,6 @@
 #![tactic(auto, unfolding(crate::specs::Language::walked))]
 
+ghost use Rattle.std.specs.Prelude.{◌≡◌};
 ghost use Rattle.rv32im_decode.specs.Encoding.{InRange};
 ghost use Rattle.rv32im_machine.specs.Rows.{row_walk};
 ghost use Rattle.rv32im_machine.specs.Playing.{outcome};
@@ -21,8 +22,10 @@ pub(crate) fn register_turn<P: Passer>(
     rs2: u8,
 ) -> Result<(), P::Stop>
     requires { InRange (Instr.Op kind rd rs1 rs2) }
-    ensures { P.Plays passer.old (row_walk (Instr.Op kind rd rs1 rs2) machine.old)
+    ensures plays { P.Plays passer.old (row_walk (Instr.Op kind rd rs1 rs2) machine.old)
         (outcome result machine.new (P.tape passer.new)) }
+    ensures memory { P.memory passer.new ≡ P.memory passer.old }
+    ensures setting { machine.new.setting ≡ machine.old.setting }
 {
     let first = operand(machine, passer, Slot::First, Aim::Put(Place::First), rs1)?;
     let second = operand(machine, passer, Slot::Second, Aim::Put(Place::Second), rs2)?;
@@ -49,8 +52,10 @@ pub(crate) fn immediate_turn<P: Passer>(
     imm: i32,
 ) -> Result<(), P::Stop>
     requires { InRange (Instr.OpImm kind rd rs1 imm) }
-    ensures { P.Plays passer.old (row_walk (Instr.OpImm kind rd rs1 imm) machine.old)
+    ensures plays { P.Plays passer.old (row_walk (Instr.OpImm kind rd rs1 imm) machine.old)
         (outcome result machine.new (P.tape passer.new)) }
+    ensures memory { P.memory passer.new ≡ P.memory passer.old }
+    ensures setting { machine.new.setting ≡ machine.old.setting }
 {
     let first = operand(machine, passer, Slot::First, Aim::Put(Place::First), rs1)?;
     let second = imm.cast_unsigned();
@@ -76,8 +81,10 @@ pub(crate) fn upper_turn<P: Passer>(
     imm: u32,
 ) -> Result<(), P::Stop>
     requires { InRange (Instr.Lui rd imm) }
-    ensures { P.Plays passer.old (row_walk (Instr.Lui rd imm) machine.old)
+    ensures plays { P.Plays passer.old (row_walk (Instr.Lui rd imm) machine.old)
         (outcome result machine.new (P.tape passer.new)) }
+    ensures memory { P.memory passer.new ≡ P.memory passer.old }
+    ensures setting { machine.new.setting ≡ machine.old.setting }
 {
     let value = upper(imm);
     passer.move_to(
@@ -99,8 +106,10 @@ pub(crate) fn upper_pc_turn<P: Passer>(
     imm: u32,
 ) -> Result<(), P::Stop>
     requires { InRange (Instr.Auipc rd imm) }
-    ensures { P.Plays passer.old (row_walk (Instr.Auipc rd imm) machine.old)
+    ensures plays { P.Plays passer.old (row_walk (Instr.Auipc rd imm) machine.old)
         (outcome result machine.new (P.tape passer.new)) }
+    ensures memory { P.memory passer.new ≡ P.memory passer.old }
+    ensures setting { machine.new.setting ≡ machine.old.setting }
 {
     let value = machine.pc().wrapping_add(upper(imm));
     passer.move_to(

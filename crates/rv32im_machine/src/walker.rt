@@ -18,10 +18,13 @@ use crate::stepping::{Fault, Stepped};
 use rv32im_decode::{Instr, decode};
 
 /// One turn of a machine, each of its values handed to a passer; a machine that has exited or is stopped stands still.
-/// Where the passer stops the turn, the machine is left in the middle of it, and no clause says where.
+/// Where the passer stops the turn, the machine is left in the middle of it, and no clause says where; but the machine
+/// keeps what it was begun with, and the passer knows of the same guest memory, so that the next turn may be played.
 pub fn turn_by<P: Passer>(machine: &mut Machine, passer: &mut P) -> Result<(), P::Stop>
     requires memory { Knows (P.memory passer.old) machine.old.setting.base }
-    ensures { P.Plays passer.old (walk_of machine.old) (outcome result machine.new (P.tape passer.new)) }
+    ensures plays { P.Plays passer.old (walk_of machine.old) (outcome result machine.new (P.tape passer.new)) }
+    ensures memory { P.memory passer.new ≡ P.memory passer.old }
+    ensures setting { machine.new.setting ≡ machine.old.setting }
 {
     match machine.mode() {
         Stepped::Ran => running_turn(machine, passer),
@@ -33,8 +36,10 @@ pub fn turn_by<P: Passer>(machine: &mut Machine, passer: &mut P) -> Result<(), P
 /// The turn of a machine that has not ended.
 fn running_turn<P: Passer>(machine: &mut Machine, passer: &mut P) -> Result<(), P::Stop>
     requires memory { Knows (P.memory passer.old) machine.old.setting.base }
-    ensures { P.Plays passer.old (turn_walk machine.old (running machine.old.setting machine.old.control))
+    ensures plays { P.Plays passer.old (turn_walk machine.old (running machine.old.setting machine.old.control))
         (outcome result machine.new (P.tape passer.new)) }
+    ensures memory { P.memory passer.new ≡ P.memory passer.old }
+    ensures setting { machine.new.setting ≡ machine.old.setting }
 {
     let pc = machine.pc();
     if !machine.is_inside(pc, 4) {
@@ -52,7 +57,9 @@ fn running_turn<P: Passer>(machine: &mut Machine, passer: &mut P) -> Result<(), 
 fn instr_turn<P: Passer>(machine: &mut Machine, passer: &mut P, instr: Instr) -> Result<(), P::Stop>
     requires memory { Knows (P.memory passer.old) machine.old.setting.base }
     requires range { InRange instr }
-    ensures { P.Plays passer.old (row_walk instr machine.old) (outcome result machine.new (P.tape passer.new)) }
+    ensures plays { P.Plays passer.old (row_walk instr machine.old) (outcome result machine.new (P.tape passer.new)) }
+    ensures memory { P.memory passer.new ≡ P.memory passer.old }
+    ensures setting { machine.new.setting ≡ machine.old.setting }
 {
     match instr {
         Instr::Lui { rd, imm } => upper_turn(machine, passer, rd, imm),
@@ -85,8 +92,10 @@ fn instr_turn<P: Passer>(machine: &mut Machine, passer: &mut P, instr: Instr) ->
 
 /// The next instruction is gone on to, and nothing else is done.
 fn pass_over<P: Passer>(machine: &mut Machine, passer: &mut P) -> Result<(), P::Stop>
-    ensures { P.Plays passer.old (turn_walk machine.old (Ends (onward machine.old.control)))
+    ensures plays { P.Plays passer.old (turn_walk machine.old (Ends (onward machine.old.control)))
         (outcome result machine.new (P.tape passer.new)) }
+    ensures memory { P.memory passer.new ≡ P.memory passer.old }
+    ensures setting { machine.new.setting ≡ machine.old.setting }
 {
     machine.onward();
     Ok(())
@@ -94,8 +103,10 @@ fn pass_over<P: Passer>(machine: &mut Machine, passer: &mut P) -> Result<(), P::
 
 /// The guest is stopped.
 fn stop<P: Passer>(machine: &mut Machine, passer: &mut P, fault: Fault) -> Result<(), P::Stop>
-    ensures { P.Plays passer.old (turn_walk machine.old (stops fault machine.old.control))
+    ensures plays { P.Plays passer.old (turn_walk machine.old (stops fault machine.old.control))
         (outcome result machine.new (P.tape passer.new)) }
+    ensures memory { P.memory passer.new ≡ P.memory passer.old }
+    ensures setting { machine.new.setting ≡ machine.old.setting }
 {
     machine.end(Stepped::Stopped(fault));
     Ok(())

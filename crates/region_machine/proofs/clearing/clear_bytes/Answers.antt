@@ -15,6 +15,7 @@ loop-i-preserved g c =
       stays = stays_more c.args.machine.now c.loop-i.machine c.clear_byte.new.machine c.loop-i.invariant.stays
           c.clear_byte.ensures.stays;
       memory = c.clear_byte.ensures.memory;
+      same = rw c.clear_byte.ensures.same c.loop-i.invariant.same;
       rest = λ turn out after.
           let more = clears_bytes-more (c.args.address + c.loop-i.i) (c.args.count - c.loop-i.i)
           (c.args.count - (c.loop-i.i + 1)) turn (omega arith) in

@@ -15,6 +15,7 @@ loop-i-preserved g c =
       stays = stays_more c.args.machine.now c.loop-i.machine c.give_byte.new.machine c.loop-i.invariant.stays
           c.give_byte.ensures.stays;
       memory = c.give_byte.ensures.memory;
+      same = rw c.give_byte.ensures.same c.loop-i.invariant.same;
       rest = λ turn out after.
           let more = gives_bytes-more c.args.region.now c.args.range (c.args.address + c.loop-i.i)
           (c.args.count - c.loop-i.i) (c.args.count - (c.loop-i.i + 1)) turn (omega arith) in

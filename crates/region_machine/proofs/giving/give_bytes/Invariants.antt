@@ -1,4 +1,4 @@
-use Rattle.std.proofs.Common.{◌+◌, ◌-◌}
+use Rattle.std.proofs.Common.{◌≡◌, ◌+◌, ◌-◌}
 use Rattle.rv32im_machine.specs.Language.{Turn, turn_walk}
 use Rattle.rv32im_machine.specs.Playing.{Knows, Played}
 use Rattle.region_machine.specs.Guests.{gives_bytes}
@@ -9,6 +9,7 @@ abbrev pub invariant-loop-i : goal.invariant-loop-i
 invariant-loop-i g l = record {
   stays : Stays l.fn.machine l.machine;
   memory : Knows (g.P.Passer.memory l.passer) l.machine.setting.base;
+  same : g.P.Passer.memory l.passer ≡ g.P.Passer.memory l.fn.passer;
   rest : (turn : Turn) (out : Played g.row.P-Stop.Denot g.P.Passer.Tape) →
       g.P.Passer.Plays l.passer
       (turn_walk l.machine (gives_bytes l.region l.range (l.address + l.i) (l.count - l.i) turn)) out →

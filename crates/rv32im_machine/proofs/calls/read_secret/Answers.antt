@@ -4,9 +4,9 @@ use Rattle.rv32im_machine.specs.State.{secret_taken}
 use Rattle.rv32im_machine.proofs.Rounds.{secret_reads-none, secret_reads-more}
 use Rattle.rv32im_machine.proofs.calls.read_secret.Goals as goal
 
-pub returns-in-Err : goal.returns-in-Err
+pub returns-in-Err-clause-plays : goal.returns-in-Err-clause-plays
 unfolding walked
-returns-in-Err g c =
+returns-in-Err-clause-plays g c =
     let more = secret_reads-more (c.args.count - c.loop-i.i) (c.args.count - (c.loop-i.i + 1)) (c.args.to + c.loop-i.i) c.args.count c.loop-i.machine.control (omega arith) in
     let goes = rw (c.point.ensures, c.secret_at.ensures, c.from.ensures, c.next_secret-byte.ensures) at c.in-Err.ensures.goes in
     c.loop-i.invariant.rest _ (rw more (goes _))
@@ -21,11 +21,12 @@ loop-i-preserved g c =
       setting = rw (c.set_byte.ensures, c.take_secret.ensures) c.loop-i.invariant.setting;
       read = rw (c.set_byte.ensures, c.take_secret.ensures) (omega (arith, c.loop-i.invariant.read));
       memory = rw (c.set_byte.ensures, c.take_secret.ensures, c.pass.ensures.memory) c.loop-i.invariant.memory;
+      same = rw c.pass.ensures.memory c.loop-i.invariant.same;
       rest = λ out after. c.loop-i.invariant.rest out (rw more (goes _ out (rw (c.set_byte.ensures, c.take_secret.ensures, next) at after)));
     }
 
-pub returns : goal.returns
+pub returns-clause-plays : goal.returns-clause-plays
 unfolding walked
-returns g c =
+returns-clause-plays g c =
     let none = secret_reads-none (c.args.count - c.loop-i.i) (c.args.to + c.loop-i.i) c.args.count c.loop-i.machine.control (omega arith) in
-    c.loop-i.invariant.rest _ (rw none c.answer.ensures)
+    c.loop-i.invariant.rest _ (rw none c.answer.ensures.plays)
