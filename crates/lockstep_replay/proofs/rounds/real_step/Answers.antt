@@ -5,4 +5,4 @@ use Rattle.lockstep_replay.proofs.rounds.real_step.Goals as goal
 pub returns : goal.returns
 returns c = λ skip.
     makes-step Never (record { regions = c.args._marked.now.regions.items; skip = skip }) c.args.real.now c.args.tally.now
-    c.turn_by.new.machine c.turn_by.new.passer (rw c.in-Ok.is at c.turn_by.ensures) c.requires
+    c.turn_by.new.machine c.turn_by.new.passer (rw c.in-Ok.is at c.turn_by.ensures.plays) c.requires
