@@ -1,6 +1,6 @@
 -- What is counted of points.
 use Rattle.std.specs.Prelude.{◌≡◌, ℕ, ◌+◌, ◌*◌, ◌/◌, ◌%◌, ◌==◌, ◌&&◌, Bool, true, not, cond, List, [], Option}
-use Rattle.std.specs.Prelude.{Some, None, slice_get, slice_index_or}
+use Rattle.std.specs.Prelude.{Some, None, nat_lt, slice_get, slice_index_or}
 use Rattle.std.specs.Map.{lookup}
 use Rattle.flow_base.specs.declared.points.Point.{Point}
 use Rattle.flow_base.specs.PointOrders.{is_same}
@@ -30,6 +30,10 @@ is_counted point = not (is_output_slot point.slot) && (point.address % 4 == 0)
 -- how often a point was counted; a point at an address that is no multiple of 4, or of an output of a region, never is
 unfoldable pub count_of : VisitCounts → Point → ℕ
 count_of counts point = cond (is_counted point) (count_at counts.rows.entries (page_of point) (column_of point)) 0
+
+-- whether a visit more of a point can be counted; a counter ends at 2^32 - 1
+abbrev pub has_room : VisitCounts → Point → Bool
+has_room counts point = is_counted point && nat_lt (count_of counts point) 4294967295
 
 -- the row of the page stands at this index
 pub record StandsAt (entries : List (Point × Row)) (page : Point) (index : ℕ) : Type 0 where

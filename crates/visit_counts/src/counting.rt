@@ -1,10 +1,10 @@
-ghost use Rattle.std.specs.Prelude.{◌≡◌, ◌+◌, ◌<◌, ◌==◌, ◌&&◌, cond, length, None, ℕ, true, IfOk, OnOk, IfSome, IfNone};
+ghost use Rattle.std.specs.Prelude.{◌≡◌, ◌+◌, ◌<◌, ◌==◌, ◌&&◌, cond, length, nat_lt, None, ℕ, true, IfOk, OnOk, IfSome, IfNone};
 ghost use Rattle.std.specs.Bool.{OnTrue};
 ghost use Rattle.std.specs.List.{IsDistinct};
 ghost use Rattle.std.specs.Map.{keys_of, lookup};
 ghost use Rattle.flow_base.specs.declared.points.Point.{Point as ThePoint};
 ghost use Rattle.flow_base.specs.PointOrders.{is_same};
-ghost use Rattle.visit_counts.specs.Counts.{Clears, CountsMore, StandsAt, count_at, count_of};
+ghost use Rattle.visit_counts.specs.Counts.{Clears, CountsMore, StandsAt, count_at, count_of, has_room};
 ghost use Rattle.visit_counts.specs.Counts.{is_counted as counts_there, page_of as the_page_of};
 
 use crate::places::{column_of, is_counted, lane_of, page_of};
@@ -146,7 +146,8 @@ impl VisitCounts {
     fn raise(&mut self, index: usize, point: &Point) -> bool
         requires counted { counts_there point.now ≡ true }
         requires row { StandsAt self.old.rows.entries (the_page_of point.now) index }
-        ensures { CountsMore self.old self.new point.now (cond result 1 0) }
+        ensures more { CountsMore self.old self.new point.now (cond result 1 0) }
+        ensures told { result ≡ nat_lt (count_of self.old point.now) 4294967295 }
     {
         self.tell_differ();
         let column = column_of(point);
@@ -159,11 +160,12 @@ impl VisitCounts {
         }
     }
 
-    /// One visit more of a point. False where it is not counted: it is an output of a region, its address is no
-    /// multiple of 4, or its counter is at its end. Its error is want of memory.
+    /// One visit more of a point. False exactly where it is not counted: it is an output of a region, its address is no
+    /// multiple of 4, or its counter is at its end, 2^32 - 1. Its error is want of memory.
     #[inline(always)]
     pub fn more(&mut self, point: &Point) -> Result<bool, NoMemory>
-        ensures { IfOk result (λ done. CountsMore self.old self.new point.now (cond done 1 0)) }
+        ensures more { IfOk result (λ done. CountsMore self.old self.new point.now (cond done 1 0)) }
+        ensures told { IfOk result (λ done. done ≡ has_room self.old point.now) }
     {
         if !is_counted(point) {
             return Ok(false);

@@ -13,7 +13,7 @@ returns-then-counted c =
       latest = c.args.self.now.latest;
     }) c.args.point refl
     (subst (λ b. CountsMore c.args.self.now.counts c.more.new.self c.args.point (cond b 1 0)) c.if-counted.true
-    c.in_ok-counted.ensures)
+    c.in_ok-counted.ensures.more)
 
 pub returns-else-counted : goal.returns-else-counted
 returns-else-counted c =
@@ -25,5 +25,5 @@ returns-else-counted c =
       latest = c.args.self.now.latest;
     }) c.visit_uncounted.new.self c.args.point 0 refl
     (subst (λ b. CountsMore c.args.self.now.counts c.more.new.self c.args.point (cond b 1 0)) c.if-counted.false
-    c.in_ok-counted.ensures) adds)
+    c.in_ok-counted.ensures.more) adds)
     c.visit_uncounted.ensures
