@@ -194,12 +194,13 @@ cause_of table regions start limit GraphLimit of refused = absurd (false≢true 
 cause_of table regions start limit Memory of refused = absurd (false≢true of)
 
 pub is_refused : (table : ℕ) (regions : List Region) (start : LabelledRun) (limit turns : ℕ) (before : State)
-    (shadow : Shades) (recording : Recording) (stands : List Event → Type 0) (fault : MeasureFault) → turns < limit →
+    (shadow : Shades) (recording : Recording) (stands : List Event → Type 0) (after : State) (left : Shades)
+    (fault : MeasureFault) → turns < limit →
     (follows : Follows table regions start turns before shadow recording) →
-    Refuses table regions (run_after regions follows.answers start) (Records recording) stands fault →
+    Refuses table regions (run_after regions follows.answers start) (Records recording) stands after left fault →
     HasRunCause table regions start limit fault
 unfolding goes_on
-is_refused table regions start limit turns before shadow recording stands fault within follows refuses =
+is_refused table regions start limit turns before shadow recording stands after left fault within follows refuses =
     cause_of table regions start limit fault
     (ap is_of_turn (sym refuses.refused) ∙ faults_of_turn regions refuses.answers (run_after regions follows.answers
     start))

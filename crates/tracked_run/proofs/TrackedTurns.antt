@@ -158,6 +158,8 @@ turned-by stands table regions machine past earlier before reached after broken 
   answers = k.tracked.answers;
   are_answers = record { sound = k.tracked.sound; by_table = k.tracked.by_table };
   refused = is-fault stands table regions machine past earlier before reached after broken k ∙ f;
+  state = k.tracked.ends;
+  labels = reads-of _ after.shades k.tracked.labelled;
   added = k.tracked.added;
 }
 

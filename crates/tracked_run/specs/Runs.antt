@@ -38,12 +38,15 @@ pub record Makes (table : ℕ) (regions : List Region) (run : LabelledRun) (stoo
   pub in_mode : machine.control.mode ≡ mode
   pub added : Appends stood stands (turn_events regions answers run)
 
--- the turn is refused by such answers; its events are added
+-- the turn is refused by such answers; it is played to its end, machine and labels stand where it has come to, and its
+-- events are added
 pub record Refuses (table : ℕ) (regions : List Region) (run : LabelledRun) (stood stands : List Event → Type 0)
-    (fault : MeasureFault) : Type 0 where
+    (machine : State) (shadow : Shades) (fault : MeasureFault) : Type 0 where
   pub answers : List ℕ
   pub are_answers : AreAnswers table regions run answers
   pub refused : turn_fault regions answers run ≡ Some fault
+  pub state : machine ≡ (next_run regions answers run).place.state
+  pub labels : ReadsAs (next_run regions answers run).labels shadow
   pub added : Appends stood stands (turn_events regions answers run)
 
 -- what a turn answers is so; where memory is short nothing is said
@@ -54,5 +57,5 @@ Turns table regions run stood stands machine shadow (Ok Ran) =
 Turns table regions run stood stands machine shadow (Ok (Exited status)) =
     Makes table regions run stood stands machine shadow (mode.Exited status)
 Turns table regions run stood stands machine shadow (Ok (Refused fault)) =
-    Refuses table regions run stood stands fault
+    Refuses table regions run stood stands machine shadow fault
 Turns table regions run stood stands machine shadow (Err none) = Unit {0}

@@ -26,7 +26,7 @@ returns-in-Exited g c =
 
 pub returns-in-Refused : goal.returns-in-Refused
 returns-in-Refused g c =
-    is_refused _ _ _ _ c.loop-made.made _ _ _ _ c.in-Refused.fault c.loop-made-test.true c.loop-made.invariant.follows
+    is_refused _ _ _ _ c.loop-made.made _ _ _ _ _ _ c.in-Refused.fault c.loop-made-test.true c.loop-made.invariant.follows
     (turn_is _ _ _ _ _ c.loop-made.made _ _ _ _ _ _ c.in_ok-turn.field-0 (Refused c.in-Refused.fault)
     c.loop-made.invariant.table c.loop-made.invariant.regions c.loop-made.invariant.follows
     (c.in_ok-turn.ensures.turns c.loop-made.invariant.unspent) c.in-Refused.is)
