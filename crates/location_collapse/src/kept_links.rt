@@ -1,9 +1,9 @@
-ghost use Rattle.std.specs.Prelude.{◌≡◌, ◌≤◌, ◌∷◌, [], length, true, false, is_some, OnOk, OnErr, OnSome, IfSome, Err};
+ghost use Rattle.std.specs.Prelude.{◌≡◌, ◌≤◌, ◌==◌, ◌∷◌, [], cond, length, true, false, is_some, OnOk, OnErr, OnSome, IfSome, Err};
 ghost use Rattle.std.specs.Bool.{OnTrue};
 ghost use Rattle.std.proofs.Props.{props};
 ghost use Rattle.flow_graph.specs.EventGraphs.{is_among};
 ghost use Rattle.flow_graph.specs.Keeping.{TakesLinks};
-ghost use Rattle.location_collapse.specs.LatestLinks.{has_flow, has_output};
+ghost use Rattle.location_collapse.specs.LatestLinks.{IsAt, flow_after, has_flow, has_output, is_latest_flow, is_latest_output, output_after};
 ghost use Rattle.location_collapse.specs.Limits.{HasAllLinks};
 
 use crate::faults::CollapseFault;
@@ -52,7 +52,8 @@ impl KeptLinks {
     /// Whether the link from a point to a point is the latest one of its kind, and so has occurred.
     #[inline(always)]
     pub fn is_latest_flow(&self, source: &Point, target: &Point) -> bool
-        ensures { OnTrue result (has_flow self.now.named.keys source.now target.now ≡ true) }
+        ensures latest { result ≡ is_latest_flow self.now.flow source.now target.now }
+        ensures known { OnTrue result (has_flow self.now.named.keys source.now target.now ≡ true) }
     {
         match self.flow {
             Some((from, to)) => from == *source && to == *target,
@@ -63,7 +64,8 @@ impl KeptLinks {
     /// Whether the link from the relay of a region to a point is the latest one of its kind, and so has occurred.
     #[inline(always)]
     pub fn is_latest_output(&self, region: u16, point: &Point) -> bool
-        ensures { OnTrue result (has_output self.now.named.keys region point.now ≡ true) }
+        ensures latest { result ≡ is_latest_output self.now.output region point.now }
+        ensures known { OnTrue result (has_output self.now.named.keys region point.now ≡ true) }
     {
         match self.output {
             Some((from, to)) => from == region && to == *point,
@@ -74,7 +76,8 @@ impl KeptLinks {
     /// Whether the link stands at an index.
     #[inline(always)]
     fn stands_at(&self, index: usize, link: &NamedLink) -> bool
-        ensures { OnTrue result (is_among self.now.named.keys link.now ≡ true) }
+        ensures known { OnTrue result (is_among self.now.named.keys link.now ≡ true) }
+        ensures at { OnTrue result (IsAt self.now.named.keys link.now index) }
     {
         match self.named.get_index(index) {
             Some(named) => named == link,
@@ -85,7 +88,8 @@ impl KeptLinks {
     /// The index of the link, if it stands near the latest ones.
     #[inline(always)]
     fn find_near(&self, link: &NamedLink) -> Option<usize>
-        ensures { OnSome result (is_among self.now.named.keys link.now ≡ true) }
+        ensures known { OnSome result (is_among self.now.named.keys link.now ≡ true) }
+        ensures at { IfSome result (IsAt self.now.named.keys link.now) }
     {
         let behind = self.latest.wrapping_add(1);
         if self.stands_at(self.latest, link) {
@@ -102,7 +106,8 @@ impl KeptLinks {
     /// The index of the link; None exactly where it has not occurred.
     #[inline(always)]
     pub fn find(&self, link: &NamedLink) -> Option<usize>
-        ensures { is_some result ≡ is_among self.now.named.keys link.now }
+        ensures some { is_some result ≡ is_among self.now.named.keys link.now }
+        ensures at { IfSome result (IsAt self.now.named.keys link.now) }
     {
         match self.find_near(link) {
             Some(index) => Some(index),
@@ -114,7 +119,11 @@ impl KeptLinks {
     #[inline(always)]
     fn note_ends(&mut self, link: &NamedLink)
         requires { is_among self.old.named.keys link.now ≡ true }
-        ensures { self.new.named.keys ≡ self.old.named.keys }
+        ensures keys { self.new.named.keys ≡ self.old.named.keys }
+        ensures latest { self.new.latest ≡ self.old.latest }
+        ensures before { self.new.before ≡ self.old.before }
+        ensures flow { self.new.flow ≡ flow_after link.now.source link.now.target self.old.flow }
+        ensures output { self.new.output ≡ output_after link.now.source link.now.target self.old.output }
     {
         if let NamedEnd::At(target) = link.target {
             match link.source {
@@ -133,7 +142,11 @@ impl KeptLinks {
     #[inline(always)]
     pub fn note(&mut self, index: usize, link: &NamedLink)
         requires { is_among self.old.named.keys link.now ≡ true }
-        ensures { self.new.named.keys ≡ self.old.named.keys }
+        ensures keys { self.new.named.keys ≡ self.old.named.keys }
+        ensures latest { self.new.latest ≡ index }
+        ensures before { self.new.before ≡ cond (index == self.old.latest) self.old.before self.old.latest }
+        ensures flow { self.new.flow ≡ flow_after link.now.source link.now.target self.old.flow }
+        ensures output { self.new.output ≡ output_after link.now.source link.now.target self.old.output }
     {
         if index != self.latest {
             self.before = self.latest;

@@ -9,9 +9,9 @@ use Rattle.location_collapse.proofs.collapses.Collapse.put.Goals as goal
 
 pub returns-in-Some-clause-ok : goal.returns-in-Some-clause-ok
 returns-in-Some-clause-ok c = λ event events makes stands.
-    subst (λ keys. Keeps c.args.self.now.points.capacities.entries keys (events ++ event ∷ [])) (sym c.note.ensures)
+    subst (λ keys. Keeps c.args.self.now.points.capacities.entries keys (events ++ event ∷ [])) (sym c.note.ensures.keys)
     (known_link c.args.self.now.points.capacities.entries c.args.self.now.links.named.keys event c.args.link events makes
-    (sym c.find.ensures ∙ ap is_some c.in-Some.is) stands)
+    (sym c.find.ensures.some ∙ ap is_some c.in-Some.is) stands)
 
 pub returns-then-not-has_ends-clause-ok : goal.returns-then-not-has_ends-clause-ok
 returns-then-not-has_ends-clause-ok c = λ event events makes stands.
@@ -30,4 +30,4 @@ pub returns-clause-limit : goal.returns-clause-limit
 returns-clause-limit c = λ e event events makes stands.
     inr (inl (exceeds_links c.args.self.now.points.capacities.entries c.args.self.now.links.named.keys events event
     c.args.link stands (made_alone _ event c.args.link makes (sym c.has_ends.ensures ∙ c.if-not-has_ends.false))
-    (sym c.find.ensures ∙ ap is_some c.in_default.is) (c.put.ensures.full e)))
+    (sym c.find.ensures.some ∙ ap is_some c.in_default.is) (c.put.ensures.full e)))

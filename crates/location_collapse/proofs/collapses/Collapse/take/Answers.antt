@@ -14,13 +14,13 @@ pub returns-then-is_latest_flow-clause-ok : goal.returns-then-is_latest_flow-cla
 returns-then-is_latest_flow-clause-ok c = λ events stands.
     rw c.in-Link.is (known_link c.args.self.now.points.capacities.entries c.args.self.now.links.named.keys _ _ events
     (makes_link (knows c.args.self.now) c.in-Link.source c.in-Link.target)
-    (OnTrue_at c.if-is_latest_flow.true c.is_latest_flow.ensures) stands)
+    (OnTrue_at c.if-is_latest_flow.true c.is_latest_flow.ensures.known) stands)
 
 pub returns-then-is_latest_output-clause-ok : goal.returns-then-is_latest_output-clause-ok
 returns-then-is_latest_output-clause-ok c = λ events stands.
     rw c.in-Out.is (known_link c.args.self.now.points.capacities.entries c.args.self.now.links.named.keys _ _ events
     (makes_output (knows c.args.self.now) c.in-Out.region c.in-Out.point (ne_eqb c.in-Out.region 0 c.if-region-eq0.false))
-    (OnTrue_at c.if-is_latest_output.true c.is_latest_output.ensures) stands)
+    (OnTrue_at c.if-is_latest_output.true c.is_latest_output.ensures.known) stands)
 
 pub returns-in-Pass-clause-ok : goal.returns-in-Pass-clause-ok
 returns-in-Pass-clause-ok c = rw c.in-Pass.is c.pass.ensures.ok
