@@ -59,6 +59,11 @@ pub record HoldsAt (capacities : List (Point × ℕ)) (point : Point) (index cap
   pub same : is_same point key ≡ true
   pub at : slice_get capacities index ≡ Some (key, capacity)
 
+-- a point stands at this index
+pub record IsPointAt (capacities : List (Point × ℕ)) (point : Point) (index : ℕ) : Type 0 where
+  pub capacity : ℕ
+  pub holds : HoldsAt capacities point index capacity
+
 -- as many different links are kept as a graph may have
 pub record HasAllLinks (links : List NamedLink) : Type 0 where
   pub differ : IsDistinct is_same_link links

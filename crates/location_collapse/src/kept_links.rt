@@ -162,6 +162,10 @@ impl KeptLinks {
         ensures ok { OnOk result (TakesLinks self.old.named.keys self.new.named.keys (link ∷ [])) }
         ensures err { OnErr result (self.new.named.keys ≡ self.old.named.keys) }
         ensures full { result ≡ Err CollapseFault.Limit → HasAllLinks self.old.named.keys }
+        ensures latest { self.new.latest ≡ self.old.latest }
+        ensures before { self.new.before ≡ self.old.before }
+        ensures flow { self.new.flow ≡ self.old.flow }
+        ensures output { self.new.output ≡ self.old.output }
     {
         if self.named.len() >= MAX_LINKS {
             return Err(CollapseFault::Limit);

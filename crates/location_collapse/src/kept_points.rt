@@ -8,7 +8,7 @@ ghost use Rattle.flow_base.specs.declared.points.Point.{Point as ThePoint};
 ghost use Rattle.flow_base.specs.Words.{bit_count};
 ghost use Rattle.flow_base.specs.PointOrders.{is_same};
 ghost use Rattle.flow_graph.specs.Keeping.{capacity_in, count_in, is_known};
-ghost use Rattle.location_collapse.specs.Limits.{HoldsAt, HasAllPoints, LacksRoom, is_small};
+ghost use Rattle.location_collapse.specs.Limits.{HoldsAt, HasAllPoints, IsPointAt, LacksRoom, is_small};
 
 use crate::faults::CollapseFault;
 use flow_base::Point;
@@ -124,6 +124,7 @@ impl KeptPoints {
             (Some bits) (capacity_in self.old.capacities.entries q)) }
         ensures err { OnErr result (self.new.capacities.entries ≡ self.old.capacities.entries) }
         ensures full { result ≡ Err CollapseFault.Limit → HasAllPoints self.old.capacities.entries }
+        ensures latest { self.new.latest ≡ self.old.latest }
     {
         if self.capacities.len() >= MAX_POINTS {
             return Err(CollapseFault::Limit);
@@ -143,6 +144,7 @@ impl KeptPoints {
             capacity) }
         ensures err { OnErr result (self.new.capacities.entries ≡ self.old.capacities.entries) }
         ensures large { result ≡ Err CollapseFault.Limit → 2 ^ 48 ≤ capacity }
+        ensures latest { (self.new.latest ≡ self.old.latest) ⊎ (self.new.latest ≡ index) }
     {
         if capacity >= CAPACITY_LIMIT {
             return Err(CollapseFault::Limit);
@@ -162,6 +164,8 @@ impl KeptPoints {
         ensures err { OnErr result (self.new.capacities.entries ≡ self.old.capacities.entries) }
         ensures limit { result ≡ Err CollapseFault.Limit → LacksRoom self.old.capacities.entries point mask ⊎
             (2 ^ 48 ≤ count_in self.old.capacities.entries point + bit_count mask) }
+        ensures latest { (self.new.latest ≡ self.old.latest) ⊎
+            IsPointAt self.old.capacities.entries point self.new.latest }
     {
         if mask == 0 {
             return Ok(());

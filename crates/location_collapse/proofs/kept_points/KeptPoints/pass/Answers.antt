@@ -1,5 +1,5 @@
 use Rattle.std.proofs.Common.{◌≡◌, ◌+◌, ◌≤◌, ◌<◌, ◌^◌, true, false, unwrap_or, sym, ap}
-use Rattle.std.proofs.Common.{◌∙◌, inl, inr, ⊎_elim, arith}
+use Rattle.std.proofs.Common.{◌∙◌, inl, inr, ⊎_elim, arith, subst}
 use Rattle.std.specs.Option.{is_some}
 use Rattle.std.specs.Prelude.{count_ones}
 use Rattle.std.proofs.lemmas.Bool.{cases_Bool}
@@ -9,6 +9,7 @@ use Rattle.flow_base.specs.Words.{bit_count}
 use Rattle.flow_base.specs.PointOrders.{is_same}
 use Rattle.flow_graph.specs.Keeping.{capacity_in, count_in}
 use Rattle.flow_graph.proofs.MaskBitCounts.{bit_count-zero, bit_count-ones, bit_count_bound, ones_some}
+use Rattle.location_collapse.specs.Limits.{HoldsAt, IsPointAt}
 use Rattle.location_collapse.proofs.CapacityMaps.{found_small, raised, grows_put, counted_put}
 use Rattle.location_collapse.proofs.kept_points.KeptPoints.pass.Goals as goal
 
@@ -89,3 +90,13 @@ returns-in-None-clause-limit c = λ e.
       unknown = sym (ap is_some c.in-None.ensures.capacity);
       full = c.start.ensures.full e;
     })
+
+pub returns-in-Some-clause-latest : goal.returns-in-Some-clause-latest
+returns-in-Some-clause-latest c =
+    ⊎_elim (λ same. inl same)
+    (λ moved. inr (record {
+      capacity = c.in-Some.before;
+      holds = subst (λ i. HoldsAt c.args.self.now.capacities.entries c.args.point i c.in-Some.before) (sym moved)
+          c.in-Some.ensures.at;
+    }))
+    c.raise.ensures.latest
