@@ -15,15 +15,15 @@ returns-in-Some-clause-more c =
 pub returns-in-Some-clause-told : goal.returns-in-Some-clause-told
 returns-in-Some-clause-told c =
     let value : c.value.result ≡ count_of c.args.self.now c.args.point.now =
-        value_from c.args.self.now c.args.point.now c.column_of-column.result
-        c.value.result c.column_of-column.ensures.column c.requires.counted
-        (c.value.ensures (page_of c.args.point.now) c.requires.row) in
+    value_from c.args.self.now c.args.point.now c.column_of-column.result
+    c.value.result c.column_of-column.ensures.column c.requires.counted
+    (c.value.ensures (page_of c.args.point.now) c.requires.row) in
     sym (lt-ltb _ _ (omega (arith, value, c.in-Some.ensures.0, c.in-Some.ensures.1)))
 
 pub returns-in-None-clause-told : goal.returns-in-None-clause-told
 returns-in-None-clause-told c =
     let value : c.value.result ≡ count_of c.args.self.now c.args.point.now =
-        value_from c.args.self.now c.args.point.now c.column_of-column.result
-        c.value.result c.column_of-column.ensures.column c.requires.counted
-        (c.value.ensures (page_of c.args.point.now) c.requires.row) in
+    value_from c.args.self.now c.args.point.now c.column_of-column.result
+    c.value.result c.column_of-column.ensures.column c.requires.counted
+    (c.value.ensures (page_of c.args.point.now) c.requires.row) in
     sym (le-ltb _ _ (omega (arith, value, c.in-None.ensures)))
