@@ -116,7 +116,9 @@ fn put_region_round(
     requires { Keeps real.old replay.old tally.old.bits tally.old.needed tally.old.budget }
     ensures { Rounds replay.old.enclosures real.old tally.old replay.old real.new tally.new replay.new round.new }
 {
-    *round = make_region_round(real, tally, replay);
+    let made = make_region_round(real, tally, replay);
+    round.enclosed = made.enclosed;
+    round.why = made.why;
 }
 
 /// One step of the real run outside of these regions; its bits are tallied.

@@ -9,6 +9,7 @@ use flow_base::{Registers, Slot};
 use rv32im_machine::{Aim, Passing, Place};
 
 /// The earlier of two breaks.
+#[inline(always)]
 pub(crate) fn earlier(first: Option<Break>, second: Option<Break>) -> Option<Break>
     ensures { result ≡ first_break first second }
 {
@@ -19,6 +20,7 @@ pub(crate) fn earlier(first: Option<Break>, second: Option<Break>) -> Option<Bre
 }
 
 /// How the write of a place by the instruction at an address breaks the region, if it does.
+#[inline(always)]
 pub(crate) fn place_break(region: &Region, kept: &Registers, pc: u32, place: Place) -> Option<Break>
     requires { IsTrue (is_region region.now) }
     ensures { result ≡ break_by_place region.now kept.now pc place }
@@ -32,6 +34,7 @@ pub(crate) fn place_break(region: &Region, kept: &Registers, pc: u32, place: Pla
 }
 
 /// How a decision of the instruction at an address breaks the region, if it does: the number of a call.
+#[inline(always)]
 fn slot_break(region: &Region, pc: u32, slot: Slot) -> Option<Break>
     ensures { result ≡ break_by_slot region.now pc slot }
 {
@@ -45,6 +48,7 @@ fn slot_break(region: &Region, pc: u32, slot: Slot) -> Option<Break>
 }
 
 /// How what passes breaks the region, if it does.
+#[inline(always)]
 pub(crate) fn passing_break(
     region: &Region,
     kept: &Registers,

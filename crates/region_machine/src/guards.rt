@@ -42,6 +42,7 @@ impl<P: Observer> Passer for Guarding<'_, '_, P> {
         self.passer.look(seen, value)
     }
 
+    #[inline(always)]
     fn pass(&mut self, passing: Passing) -> Result<u32, P::Stop> {
         let broken = passing_break(self.region, &self.kept, self.pc, &passing);
         self.broken = earlier(self.broken, broken);
