@@ -1,4 +1,3 @@
 pub mod Equals
 pub mod Lists
-pub mod Rows
 pub mod OneCommand

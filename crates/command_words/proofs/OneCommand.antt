@@ -1,204 +1,132 @@
--- Words are one command line at most: its kind is by their name, and its fields by the words behind it.
-use Rattle.std.proofs.Common.{◌≡◌, ◌∙◌, ℕ, List, [], ◌∷◌, Bool, Option, Some, None, codes, sym, ap, subst, refl, arith}
-use Rattle.std.proofs.Common.{if◌then◌else◌}
+-- Words are one command line at most: what it is, is by its first word, and its fields by the words behind it.
+use Rattle.std.proofs.Common.{◌≡◌, ◌∙◌, ◌≤◌, ◌<◌, ◌^◌, ℕ, List, [], ◌∷◌, Option, Some, None, codes, sym, ap, subst, refl, arith}
 use Rattle.std.proofs.lemmas.Fmt.{decimal_injective}
 use Rattle.std.specs.Fmt.{decimal}
-use Rattle.std.specs.Str.{bytes_eq}
-use Rattle.command_words.specs.CommandLines.{Check, Run, Command, Checks, Measures, Graphs, Reports, Assembles, Lists, Verifies, Migrates, Tries, IsCheck, IsChoice, IsCommand, IsMeasure, IsOneFile, IsOneRun, IsRow, IsTrial, IsTurnLimit}
-use Rattle.command_words.specs.Parts.{Parts, parts_of}
+use Rattle.command_words.specs.declared.names.CommandName.{CommandName}
+use Rattle.command_words.specs.declared.names.CommandName.TheVariants as names
+use Rattle.command_words.specs.declared.tellings.Telling.TheVariants.{CutText, Certificate, Report}
+use Rattle.command_words.specs.CommandLines.{Check, Run, GuestNames, Command, Checks, Tells, Assembles, Lists, Verifies, Migrates, Tries, Fits, IsCheck, IsChoice, IsCommand, IsNumber, IsNumberOr, IsOneFile, IsRun, IsTrial, named_by}
+use Rattle.command_words.specs.Parts.{Parts, has_option, parts_of, value_of}
 
--- ---- the values of options
+-- ---- numbers
 
-same-turns : (value : Option (List ℕ)) (first second : ℕ) → IsTurnLimit value first → IsTurnLimit value second →
-    first ≡ second
-same-turns None first second one other = one ∙ sym other
-same-turns (Some value) first second one other =
-    decimal_injective first second (omega (arith, one.2)) (omega (arith, other.2)) (sym one.0 ∙ other.0)
+same-number : (lowest highest : ℕ) (word : List ℕ) (a b : ℕ) → highest < 2 ^ 64 → IsNumber lowest highest word a →
+    IsNumber lowest highest word b → a ≡ b
+same-number lowest highest word a b small one other =
+    decimal_injective a b (omega (arith, one.below, small)) (omega (arith, other.below, small))
+    (sym one.written ∙ other.written)
 
-same-choice : (value : Option (List ℕ)) (first second : ℕ) → IsChoice value first → IsChoice value second →
-    first ≡ second
-same-choice None first second one other = one ∙ sym other
-same-choice (Some value) first second one other =
-    decimal_injective first second (omega (arith, one.2)) (omega (arith, other.2)) (sym one.0 ∙ other.0)
+same-number-or : (other lowest highest : ℕ) (value : Option (List ℕ)) (a b : ℕ) → highest < 2 ^ 64 →
+    IsNumberOr other lowest highest value a → IsNumberOr other lowest highest value b → a ≡ b
+same-number-or other lowest highest None a b small one second = one ∙ sym second
+same-number-or other lowest highest (Some word) a b small one second =
+    same-number lowest highest word a b small one second
 
 -- ---- the fields of each command
 
-abbrev made-check : List ℕ → List ℕ → List ℕ → Option (List ℕ) → List (List ℕ) → ℕ → ℕ → Check
-made-check program public_input cut region_file secrets budget turns = record {
+abbrev made-guest : List ℕ → List ℕ → Option (List ℕ) → GuestNames
+made-guest program public_input region_file = record {
   program = program;
   public_input = public_input;
-  cut = cut;
   region_file = region_file;
+}
+
+same-guest : (a b : GuestNames) → a.program ≡ b.program → a.public_input ≡ b.public_input →
+    a.region_file ≡ b.region_file → a ≡ b
+same-guest a b program public_input region_file =
+    ap (λ v. made-guest v a.public_input a.region_file) program
+    ∙ (ap (λ v. made-guest b.program v a.region_file) public_input
+    ∙ ap (λ v. made-guest b.program b.public_input v) region_file)
+
+abbrev made-check : GuestNames → List ℕ → List (List ℕ) → ℕ → ℕ → Check
+made-check guest cut secrets budget turns = record {
+  guest = guest;
+  cut = cut;
   secrets = secrets;
-  limits = record { budget = budget; turns = turns };
+  budget = budget;
+  turns = turns;
 }
 
 same-check : (parts : Parts) (a b : Check) → IsCheck parts a → IsCheck parts b → a ≡ b
 same-check parts a b one other =
     let plain :
-    a.program ∷ a.public_input ∷ a.cut ∷ decimal a.limits.budget ∷ a.secrets
-    ≡ b.program ∷ b.public_input ∷ b.cut ∷ decimal b.limits.budget ∷ b.secrets =
+    a.guest.program ∷ a.guest.public_input ∷ a.cut ∷ one.budget ∷ a.secrets
+    ≡ b.guest.program ∷ b.guest.public_input ∷ b.cut ∷ other.budget ∷ b.secrets =
     sym one.plain ∙ other.plain in
-    let program : a.program ≡ b.program = cc in
-    let public_input : a.public_input ≡ b.public_input = cc in
+    let program : a.guest.program ≡ b.guest.program = cc in
+    let public_input : a.guest.public_input ≡ b.guest.public_input = cc in
     let cut : a.cut ≡ b.cut = cc in
     let secrets : a.secrets ≡ b.secrets = cc in
-    let word : decimal a.limits.budget ≡ decimal b.limits.budget = cc in
-    let budget : a.limits.budget ≡ b.limits.budget = decimal_injective a.limits.budget b.limits.budget
-    (omega (arith, one.budget)) (omega (arith, other.budget)) word in
-    let region_file : a.region_file ≡ b.region_file = sym one.regions ∙ other.regions in
-    let turns : a.limits.turns ≡ b.limits.turns = same-turns parts.options.turns a.limits.turns b.limits.turns
-    one.turns other.turns in
-    ap (λ v. made-check v a.public_input a.cut a.region_file a.secrets a.limits.budget a.limits.turns) program
-    ∙ (ap (λ v. made-check b.program v a.cut a.region_file a.secrets a.limits.budget a.limits.turns) public_input
-    ∙ (ap (λ v. made-check b.program b.public_input v a.region_file a.secrets a.limits.budget a.limits.turns) cut
-    ∙ (ap (λ v. made-check b.program b.public_input b.cut v a.secrets a.limits.budget a.limits.turns) region_file
-    ∙ (ap (λ v. made-check b.program b.public_input b.cut b.region_file v a.limits.budget a.limits.turns) secrets
-    ∙ (ap (λ v. made-check b.program b.public_input b.cut b.region_file b.secrets v a.limits.turns) budget
-    ∙ ap (λ v. made-check b.program b.public_input b.cut b.region_file b.secrets b.limits.budget v) turns)))))
+    let word : one.budget ≡ other.budget = cc in
+    let guest : a.guest ≡ b.guest = same-guest a.guest b.guest program public_input (sym one.regions ∙ other.regions) in
+    let budget : a.budget ≡ b.budget = same-number 0 1048576 other.budget a.budget b.budget (omega arith)
+    (subst (λ w. IsNumber 0 1048576 w a.budget) word one.bits) other.bits in
+    let turns : a.turns ≡ b.turns = same-number-or 1000000 1 20000000 _ a.turns b.turns (omega arith) one.turns
+    other.turns in
+    ap (λ v. made-check v a.cut a.secrets a.budget a.turns) guest
+    ∙ (ap (λ v. made-check b.guest v a.secrets a.budget a.turns) cut
+    ∙ (ap (λ v. made-check b.guest b.cut v a.budget a.turns) secrets
+    ∙ (ap (λ v. made-check b.guest b.cut b.secrets v a.turns) budget
+    ∙ ap (λ v. made-check b.guest b.cut b.secrets b.budget v) turns)))
 
-abbrev made-run : List ℕ → List ℕ → Option (List ℕ) → List ℕ → ℕ → ℕ → Run
-made-run program public_input region_file secret turns table = record {
-  program = program;
-  public_input = public_input;
-  region_file = region_file;
-  secret = secret;
-  turns = turns;
-  table = table;
-}
+abbrev made-run : GuestNames → List ℕ → ℕ → ℕ → Run
+made-run guest secret turns table = record { guest = guest; secret = secret; turns = turns; table = table }
 
-same-run : (parts : Parts) (a b : Run) → IsOneRun parts a → IsOneRun parts b → a ≡ b
-same-run parts a b one other =
-    let plain : a.program ∷ a.public_input ∷ a.secret ∷ [] ≡ b.program ∷ b.public_input ∷ b.secret ∷ [] =
+same-choice : (value : Option (List ℕ)) (a b : ℕ) → IsChoice value a → IsChoice value b → a ≡ b
+same-choice value a b one other = same-number-or 1 1 2 value a b (omega arith) one other
+
+same-run : (options flags : List (List ℕ)) (parts : Parts) (a b : Run) → IsRun options flags parts a →
+    IsRun options flags parts b → a ≡ b
+same-run options flags parts a b one other =
+    let plain :
+    a.guest.program ∷ a.guest.public_input ∷ a.secret ∷ [] ≡ b.guest.program ∷ b.guest.public_input ∷ b.secret ∷ [] =
     sym one.plain ∙ other.plain in
-    let program : a.program ≡ b.program = cc in
-    let public_input : a.public_input ≡ b.public_input = cc in
+    let program : a.guest.program ≡ b.guest.program = cc in
+    let public_input : a.guest.public_input ≡ b.guest.public_input = cc in
     let secret : a.secret ≡ b.secret = cc in
-    let region_file : a.region_file ≡ b.region_file = sym one.regions ∙ other.regions in
-    let turns : a.turns ≡ b.turns = same-turns parts.options.turns a.turns b.turns one.turns other.turns in
-    let table : a.table ≡ b.table = same-choice parts.options.rules a.table b.table one.rules other.rules in
-    ap (λ v. made-run v a.public_input a.region_file a.secret a.turns a.table) program
-    ∙ (ap (λ v. made-run b.program v a.region_file a.secret a.turns a.table) public_input
-    ∙ (ap (λ v. made-run b.program b.public_input v a.secret a.turns a.table) region_file
-    ∙ (ap (λ v. made-run b.program b.public_input b.region_file v a.turns a.table) secret
-    ∙ (ap (λ v. made-run b.program b.public_input b.region_file b.secret v a.table) turns
-    ∙ ap (λ v. made-run b.program b.public_input b.region_file b.secret b.turns v) table))))
+    let guest : a.guest ≡ b.guest = same-guest a.guest b.guest program public_input (sym one.regions ∙ other.regions) in
+    let turns : a.turns ≡ b.turns = same-number-or 1000000 1 20000000 _ a.turns b.turns (omega arith) one.turns
+    other.turns in
+    let table : a.table ≡ b.table = same-choice _ a.table b.table one.rules other.rules in
+    ap (λ v. made-run v a.secret a.turns a.table) guest
+    ∙ (ap (λ v. made-run b.guest v a.turns a.table) secret
+    ∙ (ap (λ v. made-run b.guest b.secret v a.table) turns ∙ ap (λ v. made-run b.guest b.secret b.turns v) table))
 
 same-file : (parts : Parts) (a b : List ℕ) → IsOneFile parts a → IsOneFile parts b → a ≡ b
-same-file parts a b one other =
-    let plain : a ∷ [] ≡ b ∷ [] = sym one.0 ∙ other.0 in
-    cc
+same-file parts a b one other = let plain : a ∷ [] ≡ b ∷ [] = sym one.plain ∙ other.plain in cc
 
-same-number : (parts : Parts) (a b : ℕ) → IsTrial parts a → IsTrial parts b → a ≡ b
-same-number parts a b one other =
-    let plain : decimal a ∷ [] ≡ decimal b ∷ [] = sym one.plain ∙ other.plain in
-    let word : decimal a ≡ decimal b = cc in
-    decimal_injective a b (omega (arith, one.few)) (omega (arith, other.few)) word
+same-trial : (parts : Parts) (a b : ℕ) → IsTrial parts a → IsTrial parts b → a ≡ b
+same-trial parts a b one other =
+    let plain : one.word ∷ [] ≡ other.word ∷ [] = sym one.plain ∙ other.plain in
+    let word : one.word ≡ other.word = cc in
+    same-number 0 4294967295 other.word a b (omega arith) (subst (λ w. IsNumber 0 4294967295 w a) word one.is)
+    other.is
 
--- ---- the kind of a command
+-- ---- what stands behind a name
 
-data Kind : Type 0 where
-  KindCheck : Kind
-  KindMeasure : Kind
-  KindGraph : Kind
-  KindReport : Kind
-  KindAssemble : Kind
-  KindList : Kind
-  KindVerify : Kind
-  KindMigrate : Kind
-  KindTrial : Kind
-
-kind_of : Command → Kind
-kind_of (Checks check) = KindCheck
-kind_of (Measures version run) = KindMeasure
-kind_of (Graphs run) = KindGraph
-kind_of (Reports json run) = KindReport
-kind_of (Assembles source) = KindAssemble
-kind_of (Lists program) = KindList
-kind_of (Verifies certificate) = KindVerify
-kind_of (Migrates cut) = KindMigrate
-kind_of (Tries number) = KindTrial
-
--- the kind that a name stands for
-kind_named : List ℕ → Kind
-kind_named name =
-    if bytes_eq name (codes "check") then KindCheck
-    else if bytes_eq name (codes "measure") then KindMeasure
-    else if bytes_eq name (codes "graph") then KindGraph
-    else if bytes_eq name (codes "report") then KindReport
-    else if bytes_eq name (codes "asm") then KindAssemble
-    else if bytes_eq name (codes "list") then KindList
-    else if bytes_eq name (codes "verify") then KindVerify
-    else if bytes_eq name (codes "migrate") then KindMigrate
-    else KindTrial
-
-named : (name : List ℕ) (parts : Parts) (command : Command) → IsRow name parts command →
-    kind_named name ≡ kind_of command
-unfolding kind_of kind_named
-named name parts (Checks check) row = ap kind_named row.0
-named name parts (Measures version run) row = ap kind_named row.0
-named name parts (Graphs run) row = ap kind_named row.0
-named name parts (Reports json run) row = ap kind_named row.0
-named name parts (Assembles source) row = ap kind_named row.0
-named name parts (Lists program) row = ap kind_named row.0
-named name parts (Verifies certificate) row = ap kind_named row.0
-named name parts (Migrates cut) row = ap kind_named row.0
-named name parts (Tries number) row = ap kind_named row.0
-
--- what a row of a kind is
-abbrev Reads : Kind → Parts → Command → Type 0
-Reads KindCheck parts command = (check : Check) × (command ≡ Checks check) × IsCheck parts check
-Reads KindMeasure parts command =
-    (version : ℕ) × (run : Run) × (command ≡ Measures version run) × IsMeasure parts version run
-Reads KindGraph parts command = (run : Run) × (command ≡ Graphs run) × IsOneRun parts run
-Reads KindReport parts command =
-    (json : Bool) × (run : Run) × (command ≡ Reports json run) × (parts.options.json ≡ json) × IsOneRun parts run
-Reads KindAssemble parts command = (file : List ℕ) × (command ≡ Assembles file) × IsOneFile parts file
-Reads KindList parts command = (file : List ℕ) × (command ≡ Lists file) × IsOneFile parts file
-Reads KindVerify parts command = (file : List ℕ) × (command ≡ Verifies file) × IsOneFile parts file
-Reads KindMigrate parts command = (file : List ℕ) × (command ≡ Migrates file) × IsOneFile parts file
-Reads KindTrial parts command = (number : ℕ) × (command ≡ Tries number) × IsTrial parts number
-
-reads : (name : List ℕ) (parts : Parts) (command : Command) → IsRow name parts command →
-    Reads (kind_of command) parts command
-unfolding kind_of
-reads name parts (Checks check) row = (check, refl, row.1)
-reads name parts (Measures version run) row = (version, run, refl, row.1)
-reads name parts (Graphs run) row = (run, refl, row.1.row)
-reads name parts (Reports json run) row = (json, run, refl, row.1.flag, row.1.row)
-reads name parts (Assembles source) row = (source, refl, row.1)
-reads name parts (Lists program) row = (program, refl, row.1)
-reads name parts (Verifies certificate) row = (certificate, refl, row.1)
-reads name parts (Migrates cut) row = (cut, refl, row.1)
-reads name parts (Tries number) row = (number, refl, row.1)
-
-same-read : (kind : Kind) (parts : Parts) (a b : Command) → Reads kind parts a → Reads kind parts b → a ≡ b
-same-read KindCheck parts a b (x, is, one) (y, also, other) =
+same-fit : (name : CommandName) (parts : Parts) (a b : Command) → Fits name parts a → Fits name parts b → a ≡ b
+same-fit names.Check parts a b (x, one, is) (y, other, also) =
     is ∙ (ap (λ v. Checks v) (same-check parts x y one other) ∙ sym also)
-same-read KindMeasure parts a b (v, x, is, one) (w, y, also, other) =
-    is ∙ (ap (λ n. Measures n x) (same-choice parts.options.cut v w one.cut other.cut)
-    ∙ (ap (λ r. Measures w r) (same-run parts x y one.row other.row) ∙ sym also))
-same-read KindGraph parts a b (x, is, one) (y, also, other) =
-    is ∙ (ap (λ v. Graphs v) (same-run parts x y one other) ∙ sym also)
-same-read KindReport parts a b (j, x, is, flag, one) (k, y, also, flagged, other) =
-    is ∙ (ap (λ v. Reports v x) (sym flag ∙ flagged)
-    ∙ (ap (λ r. Reports k r) (same-run parts x y one other) ∙ sym also))
-same-read KindAssemble parts a b (x, is, one) (y, also, other) =
+same-fit names.Measure parts a b (v, x, one, first, is) (w, y, other, second, also) =
+    is ∙ (ap (λ n. Tells (CutText n) x) (same-choice _ v w first second)
+    ∙ (ap (λ r. Tells (CutText w) r) (same-run _ _ parts x y one other) ∙ sym also))
+same-fit names.Graph parts a b (x, one, is) (y, other, also) =
+    is ∙ (ap (λ r. Tells Certificate r) (same-run _ _ parts x y one other) ∙ sym also)
+same-fit names.Report parts a b (x, one, is) (y, other, also) =
+    is ∙ (ap (λ r. Tells (Report (has_option (codes "--json") parts.options)) r) (same-run _ _ parts x y one other)
+    ∙ sym also)
+same-fit names.Assemble parts a b (x, one, is) (y, other, also) =
     is ∙ (ap (λ v. Assembles v) (same-file parts x y one other) ∙ sym also)
-same-read KindList parts a b (x, is, one) (y, also, other) =
+same-fit names.List parts a b (x, one, is) (y, other, also) =
     is ∙ (ap (λ v. Lists v) (same-file parts x y one other) ∙ sym also)
-same-read KindVerify parts a b (x, is, one) (y, also, other) =
+same-fit names.Verify parts a b (x, one, is) (y, other, also) =
     is ∙ (ap (λ v. Verifies v) (same-file parts x y one other) ∙ sym also)
-same-read KindMigrate parts a b (x, is, one) (y, also, other) =
+same-fit names.Migrate parts a b (x, one, is) (y, other, also) =
     is ∙ (ap (λ v. Migrates v) (same-file parts x y one other) ∙ sym also)
-same-read KindTrial parts a b (x, is, one) (y, also, other) =
-    is ∙ (ap (λ v. Tries v) (same-number parts x y one other) ∙ sym also)
+same-fit names.Trial parts a b (x, one, is) (y, other, also) =
+    is ∙ (ap (λ v. Tries v) (same-trial parts x y one other) ∙ sym also)
 
-same-row : (name : List ℕ) (parts : Parts) (a b : Command) → IsRow name parts a → IsRow name parts b → a ≡ b
-same-row name parts a b one other =
-    let kinds : kind_of a ≡ kind_of b = sym (named name parts a one) ∙ named name parts b other in
-    same-read (kind_of b) parts a b (subst (λ kind. Reads kind parts a) kinds (reads name parts a one))
-    (reads name parts b other)
+-- ---- words
 
 first-of : (a c : List ℕ) (b d : List (List ℕ)) → a ∷ b ≡ c ∷ d → a ≡ c
 first-of a c b d e = cc
@@ -206,16 +134,17 @@ first-of a c b d e = cc
 others-of : (a c : List ℕ) (b d : List (List ℕ)) → a ∷ b ≡ c ∷ d → b ≡ d
 others-of a c b d e = cc
 
-same-some : (a b : Parts) → Some a ≡ Some b → a ≡ b
+same-some : {A : Type 0} (a b : A) → Some a ≡ Some b → a ≡ b
 same-some a b e = cc
 
 pub one_command : (words : List (List ℕ)) (a b : Command) → IsCommand words a → IsCommand words b → a ≡ b
 one_command words a b one other =
-    let line : one.name ∷ one.others ≡ other.name ∷ other.others = sym one.line ∙ other.line in
-    let name : one.name ≡ other.name = first-of one.name other.name one.others other.others line in
-    let others : one.others ≡ other.others = others-of one.name other.name one.others other.others line in
+    let line : one.first ∷ one.others ≡ other.first ∷ other.others = sym one.line ∙ other.line in
+    let first : one.first ≡ other.first = first-of one.first other.first one.others other.others line in
+    let others : one.others ≡ other.others = others-of one.first other.first one.others other.others line in
+    let name : one.name ≡ other.name = same-some one.name other.name (sym one.named ∙ (ap named_by first ∙ other.named)) in
     let parts : one.parts ≡ other.parts = same-some one.parts other.parts
     (sym one.parted ∙ (ap parts_of others ∙ other.parted)) in
-    let row : IsRow other.name other.parts a = subst (λ n. IsRow n other.parts a) name
-    (subst (λ p. IsRow one.name p a) parts one.row) in
-    same-row other.name other.parts a b row other.row
+    let row : Fits other.name other.parts a = subst (λ n. Fits n other.parts a) name
+    (subst (λ p. Fits one.name p a) parts one.row) in
+    same-fit other.name other.parts a b row other.row

@@ -1,42 +1,51 @@
 -- The command lines that are understood: a row for each command. The words behind the command are parted into options
 -- and other words (see Parts).
-use Rattle.std.specs.Prelude.{◌≡◌, ℕ, ◌≤◌, Bool, false, List, [], ◌∷◌, length, codes, Option, None, Some}
+use Rattle.std.specs.Prelude.{◌≡◌, ℕ, ◌≤◌, Bool, true, List, [], ◌∷◌, length, codes, Option, None, Some}
+use Rattle.std.specs.Prelude.{if◌then◌else◌}
 use Rattle.std.specs.Fmt.{decimal}
-use Rattle.command_words.specs.declared.limits.Limits.{Limits}
-use Rattle.command_words.specs.Parts.{Parts, no_options, parts_of}
+use Rattle.std.specs.Str.{bytes_eq}
+use Rattle.command_words.specs.declared.names.CommandName.{CommandName}
+use Rattle.command_words.specs.declared.names.CommandName.TheVariants as names
+use Rattle.command_words.specs.declared.tellings.Telling.{Telling}
+use Rattle.command_words.specs.declared.tellings.Telling.TheVariants.{CutText, Certificate, Report}
+use Rattle.command_words.specs.Parts.{Parts, are_taken, has_option, parts_of, value_of}
 
--- a check of secrets: the names of its files, of which the region file may be none, and its limits of bits and of turns
+-- ---- what commands name
+
+-- a guest: the names of its program, its public input, and its region file, where one is named
+pub record GuestNames : Type 0 where
+  pub program : List ℕ
+  pub public_input : List ℕ
+  pub region_file : Option (List ℕ)
+
+-- a check of secrets of a guest against a cut, with its limits of bits and of turns
 pub record Check : Type 0 where
-  pub program : List ℕ
-  pub public_input : List ℕ
+  pub guest : GuestNames
   pub cut : List ℕ
-  pub region_file : Option (List ℕ)
   pub secrets : List (List ℕ)
-  pub limits : Limits
+  pub budget : ℕ
+  pub turns : ℕ
 
--- one run of a guest that is to be measured: the names of its files, of which the region file may be none, its limit of
--- turns, and the table of the mask rules by which it is measured
+-- one run of a guest that is to be measured: its secret, its limit of turns, and the table of the mask rules by which
+-- it is measured
 pub record Run : Type 0 where
-  pub program : List ℕ
-  pub public_input : List ℕ
-  pub region_file : Option (List ℕ)
+  pub guest : GuestNames
   pub secret : List ℕ
   pub turns : ℕ
   pub table : ℕ
 
--- a command: a check of secrets, the cut of a run in a version, the certificate of its maximum flow or a report of it,
--- which may be JSON, the program file of a source, the listing of a program, the verdict on a certificate, a cut in
--- version 2, or a trial of the tool by a number
+-- a command: a check of secrets, what is told of a measured run, the program file of a source, the listing of a program,
+-- the verdict on a certificate, a cut in version 2, or a trial of the tool by a number
 pub data Command : Type 0 where
   Checks : Check → Command
-  Measures : ℕ → Run → Command
-  Graphs : Run → Command
-  Reports : Bool → Run → Command
+  Tells : Telling → Run → Command
   Assembles : List ℕ → Command
   Lists : List ℕ → Command
   Verifies : List ℕ → Command
   Migrates : List ℕ → Command
   Tries : ℕ → Command
+
+-- ---- numbers
 
 abbrev pub highest_budget : ℕ
 highest_budget = 1048576
@@ -48,92 +57,107 @@ default_turns = 1000000
 abbrev pub highest_turns : ℕ
 highest_turns = 20000000
 
--- the value of `--turns`, where it is named, is this limit in decimal without leading zeros
-abbrev pub IsTurnLimit : Option (List ℕ) → ℕ → Type 0
-IsTurnLimit None turns = turns ≡ default_turns
-IsTurnLimit (Some value) turns = (value ≡ decimal turns) × (1 ≤ turns) × (turns ≤ highest_turns)
-
--- the tables of mask rules
-abbrev pub IsTable : ℕ → Type 0
-IsTable table = (1 ≤ table) × (table ≤ 2)
-
--- the value of `--rules` or of `--cut`, where it is named, is 1 or 2; without it it is 1
-abbrev pub IsChoice : Option (List ℕ) → ℕ → Type 0
-IsChoice None choice = choice ≡ 1
-IsChoice (Some value) choice = (value ≡ decimal choice) × (1 ≤ choice) × (choice ≤ 2)
-
 -- the greatest number of a trial
 abbrev pub highest_number : ℕ
 highest_number = 4294967295
 
--- PROG PUBLIC CUT BUDGET SECRET.., with 1 to 64 secrets and the budget in decimal without leading zeros
+-- the word is this number in decimal without leading zeros, and the number is within the range
+pub record IsNumber (lowest highest : ℕ) (word : List ℕ) (number : ℕ) : Type 0 where
+  pub written : word ≡ decimal number
+  pub above : lowest ≤ number
+  pub below : number ≤ highest
+
+-- the value of an option is this number within the range; without the option it is another
+abbrev pub IsNumberOr : ℕ → ℕ → ℕ → Option (List ℕ) → ℕ → Type 0
+IsNumberOr other lowest highest None number = number ≡ other
+IsNumberOr other lowest highest (Some word) number = IsNumber lowest highest word number
+
+abbrev pub IsTurnLimit : Option (List ℕ) → ℕ → Type 0
+IsTurnLimit value turns = IsNumberOr default_turns 1 highest_turns value turns
+
+-- 1 or 2, and 1 where nothing is named: a table of mask rules, or a version of a cut's text
+abbrev pub IsChoice : Option (List ℕ) → ℕ → Type 0
+IsChoice value choice = IsNumberOr 1 1 2 value choice
+
+-- ---- what stands behind each name of a command
+
+-- PROG PUBLIC CUT BUDGET SECRET.., with 1 to 64 secrets
 pub record IsCheck (parts : Parts) (check : Check) : Type 0 where
-  pub plain :
-      parts.plain ≡ check.program ∷ check.public_input ∷ check.cut ∷ decimal check.limits.budget ∷ check.secrets
+  pub budget : List ℕ
+  pub plain : parts.plain ≡ check.guest.program ∷ check.guest.public_input ∷ check.cut ∷ budget ∷ check.secrets
   pub some : 1 ≤ length check.secrets
   pub few : length check.secrets ≤ 64
-  pub budget : check.limits.budget ≤ highest_budget
-  pub turns : IsTurnLimit parts.options.turns check.limits.turns
-  pub regions : parts.options.regions ≡ check.region_file
-  pub rules : parts.options.rules ≡ None
-  pub cut : parts.options.cut ≡ None
-  pub json : parts.options.json ≡ false
+  pub bits : IsNumber 0 highest_budget budget check.budget
+  pub turns : IsTurnLimit (value_of (codes "--turns") parts.options) check.turns
+  pub regions : value_of (codes "--regions") parts.options ≡ check.guest.region_file
+  pub taken : are_taken (codes "--turns" ∷ codes "--regions" ∷ []) [] parts.options ≡ true
 
--- PROG PUBLIC SECRET, with the options that every measured run may have
-pub record IsOneRun (parts : Parts) (run : Run) : Type 0 where
-  pub plain : parts.plain ≡ run.program ∷ run.public_input ∷ run.secret ∷ []
-  pub turns : IsTurnLimit parts.options.turns run.turns
-  pub regions : parts.options.regions ≡ run.region_file
-  pub rules : IsChoice parts.options.rules run.table
+-- the options that every measured run may have
+abbrev pub run_options : List (List ℕ)
+run_options = codes "--turns" ∷ codes "--regions" ∷ codes "--rules" ∷ []
 
--- a measured run, and the version of the text of its cut
-pub record IsMeasure (parts : Parts) (version : ℕ) (run : Run) : Type 0 where
-  pub row : IsOneRun parts run
-  pub cut : IsChoice parts.options.cut version
-  pub json : parts.options.json ≡ false
+-- PROG PUBLIC SECRET, with none but these options and flags
+pub record IsRun (options flags : List (List ℕ)) (parts : Parts) (run : Run) : Type 0 where
+  pub plain : parts.plain ≡ run.guest.program ∷ run.guest.public_input ∷ run.secret ∷ []
+  pub turns : IsTurnLimit (value_of (codes "--turns") parts.options) run.turns
+  pub regions : value_of (codes "--regions") parts.options ≡ run.guest.region_file
+  pub rules : IsChoice (value_of (codes "--rules") parts.options) run.table
+  pub taken : are_taken options flags parts.options ≡ true
 
--- a measured run, of which the certificate is wanted
-pub record IsGraph (parts : Parts) (run : Run) : Type 0 where
-  pub row : IsOneRun parts run
-  pub cut : parts.options.cut ≡ None
-  pub json : parts.options.json ≡ false
-
--- a measured run, of which a report is wanted: as JSON where the flag stands
-pub record IsReport (parts : Parts) (json : Bool) (run : Run) : Type 0 where
-  pub row : IsOneRun parts run
-  pub cut : parts.options.cut ≡ None
-  pub flag : parts.options.json ≡ json
-
--- a number in decimal without leading zeros, and no option
+-- a number in decimal, and no option
 pub record IsTrial (parts : Parts) (number : ℕ) : Type 0 where
-  pub plain : parts.plain ≡ decimal number ∷ []
-  pub options : parts.options ≡ no_options
-  pub few : number ≤ highest_number
+  pub word : List ℕ
+  pub plain : parts.plain ≡ word ∷ []
+  pub is : IsNumber 0 highest_number word number
+  pub options : parts.options ≡ []
 
 -- one file and no option
-abbrev pub IsOneFile : Parts → List ℕ → Type 0
-IsOneFile parts file = (parts.plain ≡ file ∷ []) × (parts.options ≡ no_options)
+pub record IsOneFile (parts : Parts) (file : List ℕ) : Type 0 where
+  pub plain : parts.plain ≡ file ∷ []
+  pub options : parts.options ≡ []
 
--- the row of each command: its name, and what stands behind it
-abbrev pub IsRow : List ℕ → Parts → Command → Type 0
-IsRow name parts (Checks check) = (name ≡ codes "check") × IsCheck parts check
-IsRow name parts (Measures version run) = (name ≡ codes "measure") × IsMeasure parts version run
-IsRow name parts (Graphs run) = (name ≡ codes "graph") × IsGraph parts run
-IsRow name parts (Reports json run) = (name ≡ codes "report") × IsReport parts json run
-IsRow name parts (Assembles source) = (name ≡ codes "asm") × IsOneFile parts source
-IsRow name parts (Lists program) = (name ≡ codes "list") × IsOneFile parts program
-IsRow name parts (Verifies certificate) = (name ≡ codes "verify") × IsOneFile parts certificate
-IsRow name parts (Migrates cut) = (name ≡ codes "migrate") × IsOneFile parts cut
-IsRow name parts (Tries number) = (name ≡ codes "trial") × IsTrial parts number
+-- the command that stands behind a name
+abbrev pub Fits : CommandName → Parts → Command → Type 0
+Fits names.Check parts command = (check : Check) × IsCheck parts check × (command ≡ Checks check)
+Fits names.Measure parts command =
+    (version : ℕ) × (run : Run) × IsRun (codes "--cut" ∷ run_options) [] parts run
+    × IsChoice (value_of (codes "--cut") parts.options) version × (command ≡ Tells (CutText version) run)
+Fits names.Graph parts command = (run : Run) × IsRun run_options [] parts run × (command ≡ Tells Certificate run)
+Fits names.Report parts command =
+    (run : Run) × IsRun run_options (codes "--json" ∷ []) parts run
+    × (command ≡ Tells (Report (has_option (codes "--json") parts.options)) run)
+Fits names.Assemble parts command = (file : List ℕ) × IsOneFile parts file × (command ≡ Assembles file)
+Fits names.List parts command = (file : List ℕ) × IsOneFile parts file × (command ≡ Lists file)
+Fits names.Verify parts command = (file : List ℕ) × IsOneFile parts file × (command ≡ Verifies file)
+Fits names.Migrate parts command = (file : List ℕ) × IsOneFile parts file × (command ≡ Migrates file)
+Fits names.Trial parts command = (number : ℕ) × IsTrial parts number × (command ≡ Tries number)
+
+-- ---- a command line
+
+-- the command that a word is the name of
+abbrev pub named_by : List ℕ → Option CommandName
+named_by word =
+    if bytes_eq word (codes "check") then Some names.Check
+    else if bytes_eq word (codes "measure") then Some names.Measure
+    else if bytes_eq word (codes "graph") then Some names.Graph
+    else if bytes_eq word (codes "report") then Some names.Report
+    else if bytes_eq word (codes "asm") then Some names.Assemble
+    else if bytes_eq word (codes "list") then Some names.List
+    else if bytes_eq word (codes "verify") then Some names.Verify
+    else if bytes_eq word (codes "migrate") then Some names.Migrate
+    else if bytes_eq word (codes "trial") then Some names.Trial
+    else None
 
 -- the words are this command line
 pub record IsCommand (words : List (List ℕ)) (command : Command) : Type 0 where
-  pub name : List ℕ
+  pub first : List ℕ
   pub others : List (List ℕ)
-  pub line : words ≡ name ∷ others
+  pub line : words ≡ first ∷ others
+  pub name : CommandName
+  pub named : named_by first ≡ Some name
   pub parts : Parts
   pub parted : parts_of others ≡ Some parts
-  pub row : IsRow name parts command
+  pub row : Fits name parts command
 
 -- the words are no command line
 abbrev pub IsNoCommand : List (List ℕ) → Type 0

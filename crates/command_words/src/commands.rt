@@ -1,14 +1,17 @@
-ghost use Rattle.std.specs.Prelude.{◌≡◌, ◌≢◌, ℕ, Bool, List as Seq, None, Ok, codes, map, string_bytes};
+ghost use Rattle.std.specs.Prelude.{◌≡◌, ◌∷◌, [], ℕ, List as Seq, None, Ok, map, string_bytes};
 ghost use Rattle.std.specs.Prelude.{IfNone, IfOk, IfSome};
-ghost use Rattle.command_words.specs.CommandLines.{Check, Command, Run, IsCheck, IsCommand, IsGraph, IsMeasure};
-ghost use Rattle.command_words.specs.CommandLines.{IsNoCommand, IsOneFile, IsReport, IsRow, IsTrial};
-ghost use Rattle.command_words.specs.Words.{HasLimits, command_of, parts_in};
+ghost use Rattle.command_words.specs.CommandLines.{Command, Fits, IsCommand, IsNoCommand, IsOneFile, IsTrial};
+ghost use Rattle.command_words.specs.Words.{command_of, parts_in};
+ghost use Rattle.command_words.specs.declared.names.CommandName.TheVariants as names;
 
 use crate::checks::{CheckWords, check_words};
-use crate::numbers::number_of;
+use crate::names::CommandName;
+use crate::numbers::{choice_of, number_of};
+use crate::option_words::{has_option, value_of};
 use crate::parts::{Parts, parts_of};
-use crate::runs::{RunWords, run_words};
-use crate::values::choice_of;
+use crate::run_rows::run_words;
+use crate::runs::RunWords;
+use crate::tellings::Telling;
 use flow_base::NoMemory;
 use std::alloc::Global;
 
@@ -17,22 +20,34 @@ use std::alloc::Global;
 pub enum CommandWords<'a> {
     /// `check PROG PUBLIC CUT BUDGET SECRET.. [--turns N] [--regions FILE]`
     Check(CheckWords<'a>),
-    /// `measure PROG PUBLIC SECRET [--turns N] [--regions FILE] [--rules N] [--cut N]`
-    Measure { version: u32, run: RunWords<'a> },
-    /// `graph PROG PUBLIC SECRET [--turns N] [--regions FILE] [--rules N]`
-    Graph(RunWords<'a>),
-    /// `report PROG PUBLIC SECRET [--turns N] [--regions FILE] [--rules N] [--json]`
-    Report { json: bool, run: RunWords<'a> },
+    /// `measure PROG PUBLIC SECRET [--turns N] [--regions FILE] [--rules N] [--cut N]`, `graph` or `report`, which may
+    /// have `--json`, in place of `measure` and without `--cut`
+    Tell {
+        /// What is told of the run.
+        telling: Telling,
+        /// The run.
+        run: RunWords<'a>,
+    },
     /// `asm SOURCE`
-    Assemble { source: &'a str },
+    Assemble {
+        source: &'a str,
+    },
     /// `list PROG`
-    List { program: &'a str },
+    List {
+        program: &'a str,
+    },
     /// `verify CERT`
-    Verify { certificate: &'a str },
+    Verify {
+        certificate: &'a str,
+    },
     /// `migrate CUT`
-    Migrate { cut: &'a str },
+    Migrate {
+        cut: &'a str,
+    },
     /// `trial N`
-    Trial { number: u32 },
+    Trial {
+        number: u32,
+    },
 }
 
 /// The file that the words behind a command of one file name; None exactly where they name none.
@@ -40,7 +55,7 @@ fn file_word<'a>(parts: &Parts<'a>) -> Option<&'a str>
     ensures is { IfSome result (λ file. IsOneFile (parts_in parts.now) file.now) }
     ensures none { IfNone result ((file : Seq ℕ) → ¬ IsOneFile (parts_in parts.now) file) }
 {
-    if parts.options.has_any() {
+    if !parts.options.as_slice().is_empty() {
         return None;
     }
     match parts.plain.as_slice() {
@@ -49,36 +64,11 @@ fn file_word<'a>(parts: &Parts<'a>) -> Option<&'a str>
     }
 }
 
-/// The command of one file that a name and the words behind it name; None exactly where there is none.
-fn file_row<'a>(name: &str, parts: &Parts<'a>) -> Option<CommandWords<'a>>
-    ensures is { IfSome result (λ command. IsRow name.now (parts_in parts.now) (command_of command)) }
-    ensures limits { IfSome result (λ command. HasLimits command) }
-    ensures none { result ≡ None → name.now ≢ codes "check" → name.now ≢ codes "measure" → name.now ≢ codes "graph"
-        → name.now ≢ codes "report" → name.now ≢ codes "trial"
-        → (command : Command) → ¬ IsRow name.now (parts_in parts.now) command }
-{
-    let file = file_word(parts)?;
-    if name == "asm" {
-        return Some(CommandWords::Assemble { source: file });
-    }
-    if name == "list" {
-        return Some(CommandWords::List { program: file });
-    }
-    if name == "verify" {
-        return Some(CommandWords::Verify { certificate: file });
-    }
-    if name == "migrate" {
-        return Some(CommandWords::Migrate { cut: file });
-    }
-    None
-}
-
 /// The check that the words behind `check` name; None exactly where they name none.
 fn check_row<'a>(alloc: Global, parts: &Parts<'a>) -> Result<Option<CommandWords<'a>>, NoMemory>
-    ensures is { IfOk result (λ found. IfSome found (λ command. IsRow (codes "check") (parts_in parts.now) (command_of
+    ensures is { IfOk result (λ found. IfSome found (λ command. Fits names.Check (parts_in parts.now) (command_of
         command))) }
-    ensures limits { IfOk result (λ found. IfSome found (λ command. HasLimits command)) }
-    ensures none { result ≡ Ok None → (check : Check) → ¬ IsCheck (parts_in parts.now) check }
+    ensures none { result ≡ Ok None → (command : Command) → ¬ Fits names.Check (parts_in parts.now) command }
 {
     let Some(check) = check_words(alloc, parts)? else {
         return Ok(None);
@@ -88,104 +78,115 @@ fn check_row<'a>(alloc: Global, parts: &Parts<'a>) -> Result<Option<CommandWords
 
 /// The cut of the run that the words behind `measure` name; None exactly where they name none.
 fn measure_row<'a>(alloc: Global, parts: &Parts<'a>) -> Result<Option<CommandWords<'a>>, NoMemory>
-    ensures is { IfOk result (λ found. IfSome found (λ command. IsRow (codes "measure") (parts_in parts.now)
-        (command_of command))) }
-    ensures limits { IfOk result (λ found. IfSome found (λ command. HasLimits command)) }
-    ensures none { result ≡ Ok None → (version : ℕ) → (run : Run) → ¬ IsMeasure (parts_in parts.now) version run }
-{
-    if parts.options.json {
-        return Ok(None);
-    }
-    let Some(version) = choice_of(alloc, parts.options.cut)? else {
-        return Ok(None);
-    };
-    let Some(run) = run_words(alloc, parts)? else {
-        return Ok(None);
-    };
-    Ok(Some(CommandWords::Measure { version, run }))
-}
-
-/// The certificate of the run that the words behind `graph` name; None exactly where they name none.
-fn graph_row<'a>(alloc: Global, parts: &Parts<'a>) -> Result<Option<CommandWords<'a>>, NoMemory>
-    ensures is { IfOk result (λ found. IfSome found (λ command. IsRow (codes "graph") (parts_in parts.now) (command_of
+    ensures is { IfOk result (λ found. IfSome found (λ command. Fits names.Measure (parts_in parts.now) (command_of
         command))) }
-    ensures limits { IfOk result (λ found. IfSome found (λ command. HasLimits command)) }
-    ensures none { result ≡ Ok None → (run : Run) → ¬ IsGraph (parts_in parts.now) run }
+    ensures none { result ≡ Ok None → (command : Command) → ¬ Fits names.Measure (parts_in parts.now) command }
 {
-    if parts.options.json || parts.options.cut.is_some() {
-        return Ok(None);
-    }
-    let Some(run) = run_words(alloc, parts)? else {
+    let Some(version) = choice_of(alloc, value_of(parts.options.as_slice(), "--cut"))? else {
         return Ok(None);
     };
-    Ok(Some(CommandWords::Graph(run)))
-}
-
-/// The report of the run that the words behind `report` name; None exactly where they name none.
-fn report_row<'a>(alloc: Global, parts: &Parts<'a>) -> Result<Option<CommandWords<'a>>, NoMemory>
-    ensures is { IfOk result (λ found. IfSome found (λ command. IsRow (codes "report") (parts_in parts.now) (command_of
-        command))) }
-    ensures limits { IfOk result (λ found. IfSome found (λ command. HasLimits command)) }
-    ensures none { result ≡ Ok None → (json : Bool) → (run : Run) → ¬ IsReport (parts_in parts.now) json run }
-{
-    if parts.options.cut.is_some() {
-        return Ok(None);
-    }
-    let Some(run) = run_words(alloc, parts)? else {
+    let Some(run) = run_words(
+        alloc,
+        parts,
+        &["--cut", "--turns", "--regions", "--rules"],
+        &[],
+    )?
+    else {
         return Ok(None);
     };
-    Ok(Some(CommandWords::Report {
-        json: parts.options.json,
+    Ok(Some(CommandWords::Tell {
+        telling: Telling::CutText(version),
         run,
     }))
 }
 
-/// The trial that the words behind `trial` name; None exactly where they name none.
-fn trial_row<'a>(alloc: Global, parts: &Parts<'a>) -> Result<Option<CommandWords<'a>>, NoMemory>
-    ensures is { IfOk result (λ found. IfSome found (λ command. IsRow (codes "trial") (parts_in parts.now) (command_of
+/// The certificate of the run that the words behind `graph` name; None exactly where they name none.
+fn graph_row<'a>(alloc: Global, parts: &Parts<'a>) -> Result<Option<CommandWords<'a>>, NoMemory>
+    ensures is { IfOk result (λ found. IfSome found (λ command. Fits names.Graph (parts_in parts.now) (command_of
         command))) }
-    ensures limits { IfOk result (λ found. IfSome found (λ command. HasLimits command)) }
-    ensures none { result ≡ Ok None → (number : ℕ) → ¬ IsTrial (parts_in parts.now) number }
+    ensures none { result ≡ Ok None → (command : Command) → ¬ Fits names.Graph (parts_in parts.now) command }
 {
-    if parts.options.has_any() {
-        return Ok(None);
-    }
-    let [word] = parts.plain.as_slice() else {
+    let Some(run) = run_words(alloc, parts, &["--turns", "--regions", "--rules"], &[])? else {
         return Ok(None);
     };
-    let Some(number) = number_of(alloc, *word, 0, u32::MAX)? else {
+    Ok(Some(CommandWords::Tell {
+        telling: Telling::Certificate,
+        run,
+    }))
+}
+
+/// The report of the run that the words behind `report` name; None exactly where they name none.
+fn report_row<'a>(alloc: Global, parts: &Parts<'a>) -> Result<Option<CommandWords<'a>>, NoMemory>
+    ensures is { IfOk result (λ found. IfSome found (λ command. Fits names.Report (parts_in parts.now) (command_of
+        command))) }
+    ensures none { result ≡ Ok None → (command : Command) → ¬ Fits names.Report (parts_in parts.now) command }
+{
+    let Some(run) = run_words(
+        alloc,
+        parts,
+        &["--turns", "--regions", "--rules"],
+        &["--json"],
+    )?
+    else {
+        return Ok(None);
+    };
+    let json = has_option(parts.options.as_slice(), "--json");
+    Ok(Some(CommandWords::Tell {
+        telling: Telling::Report(json),
+        run,
+    }))
+}
+
+/// The number that the words behind `trial` name; None exactly where they name none.
+fn trial_number(alloc: Global, parts: &Parts) -> Result<Option<u32>, NoMemory>
+    ensures is { IfOk result (λ found. IfSome found (λ number. IsTrial (parts_in parts.now) number)) }
+    ensures none { result ≡ Ok None → (number : ℕ) → ¬ IsTrial (parts_in parts.now) number }
+{
+    if !parts.options.as_slice().is_empty() {
+        return Ok(None);
+    }
+    match parts.plain.as_slice() {
+        [word] => number_of(alloc, *word, 0, u32::MAX),
+        _ => Ok(None),
+    }
+}
+
+/// The trial that the words behind `trial` name; None exactly where they name none.
+fn trial_row<'a>(alloc: Global, parts: &Parts<'a>) -> Result<Option<CommandWords<'a>>, NoMemory>
+    ensures is { IfOk result (λ found. IfSome found (λ command. Fits names.Trial (parts_in parts.now) (command_of
+        command))) }
+    ensures none { result ≡ Ok None → (command : Command) → ¬ Fits names.Trial (parts_in parts.now) command }
+{
+    let Some(number) = trial_number(alloc, parts)? else {
         return Ok(None);
     };
     Ok(Some(CommandWords::Trial { number }))
 }
 
-/// The command of a name and the words behind it; None exactly where there is none.
+/// The command of a name that has the words behind it; None exactly where there is none.
 fn row_of<'a>(
     alloc: Global,
-    name: &str,
+    name: CommandName,
     parts: &Parts<'a>,
 ) -> Result<Option<CommandWords<'a>>, NoMemory>
-    ensures is { IfOk result (λ found. IfSome found (λ command. IsRow name.now (parts_in parts.now) (command_of
-        command))) }
-    ensures limits { IfOk result (λ found. IfSome found (λ command. HasLimits command)) }
-    ensures none { result ≡ Ok None → (command : Command) → ¬ IsRow name.now (parts_in parts.now) command }
+    ensures is { IfOk result (λ found. IfSome found (λ command. Fits name (parts_in parts.now) (command_of command))) }
+    ensures none { result ≡ Ok None → (command : Command) → ¬ Fits name (parts_in parts.now) command }
 {
-    if name == "check" {
-        return check_row(alloc, parts);
+    match name {
+        CommandName::Check => check_row(alloc, parts),
+        CommandName::Measure => measure_row(alloc, parts),
+        CommandName::Graph => graph_row(alloc, parts),
+        CommandName::Report => report_row(alloc, parts),
+        CommandName::Assemble => Ok(file_word(parts).map(|source| CommandWords::Assemble {
+            source,
+        })),
+        CommandName::List => Ok(file_word(parts).map(|program| CommandWords::List { program })),
+        CommandName::Verify => Ok(file_word(parts).map(|certificate| CommandWords::Verify {
+            certificate,
+        })),
+        CommandName::Migrate => Ok(file_word(parts).map(|cut| CommandWords::Migrate { cut })),
+        CommandName::Trial => trial_row(alloc, parts),
     }
-    if name == "measure" {
-        return measure_row(alloc, parts);
-    }
-    if name == "graph" {
-        return graph_row(alloc, parts);
-    }
-    if name == "report" {
-        return report_row(alloc, parts);
-    }
-    if name == "trial" {
-        return trial_row(alloc, parts);
-    }
-    Ok(file_row(name, parts))
 }
 
 /// The command that words name; None exactly where they are no command line that is understood. Its error is want of
@@ -196,14 +197,16 @@ pub fn command_words<'a>(
 ) -> Result<Option<CommandWords<'a>>, NoMemory>
     ensures is { IfOk result (λ found. IfSome found (λ command. IsCommand (map string_bytes words.entry.now)
         (command_of command))) }
-    ensures limits { IfOk result (λ found. IfSome found (λ command. HasLimits command)) }
     ensures none { result ≡ Ok None → IsNoCommand (map string_bytes words.entry.now) }
 {
-    let [name, others @ ..] = words else {
+    let [first, others @ ..] = words else {
+        return Ok(None);
+    };
+    let Some(name) = CommandName::named_by(first.as_str()) else {
         return Ok(None);
     };
     let Some(parts) = parts_of(alloc, others)? else {
         return Ok(None);
     };
-    row_of(alloc, name.as_str(), &parts)
+    row_of(alloc, name, &parts)
 }

@@ -3,15 +3,24 @@
 
 mod checks;
 mod commands;
+mod guests;
 mod limits;
+mod names;
 mod numbers;
+mod option_words;
 mod parts;
+mod run_rows;
 mod runs;
-mod values;
+mod tellings;
 
 pub use checks::CheckWords;
 pub use commands::{CommandWords, command_words};
+pub use guests::GuestWords;
 pub use limits::Limits;
+pub use names::CommandName;
 #[doc(hidden)]
-pub use parts::{OptionWords, Parts};
+pub use option_words::OptionWord;
+#[doc(hidden)]
+pub use parts::Parts;
 pub use runs::RunWords;
+pub use tellings::Telling;

@@ -1,8 +1,15 @@
-ghost use Rattle.std.specs.Prelude.{◌≡◌, ◌≤◌, ◌<◌, ℕ, IfOk, IfSome};
+//! The numbers that words and values of options name.
+
+ghost use Rattle.std.specs.Prelude.{◌≡◌, ◌≤◌, ◌<◌, ℕ, None, Ok, option_map, IfOk, IfSome};
 ghost use Rattle.std.specs.Fmt.{decimal};
+ghost use Rattle.command_words.specs.CommandLines.{IsChoice, IsNumber, IsTurnLimit, highest_turns};
 
 use flow_base::NoMemory;
 use std::alloc::Global;
+
+const DEFAULT_TURNS: u32 = 1_000_000;
+
+const HIGHEST_TURNS: u32 = 20_000_000;
 
 /// The number that a word names; None exactly where it is no decimal of 32 bits without leading zeros.
 fn decimal_of(alloc: Global, word: &str) -> Result<Option<u32>, NoMemory>
@@ -26,11 +33,8 @@ pub fn number_of(
     lowest: u32,
     highest: u32,
 ) -> Result<Option<u32>, NoMemory>
-    ensures written { IfOk result (λ found. IfSome found (λ number. word.now ≡ decimal number)) }
-    ensures above { IfOk result (λ found. IfSome found (λ number. lowest ≤ number)) }
-    ensures below { IfOk result (λ found. IfSome found (λ number. number ≤ highest)) }
-    ensures none { result ≡ Ok None → (number : ℕ) → lowest ≤ number → number ≤ highest → ¬ (word.now ≡ decimal
-        number) }
+    ensures is { IfOk result (λ found. IfSome found (λ number. IsNumber lowest highest word.now number)) }
+    ensures none { result ≡ Ok None → (number : ℕ) → ¬ IsNumber lowest highest word.now number }
 {
     let Some(number) = decimal_of(alloc, word)? else {
         return Ok(None);
@@ -39,4 +43,31 @@ pub fn number_of(
         return Ok(None);
     }
     Ok(Some(number))
+}
+
+/// The limit of turns that a value names, or the one without a value; None exactly where it names none.
+pub fn turns_of(alloc: Global, value: Option<&str>) -> Result<Option<u32>, NoMemory>
+    ensures is { IfOk result (λ found. IfSome found (λ turns. IsTurnLimit (option_map (λ word. word.now)
+        value.entry) turns)) }
+    ensures few { IfOk result (λ found. IfSome found (λ turns. turns ≤ highest_turns)) }
+    ensures none { result ≡ Ok None → (turns : ℕ) → ¬ IsTurnLimit (option_map (λ word. word.now) value.entry) turns }
+{
+    match value {
+        Some(word) => number_of(alloc, word, 1, HIGHEST_TURNS),
+        None => Ok(Some(DEFAULT_TURNS)),
+    }
+}
+
+/// The choice of 1 or 2 that a value names, 1 without a value; None exactly where it names none.
+pub fn choice_of(alloc: Global, value: Option<&str>) -> Result<Option<u32>, NoMemory>
+    ensures is { IfOk result (λ found. IfSome found (λ choice. IsChoice (option_map (λ word. word.now)
+        value.entry) choice)) }
+    ensures one { IfOk result (λ found. IfSome found (λ choice. 1 ≤ choice)) }
+    ensures two { IfOk result (λ found. IfSome found (λ choice. choice ≤ 2)) }
+    ensures none { result ≡ Ok None → (choice : ℕ) → ¬ IsChoice (option_map (λ word. word.now) value.entry) choice }
+{
+    match value {
+        Some(word) => number_of(alloc, word, 1, 2),
+        None => Ok(Some(1)),
+    }
 }

@@ -6,10 +6,10 @@ use Rattle.command_words.proofs.numbers.number_of.Goals as goal
 use Rattle.command_words.proofs.numbers.number_of.Goals.{then-number-lowest-via-then-number-lowest, then-number-lowest-via-else-number-lowest+then-number-highest}
 
 pub returns-then-number-lowest-clause-none : goal.returns-then-number-lowest-clause-none
-returns-then-number-lowest-clause-none c = λ is. λ number. λ above. λ below. λ written.
+returns-then-number-lowest-clause-none c = λ none. λ number. λ is.
     let found : c.args.word.now ≡ decimal c.in-Some.number = grind (arith, common_steps, c.in-Some.is, c.in_ok-number.is, c.in_ok-number.was, c.decimal_of.ensures.written, c.in_ok-number.ensures.written) in
-    let same : number ≡ c.in-Some.number = decimal_injective number c.in-Some.number (omega (arith, below, c.ranges.highest.fits)) (omega arith) (sym written ∙ found) in
+    let same : number ≡ c.in-Some.number = decimal_injective number c.in-Some.number (omega (arith, is.below, c.ranges.highest.fits)) (omega arith) (sym is.written ∙ found) in
     elim c.then-number-lowest.branch [
-      | then-number-lowest-via-then-number-lowest w ↦ omega (arith, w.if-number-lowest, same, above)
-      | then-number-lowest-via-else-number-lowest+then-number-highest w ↦ omega (arith, w.if-number-highest, same, below)
+      | then-number-lowest-via-then-number-lowest w ↦ omega (arith, w.if-number-lowest, same, is.above)
+      | then-number-lowest-via-else-number-lowest+then-number-highest w ↦ omega (arith, w.if-number-highest, same, is.below)
     ]

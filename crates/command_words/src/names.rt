@@ -1,0 +1,61 @@
+ghost use Rattle.std.specs.Prelude.{◌≡◌};
+ghost use Rattle.command_words.specs.CommandLines.{named_by};
+
+/// The name of a command.
+#[derive(Clone, Copy, Debug, PartialEq, Eq)]
+pub enum CommandName {
+    /// `check`
+    Check,
+    /// `measure`
+    Measure,
+    /// `graph`
+    Graph,
+    /// `report`
+    Report,
+    /// `asm`
+    Assemble,
+    /// `list`
+    List,
+    /// `verify`
+    Verify,
+    /// `migrate`
+    Migrate,
+    /// `trial`
+    Trial,
+}
+
+impl CommandName {
+    /// The command that a word is the name of; None exactly where there is none.
+    pub fn named_by(word: &str) -> Option<CommandName>
+        ensures { result ≡ named_by word.now }
+    {
+        if word == "check" {
+            return Some(CommandName::Check);
+        }
+        if word == "measure" {
+            return Some(CommandName::Measure);
+        }
+        if word == "graph" {
+            return Some(CommandName::Graph);
+        }
+        if word == "report" {
+            return Some(CommandName::Report);
+        }
+        if word == "asm" {
+            return Some(CommandName::Assemble);
+        }
+        if word == "list" {
+            return Some(CommandName::List);
+        }
+        if word == "verify" {
+            return Some(CommandName::Verify);
+        }
+        if word == "migrate" {
+            return Some(CommandName::Migrate);
+        }
+        if word == "trial" {
+            return Some(CommandName::Trial);
+        }
+        None
+    }
+}
