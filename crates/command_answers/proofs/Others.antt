@@ -1,11 +1,11 @@
 -- The files behind the cut.
-use Rattle.std.proofs.Common.{◌≡◌, ◌≤◌, ◌-◌, ℕ, List, [], ◌∷◌, ◌++◌, true, false, length, take, drop, Option, Some, None, is_some, sym, subst, arith}
+use Rattle.std.proofs.Common.{◌≡◌, ◌≤◌, ◌-◌, ℕ, List, [], ◌∷◌, ◌++◌, true, false, length, take, drop, Option, Some, None, is_some, option_map, refl, sym, subst, arith}
 use Rattle.std.proofs.Math.Seq.{take-length}
 use Rattle.std.proofs.lemmas.Grind.{common_steps}
 use Rattle.std.proofs.lemmas.List.Elements.{All-cons, All-nil}
-use Rattle.command_answers.specs.Checks.{region_wants, secret_wants}
-use Rattle.command_answers.specs.CheckFiles.{AreShort}
-use Rattle.command_answers.specs.Loading.{AreWithin}
+use Rattle.command_answers.specs.Guests.{region_wants, secret_wants}
+use Rattle.command_answers.specs.ReadTasks.{AreShort}
+use Rattle.command_answers.specs.Loading.{AreWithin, Want}
 
 pub short-secrets : (names files : List (List ℕ)) → AreWithin (secret_wants names) files → AreShort files
 short-secrets [] [] within = All-nil (λ secret. length secret ≤ 65536)
@@ -26,3 +26,17 @@ short-behind (Some name) names [] e within = absurd within
 short-behind (Some name) names (first ∷ rest) e within =
     let same : take (length (first ∷ rest) - 1) rest ≡ rest = grind (arith, common_steps, take-length rest) in
     subst (λ files. AreShort files) (sym same) (short-secrets names rest within.1)
+
+-- ---- the files of a guest
+
+pub within-behind : (a b : Want) (rest : List Want) (files : List (List ℕ)) → AreWithin (a ∷ b ∷ rest) files →
+    AreWithin rest (take (length files - 2) (drop 2 files))
+within-behind a b rest [] within = absurd within
+within-behind a b rest (x ∷ []) within = absurd within.1
+within-behind a b rest (x ∷ (y ∷ files)) within =
+    let same : take (length (x ∷ (y ∷ files)) - 2) files ≡ files = grind (arith, common_steps, take-length files) in
+    subst (λ others. AreWithin rest others) (sym same) within.1.1
+
+pub is_some-mapped : {A B : Type 0} (f : A → B) (x : Option A) → is_some (option_map f x) ≡ is_some x
+is_some-mapped f None = refl
+is_some-mapped f (Some a) = refl

@@ -4,20 +4,19 @@ use Rattle.std.specs.Prelude.{if◌then◌else◌}
 use Rattle.std.specs.List.{AllByRecursion}
 use Rattle.flow_base.specs.declared.outputs.Output.{Output}
 use Rattle.flow_base.specs.Loads.{Told}
-use Rattle.elf32_loader.specs.Pictures.{Picture}
-use Rattle.elf32_loader.specs.Programs.{IsImage}
 use Rattle.crossing_bits.specs.Askers.{AllDifferent}
 use Rattle.lockstep_replay.specs.declared.verdicts.Why.{Why}
 use Rattle.cut_file.specs.Cuts.{CutPicture}
 use Rattle.cut_file.specs.Texts.{CutText}
-use Rattle.lockstep_replay.specs.Tasks.{Task, Limits, task_of, real_of, Cross}
+use Rattle.lockstep_replay.specs.Tasks.{Task, Limits, real_of, Cross}
 use Rattle.lockstep_replay.specs.Acceptance.{Accept, Done, HasExited, IsOutput}
 use Rattle.lockstep_replay.specs.Verdicts.{Judgement, Accepts, Rejects, First}
 use Rattle.lockstep_replay.specs.VerdictLaws.{Cause}
-use Rattle.command_words.specs.CommandLines.{Check, Checks, IsCommand}
+use Rattle.command_words.specs.CommandLines.{Check, GuestNames}
+use Rattle.command_answers.specs.Checks.{judged_by}
+use Rattle.command_answers.specs.Guests.{Guest, GuestFiles, IsGuest}
+use Rattle.command_answers.specs.Replies.{Reply}
 use Rattle.command_answers.specs.Texts.{check_text, accepted_count}
-use Rattle.command_answers.specs.Checks.{AreRegions, limits_of}
-use Rattle.enclosure_regions.specs.declared.region_parts.Region.{Region}
 
 -- the source holds these files under these names; where it tells nothing, they are as many
 abbrev pub AreHeld : Option Told → List (List ℕ) → List (List ℕ) → Type 0
@@ -52,6 +51,10 @@ pub record IsRejected (task : Task) (limits : Limits) (secret : List ℕ) (why :
   pub cause : Cause task limits secret why
   pub first : First task limits secret ≡ Rejects why
 
+-- the limits that a check names
+abbrev pub limits_of : Check → Limits
+limits_of check = record { budget = check.budget; turns = check.turns }
+
 -- what the judgement of a secret says
 abbrev pub Says : Task → Limits → List ℕ → Judgement → Type 0
 Says task limits secret (Accepts bits output) = IsAccepted task limits secret bits output
@@ -84,28 +87,27 @@ AreFew judgements budget =
     (outputs : List Output) → AllDifferent outputs → AllByRecursion (IsAmong judgements) outputs
     → length outputs ≤ 2 ^ budget
 
--- The headline of a check, by what the file source tells, the words, the status and the text that is printed.
-pub record Headline (source : Option Told) (words : List (List ℕ)) (status : ℕ) (text : List ℕ) : Type 0 where
-  pub check : Check
-  pub is_check : IsCommand words (Checks check)
-  pub program_file : List ℕ
-  pub public_input : List ℕ
+-- ---- the headline of a check
+
+-- the files of a guest are held, with some more and secrets
+abbrev pub AreGuestHeld : Option Told → GuestNames → List (List ℕ) → GuestFiles → List (List ℕ) → Type 0
+AreGuestHeld source names others files held =
+    AreHeld source (names.program ∷ names.public_input ∷ others) (files.program ∷ files.public_input ∷ held)
+    × IsHeld source names.region_file files.region_file
+
+-- The headline of a check, by what the file source tells, the names and limits that the words name, and the reply.
+pub record Headline (source : Option Told) (check : Check) (reply : Reply) : Type 0 where
+  pub guest_files : GuestFiles
   pub cut_file : List ℕ
   pub secrets : List (List ℕ)
-  pub held :
-      AreHeld source (check.program ∷ check.public_input ∷ check.cut ∷ check.secrets)
-      (program_file ∷ public_input ∷ cut_file ∷ secrets)
-  pub region_file : Option (List ℕ)
-  pub regions_held : IsHeld source check.region_file region_file
-  pub picture : Picture
-  pub is_image : IsImage program_file picture
-  pub regions : List Region
-  pub are_regions : AreRegions region_file regions
+  pub held : AreGuestHeld source check.guest (check.cut ∷ check.secrets) guest_files (cut_file ∷ secrets)
+  pub guest : Guest
+  pub is_guest : IsGuest guest_files guest
   pub cut : CutPicture
   pub is_cut : CutText cut_file cut
   pub judgements : List Judgement
-  pub lines : text ≡ check_text judgements check.limits.budget
-  pub say : AllSay (task_of picture public_input regions cut) (limits_of check.limits) secrets judgements
-  pub bound : AreFewOfAll (task_of picture public_input regions cut) (limits_of check.limits)
-  pub lines_bound : AreFew judgements check.limits.budget
-  pub status_is : status ≡ (if accepted_count judgements == length judgements then 0 else 1)
+  pub lines : reply.text ≡ check_text judgements check.budget
+  pub say : AllSay (judged_by guest cut) (limits_of check) secrets judgements
+  pub bound : AreFewOfAll (judged_by guest cut) (limits_of check)
+  pub lines_bound : AreFew judgements check.budget
+  pub status_is : reply.status ≡ (if accepted_count judgements == length judgements then 0 else 1)

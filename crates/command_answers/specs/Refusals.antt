@@ -1,20 +1,25 @@
 -- The statuses and the texts of refusals. Want of memory is never told.
-use Rattle.std.specs.Prelude.{◌≡◌, ◌≢◌, ℕ, List, ◌++◌, codes}
+use Rattle.std.specs.Prelude.{◌≡◌, ◌≢◌, ℕ, List, ◌++◌, codes, Option, None, Some, Err}
 use Rattle.std.specs.Fmt.{decimal}
 use Rattle.elf32_loader.specs.declared.fault.ElfFault.{ElfFault}
 use Rattle.elf32_loader.specs.declared.fault.ElfFault.TheVariants.{Memory as NoRoomForProgram}
 use Rattle.elf32_loader.specs.FaultTexts.{program_fault_text}
+use Rattle.elf32_loader.specs.FirstFault.{IsFirstFault}
 use Rattle.cut_file.specs.declared.faults.CutFault.{CutFault}
 use Rattle.cut_file.specs.declared.faults.CutFault.TheVariants.{Memory as NoRoomForCut}
 use Rattle.cut_file.specs.FaultTexts.{cut_fault_text}
+use Rattle.cut_file.specs.Faults.{FirstCutFault}
 use Rattle.enclosure_regions.specs.declared.region_faults.RegionFault.{RegionFault}
 use Rattle.enclosure_regions.specs.declared.region_faults.RegionFault.TheVariants.{Memory as NoRoomForRegions}
+use Rattle.enclosure_regions.specs.Reading.{FirstRegionFault}
 use Rattle.enclosure_regions.specs.Texts.{fault_text as region_fault_text}
 use Rattle.rv32im_asm.specs.declared.fault.AsmFault.{AsmFault}
 use Rattle.rv32im_asm.specs.declared.fault.AsmFault.TheVariants.{Memory as NoRoomForSource}
+use Rattle.rv32im_asm.specs.Assembling.{assembled}
 use Rattle.rv32im_asm.specs.FaultTexts.{source_fault_text}
 use Rattle.flow_certificate.specs.declared.faults.FormFault.{FormFault}
 use Rattle.flow_certificate.specs.declared.faults.FormFault.TheVariants.{Memory as NoRoomForCertificate}
+use Rattle.flow_certificate.specs.Certificates.{IsFormFault}
 use Rattle.flow_certificate.specs.VerdictTexts.{form_fault_text}
 use Rattle.run_labels.specs.declared.faults.MeasureFault.{MeasureFault}
 use Rattle.run_labels.specs.declared.faults.MeasureFault.TheVariants.{Memory as NoRoomForRun}
@@ -71,3 +76,28 @@ RefusesCertificate fault refusal =
 
 abbrev pub RefusesRun : MeasureFault → Refusal → Type 0
 RefusesRun fault refusal = (fault ≡ NoRoomForRun → refusal ≡ Memory) × (fault ≢ NoRoomForRun → refusal ≡ Run fault)
+
+-- ---- what is wrong with what is read
+
+-- the refusal by this fault, which is the first
+abbrev pub IsRefusedBy : {F : Type 0} → (F → Type 0) → (F → Refusal) → Refusal → Type 0
+IsRefusedBy {F = F} IsFirst refused refusal = (fault : F) × IsFirst fault × (refusal ≡ refused fault)
+
+abbrev pub IsProgramRefusal : List ℕ → Refusal → Type 0
+IsProgramRefusal file refusal = IsRefusedBy (λ fault. IsFirstFault file fault) Program refusal
+
+abbrev pub IsCutRefusal : List ℕ → Refusal → Type 0
+IsCutRefusal file refusal = IsRefusedBy (λ fault. FirstCutFault file fault × (fault ≢ NoRoomForCut)) Cut refusal
+
+abbrev pub IsSourceRefusal : List ℕ → Refusal → Type 0
+IsSourceRefusal file refusal = IsRefusedBy (λ fault. assembled file ≡ Err fault) Source refusal
+
+abbrev pub IsCertificateRefusal : List ℕ → Refusal → Type 0
+IsCertificateRefusal file refusal =
+    IsRefusedBy (λ fault. IsFormFault file fault × (fault ≢ NoRoomForCertificate)) Certificate refusal
+
+-- of the region file, where one is named
+abbrev pub IsRegionsRefusal : Option (List ℕ) → Refusal → Type 0
+IsRegionsRefusal None refusal = ⊥
+IsRegionsRefusal (Some file) refusal =
+    IsRefusedBy (λ fault. FirstRegionFault file fault × (fault ≢ NoRoomForRegions)) Regions refusal

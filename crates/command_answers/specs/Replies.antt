@@ -1,61 +1,26 @@
--- The reply to a command line, command by command: words first, then loads, forms, and the run.
-use Rattle.std.specs.Prelude.{◌≡◌, ◌⊎◌, ℕ, List, [], Option, Result, Ok, Err}
+-- The reply to a command line: words first, then loads, forms, and the run.
+use Rattle.std.specs.Prelude.{◌≡◌, ◌⊎◌, ℕ, List, Option, Ok, Err}
 use Rattle.flow_base.specs.Loads.{Told}
-use Rattle.command_words.specs.CommandLines.{Command, Checks, Measures, Graphs, Reports, Assembles, Lists, Verifies}
-use Rattle.command_words.specs.CommandLines.{Migrates, Tries, IsCommand, IsNoCommand}
+use Rattle.command_words.specs.CommandLines.{Command, IsCommand, IsNoCommand}
 use Rattle.command_answers.specs.declared.refusals.Refusal.{Refusal}
 use Rattle.command_answers.specs.declared.refusals.Refusal.TheVariants.{Usage}
-use Rattle.command_answers.specs.Answers.{Answer, told}
-use Rattle.command_answers.specs.Assemblies.{AnswersSource, source_wants}
-use Rattle.command_answers.specs.Checks.{AnswersCheck, check_wants}
-use Rattle.command_answers.specs.Listings.{AnswersListing, listing_wants}
-use Rattle.command_answers.specs.Loading.{Want, Leaves, LeavesPart, Loads}
-use Rattle.command_answers.specs.Measurements.{AnswersRun, TellsCut, TellsGraph, TellsReport, run_wants}
-use Rattle.command_answers.specs.Migrations.{AnswersMigration, migration_wants}
+use Rattle.command_answers.specs.Answers.{Answer, Reads, told}
+use Rattle.command_answers.specs.Loading.{Leaves, LeavesPart, Loads}
 use Rattle.command_answers.specs.Statuses.{number_of}
-use Rattle.command_answers.specs.Trials.{AnswersTrial}
-use Rattle.command_answers.specs.Verifications.{AnswersVerification, verification_wants}
+use Rattle.command_answers.specs.Tasks.{AnswersFiles, wants_of}
 
--- the files that a command wants, in the order of its loads
-abbrev pub wants_of : Command → List Want
-wants_of (Checks check) = check_wants check
-wants_of (Measures version run) = run_wants run
-wants_of (Graphs run) = run_wants run
-wants_of (Reports json run) = run_wants run
-wants_of (Assembles source) = source_wants source
-wants_of (Lists program) = listing_wants program
-wants_of (Verifies certificate) = verification_wants certificate
-wants_of (Migrates cut) = migration_wants cut
-wants_of (Tries number) = []
-
--- the answer of a command to the files that it wants
-abbrev pub AnswersFiles : Command → List (List ℕ) → Answer → Type 0
-AnswersFiles (Checks check) files answer = AnswersCheck check files answer
-AnswersFiles (Measures version run) files answer = AnswersRun (TellsCut version) run files answer
-AnswersFiles (Graphs run) files answer = AnswersRun TellsGraph run files answer
-AnswersFiles (Reports json run) files answer = AnswersRun (TellsReport json) run files answer
-AnswersFiles (Assembles source) files answer = AnswersSource files answer
-AnswersFiles (Lists program) files answer = AnswersListing files answer
-AnswersFiles (Verifies certificate) files answer = AnswersVerification files answer
-AnswersFiles (Migrates cut) files answer = AnswersMigration files answer
-AnswersFiles (Tries number) files answer = AnswersTrial number answer
-
--- the answer of a command once its files are loaded, or a load is refused
-abbrev pub AnswersLoads : Command → Result (List (List ℕ)) Refusal → Answer → Type 0
-AnswersLoads command (Ok files) answer = AnswersFiles command files answer
-AnswersLoads command (Err refusal) answer = answer ≡ Err refusal
-
--- the answer of a command to what its loads give
+-- the answer of a command to what its loads give: a load is refused, or these are its files
 abbrev pub AnswersCommand : Option Told → Command → Answer → Type 0
 AnswersCommand source command answer =
-    (loaded : Result (List (List ℕ)) Refusal) × Loads source (wants_of command) loaded
-    × AnswersLoads command loaded answer
+    Reads (λ files. Loads source (wants_of command) (Ok files))
+    (λ refusal. Loads source (wants_of command) (Err refusal)) (AnswersFiles command) answer
 
--- the answer to words
+abbrev pub IsUsage : List (List ℕ) → Refusal → Type 0
+IsUsage words refusal = IsNoCommand words × (refusal ≡ Usage)
+
+-- the answer to words: they are no command line, or this one
 abbrev pub AnswersWords : Option Told → List (List ℕ) → Answer → Type 0
-AnswersWords source words answer =
-    (IsNoCommand words × (answer ≡ Err Usage))
-    ⊎ ((command : Command) × IsCommand words command × AnswersCommand source command answer)
+AnswersWords source words answer = Reads (IsCommand words) (IsUsage words) (AnswersCommand source) answer
 
 -- a status and a whole text
 pub record Reply : Type 0 where

@@ -29,3 +29,8 @@ AnswersOne (Some told) w result =
 -- a load that fails raised the count of faults
 abbrev pub HasCause : {A : Type 0} → Result A Refusal → ℕ → ℕ → Type 0
 HasCause result before now = (name : List ℕ) → result ≡ Err (Load name) → Rose before now
+
+-- and only such a load raised it
+abbrev pub KeepsCount : {A : Type 0} → Result A Refusal → ℕ → ℕ → Type 0
+KeepsCount result before now =
+    result ≢ Err Memory → ((name : List ℕ) → result ≢ Err (Load name)) → now ≡ before

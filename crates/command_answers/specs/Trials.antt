@@ -2,21 +2,36 @@
 use Rattle.std.specs.Prelude.{◌≡◌, ℕ, List, [], ◌++◌, codes, length}
 use Rattle.std.specs.Fmt.{decimal}
 use Rattle.cut_file.specs.Pictures.{picture_of as cut_of}
-use Rattle.lockstep_replay.specs.Tasks.{Cross, task_of}
+use Rattle.lockstep_replay.specs.Tasks.{Cross}
 use Rattle.measuring.specs.declared.measured.Measured.{Measured}
 use Rattle.trial_guests.specs.Programs.{picture_of_number}
 use Rattle.trial_guests.specs.Secrets.{secret_of}
-use Rattle.command_answers.specs.Answers.{Answer}
-use Rattle.command_answers.specs.Measurements.{Runs, done_by}
+use Rattle.command_answers.specs.Answers.{Answer, done_by}
+use Rattle.command_answers.specs.Checks.{judged_by}
+use Rattle.command_answers.specs.Guests.{Guest}
+use Rattle.command_answers.specs.Runs.{RunTask}
 
 -- the number of turns within which the guest exits
 abbrev pub trial_turns : ℕ
 trial_turns = 1000000
 
+-- the guest of the number, without public input and regions
+abbrev pub guest_of_number : ℕ → Guest
+guest_of_number number = record { program = picture_of_number number; public_input = []; regions = [] }
+
+-- its run on the secret of the number, by the mask rules of table 1
+abbrev pub run_of_number : ℕ → RunTask
+run_of_number number = record {
+  guest = guest_of_number number;
+  secret = secret_of number;
+  turns = trial_turns;
+  table = 1;
+}
+
 -- how many bits cross the cut of the measured run
 abbrev pub crossing_count : ℕ → Measured → ℕ
 crossing_count number measured =
-    length (Cross (task_of (picture_of_number number) [] [] (cut_of measured.cut)) (secret_of number) trial_turns)
+    length (Cross (judged_by (guest_of_number number) (cut_of measured.cut)) (secret_of number) trial_turns)
 
 -- the length of the secret, the maximum flow and the number of points of the graph
 abbrev pub trial_head : ℕ → Measured → List ℕ
@@ -35,11 +50,6 @@ trial_tail measured crossing =
 abbrev pub trial_line : ℕ → Measured → ℕ → List ℕ
 trial_line number measured crossing = trial_head number measured ++ trial_tail measured crossing
 
+-- There is no answer for a rejection: the secret is accepted with the cut that is measured.
 abbrev pub TellsTrial : ℕ → Measured → Answer → Type 0
 TellsTrial number measured answer = answer ≡ done_by (trial_line number measured (crossing_count number measured))
-
--- Why the guest is not measured by the mask rules of table 1, or the line of the trial. There is no answer for a
--- rejection: the secret is accepted with the cut that is measured.
-abbrev pub AnswersTrial : ℕ → Answer → Type 0
-AnswersTrial number answer =
-    Runs (TellsTrial number) 1 [] (secret_of number) trial_turns (picture_of_number number) [] answer

@@ -1,25 +1,17 @@
--- The verdict on a certificate: the load of the certificate, and the answer to the certificate file that is loaded.
-use Rattle.std.specs.Prelude.{◌≡◌, ◌≢◌, ◌⊎◌, ℕ, true, List, [], ◌∷◌, ◌++◌, codes, Ok, Err}
+-- The verdict on a certificate.
+use Rattle.std.specs.Prelude.{◌≡◌, ℕ, true, List, ◌++◌, codes, Ok}
 use Rattle.flow_graph.specs.declared.graphs.Graph.{Graph}
 use Rattle.max_flow.specs.declared.answers.Solved.{Solved}
-use Rattle.flow_certificate.specs.declared.faults.FormFault.{FormFault}
-use Rattle.flow_certificate.specs.declared.faults.FormFault.TheVariants.{Memory as NoRoomForCertificate}
 use Rattle.flow_certificate.specs.declared.verdicts.CertVerdict.{CertVerdict}
 use Rattle.flow_certificate.specs.declared.verdicts.CertVerdict.TheVariants as verdicts
-use Rattle.flow_certificate.specs.Certificates.{CertText, IsFormFault}
+use Rattle.flow_certificate.specs.Certificates.{CertText}
 use Rattle.flow_certificate.specs.Pictures.{have_counts, picture_of}
 use Rattle.flow_certificate.specs.VerdictTexts.{verdict_text}
 use Rattle.flow_certificate.specs.Verdicts.{IsVerdict, IsVerified}
-use Rattle.command_answers.specs.declared.kinds.FileKind.TheVariants as kinds
-use Rattle.command_answers.specs.declared.refusals.Refusal.TheVariants.{Certificate}
 use Rattle.command_answers.specs.declared.replies.Reply.{Reply}
 use Rattle.command_answers.specs.declared.statuses.Status.{Status}
 use Rattle.command_answers.specs.declared.statuses.Status.TheVariants.{Done, Rejected}
 use Rattle.command_answers.specs.Answers.{Answer}
-use Rattle.command_answers.specs.Loading.{Want, want}
-
-abbrev pub verification_wants : List ℕ → List Want
-verification_wants certificate = want certificate kinds.Certificate ∷ []
 
 -- done where the certificate is verified
 abbrev pub verdict_status : CertVerdict → Status
@@ -41,15 +33,7 @@ pub record IsExactVerdict (graph : Graph) (solved : Solved) (verdict : CertVerdi
   pub shows : IsVerdict graph solved verdict
   pub verified : IsVerified graph solved solved.value → verdict ≡ verdicts.Verified solved.value
 
--- the first line of the file that fails, or the verdict on the certificate of which it is the text
-abbrev pub AnswersVerified : List ℕ → Answer → Type 0
-AnswersVerified file answer =
-    ((fault : FormFault) × IsFormFault file fault × (fault ≢ NoRoomForCertificate)
-    × (answer ≡ Err (Certificate fault)))
-    ⊎ ((graph : Graph) × (solved : Solved) × (verdict : CertVerdict) × IsCertificate file graph solved
-    × IsExactVerdict graph solved verdict × (answer ≡ Ok (verdict_reply verdict)))
-
-abbrev pub AnswersVerification : List (List ℕ) → Answer → Type 0
-AnswersVerification [] answer = ⊥
-AnswersVerification (file ∷ []) answer = AnswersVerified file answer
-AnswersVerification (file ∷ (other ∷ files)) answer = ⊥
+-- the verdict on a certificate, told by one line
+abbrev pub AnswersVerdict : Graph → Solved → Answer → Type 0
+AnswersVerdict graph solved answer =
+    (verdict : CertVerdict) × IsExactVerdict graph solved verdict × (answer ≡ Ok (verdict_reply verdict))

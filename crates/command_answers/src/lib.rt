@@ -1,28 +1,28 @@
-//! The answer to a command line: its files are loaded, what it asks for is made of them, and one text is put, with a
-//! status.
+//! The answer to a command line: its files are loaded, what it asks for is read of them and made, and one text is put,
+//! with a status.
 #![tactic(auto)]
 
-mod asm;
+mod answering;
 mod books;
-mod check;
-mod commands;
-mod graph;
+mod guests;
 mod judging;
 mod kinds;
-mod list;
+// mod laws;
+mod layouts;
 mod loads;
-mod measure;
-mod migrate;
+mod measured_runs;
 mod names;
+mod reading;
 mod refusals;
-mod region_files;
 mod replies;
-mod report;
-mod runs;
 mod statuses;
+mod tasks;
+mod telling;
 mod texts;
 mod top;
-mod trial;
-mod verify;
+mod trials;
+mod verdicts;
+mod wants;
+
 
 pub use top::flowcheck;

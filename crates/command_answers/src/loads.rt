@@ -5,7 +5,7 @@ ghost use Rattle.flow_base.specs.Loads.{after_load};
 ghost use Rattle.command_answers.specs.FileLimits.{limit_of};
 ghost use Rattle.command_answers.specs.Loading.{Leaves, LeavesPart, Loads, IsLoadRefusal, load_refusal};
 ghost use Rattle.command_answers.specs.Wants.{want_of};
-ghost use Rattle.command_answers.specs.SingleLoads.{AnswersOne, HasCause, Refuses};
+ghost use Rattle.command_answers.specs.SingleLoads.{AnswersOne, HasCause, KeepsCount, Refuses};
 ghost use Rattle.command_answers.specs.declared.refusals.Refusal.TheVariants.{Load, Memory};
 
 use crate::kinds::FileKind;
@@ -45,6 +45,7 @@ fn load<F: Files>(alloc: Global, files: &mut F, want: Want) -> Result<Bytes, Ref
     ensures answers { AnswersOne (F.told files.old) (want_of want.entry) result }
     ensures counts { F.told files.new ≡ option_map after_load (F.told files.old) }
     ensures cause { HasCause result (F.faults files.old) (F.faults files.new) }
+    ensures kept { KeepsCount result (F.faults files.old) (F.faults files.new) }
     ensures faults { F.faults files.old ≤ F.faults files.new }
     ensures limit { IfOk result (λ file. length file ≤ limit_of want.entry.kind) }
     ensures refused { IfErr result (λ refusal. refusal ≢ Memory → IsLoadRefusal (want_of want.entry ∷ []) refusal) }
@@ -65,6 +66,7 @@ pub fn load_all<F: Files>(
     ensures leaves { result ≢ Err Memory → Leaves (F.told files.old) (map want_of wants.now) (F.told files.new) }
     ensures part { LeavesPart (F.told files.old) (map want_of wants.now) (F.told files.new) }
     ensures cause { HasCause result (F.faults files.old) (F.faults files.new) }
+    ensures kept { KeepsCount result (F.faults files.old) (F.faults files.new) }
     ensures faults { F.faults files.old ≤ F.faults files.new }
 {
     let mut loaded = List::new(alloc);

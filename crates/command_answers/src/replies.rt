@@ -1,5 +1,6 @@
 ghost use Rattle.std.specs.Prelude.{◌≡◌, ◌≢◌, IfOk, Err};
 ghost use Rattle.command_answers.specs.Answers.{told};
+ghost use Rattle.command_answers.specs.declared.statuses.Status.TheVariants.{Done};
 ghost use Rattle.command_answers.specs.declared.refusals.Refusal.TheVariants.{Memory};
 
 use crate::refusals::Refusal;
@@ -14,6 +15,18 @@ pub struct Reply {
     pub status: Status,
     /// The whole text.
     pub text: Bytes,
+}
+
+impl Reply {
+    /// A command that is done, with this text.
+    pub fn done(text: Bytes) -> Reply
+        ensures { result ≡ record { status = Done; text = text } }
+    {
+        Reply {
+            status: Status::Done,
+            text,
+        }
+    }
 }
 
 /// The reply that an answer is told by: a refusal by its line. For want of memory there is none.

@@ -58,7 +58,7 @@ loop-want-preserved g c =
           gave-more (g.F.Files.told c.args.files.now) _ l.loaded (g.F.Files.told l.files) _ c.in_ok-file.file l.invariant.gave
           c.in_ok-file.ensures.answers;
       within = within-more _ l.loaded _ c.in_ok-file.file l.invariant.within c.in_ok-file.ensures.limit;
-      faults = omega (arith, l.invariant.faults, c.load.ensures.faults);
+      faults = c.load.ensures.kept (λ e. cc) (λ name. λ e. cc) ∙ l.invariant.faults;
     })
 
 pub returns-clause-loads : goal.returns-clause-loads

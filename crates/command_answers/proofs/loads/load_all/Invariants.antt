@@ -1,4 +1,4 @@
-use Rattle.std.proofs.Common.{◌≤◌, map, take}
+use Rattle.std.proofs.Common.{◌≡◌, map, take}
 use Rattle.command_answers.specs.Loading.{AreWithin}
 use Rattle.command_answers.specs.Wants.{want_of}
 use Rattle.command_answers.proofs.LoadSteps.{Gave}
@@ -9,5 +9,5 @@ invariant-loop-want g l = record {
   gave :
       Gave (g.F.Files.told l.initial.files) (map want_of (take l.want-index l.wants)) l.loaded (g.F.Files.told l.files);
   within : AreWithin (map want_of (take l.want-index l.wants)) l.loaded;
-  faults : g.F.Files.faults l.initial.files ≤ g.F.Files.faults l.files;
+  faults : g.F.Files.faults l.files ≡ g.F.Files.faults l.initial.files;
 }

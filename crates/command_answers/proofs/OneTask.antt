@@ -1,0 +1,178 @@
+-- With the words of a command, its files are of one task; and where they are, none of them is malformed.
+use Rattle.std.proofs.Common.{◌≡◌, ◌∙◌, ◌⊎◌, inl, inr, ℕ, List, [], ◌∷◌, Result, Ok, Err, refl, sym, ap, subst}
+use Rattle.elf32_loader.specs.Pictures.{Picture}
+use Rattle.flow_certificate.specs.declared.faults.FormFault.{FormFault}
+use Rattle.flow_certificate.specs.declared.faults.FormFault.TheVariants.{Line, Memory as NoRoomForCertificate}
+use Rattle.flow_certificate.specs.Certificates.{IsFormFault}
+use Rattle.flow_certificate.specs.Pictures.{picture_of as certificate_of}
+use Rattle.flow_graph.specs.declared.graphs.Graph.{Graph}
+use Rattle.max_flow.specs.declared.answers.Solved.{Solved}
+use Rattle.cut_file.specs.Cuts.{CutPicture}
+use Rattle.cut_file.specs.Texts.{CutText}
+use Rattle.cut_file.proofs.FileTexts.{one-cut}
+use Rattle.elf32_loader.specs.Programs.{IsImage}
+use Rattle.elf32_loader.proofs.Unique.{same-image}
+use Rattle.lockstep_replay.specs.Tasks.{Limits}
+use Rattle.rv32im_asm.specs.declared.fault.AsmFault.{AsmFault}
+use Rattle.rv32im_asm.specs.Assembling.{assembled}
+use Rattle.command_words.specs.CommandLines.{Check, Run, Command, Checks, Tells, Assembles, Lists, Verifies, Migrates, Tries}
+use Rattle.command_answers.specs.declared.refusals.Refusal.{Refusal}
+use Rattle.command_answers.specs.Checks.{CheckTask}
+use Rattle.command_answers.specs.Guests.{Guest, GuestFiles, IsGuest, IsGuestRefusal}
+use Rattle.command_answers.specs.Refusals.{IsCutRefusal, IsProgramRefusal}
+use Rattle.command_answers.specs.Runs.{RunTask}
+use Rattle.command_answers.specs.Tasks.{Task, JudgeSecrets, TellRun, WriteProgram, ListProgram, VerifyCertificate, MigrateCut, TryNumber, IsCheckRefusal, IsCheckTask, IsFormRefusal, IsRunFilesRefusal, IsRunTask, IsTaskOf}
+use Rattle.command_answers.specs.Verifications.{IsCertificate}
+use Rattle.command_answers.proofs.OneCertificate.{one_certificate}
+use Rattle.command_answers.proofs.OneGuest.{RegionLaws, cut_reading, guest-status, guest_reading, program_reading, same_check_files, same_run_files}
+use Rattle.command_answers.proofs.Readings.{IsReading, status_of}
+
+-- ---- a check
+
+abbrev made-check : Guest → CutPicture → List (List ℕ) → Limits → CheckTask
+made-check guest cut secrets limits = record { guest = guest; cut = cut; secrets = secrets; limits = limits }
+
+same-check : RegionLaws → (check : Check) (files : List (List ℕ)) (a b : CheckTask) → IsCheckTask check files a →
+    IsCheckTask check files b → a ≡ b
+same-check laws check files a b one other =
+    let same = same_check_files check.guest files one.guest_files other.guest_files one.cut_file other.cut_file a.secrets
+    b.secrets one.are other.are in
+    let guest : a.guest ≡ b.guest = (guest_reading laws other.guest_files).one a.guest b.guest
+    (subst (λ f. IsGuest f a.guest) same.guests one.guest) other.guest in
+    let cut : a.cut ≡ b.cut = one-cut other.cut_file a.cut b.cut (rw same.cuts at one.cut) other.cut in
+    ap (λ v. made-check v a.cut a.secrets a.limits) guest
+    ∙ (ap (λ v. made-check b.guest v a.secrets a.limits) cut
+    ∙ (ap (λ v. made-check b.guest b.cut v a.limits) same.secrets
+    ∙ ap (λ v. made-check b.guest b.cut b.secrets v) (one.limits ∙ sym other.limits)))
+
+-- what is wrong with the files of a check
+abbrev FirstRefusal : GuestFiles → List ℕ → Refusal → Type 0
+FirstRefusal guest_files cut_file refusal =
+    IsGuestRefusal guest_files refusal ⊎ ((guest : Guest) × IsGuest guest_files guest × IsCutRefusal cut_file refusal)
+
+no-first-fault : RegionLaws → (guest_files : GuestFiles) (cut_file : List ℕ) (task : CheckTask) (refusal : Refusal) →
+    IsGuest guest_files task.guest → CutText cut_file task.cut → FirstRefusal guest_files cut_file refusal → ⊥
+no-first-fault laws guest_files cut_file task refusal guest cut (inl first) =
+    (guest_reading laws guest_files).none task.guest refusal guest first
+no-first-fault laws guest_files cut_file task refusal guest cut (inr (other, also, first)) =
+    (cut_reading cut_file).none task.cut refusal cut first
+
+no-check-fault : RegionLaws → (check : Check) (files : List (List ℕ)) (task : CheckTask) (refusal : Refusal) →
+    IsCheckTask check files task → IsCheckRefusal check files refusal → ⊥
+no-check-fault laws check files task refusal is refused =
+    let same = same_check_files check.guest files refused.guest_files is.guest_files refused.cut_file is.cut_file
+    refused.secrets task.secrets refused.are is.are in
+    let first : FirstRefusal is.guest_files refused.cut_file refusal = subst (λ f. FirstRefusal f refused.cut_file
+    refusal) same.guests refused.first in
+    no-first-fault laws is.guest_files is.cut_file task refusal is.guest is.cut
+    (subst (λ c. FirstRefusal is.guest_files c refusal) same.cuts first)
+
+first-status : (guest_files : GuestFiles) (cut_file : List ℕ) (refusal : Refusal) →
+    FirstRefusal guest_files cut_file refusal → status_of (Err refusal) ≡ 3
+first-status guest_files cut_file refusal (inl first) = guest-status guest_files refusal first
+first-status guest_files cut_file refusal (inr (guest, also, (fault, first, e))) = ap (λ r. status_of (Err r)) e
+
+-- ---- a run
+
+abbrev made-run : Guest → List ℕ → ℕ → ℕ → RunTask
+made-run guest secret turns table = record { guest = guest; secret = secret; turns = turns; table = table }
+
+first-item : (a b : List ℕ) → a ∷ [] ≡ b ∷ [] → a ≡ b
+first-item a b e = cc
+
+same-run : RegionLaws → (run : Run) (files : List (List ℕ)) (a b : RunTask) → IsRunTask run files a →
+    IsRunTask run files b → a ≡ b
+same-run laws run files a b one other =
+    let same = same_run_files run.guest files one.guest_files other.guest_files (a.secret ∷ []) (b.secret ∷ []) one.are
+    other.are in
+    let guest : a.guest ≡ b.guest = (guest_reading laws other.guest_files).one a.guest b.guest
+    (subst (λ f. IsGuest f a.guest) same.guests one.guest) other.guest in
+    ap (λ v. made-run v a.secret a.turns a.table) guest
+    ∙ (ap (λ v. made-run b.guest v a.turns a.table) (first-item a.secret b.secret same.secrets)
+    ∙ (ap (λ v. made-run b.guest b.secret v a.table) (one.turns ∙ sym other.turns)
+    ∙ ap (λ v. made-run b.guest b.secret b.turns v) (one.table ∙ sym other.table)))
+
+no-run-fault : RegionLaws → (run : Run) (files : List (List ℕ)) (task : RunTask) (refusal : Refusal) →
+    IsRunTask run files task → IsRunFilesRefusal run files refusal → ⊥
+no-run-fault laws run files task refusal is refused =
+    let same = same_run_files run.guest files refused.guest_files is.guest_files (refused.secret ∷ [])
+    (task.secret ∷ []) refused.are is.are in
+    (guest_reading laws is.guest_files).none task.guest refusal is.guest
+    (subst (λ f. IsGuestRefusal f refusal) same.guests refused.first)
+
+-- ---- a certificate
+
+no-form-fault : (file : List ℕ) (graph : Graph) (solved : Solved) (fault : FormFault) →
+    IsCertificate file graph solved → IsFormFault file fault → (fault ≡ NoRoomForCertificate → ⊥) → ⊥
+no-form-fault file graph solved (Line line) is first room = first.no_text (certificate_of graph solved) is.text
+no-form-fault file graph solved NoRoomForCertificate is first room = room refl
+
+-- ---- every command
+
+one-file : (files : List (List ℕ)) (a b : List ℕ) → files ≡ a ∷ [] → files ≡ b ∷ [] → a ≡ b
+one-file files a b one other = first-item a b (sym one ∙ other)
+
+same-ok : (a b : Picture) (result : Result Picture AsmFault) → result ≡ Ok a → result ≡ Ok b → a ≡ b
+same-ok a b result e f = cc
+
+ok-err : (a : Picture) (fault : AsmFault) (result : Result Picture AsmFault) → result ≡ Ok a → result ≡ Err fault → ⊥
+ok-err a fault result e f = cc
+
+same-task : RegionLaws → (command : Command) (files : List (List ℕ)) (a b : Task) → IsTaskOf command files a →
+    IsTaskOf command files b → a ≡ b
+same-task laws (Checks check) files a b (x, one, e) (y, other, f) =
+    e ∙ (ap (λ v. JudgeSecrets v) (same-check laws check files x y one other) ∙ sym f)
+same-task laws (Tells telling run) files a b (x, one, e) (y, other, f) =
+    e ∙ (ap (λ v. TellRun telling v) (same-run laws run files x y one other) ∙ sym f)
+same-task laws (Assembles source) files a b (file, x, are, one, e) (also, y, alike, other, f) =
+    let here : assembled also ≡ Ok x = ap assembled (one-file files also file alike are) ∙ one in
+    e ∙ (ap (λ v. WriteProgram v) (same-ok x y (assembled also) here other) ∙ sym f)
+same-task laws (Lists program) files a b (file, x, are, one, e) (also, y, alike, other, f) =
+    let here : IsImage also x = subst (λ v. IsImage v x) (one-file files file also are alike) one in
+    e ∙ (ap (λ v. ListProgram v) (same-image also x y here other) ∙ sym f)
+same-task laws (Verifies certificate) files a b (file, graph, solved, are, one, e) (also, network, flows, alike, other, f) =
+    let here : IsCertificate also graph solved = subst (λ v. IsCertificate v graph solved)
+    (one-file files file also are alike) one in
+    let same = one_certificate also graph network solved flows here other in
+    e ∙ (ap (λ v. VerifyCertificate v solved) same.graphs ∙ (ap (λ v. VerifyCertificate network v) same.solutions ∙ sym f))
+same-task laws (Migrates cut) files a b (file, x, are, one, e) (also, y, alike, other, f) =
+    let here : CutText also x = subst (λ v. CutText v x) (one-file files file also are alike) one in
+    e ∙ (ap (λ v. MigrateCut v) (one-cut also x y here other) ∙ sym f)
+same-task laws (Tries number) files a b e f = e ∙ sym f
+
+no-task-fault : RegionLaws → (command : Command) (files : List (List ℕ)) (task : Task) (refusal : Refusal) →
+    IsTaskOf command files task → IsFormRefusal command files refusal → ⊥
+no-task-fault laws (Checks check) files task refusal (x, is, e) refused =
+    no-check-fault laws check files x refusal is refused
+no-task-fault laws (Tells telling run) files task refusal (x, is, e) refused =
+    no-run-fault laws run files x refusal is refused
+no-task-fault laws (Assembles source) files task refusal (file, x, are, is, e) (also, alike, (fault, first, f)) =
+    ok-err x fault (assembled also) (ap assembled (one-file files also file alike are) ∙ is) first
+no-task-fault laws (Lists program) files task refusal (file, x, are, is, e) (also, alike, first) =
+    (program_reading file).none x refusal is
+    (subst (λ v. IsProgramRefusal v refusal) (one-file files also file alike are) first)
+no-task-fault laws (Verifies certificate) files task refusal (file, graph, solved, are, is, e) (also, alike, (fault, first, f)) =
+    no-form-fault also graph solved fault
+    (subst (λ v. IsCertificate v graph solved) (one-file files file also are alike) is) first.0 first.1
+no-task-fault laws (Migrates cut) files task refusal (file, x, are, is, e) (also, alike, first) =
+    (cut_reading file).none x refusal is
+    (subst (λ v. IsCutRefusal v refusal) (one-file files also file alike are) first)
+no-task-fault laws (Tries number) files task refusal e refused = refused
+
+pub form-status : (command : Command) (files : List (List ℕ)) (refusal : Refusal) →
+    IsFormRefusal command files refusal → status_of (Err refusal) ≡ 3
+form-status (Checks check) files refusal is = first-status is.guest_files is.cut_file refusal is.first
+form-status (Tells telling run) files refusal is = guest-status is.guest_files refusal is.first
+form-status (Assembles source) files refusal (file, are, (fault, first, e)) = ap (λ r. status_of (Err r)) e
+form-status (Lists program) files refusal (file, are, (fault, first, e)) = ap (λ r. status_of (Err r)) e
+form-status (Verifies certificate) files refusal (file, are, (fault, first, e)) = ap (λ r. status_of (Err r)) e
+form-status (Migrates cut) files refusal (file, are, (fault, first, e)) = ap (λ r. status_of (Err r)) e
+form-status (Tries number) files refusal is = absurd is
+
+pub task_reading : RegionLaws → (command : Command) (files : List (List ℕ)) →
+    IsReading Task (IsTaskOf command files) (IsFormRefusal command files)
+task_reading laws command files = record {
+  one = same-task laws command files;
+  none = no-task-fault laws command files;
+  status = λ first second is also. form-status command files first is ∙ sym (form-status command files second also);
+}

@@ -1,0 +1,12 @@
+use Rattle.std.proofs.Common.{◌≡◌, Ok, Err, inl, inr, ap, arith}
+use Rattle.std.proofs.lemmas.Grind.{common_steps}
+use Rattle.command_answers.proofs.Refusing.{known_refusal}
+use Rattle.command_answers.proofs.telling.tell_run.Goals as goal
+
+pub returns : goal.returns
+returns g c = λ known.
+    inr (
+      c.in_ok-measured.measured,
+      c.in_ok-measured.ensures.ok,
+      (c.in_ok-text.text, c.in_ok-text.ensures, ap (λ r. Ok r) c.done.ensures),
+    )

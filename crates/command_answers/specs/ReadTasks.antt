@@ -1,0 +1,78 @@
+-- What is read of the files of a command line, and the limits of that.
+use Rattle.std.specs.Prelude.{◌≡◌, ◌≤◌, ℕ, List, length, All, option_map}
+use Rattle.cut_file.specs.Pictures.{picture_of as cut_of}
+use Rattle.elf32_loader.specs.Images.{picture_of}
+use Rattle.lockstep_replay.specs.Tasks.{Limits as CheckLimits}
+use Rattle.command_words.specs.declared.limits.Limits.{Limits}
+use Rattle.command_words.specs.CommandLines.{highest_turns}
+use Rattle.command_answers.specs.declared.guests.Guest.{Guest as ReadGuest}
+use Rattle.command_answers.specs.declared.guests.GuestFiles.{GuestFiles as LoadedGuest}
+use Rattle.command_answers.specs.declared.tasks.CheckTask.{CheckTask as ReadCheck}
+use Rattle.command_answers.specs.declared.tasks.RunTask.{RunTask as ReadRun}
+use Rattle.command_answers.specs.declared.tasks.Task.{Task as ReadTask}
+use Rattle.command_answers.specs.declared.tasks.Task.TheVariants as tasks
+use Rattle.command_answers.specs.Checks.{CheckTask}
+use Rattle.command_answers.specs.Guests.{Guest, GuestFiles}
+use Rattle.command_answers.specs.Runs.{RunTask}
+use Rattle.command_answers.specs.Tasks.{Task, JudgeSecrets, TellRun, WriteProgram, ListProgram, VerifyCertificate}
+use Rattle.command_answers.specs.Tasks.{MigrateCut, TryNumber}
+
+abbrev pub files_in : LoadedGuest → GuestFiles
+files_in files = record {
+  program = files.program.now;
+  public_input = files.public_input.now;
+  region_file = option_map (λ bytes. bytes.now) files.regions;
+}
+
+abbrev pub guest_in : ReadGuest → Guest
+guest_in guest = record {
+  program = picture_of guest.image;
+  public_input = guest.public_input.now;
+  regions = guest.regions.items;
+}
+
+abbrev pub limits_in : Limits → CheckLimits
+limits_in limits = record { budget = limits.budget; turns = limits.turns }
+
+abbrev pub check_in : ReadCheck → CheckTask
+check_in check = record {
+  guest = guest_in check.guest;
+  cut = cut_of check.cut;
+  secrets = check.secrets.now;
+  limits = limits_in check.limits;
+}
+
+abbrev pub run_in : ReadRun → RunTask
+run_in run = record { guest = guest_in run.guest; secret = run.secret.now; turns = run.turns; table = run.table }
+
+abbrev pub task_in : ReadTask → Task
+task_in (tasks.JudgeSecrets check) = JudgeSecrets (check_in check)
+task_in (tasks.TellRun telling run) = TellRun telling (run_in run)
+task_in (tasks.WriteProgram image) = WriteProgram (picture_of image)
+task_in (tasks.ListProgram image) = ListProgram (picture_of image)
+task_in (tasks.VerifyCertificate certificate) = VerifyCertificate certificate.graph certificate.solved
+task_in (tasks.MigrateCut cut) = MigrateCut (cut_of cut)
+task_in (tasks.TryNumber number) = TryNumber number
+
+-- ---- limits
+
+-- each secret is within its limit
+abbrev pub AreShort : List (List ℕ) → Type 0
+AreShort secrets = All (λ secret. length secret ≤ 65536) secrets
+
+-- the secret and the turns are within their limits, and the table is 1 or 2
+pub record IsBoundedRun (run : ReadRun) : Type 0 where
+  pub secret : length run.secret.now ≤ 65536
+  pub turns : run.turns ≤ highest_turns
+  pub first : 1 ≤ run.table
+  pub last : run.table ≤ 2
+
+-- what is read is within the limits of what answers it
+abbrev pub IsBounded : ReadTask → Type 0
+IsBounded (tasks.JudgeSecrets check) = AreShort check.secrets.now
+IsBounded (tasks.TellRun telling run) = IsBoundedRun run
+IsBounded (tasks.WriteProgram image) = length image.segments ≤ 64
+IsBounded (tasks.ListProgram image) = Unit {0}
+IsBounded (tasks.VerifyCertificate certificate) = Unit {0}
+IsBounded (tasks.MigrateCut cut) = Unit {0}
+IsBounded (tasks.TryNumber number) = Unit {0}

@@ -1,0 +1,78 @@
+-- What holds of all replies: where the file source tells its meanings, words have one; and which status a command has
+-- where its files are loaded and well formed.
+use Rattle.std.specs.Prelude.{◌≡◌, ◌⊎◌, ℕ, ◌≤◌, true, List, [], ◌∷◌, Option, None, Some, is_some, Ok}
+use Rattle.std.specs.List.{AllByRecursion}
+use Rattle.flow_base.specs.Loads.{Told}
+use Rattle.flow_certificate.specs.Verdicts.{IsVerified}
+use Rattle.flow_graph.specs.declared.graphs.Graph.{Graph}
+use Rattle.max_flow.specs.declared.answers.Solved.{Solved}
+use Rattle.lockstep_replay.specs.Tasks.{Task as JudgedTask, Limits}
+use Rattle.measuring.specs.Measures.{HasCause}
+use Rattle.run_labels.specs.declared.faults.MeasureFault.{MeasureFault}
+use Rattle.run_labels.specs.declared.faults.MeasureFault.TheVariants.{Memory as NoRoomForRun}
+use Rattle.command_words.specs.CommandLines.{Command, IsCommand}
+use Rattle.command_answers.specs.Checks.{judged_by}
+use Rattle.command_answers.specs.Loading.{loaded_from}
+use Rattle.command_answers.specs.MeasuredHeadline.{HasAccepted}
+use Rattle.command_answers.specs.Replies.{Reply, Replies}
+use Rattle.command_answers.specs.Runs.{RunTask, start_of}
+use Rattle.command_answers.specs.Tasks.{Task, JudgeSecrets, TellRun, WriteProgram, ListProgram, VerifyCertificate}
+use Rattle.command_answers.specs.Tasks.{MigrateCut, TryNumber, IsTaskOf, wants_of}
+use Rattle.command_answers.specs.Trials.{run_of_number}
+
+-- ---- one reply
+
+abbrev pub OneReply : Type 0
+OneReply =
+    (source : Option Told) (words : List (List ℕ)) (first second : Reply) → is_some source ≡ true
+    → Replies source words first → Replies source words second → first.status ≡ second.status
+
+-- ---- the status of a command
+
+-- The source tells its meanings, and these are the files that the command wants: no load of the call fails, and each
+-- name is held within its limit.
+abbrev pub AreLoaded : Option Told → Command → List (List ℕ) → Type 0
+AreLoaded None command files = ⊥
+AreLoaded (Some told) command files = loaded_from told (wants_of command) ≡ Ok files
+
+-- 0 exactly where every secret is accepted, and else 1
+pub record CompletesCheck (task : JudgedTask) (limits : Limits) (secrets : List (List ℕ)) (status : ℕ) : Type 0 where
+  pub known : status ≤ 1
+  pub accepted : status ≡ 0 → AllByRecursion (HasAccepted task limits) secrets
+  pub done : AllByRecursion (HasAccepted task limits) secrets → status ≡ 0
+
+-- nothing refuses the run but want of memory, of which nothing is said
+abbrev pub HasNoCause : RunTask → Type 0
+HasNoCause run =
+    (fault : MeasureFault) → HasCause run.table run.guest.regions (start_of run) run.turns fault
+    → fault ≡ NoRoomForRun
+
+-- 0 exactly where nothing refuses the run, and else 4
+pub record CompletesRun (run : RunTask) (status : ℕ) : Type 0 where
+  pub known : (status ≡ 0) ⊎ (status ≡ 4)
+  pub measured : status ≡ 0 → HasNoCause run
+  pub done : HasNoCause run → status ≡ 0
+
+-- 0 exactly where the flow is feasible, the side is a side, and value, flow and side have one number; and else 1
+pub record CompletesVerdict (graph : Graph) (solved : Solved) (status : ℕ) : Type 0 where
+  pub known : status ≤ 1
+  pub verified : status ≡ 0 → IsVerified graph solved solved.value
+  pub done : IsVerified graph solved solved.value → status ≡ 0
+
+-- a source that is assembled, a program that is listed and a cut that is migrated are done
+abbrev pub Completes : Task → ℕ → Type 0
+Completes (JudgeSecrets task) status =
+    CompletesCheck (judged_by task.guest task.cut) task.limits task.secrets status
+Completes (TellRun telling run) status = CompletesRun run status
+Completes (WriteProgram picture) status = status ≡ 0
+Completes (ListProgram picture) status = status ≡ 0
+Completes (VerifyCertificate graph solved) status = CompletesVerdict graph solved status
+Completes (MigrateCut cut) status = status ≡ 0
+Completes (TryNumber number) status = CompletesRun (run_of_number number) status
+
+-- by the files that a command wants, where they are loaded and well formed
+abbrev pub RepliesComplete : Type 0
+RepliesComplete =
+    (source : Option Told) (words files : List (List ℕ)) (command : Command) (task : Task) (reply : Reply)
+    → IsCommand words command → AreLoaded source command files → IsTaskOf command files task
+    → Replies source words reply → Completes task reply.status

@@ -1,0 +1,56 @@
+use crate::guests::Guest;
+use command_words::{Limits, Telling};
+use cut_file::Cut;
+use elf32_loader::Image;
+use flow_base::Bytes;
+use flow_certificate::Certificate;
+
+/// Secrets of a guest that are to be judged.
+#[derive(Drop)]
+pub struct CheckTask<'a> {
+    /// The guest.
+    pub guest: Guest<'a>,
+    /// The cut.
+    pub cut: Cut,
+    /// The secrets.
+    pub secrets: &'a [Bytes],
+    /// The limits of bits and of turns.
+    pub limits: Limits,
+}
+
+/// A run of a guest that is to be measured.
+#[derive(Drop)]
+pub struct RunTask<'a> {
+    /// The guest.
+    pub guest: Guest<'a>,
+    /// The secret.
+    pub secret: &'a Bytes,
+    /// The number of turns within which the run exits.
+    pub turns: u32,
+    /// The table of the mask rules by which it is measured.
+    pub table: u32,
+}
+
+/// What a command line and its files ask for.
+#[derive(Drop)]
+pub enum Task<'a> {
+    /// To judge secrets.
+    JudgeSecrets(CheckTask<'a>),
+    /// To tell of a measured run.
+    TellRun {
+        /// What is told.
+        telling: Telling,
+        /// The run.
+        run: RunTask<'a>,
+    },
+    /// To write the program file of an image.
+    WriteProgram(Image),
+    /// To list a program.
+    ListProgram(Image),
+    /// To verify a certificate.
+    VerifyCertificate(Certificate),
+    /// To write a cut in version 2.
+    MigrateCut(Cut),
+    /// To try the tool by a number.
+    TryNumber(u32),
+}
