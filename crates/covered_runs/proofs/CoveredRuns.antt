@@ -11,7 +11,7 @@ use Rattle.replay_machine.specs.Runs.{replay_fresh, Replay}
 use Rattle.lockstep_replay.specs.Acceptance.{HasExited}
 use Rattle.lockstep_replay.specs.Crossing.{cross_after}
 use Rattle.lockstep_replay.specs.Tasks.{task_of, replay_start}
-use Rattle.lockstep_replay.proofs.Bounds.{greater_limits_law}
+use Rattle.lockstep_replay.proofs.Bounds.{accepted_where, greater_limits_law}
 use Rattle.lockstep_replay.proofs.RunsGrow.{cross_grows}
 use Rattle.run_labels.specs.Runs.{run_after, unlabelled}
 use Rattle.covered_runs.specs.Laws.{CoveredLaw}
@@ -50,26 +50,22 @@ covered_law program public_input regions secret cut side answers budget turns ou
     let fewer = cross_grows both masks place (length answers) turns shorter in
     greater_limits_law task (record { budget = budget; turns = length answers })
     (record { budget = budget; turns = turns }) secret output (omega arith) shorter
-    (record {
-      has_length = same;
-      unbroken = facts.same_broken ∙ facts.unbroken;
-      exits = subst (λ (s : State). HasExited s output) (sym facts.same_state) measured.exits;
-      within = omega (arith, fewer, within);
-      follows = λ turn below exposed.
-          let at = follows_at side cut.skip regions masks setting secret other first store measured.guest.secret
-          (zero_bytes cut.secret_len) covers.skips proper_law rules nowhere measured.guest refl answers known turn below
-          exposed in record {
-            place = at.0;
-            uses = subst (λ z. feed (Replay both masks (common_turns both (suc turn) place) z)
-                (cross_after both masks (suc turn) place) ≡ Fed' at.0 []) starts at.1;
-            inside = at.2;
-            mark = at.3;
-          };
-      replay_exits = λ last.
-          exits_alike side cut.skip regions masks setting secret other first store measured.guest.secret
-          (zero_bytes cut.secret_len) covers.skips proper_law rules nowhere measured.guest refl answers output
-          last.place
-          known measured.exits
-          (subst (λ z. feed (Replay both masks (common_turns both (length answers) place) z)
-          (cross_after both masks (length answers) place) ≡ Fed' last.place []) (sym starts) last.uses);
+    (accepted_where task (record { budget = budget; turns = length answers }) secret output same
+    (facts.same_broken ∙ facts.unbroken)
+    (subst (λ (s : State). HasExited s output) (sym facts.same_state) measured.exits) (omega (arith, fewer, within))
+    (λ turn below exposed.
+    let at = follows_at side cut.skip regions masks setting secret other first store measured.guest.secret
+    (zero_bytes cut.secret_len) covers.skips proper_law rules nowhere measured.guest refl answers known turn below
+    exposed in record {
+      place = at.0;
+      uses = subst (λ z. feed (Replay both masks (common_turns both (suc turn) place) z)
+          (cross_after both masks (suc turn) place) ≡ Fed' at.0 []) starts at.1;
+      inside = at.2;
+      mark = at.3;
     })
+    (λ last.
+    exits_alike side cut.skip regions masks setting secret other first store measured.guest.secret
+    (zero_bytes cut.secret_len) covers.skips proper_law rules nowhere measured.guest refl answers output last.place
+    known measured.exits
+    (subst (λ z. feed (Replay both masks (common_turns both (length answers) place) z)
+    (cross_after both masks (length answers) place) ≡ Fed' last.place []) (sym starts) last.uses)))

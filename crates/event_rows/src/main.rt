@@ -14,7 +14,7 @@ use programs::program;
 use std::io;
 use texts::{AnswerText, EventText};
 use tracked_run::{Tracked, TrackedTurn};
-use transfer_rules::*;
+use transfer_rules::book_1;
 
 /// Prints events.
 fn print_events(rt: &HostRuntime, events: &EventList) -> io::Result<()> {
@@ -35,25 +35,7 @@ fn print_row(rt: &HostRuntime, events: &EventList, answer: TrackedTurn) -> io::R
 }
 
 fn main(rt: HostRuntime) -> io::Result<()> {
-    let book = RuleBook::new(
-        1,
-        [
-            Rule::new(Class::Add, 1, add_1),
-            Rule::new(Class::Sub, 1, sub_1),
-            Rule::new(Class::And, 1, and_1),
-            Rule::new(Class::Or, 1, or_1),
-            Rule::new(Class::Xor, 1, xor_1),
-            Rule::new(Class::Sll, 1, sll_1),
-            Rule::new(Class::Srl, 1, srl_1),
-            Rule::new(Class::Sra, 1, sra_1),
-            Rule::new(Class::Slt, 1, slt_1),
-            Rule::new(Class::Sltu, 1, sltu_1),
-            Rule::new(Class::Equal, 1, equal_1),
-            Rule::new(Class::Mul, 1, mul_1),
-            Rule::new(Class::High, 1, high_1),
-            Rule::new(Class::Div, 1, div_1),
-        ],
-    );
+    let book = book_1!();
     let mut guest = Guest::new(rt.alloc());
     for line in rt.lines(rt.alloc()) {
         let line = line?;

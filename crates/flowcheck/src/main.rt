@@ -9,7 +9,7 @@ use std::alloc::Global;
 use std::env;
 use std::io::ErrorKind;
 use std::process::ExitCode;
-use transfer_rules::*;
+use transfer_rules::{book_1, book_2};
 
 /// The words after the program's name, or the status where they cannot be had: 8 for want of memory, else 9.
 fn words_of(rt: &HostRuntime, alloc: Global) -> Result<Vec<String>, u8> {
@@ -58,46 +58,7 @@ fn main(rt: HostRuntime) -> ExitCode {
     }
     let mut files = DiskFiles::new(rt);
     let mut out = StandardOut::new(rt);
-    let books = [
-        RuleBook::new(
-            1,
-            [
-                Rule::new(Class::Add, 1, add_1),
-                Rule::new(Class::Sub, 1, sub_1),
-                Rule::new(Class::And, 1, and_1),
-                Rule::new(Class::Or, 1, or_1),
-                Rule::new(Class::Xor, 1, xor_1),
-                Rule::new(Class::Sll, 1, sll_1),
-                Rule::new(Class::Srl, 1, srl_1),
-                Rule::new(Class::Sra, 1, sra_1),
-                Rule::new(Class::Slt, 1, slt_1),
-                Rule::new(Class::Sltu, 1, sltu_1),
-                Rule::new(Class::Equal, 1, equal_1),
-                Rule::new(Class::Mul, 1, mul_1),
-                Rule::new(Class::High, 1, high_1),
-                Rule::new(Class::Div, 1, div_1),
-            ],
-        ),
-        RuleBook::new(
-            2,
-            [
-                Rule::new(Class::Add, 2, add_2),
-                Rule::new(Class::Sub, 2, sub_2),
-                Rule::new(Class::And, 2, and_1),
-                Rule::new(Class::Or, 2, or_1),
-                Rule::new(Class::Xor, 2, xor_1),
-                Rule::new(Class::Sll, 2, sll_1),
-                Rule::new(Class::Srl, 2, srl_1),
-                Rule::new(Class::Sra, 2, sra_1),
-                Rule::new(Class::Slt, 2, slt_2),
-                Rule::new(Class::Sltu, 2, sltu_2),
-                Rule::new(Class::Equal, 2, equal_2),
-                Rule::new(Class::Mul, 2, mul_2),
-                Rule::new(Class::High, 2, high_1),
-                Rule::new(Class::Div, 2, div_1),
-            ],
-        ),
-    ];
+    let books = [book_1!(), book_2!()];
     let status = flowcheck(rt.alloc(), words, &mut files, &mut out, &books);
     if status == 2 {
         complain(rt);

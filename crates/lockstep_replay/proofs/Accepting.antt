@@ -1,5 +1,5 @@
 -- A verdict that accepts: each turn up to the exit is fine, and so the secret is accepted.
-use Rattle.std.proofs.Common.{◌≡◌, ℕ, zero, suc, ◌+◌, ◌==◌, ◌≤◌, inl, inr, List, length, refl, ap, sym, subst, ◌∙◌}
+use Rattle.std.proofs.Common.{◌≡◌, ℕ, zero, suc, ◌+◌, ◌==◌, ◌≤◌, inl, inr, List, length, refl, ap, sym, ◌∙◌}
 use Rattle.std.proofs.Common.{Bool, true, false, arith}
 use Rattle.std.proofs.lemmas.Bool.Decides.{Decides-eqb}
 use Rattle.std.specs.Prelude.{if◌then◌else◌, Option, Some, None}
@@ -8,7 +8,6 @@ use Rattle.crossing_bits.proofs.Feeding.{le_or_lt}
 use Rattle.rv32im_machine.specs.declared.stepping.Stepped.{Stepped}
 use Rattle.rv32im_machine.specs.declared.stepping.Stepped.TheVariants.{Ran, Exited, Stopped}
 use Rattle.lockstep_replay.specs.declared.verdicts.Why.{Why}
-use Rattle.replay_machine.specs.Runs.{ReplayPlace}
 use Rattle.lockstep_replay.specs.Tasks.{Task, Limits, real_start, real_of, enclosed_of, common_of, Cross, replay_of}
 use Rattle.lockstep_replay.specs.Acceptance.{HasExited, Follows, Accept}
 use Rattle.lockstep_replay.specs.Verdicts.{Judgement, Accepts, Rejects, fed_of, why_after}
@@ -165,18 +164,18 @@ place_fine task limits secret j fine exposed follows =
 
 -- and where the real run exits in that turn the replay does
 exits_fine :
-    (task : Task) (limits : Limits) (secret : List ℕ) (j : ℕ) (output : Output) → FineAt task limits secret j →
-    enclosed_of task secret j ≡ false → HasExited (real_of task secret (suc j)).state output →
-    (follows : Follows task secret (suc j)) → HasExited follows.place.state output
-exits_fine task limits secret j output fine exposed exited follows =
-    let alike : Alike (real_of task secret (suc j)).state (fed_of task secret (suc j)) = fine.beside exposed in
-    subst (λ (p : ReplayPlace). HasExited p.state output) (place_fine task limits secret j fine exposed follows)
-    (record {
+    (task : Task) (limits : Limits) (secret : List ℕ) (j : ℕ) (output : Output) →
+    (fine : FineAt task limits secret j) → (exposed : enclosed_of task secret j ≡ false) →
+    HasExited (real_of task secret (suc j)).state output →
+    HasExited (follows_fine task limits secret j fine exposed).place.state output
+unfolding follows_fine
+exits_fine task limits secret j output fine exposed exited =
+    let alike : Alike (real_of task secret (suc j)).state (fed_of task secret (suc j)) = fine.beside exposed in record {
       bytes = sym alike.output ∙ exited.bytes;
       status =
           same_status (real_of task secret (suc j)).state.control.mode alike.place.state.control.mode output.status
           alike.mode exited.status;
-    })
+    }
 
 -- the limits up to a turn
 abbrev pub up_to : Limits → ℕ → Limits
@@ -199,6 +198,7 @@ accept_found task limits secret last bits output same found =
             arith,
             below,
           )))) exposed;
+      last = follows_fine task limits secret found.at fine found.exposed;
       replay_exits = exits_fine task limits secret found.at output fine found.exposed found.exited;
     }
 

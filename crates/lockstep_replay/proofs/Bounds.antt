@@ -14,8 +14,8 @@ use Rattle.region_machine.specs.Runs.{Place, real_after}
 use Rattle.replay_machine.specs.Runs.{ReplayPlace}
 use Rattle.lockstep_replay.specs.Tasks.{Task, Limits, real_start, real_of, enclosed_of, common_of, Cross}
 use Rattle.lockstep_replay.specs.Tasks.{replay_start, replay_of}
-use Rattle.lockstep_replay.specs.Acceptance.{HasExited, EndAlike, SameMark, Done, Follows, Accept, DoneLaw, PrefixesLaw}
-use Rattle.lockstep_replay.specs.Acceptance.{IsCross, CrossesLaw, IsOutput, BoundLaw, GreaterLimitsLaw}
+use Rattle.lockstep_replay.specs.Acceptance.{HasExited, EndAlike, SameMark, Done, Follows, Accept, IsCross, IsOutput}
+use Rattle.lockstep_replay.specs.AcceptanceLaws.{DoneLaw, PrefixesLaw, CrossesLaw, BoundLaw, GreaterLimitsLaw}
 use Rattle.region_machine.proofs.Stillness.{IsOver}
 use Rattle.lockstep_replay.proofs.Stillness.{real_later, cross_later, replay_later}
 use Rattle.lockstep_replay.proofs.RunsGrow.{common_grows, common_most}
@@ -38,16 +38,30 @@ follows_last task (suc turns) secret output unbroken exits follows =
 pub over_exited : (mode : Stepped) (status : ℕ) → mode ≡ Exited status → IsOver mode
 over_exited mode status e = subst (λ m. IsOver m) (sym e) tt
 
-pub accepted_last :
-    (task : Task) (limits : Limits) (secret : List ℕ) (output : Output) → Accept task limits secret output →
-    Follows task secret limits.turns
-accepted_last task limits secret output accept =
-    follows_last task limits.turns secret output accept.unbroken accept.exits accept.follows
+-- so a secret is accepted where the replay follows after each common turn, and wherever it follows after the last turn
+-- has exited with the output
+pub accepted_where :
+    (task : Task) (limits : Limits) (secret : List ℕ) (output : Output) → length secret ≡ task.secret_length →
+    (real_of task secret limits.turns).broken ≡ None → HasExited (real_of task secret limits.turns).state output →
+    length (Cross task secret limits.turns) ≤ limits.budget → ((turn : ℕ) → suc turn ≤ limits.turns →
+    enclosed_of task secret turn ≡ false → Follows task secret (suc turn)) →
+    ((last : Follows task secret limits.turns) → HasExited last.place.state output) → Accept task limits secret output
+accepted_where task limits secret output same unbroken exits within follows exited =
+    let last : Follows task secret limits.turns =
+    follows_last task limits.turns secret output unbroken exits follows in record {
+      has_length = same;
+      unbroken = unbroken;
+      exits = exits;
+      within = within;
+      follows = follows;
+      last = last;
+      replay_exits = exited last;
+    }
 
 pub done_law : DoneLaw
 done_law task limits secret output accept =
-    let last : Follows task secret limits.turns = accepted_last task limits secret output accept in
-    let exited : HasExited last.place.state output = accept.replay_exits last in record {
+    let last : Follows task secret limits.turns = accept.last in
+    let exited : HasExited last.place.state output = accept.replay_exits in record {
       place = last.place;
       uses =
           replay_later task.enclosures task.masks (replay_start task) (common_of task secret limits.turns) limits.turns
@@ -189,6 +203,7 @@ later_follows task secret turns more h over first later =
     same_follows task secret more (follows_later task secret turns more h over first) later
 
 pub greater_limits_law : GreaterLimitsLaw
+unfolding follows_later
 greater_limits_law task limits greater secret output bits h accept =
     let over : IsOver (real_of task secret limits.turns).state.control.mode =
     over_exited (real_of task secret limits.turns).state.control.mode output.status accept.exits.status in
@@ -196,7 +211,7 @@ greater_limits_law task limits greater secret output bits h accept =
     sym (real_later task.enclosures (real_start task secret) limits.turns greater.turns h over) in
     let crosses : Cross task secret limits.turns ≡ Cross task secret greater.turns =
     sym (cross_later task.enclosures task.masks (real_start task secret) limits.turns greater.turns h over) in
-    let last : Follows task secret limits.turns = accepted_last task limits secret output accept in record {
+    record {
       has_length = accept.has_length;
       unbroken = subst (λ (p : Place). p.broken ≡ None) real accept.unbroken;
       exits = subst (λ (p : Place). HasExited p.state output) real accept.exits;
@@ -205,9 +220,8 @@ greater_limits_law task limits greater secret output bits h accept =
         | inl early ↦ accept.follows j (omega (arith, early)) exposed
         | inr late ↦
             let after : limits.turns ≤ suc j = omega (arith, late) in
-            follows_later task secret limits.turns (suc j) after over last
+            follows_later task secret limits.turns (suc j) after over accept.last
       ];
-      replay_exits = λ later.
-          subst (λ (p : ReplayPlace). HasExited p.state output)
-          (later_follows task secret limits.turns greater.turns h over last later) (accept.replay_exits last);
+      last = follows_later task secret limits.turns greater.turns h over accept.last;
+      replay_exits = accept.replay_exits;
     }

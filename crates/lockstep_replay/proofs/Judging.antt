@@ -23,7 +23,7 @@ use Rattle.lockstep_replay.proofs.Stillness.{real_later, unbroken_before, cross_
 use Rattle.lockstep_replay.proofs.RunsGrow.{cross_begins, cross_grows, common_most, written, rewritten, real_run_grows}
 use Rattle.lockstep_replay.proofs.RunsGrow.{replay_more_grows, same_beginning}
 use Rattle.lockstep_replay.proofs.ExitsAreExposed.{ran_enclosed}
-use Rattle.lockstep_replay.proofs.Bounds.{over_exited, follows_later, later_follows, done_law}
+use Rattle.lockstep_replay.proofs.Bounds.{over_exited, later_follows, done_law}
 use Rattle.lockstep_replay.proofs.Conditions.{NotStopped, Alike, none_of, same_alike}
 use Rattle.lockstep_replay.proofs.Accepting.{FineAt, exit_output}
 use Rattle.lockstep_replay.proofs.Causes.{start_runs}
@@ -62,10 +62,9 @@ status_agrees task limits secret j output below accept follows status other m n 
     over_exited (real_of task secret j).state.control.mode status m in
     let exits : HasExited (real_of task secret j).state output =
     real_status task secret j limits.turns status output below m accept.exits in
-    let last : Follows task secret limits.turns = follows_later task secret j limits.turns below over follows in
     let copied : HasExited follows.place.state output =
     subst (λ (p : ReplayPlace). HasExited p.state output)
-    (sym (later_follows task secret j limits.turns below over follows last)) (accept.replay_exits last) in
+    (sym (later_follows task secret j limits.turns below over follows accept.last)) accept.replay_exits in
     let first : Exited status ≡ Exited output.status = sym m ∙ exits.status in
     let second : Exited other ≡ Exited output.status = sym n ∙ copied.status in cc
 

@@ -1,9 +1,7 @@
 -- When a secret is accepted: a statement of two separate whole runs.
-use Rattle.std.specs.Prelude.{◌≡◌, ℕ, suc, ◌<◌, ◌≤◌, ◌^◌, List, length, Bool, false, None}
-use Rattle.std.specs.List.{AllByRecursion}
+use Rattle.std.specs.Prelude.{◌≡◌, ℕ, suc, ◌<◌, ◌≤◌, List, length, Bool, false, None}
 use Rattle.flow_base.specs.declared.outputs.Output.{Output}
-use Rattle.crossing_bits.specs.Askers.{Uses, IsPrefix, AllDifferent}
-use Rattle.crossing_bits.specs.Weights.{IsPrefixFree, weight}
+use Rattle.crossing_bits.specs.Askers.{Uses}
 use Rattle.rv32im_machine.specs.declared.stepping.Stepped.{Stepped}
 use Rattle.rv32im_machine.specs.declared.stepping.Stepped.TheVariants.{Ran, Exited, Stopped}
 use Rattle.rv32im_machine.specs.State.{State}
@@ -48,29 +46,21 @@ pub record Follows (task : Task) (secret : List ℕ) (turns : ℕ) : Type 0 wher
 
 -- Accept: a secret is accepted within a budget of bits and a limit of turns, with this output
 pub record Accept (task : Task) (limits : Limits) (secret : List ℕ) (output : Output) : Type 0 where
+  -- the secret has the length that the cut names
   pub has_length : length secret ≡ task.secret_length
+  -- the real run breaks no region
   pub unbroken : (real_of task secret limits.turns).broken ≡ None
+  -- it exits within the turns, with this output
   pub exits : HasExited (real_of task secret limits.turns).state output
+  -- at most the budget's number of bits crosses
   pub within : length (Cross task secret limits.turns) ≤ limits.budget
-  -- the replay follows after each common turn
+  -- after each common turn the replay of the bits so far has used them up, is not stopped, and has the real mark
   pub follows :
       (turn : ℕ) → turn < limits.turns → enclosed_of task secret turn ≡ false → Follows task secret (suc turn)
-  -- and where it follows after the last turn, it has exited with this output
-  pub replay_exits : (last : Follows task secret limits.turns) → HasExited last.place.state output
-
--- ---- the laws of acceptance
-
--- the replay of an accepted secret's crossing bits is done with its output
-abbrev pub DoneLaw : Type 0
-DoneLaw =
-    (task : Task) (limits : Limits) (secret : List ℕ) (output : Output) → Accept task limits secret output →
-    Done task limits.turns (Cross task secret limits.turns) output
-
--- two strings on which the replay is done are equal, or neither is a prefix of the other
-abbrev pub PrefixesLaw : Type 0
-PrefixesLaw =
-    (task : Task) (turns : ℕ) (first second : List Bool) (output other : Output) → Done task turns first output →
-    Done task turns second other → IsPrefix first second → first ≡ second
+  -- so it is after the last turn
+  pub last : Follows task secret limits.turns
+  -- and there the replay has exited with this output
+  pub replay_exits : HasExited last.place.state output
 
 -- a string that is the crossing bits of some accepted secret
 abbrev pub IsCross : Task → Limits → List Bool → Type 0
@@ -81,21 +71,3 @@ IsCross task limits bits =
 -- an output of some accepted secret
 abbrev pub IsOutput : Task → Limits → Output → Type 0
 IsOutput task limits output = (secret : List ℕ) × Accept task limits secret output
-
--- different crossing strings of accepted secrets are prefix-free, and their weight is at most 2 to the budget
-abbrev pub CrossesLaw : Type 0
-CrossesLaw =
-    (task : Task) (limits : Limits) (strings : List (List Bool)) → AllByRecursion (IsCross task limits) strings →
-    AllDifferent strings → IsPrefixFree strings × (weight limits.budget strings ≤ 2 ^ limits.budget)
-
--- at most 2 to the budget different outputs arise of accepted secrets
-abbrev pub BoundLaw : Type 0
-BoundLaw =
-    (task : Task) (limits : Limits) (outputs : List Output) → AllByRecursion (IsOutput task limits) outputs →
-    AllDifferent outputs → length outputs ≤ 2 ^ limits.budget
-
--- what is accepted within limits is accepted within greater ones
-abbrev pub GreaterLimitsLaw : Type 0
-GreaterLimitsLaw =
-    (task : Task) (limits greater : Limits) (secret : List ℕ) (output : Output) → limits.budget ≤ greater.budget →
-    limits.turns ≤ greater.turns → Accept task limits secret output → Accept task greater secret output

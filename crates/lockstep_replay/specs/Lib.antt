@@ -1,6 +1,7 @@
 pub mod Crossing
 pub mod Tasks
 pub mod Acceptance
+pub mod AcceptanceLaws
 pub mod Marks
 pub mod Differences
 pub mod Verdicts

@@ -1,4 +1,4 @@
-ghost use Rattle.lockstep_replay.specs.Acceptance.{DoneLaw, PrefixesLaw, CrossesLaw, BoundLaw, GreaterLimitsLaw};
+ghost use Rattle.lockstep_replay.specs.AcceptanceLaws.{DoneLaw, PrefixesLaw, CrossesLaw, BoundLaw, GreaterLimitsLaw};
 ghost use Rattle.lockstep_replay.specs.VerdictLaws.{AcceptedLaw, AcceptsLaw, RejectedLaw, CausesLaw};
 
 /// The replay of an accepted secret's crossing bits is done with the output of its real run; two strings on which the

@@ -7,7 +7,7 @@ mod rows;
 mod widest;
 
 use std::io;
-use transfer_rules::*;
+use transfer_rules::{Class, Rule, RuleBook, book_1, book_2};
 use widest::widest;
 
 fn main(rt: HostRuntime) -> io::Result<()> {
@@ -31,44 +31,8 @@ fn main(rt: HostRuntime) -> io::Result<()> {
                 Rule::new(Class::Div, 0, widest),
             ],
         ),
-        RuleBook::new(
-            1,
-            [
-                Rule::new(Class::Add, 1, add_1),
-                Rule::new(Class::Sub, 1, sub_1),
-                Rule::new(Class::And, 1, and_1),
-                Rule::new(Class::Or, 1, or_1),
-                Rule::new(Class::Xor, 1, xor_1),
-                Rule::new(Class::Sll, 1, sll_1),
-                Rule::new(Class::Srl, 1, srl_1),
-                Rule::new(Class::Sra, 1, sra_1),
-                Rule::new(Class::Slt, 1, slt_1),
-                Rule::new(Class::Sltu, 1, sltu_1),
-                Rule::new(Class::Equal, 1, equal_1),
-                Rule::new(Class::Mul, 1, mul_1),
-                Rule::new(Class::High, 1, high_1),
-                Rule::new(Class::Div, 1, div_1),
-            ],
-        ),
-        RuleBook::new(
-            2,
-            [
-                Rule::new(Class::Add, 2, add_2),
-                Rule::new(Class::Sub, 2, sub_2),
-                Rule::new(Class::And, 2, and_1),
-                Rule::new(Class::Or, 2, or_1),
-                Rule::new(Class::Xor, 2, xor_1),
-                Rule::new(Class::Sll, 2, sll_1),
-                Rule::new(Class::Srl, 2, srl_1),
-                Rule::new(Class::Sra, 2, sra_1),
-                Rule::new(Class::Slt, 2, slt_2),
-                Rule::new(Class::Sltu, 2, sltu_2),
-                Rule::new(Class::Equal, 2, equal_2),
-                Rule::new(Class::Mul, 2, mul_2),
-                Rule::new(Class::High, 2, high_1),
-                Rule::new(Class::Div, 2, div_1),
-            ],
-        ),
+        book_1!(),
+        book_2!(),
     ];
     let mut count: u64 = 0;
     let mut agreed: u64 = 0;

@@ -1,13 +1,11 @@
 -- One call of a guard: what the passer that it wraps may play, and what breaks the region.
-use Rattle.std.proofs.Common.{◌≡◌, ℕ, List, [], Bool, true, false, Option, Some, None, Result, Ok, Err, refl, ap, ◌∙◌}
-use Rattle.std.proofs.Common.{subst, arith}
+use Rattle.std.proofs.Common.{◌≡◌, ℕ, List, Bool, Option, Some, None, Result, Ok, Err, refl, ap, ◌∙◌, subst}
 use Rattle.std.specs.Borrow.{GName}
 use Rattle.rv32im_machine.specs.declared.language.Passing.{Passing}
 use Rattle.rv32im_machine.specs.declared.language.Place.{Place}
 use Rattle.rv32im_machine.specs.declared.language.Seen.{Seen}
 use Rattle.rv32im_machine.specs.declared.language.Shape.{Shape}
 use Rattle.rv32im_machine.specs.declared.language.Source.{Source}
-use Rattle.rv32im_machine.specs.declared.stepping.Stepped.TheVariants.{Ran}
 use Rattle.rv32im_machine.specs.State.{State}
 use Rattle.rv32im_machine.specs.Language.{Walk, Looked, Passed, Moved, Saved, Restored, Ended}
 use Rattle.rv32im_machine.specs.Folds.{real_end}
@@ -16,57 +14,12 @@ use Rattle.enclosure_regions.specs.declared.region_parts.Region.{Region}
 use Rattle.enclosure_regions.specs.declared.break_kinds.Break.{Break}
 use Rattle.region_machine.specs.Breaking.{place_break, passing_break, first_break, walk_break}
 use Rattle.region_machine.specs.Guards.{Guard, Guards}
+use Rattle.region_machine.proofs.ObserverAnswers.{same-value, nothing-back}
 
 first-assoc : (first second third : Option Break) →
     first_break (first_break first second) third ≡ first_break first (first_break second third)
 first-assoc None second third = refl
 first-assoc (Some broken) second third = refl
-
--- ---- an observer answers the value that it was handed, and puts nothing back
-
-abbrev at_pc : ℕ → State
-at_pc pc = record {
-  setting = record { base = 0; start_break = 0; public_input = []; secret_length = 0; output_limit = 0 };
-  secret = [];
-  control = record {
-    pc = pc;
-    public_at = 0;
-    secret_at = 0;
-    current_break = 0;
-    output = [];
-    mode = Ran;
-    region = 0;
-  };
-  store = record { registers = []; memory = []; kept = [] };
-}
-
-same-value : {Stop Tape : Type 0} (before after : Walk → Played Stop Tape → Type 0) (tape : Tape) (passing : Passing)
-    (other : ℕ) →
-    ((go : ℕ → Walk) (out : Played Stop Tape) → after (go other) out → before (Passed passing go) out) →
-    ((state : State) → after (Ended state) (Finished state tape)) →
-    ((walk : Walk) (state : State) (tape : Tape) → before walk (Finished state tape) → state ≡ real_end walk) →
-    other ≡ passing.value
-unfolding real_end
-same-value before after tape passing other goes ends real =
-    ap (λ (s : State). s.control.pc) (real (Passed passing (λ v. Ended (at_pc v))) (at_pc other) tape
-    (goes (λ v. Ended (at_pc v)) (Finished (at_pc other) tape) (ends (at_pc other))))
-
-one-none : ◌≡◌ {A = ℕ} 1 0 → ⊥
-one-none e = omega (arith, e)
-
-nothing-back : {Stop Tape : Type 0} (before after : Walk → Played Stop Tape → Type 0) (tape : Tape) (registers : List ℕ)
-    (back : Bool) →
-    ((walk replayed : Walk) (out : Played Stop Tape) → after (restored_or back walk replayed) out →
-    before (Restored registers walk replayed) out) →
-    ((state : State) → after (Ended state) (Finished state tape)) →
-    ((walk : Walk) (state : State) (tape : Tape) → before walk (Finished state tape) → state ≡ real_end walk) →
-    back ≡ false
-unfolding real_end
-nothing-back before after tape registers false goes ends real = refl
-nothing-back before after tape registers true goes ends real =
-    absurd (one-none (ap (λ (s : State). s.control.pc)
-    (real (Restored registers (Ended (at_pc 0)) (Ended (at_pc 1))) (at_pc 1) tape
-    (goes (Ended (at_pc 0)) (Ended (at_pc 1)) (Finished (at_pc 1) tape) (ends (at_pc 1))))))
 
 -- ---- the calls
 

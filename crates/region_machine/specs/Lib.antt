@@ -7,3 +7,4 @@ pub mod Starts
 pub mod Guards
 pub mod NextTurns
 pub mod Marked
+pub mod Pairs

@@ -3,6 +3,7 @@
 #![tactic(auto)]
 
 mod book;
+mod books;
 mod classes;
 mod operands;
 mod rule;
@@ -11,6 +12,7 @@ mod table_1;
 mod table_2;
 
 pub use book::RuleBook;
+pub use books::masks_of_both;
 pub use classes::{Class, class_of, class_of_branch, class_of_operation};
 pub use operands::Operands;
 pub use rule::Rule;
