@@ -13,7 +13,7 @@ use Rattle.flow_graph.specs.Keeping.{capacity_in, count_in, is_known, is_positiv
 use Rattle.indexmap.specs.IndexMap.{IndexMap, keys, insert_entry, set_value_at}
 use Rattle.indexmap.proofs.CallerLemmas.{updates-with_value_at}
 use Rattle.location_collapse.specs.Limits.{HoldsAt, is_small}
-use Rattle.location_collapse.proofs.EqualityByOrder.{points_alike, same_tests}
+use Rattle.flow_base.proofs.PointEquality.{points_alike, same_tests}
 
 pub small_from : (k : Point) (n : ℕ) → 0 < n → n < 2 ^ 48 → is_small (k, n) ≡ true
 small_from k n some small = and_from (nat_lt 0 n) (nat_lt n (2 ^ 48)) (lt-ltb 0 n some) (lt-ltb n (2 ^ 48) small)

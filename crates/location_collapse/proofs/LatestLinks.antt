@@ -12,7 +12,8 @@ use Rattle.flow_graph.specs.EventGraphs.{is_among}
 use Rattle.flow_base.specs.PointOrders.{is_same}
 use Rattle.location_collapse.specs.Limits.{is_same_link}
 use Rattle.location_collapse.specs.LatestLinks.{IsAt, has_flow, has_output, is_latest_flow}
-use Rattle.location_collapse.proofs.EqualityByOrder.{point_eq, points_same, link_eq, links_alike, links_same}
+use Rattle.flow_base.proofs.PointEquality.{point_eq, points_same}
+use Rattle.location_collapse.proofs.EqualityByOrder.{link_eq, links_alike, links_same}
 use Rattle.location_collapse.proofs.LinkMarks.{among_alike}
 
 -- what equals a link that has occurred has occurred

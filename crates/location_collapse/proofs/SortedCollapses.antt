@@ -13,7 +13,7 @@ use Rattle.flow_graph.specs.Keeping.{Keeps, TakesLinks, capacity_in, is_known, i
 use Rattle.location_collapse.specs.Limits.{is_small}
 use Rattle.location_collapse.specs.Sorting.{HasSame}
 use Rattle.location_collapse.proofs.CapacityMaps.{found_positive}
-use Rattle.location_collapse.proofs.EqualityByOrder.{points_alike}
+use Rattle.flow_base.proofs.PointEquality.{points_alike}
 
 drop_found : {X : Type 0} (es : List X) (i : ℕ) (e : X) → slice_get es i ≡ Some e → drop i es ≡ e ∷ drop (suc i) es
 drop_found es i e found =

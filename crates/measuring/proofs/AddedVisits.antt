@@ -15,7 +15,7 @@ use Rattle.flow_base.specs.PointOrders.{is_same}
 use Rattle.covered_runs.specs.RunCuts.{visit_masks, mask_at_event}
 use Rattle.indexmap.specs.IndexMap.{IndexMap, keys, set_value_at}
 use Rattle.indexmap.proofs.CallerLemmas.{updates-with_value_at}
-use Rattle.location_collapse.proofs.EqualityByOrder.{points_alike, same_tests}
+use Rattle.flow_base.proofs.PointEquality.{points_alike, same_tests}
 use Rattle.measuring.specs.declared.point_visits.PointVisits.{PointVisits}
 use Rattle.measuring.specs.declared.point_visits.VisitRun.{VisitRun}
 use Rattle.measuring.specs.declared.kept_visits.KeptVisits.{KeptVisits}

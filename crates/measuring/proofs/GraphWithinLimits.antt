@@ -21,7 +21,7 @@ use Rattle.flow_graph.specs.Graphs.{node_cmp}
 use Rattle.location_collapse.specs.Limits.{ExceedsLimit}
 use Rattle.location_collapse.specs.Collapses.{StandsFor}
 use Rattle.location_collapse.proofs.CollapseLimits.{not_exceeding}
-use Rattle.location_collapse.proofs.EqualityByOrder.{points_alike}
+use Rattle.flow_base.proofs.PointEquality.{points_alike}
 use Rattle.max_flow.specs.Flows.{IsWithinLimits, is_small}
 use Rattle.measuring.specs.declared.recordings.Recording.{Recording}
 use Rattle.measuring.specs.Limits.{is_point_in}

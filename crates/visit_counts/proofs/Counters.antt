@@ -17,7 +17,7 @@ use Rattle.flow_base.specs.Points.{is_output_slot}
 use Rattle.flow_base.specs.PointOrders.{is_same}
 use Rattle.indexmap.specs.IndexMap.{IndexMap, keys, set_value_at}
 use Rattle.indexmap.proofs.CallerLemmas.{updates-with_value_at}
-use Rattle.location_collapse.proofs.EqualityByOrder.{point_eq, points_alike, points_same, same_tests}
+use Rattle.flow_base.proofs.PointEquality.{point_eq, points_alike, points_same, same_tests}
 use Rattle.visit_counts.specs.declared.rows.Row.{Row}
 use Rattle.visit_counts.specs.declared.visit_counts.VisitCounts.{VisitCounts}
 use Rattle.visit_counts.specs.Counts.{StandsAt, column_of, count_at, count_of, is_counted, page_of}

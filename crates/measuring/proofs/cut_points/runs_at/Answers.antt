@@ -2,7 +2,7 @@ use Rattle.std.proofs.Common.{ap, ◌∙◌, ◌++◌, replicate}
 use Rattle.std.specs.Map.{lookup}
 use Rattle.std.proofs.lemmas.Result.{IfOk-weaker}
 use Rattle.flow_base.specs.PointOrders.{is_same}
-use Rattle.location_collapse.proofs.EqualityByOrder.{points_same}
+use Rattle.flow_base.proofs.PointEquality.{points_same}
 use Rattle.measuring.specs.KeptMasks.{masks_if_any}
 use Rattle.measuring.proofs.cut_points.runs_at.Goals as goal
 

@@ -1,5 +1,5 @@
 use Rattle.std.proofs.Common.{sym, ◌∙◌}
-use Rattle.location_collapse.proofs.EqualityByOrder.{lookup_alike, same_from_eq}
+use Rattle.flow_base.proofs.PointEquality.{lookup_alike, same_from_eq}
 use Rattle.location_collapse.proofs.kept_points.KeptPoints.capacity_at.Goals as goal
 
 pub returns-then-eq-clause-capacity : goal.returns-then-eq-clause-capacity

@@ -1,7 +1,7 @@
 use Rattle.std.proofs.Common.{sym, ap, ◌∙◌}
 use Rattle.std.specs.Map.{lookup}
 use Rattle.std.proofs.lemmas.Map.Made.{lookup_key_passes}
-use Rattle.location_collapse.proofs.EqualityByOrder.{points_same, point_eq}
+use Rattle.flow_base.proofs.PointEquality.{points_same, point_eq}
 use Rattle.location_collapse.proofs.kept_points.KeptPoints.find_anywhere.Goals as goal
 
 pub returns-in-Some-clause-capacity : goal.returns-in-Some-clause-capacity

@@ -3,7 +3,7 @@ use Rattle.std.specs.List.{IsDistinct}
 use Rattle.std.specs.Map.{keys_of, lookup}
 use Rattle.std.specs.Option.{is_some}
 use Rattle.std.proofs.lemmas.Result.{on_ok_weaker, on_err_weaker, IfOk-weaker}
-use Rattle.location_collapse.proofs.EqualityByOrder.{points_same}
+use Rattle.flow_base.proofs.PointEquality.{points_same}
 use Rattle.location_collapse.proofs.CapacityMaps.{either, small_put, longer}
 use Rattle.location_collapse.proofs.kept_points.KeptPoints.start.Goals as goal
 

@@ -1,7 +1,7 @@
 use Rattle.std.proofs.Common.{subst}
 use Rattle.std.specs.List.{IsDistinct}
 use Rattle.std.specs.Map.{keys_of}
-use Rattle.location_collapse.proofs.EqualityByOrder.{points_same}
+use Rattle.flow_base.proofs.PointEquality.{points_same}
 use Rattle.location_collapse.proofs.kept_points.KeptPoints.tell_differ.Goals as goal
 
 pub returns : goal.returns

@@ -1,6 +1,6 @@
 use Rattle.std.proofs.Common.{sym, ap, ◌∙◌, cond, Some, ◌++◌, replicate}
 use Rattle.std.specs.Map.{lookup}
-use Rattle.location_collapse.proofs.EqualityByOrder.{points_same}
+use Rattle.flow_base.proofs.PointEquality.{points_same}
 use Rattle.measuring.specs.KeptMasks.{masks_if_any}
 use Rattle.measuring.proofs.AddedVisits.{adds}
 use Rattle.measuring.proofs.kept_visits.KeptVisits.start.Goals as goal

@@ -1,6 +1,6 @@
 use Rattle.std.proofs.Common.{sym, ◌∙◌}
 use Rattle.std.proofs.lemmas.Bool.{OnTrue_from}
-use Rattle.location_collapse.proofs.EqualityByOrder.{lookup_alike, same_from_eq}
+use Rattle.flow_base.proofs.PointEquality.{lookup_alike, same_from_eq}
 use Rattle.visit_counts.proofs.visit_counts.VisitCounts.stands_at.Goals as goal
 
 pub returns-in-Some : goal.returns-in-Some

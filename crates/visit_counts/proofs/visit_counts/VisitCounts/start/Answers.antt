@@ -1,6 +1,6 @@
 use Rattle.std.proofs.Common.{sym, ap, ◌∙◌, cond, Some}
 use Rattle.std.specs.Map.{lookup}
-use Rattle.location_collapse.proofs.EqualityByOrder.{points_same}
+use Rattle.flow_base.proofs.PointEquality.{points_same}
 use Rattle.visit_counts.proofs.Counters.{started}
 use Rattle.visit_counts.proofs.visit_counts.VisitCounts.start.Goals as goal
 
