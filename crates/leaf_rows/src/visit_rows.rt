@@ -2,9 +2,9 @@
 
 use crate::input::hexadecimal;
 use flow_base::{Point, Slot};
+use measuring::VisitCounts;
 use std::alloc::Global;
 use std::io;
-use visit_counts::VisitCounts;
 
 /// The visits that rows count.
 #[derive(Drop)]

@@ -1,8 +1,9 @@
 -- What is put into the map of capacities.
-use Rattle.std.proofs.Common.{◌≡◌, ℕ, zero, suc, ◌+◌, ◌≤◌, ◌<◌, ◌^◌, Bool, true, false, cond, List, [], ◌∷◌, Option, Some}
-use Rattle.std.proofs.Common.{unwrap_or, nat_lt, refl, sym, ap, ◌∙◌, arith, if◌then◌else◌}
+use Rattle.std.proofs.Common.{◌≡◌, ℕ, zero, suc, ◌+◌, ◌<◌, ◌^◌, Bool, true, false, cond, List, [], ◌∷◌, ◌++◌, Option, Some}
+use Rattle.std.proofs.Common.{unwrap_or, nat_lt, refl, ap, ◌∙◌, arith}
 use Rattle.std.proofs.lemmas.Bool.{and_parts, and_from, lt-ltb, ltb-true}
-use Rattle.std.specs.List.{list_all, IsDistinct}
+use Rattle.std.proofs.lemmas.List.Folds.{list_all-append}
+use Rattle.std.specs.List.{list_all}
 use Rattle.std.proofs.Common.{Result, Ok, Err}
 use Rattle.std.specs.Result.{OnOk, OnErr}
 use Rattle.std.specs.Map.{lookup}
@@ -10,28 +11,20 @@ use Rattle.std.specs.Option.{is_some}
 use Rattle.flow_base.specs.declared.points.Point.{Point}
 use Rattle.flow_base.specs.PointOrders.{is_same}
 use Rattle.flow_graph.specs.Keeping.{capacity_in, count_in, is_known, is_positive}
-use Rattle.indexmap.specs.IndexMap.{IndexMap, keys, insert_entry, set_value_at}
-use Rattle.indexmap.proofs.CallerLemmas.{updates-with_value_at}
-use Rattle.location_collapse.specs.Limits.{HoldsAt, is_small}
-use Rattle.location_collapse.proofs.EqualityByOrder.{points_alike, same_tests}
+use Rattle.indexmap.specs.IndexMap.{set_value_at}
+use Rattle.location_collapse.specs.Limits.{is_small}
+use Rattle.flow_base.proofs.PointEquality.{same_tests}
 
 pub small_from : (k : Point) (n : ℕ) → 0 < n → n < 2 ^ 48 → is_small (k, n) ≡ true
 small_from k n some small = and_from (nat_lt 0 n) (nat_lt n (2 ^ 48)) (lt-ltb 0 n some) (lt-ltb n (2 ^ 48) small)
 
-put_chosen : (b : Bool) (e : Point × ℕ) (k : Point) (n : ℕ) (es more : List (Point × ℕ)) → 0 < n → n < 2 ^ 48 →
-    list_all is_small (e ∷ es) ≡ true → list_all is_small more ≡ true →
-    list_all is_small (if b then (e.0, n) ∷ es else e ∷ more) ≡ true
-put_chosen true e k n es more some small all rest = and_from (is_small (e.0, n)) (list_all is_small es)
-    (small_from e.0 n some small) (and_parts (is_small e) (list_all is_small es) all).1
-put_chosen false e k n es more some small all rest = and_from (is_small e) (list_all is_small more)
-    (and_parts (is_small e) (list_all is_small es) all).0 rest
-
-pub small_put : (eq : Point → Point → Bool) (es : List (Point × ℕ)) (k : Point) (n : ℕ) → 0 < n → n < 2 ^ 48 →
-    list_all is_small es ≡ true → list_all is_small (insert_entry eq es k n) ≡ true
-small_put eq [] k n some small all = and_from (is_small (k, n)) true (small_from k n some small) refl
-small_put eq (e ∷ es) k n some small all =
-    put_chosen (eq k e.0) e k n es (insert_entry eq es k n) some small all
-    (small_put eq es k n some small (and_parts (is_small e) (list_all is_small es) all).1)
+-- a small capacity that is put behind others
+pub small_added : (es : List (Point × ℕ)) (k : Point) (n : ℕ) → 0 < n → n < 2 ^ 48 → list_all is_small es ≡ true →
+    list_all is_small (es ++ (k, n) ∷ []) ≡ true
+small_added es k n some small all =
+    list_all-append is_small es ((k, n) ∷ [])
+    ∙ and_from (list_all is_small es) (list_all is_small ((k, n) ∷ [])) all
+    (and_from (is_small (k, n)) true (small_from k n some small) refl)
 
 found_chosen : (b : Bool) (e : Point × ℕ) (o : Option ℕ) → is_small e ≡ true → unwrap_or o 0 < 2 ^ 48 →
     unwrap_or (cond b (Some e.1) o) 0 < 2 ^ 48
@@ -59,14 +52,6 @@ small_raised (e ∷ es) (suc i) n some small all =
     let parts = and_parts (is_small e) (list_all is_small es) all in
     and_from (is_small e) (list_all is_small (set_value_at es i n)) parts.0 (small_raised es i n some small parts.1)
 
--- the capacity that is written at a point's index is the point's
-pub raised : {S : Type 0} (m : IndexMap Point ℕ S) (p : Point) (i old n : ℕ) → IsDistinct is_same (keys m) →
-    HoldsAt m.entries p i old → (q : Point) →
-    capacity_in (set_value_at m.entries i n) q ≡ cond (is_same p q) (Some n) (capacity_in m.entries q)
-raised m p i old n differ holds q =
-    (updates-with_value_at m i n points_alike differ holds.key old holds.at).0 q
-    ∙ ap (λ test. cond (test q) (Some n) (capacity_in m.entries q)) (sym (same_tests p holds.key holds.same))
-
 known_put : (b : Bool) (n : ℕ) (o : Option ℕ) → is_some o ≡ true → is_some (cond b (Some n) o) ≡ true
 known_put true n o known = refl
 known_put false n o known = known
@@ -90,10 +75,6 @@ counted_put old new p n bits put sum q =
     ap (λ o. unwrap_or o 0) (put q)
     ∙ counted_chosen (is_same p q) n bits (capacity_in old q)
     (λ e. sum ∙ ap (λ test. unwrap_or (lookup test old) 0 + bits) (same_tests p q e))
-
-pub longer : (b : Bool) (new old : ℕ) → old < 65536 → new ≡ old + (if b then 0 else 1) → new ≤ 65536
-longer true new old few e = omega (arith, few, e)
-longer false new old few e = omega (arith, few, e)
 
 -- what follows from two clauses of one value
 pub both_ok : {T E P Q R : Type 0} (r : Result T E) → (P → Q → R) → OnOk r P → OnOk r Q → OnOk r R

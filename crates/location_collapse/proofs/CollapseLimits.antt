@@ -22,7 +22,8 @@ use Rattle.flow_graph.specs.Keeping.{Keeps, count_in, is_known}
 use Rattle.flow_graph.proofs.KeptAfterEvent.{known-same, passed-push, among-push}
 use Rattle.location_collapse.specs.Limits.{ExceedsLimit, HasMorePoints, HasMoreLinks, HasCapacity}
 use Rattle.location_collapse.specs.Limits.{HasAllLinks, LacksRoom, is_same_link, is_small}
-use Rattle.location_collapse.proofs.EqualityByOrder.{points_alike, links_alike, same_tests, any_flipped}
+use Rattle.flow_base.proofs.PointEquality.{points_alike, same_tests}
+use Rattle.location_collapse.proofs.EqualityByOrder.{links_alike, any_flipped}
 use Rattle.location_collapse.proofs.CapacityMaps.{found_small}
 
 -- ---- no limit is exceeded

@@ -2,6 +2,7 @@
 use Rattle.std.proofs.Common.{◌≡◌, ◌⊎◌, ◌||◌, ◌++◌, ◌∷◌, [], Bool, true, false, List, refl, sym, ap, ◌∙◌, subst}
 use Rattle.std.proofs.Common.{Result, Ok, Err, ⊎_elim, inl, inr, append_assoc}
 use Rattle.std.specs.Result.{IsErrAnd}
+use Rattle.std.specs.Map.{keys_of}
 use Rattle.flow_graph.specs.declared.events.Event.{Event}
 use Rattle.location_collapse.specs.declared.collapses.Collapse.{Collapse}
 use Rattle.location_collapse.specs.declared.faults.CollapseFault.{CollapseFault}
@@ -32,7 +33,7 @@ pub record Takes (old new : Collapse) (more : List Event) : Type 0 where
 -- what it stands for exceeds no limit
 pub allows_of : (old new : Collapse) (more : List Event) → Gains old new more → Allows old more
 allows_of old new more gains events stands =
-    not_exceeding new.points.capacities.entries new.links.named.keys (events ++ more) (gains events stands)
+    not_exceeding new.points.capacities.map.entries (keys_of new.links.named.map.entries) (events ++ more) (gains events stands)
     new.points.small new.points.few new.links.few
 
 or_false : (b : Bool) → (b || false) ≡ b

@@ -17,7 +17,8 @@ use Rattle.flow_graph.specs.EventGraphs.{named, IsGraphOf}
 use Rattle.flow_graph.proofs.KeptAfterEvent.{passed-push, among-push}
 use Rattle.location_collapse.specs.Limits.{ExceedsLimit, is_same_link}
 use Rattle.location_collapse.specs.LimitLaws.{IsWithin, is_below}
-use Rattle.location_collapse.proofs.EqualityByOrder.{points_alike, links_alike, any_flipped}
+use Rattle.flow_base.proofs.PointEquality.{points_alike}
+use Rattle.location_collapse.proofs.EqualityByOrder.{links_alike, any_flipped}
 use Rattle.location_collapse.proofs.CollapseLimits.{all_more, of_members, still_passed}
 
 -- ---- the graph

@@ -1,18 +1,15 @@
--- A link whose ends are those of the latest one of its kind has occurred; where a link stands.
-use Rattle.std.proofs.Common.{◌≡◌, ℕ, ◌==◌, ◌&&◌, Bool, true, false, List, Option, Some, None, refl, sym, ap, subst, ◌∙◌}
-use Rattle.std.specs.Prelude.{position, slice_get, slice_index_or}
+-- A link whose ends are those of the latest one of its kind has occurred.
+use Rattle.std.proofs.Common.{◌≡◌, ℕ, ◌==◌, ◌&&◌, Bool, true, false, List, Option, Some, refl, sym, ap, subst, ◌∙◌}
 use Rattle.std.specs.Option.{IfSome}
 use Rattle.std.proofs.lemmas.Bool.{and_from, eq-eqb, false≢true}
-use Rattle.std.proofs.lemmas.List.Quantifiers.{position-Some}
-use Rattle.std.proofs.lemmas.Option.{get_or_from_slice_get, slice_get_within}
 use Rattle.flow_base.specs.declared.points.Point.{Point}
 use Rattle.flow_graph.specs.declared.named_links.NamedLink.{NamedLink}
 use Rattle.flow_graph.specs.declared.named_links.NamedEnd.TheVariants.{At, Relay}
 use Rattle.flow_graph.specs.EventGraphs.{is_among}
 use Rattle.flow_base.specs.PointOrders.{is_same}
-use Rattle.location_collapse.specs.Limits.{is_same_link}
-use Rattle.location_collapse.specs.LatestLinks.{IsAt, has_flow, has_output, is_latest_flow}
-use Rattle.location_collapse.proofs.EqualityByOrder.{point_eq, points_same, link_eq, links_alike, links_same}
+use Rattle.location_collapse.specs.LatestLinks.{has_flow, has_output, is_latest_flow}
+use Rattle.flow_base.proofs.PointEquality.{point_eq, points_same}
+use Rattle.location_collapse.proofs.EqualityByOrder.{link_eq, links_same}
 use Rattle.location_collapse.proofs.LinkMarks.{among_alike}
 
 -- what equals a link that has occurred has occurred
@@ -56,23 +53,3 @@ flow_told flow s t from to told is first second =
     ∙ (ap (λ eq. eq to t) points_same
     ∙ (second_of (is_same from s) (is_same to t) (ap (λ eq. eq from s) (sym points_same) ∙ first)
     ∙ ap (λ latest. is_latest_flow latest s t) (sym is)))
-
--- what equals the link at an index stands there
-pub at_place : (keys : List NamedLink) (i : ℕ) (key link : NamedLink) → slice_get keys i ≡ Some key →
-    link_eq key link ≡ true → IsAt keys link i
-at_place keys i key link there e = record {
-  within = slice_get_within keys i key there;
-  same = ap (is_same_link link) (get_or_from_slice_get keys i key link there)
-      ∙ (links_alike.symm link key ∙ (ap (λ eq. eq key link) (sym links_same) ∙ e));
-}
-
--- and so does the first that equals it
-pub at_first : (keys : List NamedLink) (link : NamedLink) (found : Option ℕ) → found ≡ position (link_eq link) keys →
-    IfSome found (IsAt keys link)
-at_first keys link None e = tt
-at_first keys link (Some i) e =
-    let first = position-Some (link_eq link) keys i link (sym e) in
-    record {
-      within = first.0;
-      same = ap (λ eq. eq link (slice_index_or keys i link)) (sym links_same) ∙ first.1;
-    }

@@ -1,37 +1,45 @@
 -- The links that are kept, and what one link more makes of them.
-use Rattle.std.proofs.Common.{◌≡◌, ◌||◌, ◌++◌, ◌∷◌, [], cond, Bool, true, false, List, refl, sym, ap, ◌∙◌, subst}
-use Rattle.std.proofs.Common.{if◌then◌else◌}
-use Rattle.std.specs.List.{list_all, list_any}
+use Rattle.std.proofs.Common.{◌≡◌, ◌||◌, ◌++◌, ◌∷◌, [], cond, Bool, true, false, List, refl, sym, ap, ◌∙◌}
+use Rattle.std.proofs.Common.{ℕ, Option, Some, None}
+use Rattle.std.specs.List.{list_all}
+use Rattle.std.specs.Map.{keys_of, lookup}
+use Rattle.std.specs.Option.{is_some, IfNone, IfSome}
 use Rattle.std.proofs.lemmas.Bool.{and_from}
-use Rattle.std.proofs.lemmas.List.Folds.{list_all-append}
+use Rattle.std.proofs.lemmas.List.Folds.{list_all-append, list_any-append}
+use Rattle.std.proofs.lemmas.Map.Made.{is_some-lookup}
 use Rattle.flow_graph.specs.declared.named_links.NamedLink.{NamedLink}
 use Rattle.flow_graph.specs.EventGraphs.{is_among}
 use Rattle.flow_graph.specs.Keeping.{TakesLinks}
-use Rattle.flow_graph.proofs.BuilderAfterEvent.{put_links}
-use Rattle.indexmap.specs.IndexSet.{insert_key}
+use Rattle.hinted_map.specs.Places.{StandsAt}
 use Rattle.location_collapse.specs.Limits.{is_same_link}
-use Rattle.location_collapse.proofs.EqualityByOrder.{links_alike, link_eq, links_same, contains-among}
+use Rattle.location_collapse.proofs.EqualityByOrder.{any_flipped, links_alike}
 
-chosen : (test : NamedLink → Bool) (b : Bool) (keys : List NamedLink) (link : NamedLink) → list_all test keys ≡ true →
-    list_all test (link ∷ []) ≡ true → list_all test (if b then keys else keys ++ link ∷ []) ≡ true
-chosen test true keys link old new = old
-chosen test false keys link old new = list_all-append test keys (link ∷ []) ∙ and_from (list_all test keys)
-    (list_all test (link ∷ [])) old new
-
--- the keys of a set into which a link is put
-pub takes_put : (old new : List NamedLink) (link : NamedLink) → new ≡ insert_key link_eq old link →
-    ((q : NamedLink) → list_any (link_eq q) new ≡ cond (link_eq link q) true (list_any (link_eq q) old)) →
-    TakesLinks old new (link ∷ [])
-takes_put old new link keys updates = record {
-  linked = λ q.
-      sym (contains-among new q)
-      ∙ (updates q
-      ∙ (ap (λ e. cond (e link q) true (list_any (link_eq q) old)) links_same
-      ∙ (put_links (is_same_link link q) (list_any (link_eq q) old) _ refl
-      ∙ ap (λ b. b || is_among (link ∷ []) q) (contains-among old q))));
-  sound = λ test all more. subst (λ l. list_all test l ≡ true) (sym keys)
-      (chosen test (list_any (link_eq link) old) old link all more);
+-- the keys behind which a link is put
+pub takes_put : (old new : List NamedLink) (link : NamedLink) → new ≡ old ++ link ∷ [] → TakesLinks old new (link ∷ [])
+takes_put old new link added = record {
+  linked = λ q. ap (λ keys. is_among keys q) added ∙ list_any-append (λ other. is_same_link other q) old (link ∷ []);
+  sound = λ test all more. ap (list_all test) added ∙ (list_all-append test old (link ∷ []) ∙ and_from (list_all test old)
+      (list_all test (link ∷ [])) all more);
 }
+
+-- a link that is found by its order is among the keys
+among_found : (entries : List (NamedLink × Unit {0})) (link : NamedLink) →
+    is_some (lookup (is_same_link link) entries) ≡ is_among (keys_of entries) link
+among_found entries link = is_some-lookup (is_same_link link) entries ∙ any_flipped (keys_of entries) link
+
+pub found_among : (entries : List (NamedLink × Unit {0})) (link : NamedLink) (found : Option ℕ) →
+    IfSome found (StandsAt is_same_link entries link) → IfNone found (lookup (is_same_link link) entries ≡ None) →
+    is_some found ≡ is_among (keys_of entries) link
+found_among entries link (Some i) place none = sym (ap is_some place.found) ∙ among_found entries link
+found_among entries link None place none = sym (ap is_some none) ∙ among_found entries link
+
+is_none : {A : Type 0} (o : Option A) → is_some o ≡ false → o ≡ None
+is_none None e = refl
+is_none (Some x) e = absurd (cc)
+
+pub unknown_none : (entries : List (NamedLink × Unit {0})) (link : NamedLink) →
+    is_among (keys_of entries) link ≡ false → lookup (is_same_link link) entries ≡ None
+unknown_none entries link unknown = is_none (lookup (is_same_link link) entries) (among_found entries link ∙ unknown)
 
 pub among_alike : (keys : List NamedLink) (link q : NamedLink) → is_same_link link q ≡ true → is_among keys link ≡ is_among
     keys q

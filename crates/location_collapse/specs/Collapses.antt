@@ -1,5 +1,6 @@
 -- What a collapse of events as they come stands for.
 use Rattle.std.specs.Prelude.{◌≡◌, ◌==◌, ◌&&◌, cond, Bool, true, false, List, [], ◌∷◌, Result, Ok, Err}
+use Rattle.std.specs.Map.{keys_of}
 use Rattle.flow_base.specs.declared.points.Point.{Point}
 use Rattle.flow_graph.specs.declared.events.Event.{Event}
 use Rattle.flow_graph.specs.declared.named_links.NamedLink.{NamedLink}
@@ -12,16 +13,16 @@ use Rattle.location_collapse.specs.declared.faults.CollapseFault.TheVariants.{Li
 
 -- a collapse has exactly what a list of events makes: points with their capacities, and links
 abbrev pub StandsFor : Collapse → List Event → Type 0
-StandsFor collapse events = Keeps collapse.points.capacities.entries collapse.links.named.keys events
+StandsFor collapse events = Keeps collapse.points.capacities.map.entries (keys_of collapse.links.named.map.entries) events
 
 -- the points, the capacities and the links stay
 pub record KeepsAll (old new : Collapse) : Type 0 where
-  pub points : new.points.capacities.entries ≡ old.points.capacities.entries
-  pub links : new.links.named.keys ≡ old.links.named.keys
+  pub points : new.points.capacities.map.entries ≡ old.points.capacities.map.entries
+  pub links : keys_of new.links.named.map.entries ≡ keys_of old.links.named.map.entries
 
 -- whether the point has passed a mask other than 0
 abbrev pub knows : Collapse → Point → Bool
-knows collapse point = is_known collapse.points.capacities.entries point
+knows collapse point = is_known collapse.points.capacities.map.entries point
 
 abbrev pub has_ends : (Point → Bool) → NamedLink → Bool
 has_ends has link = is_there has link.source && is_there has link.target
@@ -34,8 +35,8 @@ pub record Makes (has : Point → Bool) (event : Event) (link : NamedLink) : Typ
 -- the point is one of a region, and the links of an output that gives out again what it gave before have occurred
 pub record HasAgainLinks (collapse : Collapse) (point : Point) : Type 0 where
   pub in_region : (point.region == 0) ≡ false
-  pub flow : has_flow collapse.links.named.keys point point ≡ true
-  pub output : has_output collapse.links.named.keys point.region point ≡ true
+  pub flow : has_flow (keys_of collapse.links.named.map.entries) point point ≡ true
+  pub output : has_output (keys_of collapse.links.named.map.entries) point.region point ≡ true
 
 -- whether the answer is that a limit is exceeded
 abbrev pub is_limit : Result (Unit {0}) CollapseFault → Bool

@@ -1,12 +1,11 @@
 -- The links of the two kinds that come again and again, by what names their ends, and what is kept of the latest ones.
-use Rattle.std.specs.Prelude.{◌≡◌, ℕ, ◌<◌, ◌==◌, ◌&&◌, Bool, true, false, List, Option, None, Some, length, slice_index_or}
+use Rattle.std.specs.Prelude.{ℕ, ◌==◌, ◌&&◌, Bool, false, List, Option, None, Some}
 use Rattle.flow_base.specs.declared.points.Point.{Point}
 use Rattle.flow_graph.specs.declared.named_links.NamedLink.{NamedLink}
 use Rattle.flow_graph.specs.declared.named_links.NamedEnd.{NamedEnd}
 use Rattle.flow_graph.specs.declared.named_links.NamedEnd.TheVariants.{At, Relay, Source, Sink}
 use Rattle.flow_graph.specs.EventGraphs.{is_among}
 use Rattle.flow_base.specs.PointOrders.{is_same}
-use Rattle.location_collapse.specs.Limits.{is_same_link}
 
 -- whether the link from a point to a point has occurred
 abbrev pub has_flow : List NamedLink → Point → Point → Bool
@@ -15,11 +14,6 @@ has_flow links source target = is_among links (record { source = At source; targ
 -- whether the link from the relay of a region to a point has occurred
 abbrev pub has_output : List NamedLink → ℕ → Point → Bool
 has_output links region point = is_among links (record { source = Relay region; target = At point })
-
--- the link stands at this index
-pub record IsAt (links : List NamedLink) (link : NamedLink) (index : ℕ) : Type 0 where
-  pub within : index < length links
-  pub same : is_same_link link (slice_index_or links index link) ≡ true
 
 -- whether these are the ends of the latest link between two points, if there was one
 abbrev pub is_latest_flow : Option (Point × Point) → Point → Point → Bool

@@ -1,7 +1,6 @@
 -- The limits of a graph: at most 65,536 points, at most 1,048,576 links, and capacities below 2^48.
 use Rattle.std.specs.Map.{keys_of}
 use Rattle.std.specs.Prelude.{◌≡◌, ◌⊎◌, ℕ, ◌≤◌, ◌<◌, ◌^◌, ◌&&◌, nat_lt, Bool, true, false, List, length}
-use Rattle.std.specs.Prelude.{slice_get, Some}
 use Rattle.std.specs.List.{list_all, IsDistinct}
 use Rattle.std.specs.Ordering.{eq_by_cmp}
 use Rattle.flow_base.specs.declared.points.Point.{Point}
@@ -52,17 +51,6 @@ pub record LacksRoom (capacities : List (Point × ℕ)) (point : Point) (mask : 
   pub some : 0 < bit_count mask
   pub unknown : is_known capacities point ≡ false
   pub full : HasAllPoints capacities
-
--- the point is kept at this index, with this capacity
-pub record HoldsAt (capacities : List (Point × ℕ)) (point : Point) (index capacity : ℕ) : Type 0 where
-  pub key : Point
-  pub same : is_same point key ≡ true
-  pub at : slice_get capacities index ≡ Some (key, capacity)
-
--- a point stands at this index
-pub record IsPointAt (capacities : List (Point × ℕ)) (point : Point) (index : ℕ) : Type 0 where
-  pub capacity : ℕ
-  pub holds : HoldsAt capacities point index capacity
 
 -- as many different links are kept as a graph may have
 pub record HasAllLinks (links : List NamedLink) : Type 0 where

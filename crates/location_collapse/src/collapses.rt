@@ -1,5 +1,6 @@
 ghost use Rattle.std.specs.Prelude.{IsTrue};
 ghost use Rattle.std.specs.List.{list_all};
+ghost use Rattle.std.specs.Map.{keys_of};
 ghost use Rattle.flow_graph.specs.Keeping.{is_known, is_sound};
 
 use crate::kept_links::KeptLinks;
@@ -14,5 +15,5 @@ pub struct Collapse {
     pub links: KeptLinks,
     /// Whether an earlier `add` or `add_again` answered `Limit`.
     pub is_full: bool,
-    ghost sound: { IsTrue (list_all (is_sound (is_known points.capacities.entries)) links.named.keys) },
+    ghost sound: { IsTrue (list_all (is_sound (is_known points.capacities.map.entries)) (keys_of links.named.map.entries)) },
 }

@@ -1,5 +1,6 @@
 ghost use Rattle.std.specs.BTreeMap as tree;
 ghost use Rattle.std.specs.Prelude.{◌≡◌, ◌+◌, ◌≤◌, ◌∷◌, [], cond, length, List as Seq, IfOk, OnOk, Some};
+ghost use Rattle.std.specs.Map.{keys_of};
 ghost use Rattle.flow_base.specs.declared.points.Point.{Point as ThePoint};
 ghost use Rattle.flow_base.specs.PointOrders.{is_same};
 ghost use Rattle.flow_graph.specs.declared.events.Event.{Event as AnEvent};
@@ -11,7 +12,7 @@ ghost use Rattle.location_collapse.specs.Sorting.{HasSame};
 use crate::collapses::Collapse;
 use flow_base::{NoMemory, Point};
 use flow_graph::{Builder, Graph, NamedLink};
-use indexmap::{IndexMap, IndexSet};
+use indexmap::IndexMap;
 use std::alloc::Global;
 use std::collections::{BTreeMap, BTreeSet};
 
@@ -60,13 +61,19 @@ fn put_link(sorted: &mut BTreeSet<NamedLink>, link: NamedLink) -> Result<(), NoM
 }
 
 /// The links, in order.
-fn sorted_links(alloc: Global, named: &IndexSet<NamedLink>) -> Result<BTreeSet<NamedLink>, NoMemory>
-    ensures { IfOk result (λ sorted. TakesLinks [] sorted.keys named.now.keys) }
+fn sorted_links(
+    alloc: Global,
+    named: &IndexMap<NamedLink, ()>,
+) -> Result<BTreeSet<NamedLink>, NoMemory>
+    ensures { IfOk result (λ sorted. TakesLinks [] sorted.keys (keys_of named.now.entries)) }
 {
-    let links = named.as_slice();
     let mut sorted = BTreeSet::new(alloc);
-    for link in links {
-        put_link(&mut sorted, *link)?;
+    let mut left = named.len();
+    while left > 0 {
+        left -= 1;
+        if let Some((link, _)) = named.get_index(left) {
+            put_link(&mut sorted, *link)?;
+        }
     }
     Ok(sorted)
 }
@@ -76,8 +83,8 @@ impl Collapse {
     pub fn finish(self, alloc: Global) -> Result<Graph, NoMemory>
         ensures { IfOk result (λ graph. (events : Seq AnEvent) → StandsFor self events → IsGraphOf events graph) }
     {
-        let capacities = sorted_points(alloc, &self.points.capacities)?;
-        let links = sorted_links(alloc, &self.links.named)?;
+        let capacities = sorted_points(alloc, &self.points.capacities.map)?;
+        let links = sorted_links(alloc, &self.links.named.map)?;
         let builder = Builder { capacities, links };
         builder.finish(alloc)
     }

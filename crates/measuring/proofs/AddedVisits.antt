@@ -1,35 +1,25 @@
 -- One visit more of a point.
 use Rattle.std.proofs.Common.{◌≡◌, ℕ, Bool, true, false, List, [], ◌∷◌, ◌++◌, refl, sym, ap, ◌∙◌, cond, Option, Some}
 use Rattle.std.proofs.Common.{append_assoc, replicate, ◌+◌, add-zero}
-use Rattle.std.specs.Map.{lookup, values_of}
-use Rattle.std.specs.List.{IsDistinct}
-use Rattle.std.specs.Prelude.{slice_get}
-use Rattle.std.specs.Option.{option_map}
+use Rattle.std.specs.Map.{lookup}
 use Rattle.std.proofs.lemmas.List.{append-nil, replicate-append-replicate}
-use Rattle.std.proofs.lemmas.Option.{slice_get-map}
 use Rattle.flow_base.specs.declared.points.Point.{Point}
 use Rattle.flow_graph.specs.declared.events.Event.{Event}
 use Rattle.flow_graph.specs.declared.events.Event.TheVariants.{Pass, Link, FromSecret, Implicit, Out}
 use Rattle.flow_graph.specs.Again.{again_events}
 use Rattle.flow_base.specs.PointOrders.{is_same}
 use Rattle.covered_runs.specs.RunCuts.{visit_masks, mask_at_event}
-use Rattle.indexmap.specs.IndexMap.{IndexMap, keys, set_value_at}
-use Rattle.indexmap.proofs.CallerLemmas.{updates-with_value_at}
-use Rattle.location_collapse.proofs.EqualityByOrder.{points_alike, same_tests}
+use Rattle.hinted_map.specs.Places.{Puts}
+use Rattle.flow_base.proofs.PointEquality.{points_alike, same_tests}
 use Rattle.measuring.specs.declared.point_visits.PointVisits.{PointVisits}
 use Rattle.measuring.specs.declared.point_visits.VisitRun.{VisitRun}
 use Rattle.measuring.specs.declared.kept_visits.KeptVisits.{KeptVisits}
 use Rattle.measuring.specs.PointMasks.{point_masks}
-use Rattle.measuring.specs.KeptMasks.{Adds, StandsAt, kept_masks, masks_if_any}
+use Rattle.measuring.specs.KeptMasks.{Adds, kept_masks, masks_if_any}
 use Rattle.measuring.specs.Visits.{AddsVisit, HasVisits, Settles, all_masks}
-use Rattle.visit_counts.specs.declared.visit_counts.VisitCounts.{VisitCounts}
-use Rattle.visit_counts.specs.Counts.{Clears, CountsMore, count_of}
-use Rattle.visit_counts.proofs.Counters.{count_alike}
-
--- the visits of a point are written, and those of no other
-abbrev pub Puts : List (Point × PointVisits) → List (Point × PointVisits) → Point → PointVisits → Type 0
-Puts old new point after =
-    (q : Point) → lookup (is_same q) new ≡ cond (is_same point q) (Some after) (lookup (is_same q) old)
+use Rattle.measuring.specs.declared.visit_counts.VisitCounts.{VisitCounts}
+use Rattle.measuring.specs.Counts.{Clears, CountsMore, count_of}
+use Rattle.measuring.proofs.Counters.{count_alike}
 
 chosen : (b : Bool) (after : PointVisits) (o : Option PointVisits) (more : List ℕ) →
     (b ≡ true → point_masks after ≡ masks_if_any o ++ more) →
@@ -38,30 +28,12 @@ chosen true after o more h = h refl
 chosen false after o more h = sym (append-nil (masks_if_any o))
 
 pub adds : (old new : List (Point × PointVisits)) (p : Point) (after : PointVisits) (run : VisitRun) →
-    Puts old new p after → point_masks after ≡ kept_masks old p ++ replicate run.count run.mask → Adds old new p run
+    Puts is_same old new p after → point_masks after ≡ kept_masks old p ++ replicate run.count run.mask → Adds old new p run
 adds old new p after run puts masks q =
     ap masks_if_any (puts q)
     ∙ (chosen (is_same p q) after (lookup (is_same q) old) (replicate run.count run.mask)
     (λ e. masks ∙ ap (λ test. masks_if_any (lookup test old) ++ replicate run.count run.mask) (same_tests p q e))
     ∙ ap (λ b. kept_masks old q ++ cond b (replicate run.count run.mask) []) (points_alike.symm p q))
-
--- what is written at the index of a point is the point's
-pub puts_at : {S : Type 0} (m : IndexMap Point PointVisits S) (p : Point) (i : ℕ) (after : PointVisits) →
-    IsDistinct is_same (keys m) → StandsAt m.entries p i → Puts m.entries (set_value_at m.entries i after) p after
-puts_at m p i after differ stands = λ q.
-    (updates-with_value_at m i after points_alike differ stands.key stands.visits stands.at).0 q
-    ∙ ap (λ test. cond (test q) (Some after) (lookup (is_same q) m.entries)) (sym (same_tests p stands.key stands.same))
-
-some_alike : {A : Type 0} (x y : A) → Some x ≡ Some y → x ≡ y
-some_alike x y e = cc
-
--- the value at the index of a point is the point's
-pub value_at : (entries : List (Point × PointVisits)) (p : Point) (i : ℕ) (before : PointVisits) →
-    StandsAt entries p i → slice_get (values_of entries) i ≡ Some before → point_masks before ≡ kept_masks entries p
-value_at entries p i before stands value =
-    let there : slice_get (values_of entries) i ≡ Some stands.visits =
-    slice_get-map (λ e. e.1) entries i ∙ ap (option_map (λ e. e.1)) stands.at in
-    ap point_masks (some_alike before stands.visits (sym value ∙ there)) ∙ ap masks_if_any (sym stands.found)
 
 -- ---- events
 
@@ -127,17 +99,17 @@ moved kept false c n e = ap (λ list. list ++ replicate n 0) (append-nil kept)
 
 -- what was counted of a point is a run now
 pub settled : (old new : KeptVisits) (p : Point) (run : VisitRun) → run.count ≡ count_of old.counts p → run.mask ≡ 0 →
-    Adds old.points.entries new.points.entries p run → Clears old.counts new.counts p → Settles old new p
+    Adds old.points.map.entries new.points.map.entries p run → Clears old.counts new.counts p → Settles old new p
 settled old new p run count mask adds clears = record {
   masks = λ q.
       ap (λ masks. masks ++ replicate (count_of new.counts q) 0) (adds q)
-      ∙ (ap (λ n. (kept_masks old.points.entries q ++ cond (is_same q p) (replicate run.count run.mask) []) ++ replicate
+      ∙ (ap (λ n. (kept_masks old.points.map.entries q ++ cond (is_same q p) (replicate run.count run.mask) []) ++ replicate
       n 0) (clears q)
-      ∙ (ap (λ m. (kept_masks old.points.entries q ++ cond (is_same q p) (replicate run.count m) []) ++ replicate
+      ∙ (ap (λ m. (kept_masks old.points.map.entries q ++ cond (is_same q p) (replicate run.count m) []) ++ replicate
       (cond (is_same p q) 0 (count_of old.counts q)) 0) mask
-      ∙ (ap (λ b. (kept_masks old.points.entries q ++ cond b (replicate run.count 0) []) ++ replicate
+      ∙ (ap (λ b. (kept_masks old.points.map.entries q ++ cond b (replicate run.count 0) []) ++ replicate
       (cond (is_same p q) 0 (count_of old.counts q)) 0) (points_alike.symm q p)
-      ∙ moved (kept_masks old.points.entries q) (is_same p q) run.count (count_of old.counts q)
+      ∙ moved (kept_masks old.points.map.entries q) (is_same p q) run.count (count_of old.counts q)
       (λ e. count ∙ count_alike old.counts p q e))));
   none = clears p ∙ ap (λ b. cond b 0 (count_of old.counts p)) (points_alike.refl p);
 }
@@ -154,13 +126,13 @@ behind kept false more n e =
 
 -- one visit more in the runs, where nothing is counted
 pub visited : (old mid new : KeptVisits) (p : Point) (mask : ℕ) → Settles old mid p →
-    Adds mid.points.entries new.points.entries p (record { count = 1; mask = mask }) → new.counts ≡ mid.counts →
+    Adds mid.points.map.entries new.points.map.entries p (record { count = 1; mask = mask }) → new.counts ≡ mid.counts →
     AddsVisit old new p mask
 visited old mid new p mask settles adds same q =
     ap (λ masks. masks ++ replicate (count_of new.counts q) 0) (adds q)
-    ∙ (ap (λ counts. (kept_masks mid.points.entries q ++ cond (is_same q p) (mask ∷ []) []) ++ replicate
+    ∙ (ap (λ counts. (kept_masks mid.points.map.entries q ++ cond (is_same q p) (mask ∷ []) []) ++ replicate
     (count_of counts q) 0) same
-    ∙ (behind (kept_masks mid.points.entries q) (is_same q p) (mask ∷ []) (count_of mid.counts q)
+    ∙ (behind (kept_masks mid.points.map.entries q) (is_same q p) (mask ∷ []) (count_of mid.counts q)
     (λ e. count_alike mid.counts q p e ∙ settles.none)
     ∙ ap (λ masks. masks ++ cond (is_same q p) (mask ∷ []) []) (settles.masks q)))
 
@@ -171,12 +143,12 @@ longer kept true n =
 longer kept false n = ap (λ m. kept ++ replicate m 0) (add-zero n) ∙ sym (append-nil (kept ++ replicate n 0))
 
 -- one visit more is counted
-pub counts_visit : (old new : KeptVisits) (p : Point) → new.points.entries ≡ old.points.entries →
+pub counts_visit : (old new : KeptVisits) (p : Point) → new.points.map.entries ≡ old.points.map.entries →
     CountsMore old.counts new.counts p 1 → AddsVisit old new p 0
 counts_visit old new p same more q =
     ap (λ entries. kept_masks entries q ++ replicate (count_of new.counts q) 0) same
-    ∙ (ap (λ n. kept_masks old.points.entries q ++ replicate n 0) (more q)
-    ∙ (longer (kept_masks old.points.entries q) (is_same p q) (count_of old.counts q)
+    ∙ (ap (λ n. kept_masks old.points.map.entries q ++ replicate n 0) (more q)
+    ∙ (longer (kept_masks old.points.map.entries q) (is_same p q) (count_of old.counts q)
     ∙ ap (λ b. all_masks old q ++ cond b (0 ∷ []) []) (points_alike.symm p q)))
 
 unchanged : (b : Bool) (n : ℕ) → n + cond b 0 0 ≡ n
@@ -184,10 +156,10 @@ unchanged true n = add-zero n
 unchanged false n = add-zero n
 
 -- a visit that is not counted is kept in the runs
-pub uncounted : (old mid new : KeptVisits) (p : Point) (mask : ℕ) → mid.points.entries ≡ old.points.entries →
+pub uncounted : (old mid new : KeptVisits) (p : Point) (mask : ℕ) → mid.points.map.entries ≡ old.points.map.entries →
     CountsMore old.counts mid.counts p 0 → AddsVisit mid new p mask → AddsVisit old new p mask
 uncounted old mid new p mask same more adds q =
     adds q
     ∙ ap (λ masks. masks ++ cond (is_same q p) (mask ∷ []) [])
     (ap (λ entries. kept_masks entries q ++ replicate (count_of mid.counts q) 0) same
-    ∙ ap (λ n. kept_masks old.points.entries q ++ replicate n 0) (more q ∙ unchanged (is_same p q) (count_of old.counts q)))
+    ∙ ap (λ n. kept_masks old.points.map.entries q ++ replicate n 0) (more q ∙ unchanged (is_same p q) (count_of old.counts q)))

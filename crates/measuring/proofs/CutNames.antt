@@ -14,7 +14,7 @@ use Rattle.max_flow.specs.Flows.{has_first, has_second}
 use Rattle.cut_file.specs.declared.points.CutPoint.{CutPoint}
 use Rattle.covered_runs.specs.RunCuts.{is_inner, names_point}
 use Rattle.covered_runs.specs.Sides.{halves_at}
-use Rattle.location_collapse.proofs.EqualityByOrder.{points_alike}
+use Rattle.flow_base.proofs.PointEquality.{points_alike}
 use Rattle.measuring.specs.CutRuns.{points_of}
 use Rattle.measuring.specs.Limits.{are_points_in, is_point_in}
 use Rattle.measuring.specs.Splits.{is_cut, split_points}

@@ -9,6 +9,7 @@ use Rattle.std.proofs.lemmas.Bool.{eqb-true}
 use Rattle.std.proofs.lemmas.List.{length-map}
 use Rattle.std.proofs.lemmas.List.Folds.{list_all-map}
 use Rattle.cut_file.proofs.Following.{is_true, is_so}
+use Rattle.std.specs.Map.{keys_of}
 use Rattle.flow_base.specs.declared.points.Point.{Point}
 use Rattle.flow_base.specs.PointOrders.{is_same}
 use Rattle.flow_graph.specs.declared.events.Event.{Event}
@@ -21,7 +22,7 @@ use Rattle.flow_graph.specs.Graphs.{node_cmp}
 use Rattle.location_collapse.specs.Limits.{ExceedsLimit}
 use Rattle.location_collapse.specs.Collapses.{StandsFor}
 use Rattle.location_collapse.proofs.CollapseLimits.{not_exceeding}
-use Rattle.location_collapse.proofs.EqualityByOrder.{points_alike}
+use Rattle.flow_base.proofs.PointEquality.{points_alike}
 use Rattle.max_flow.specs.Flows.{IsWithinLimits, is_small}
 use Rattle.measuring.specs.declared.recordings.Recording.{Recording}
 use Rattle.measuring.specs.Limits.{is_point_in}
@@ -171,7 +172,7 @@ within_limits events graph of none = record {
 pub recorded_exceeds_none : (recording : Recording) → recording.collapse.is_full ≡ false → (events : List Event) →
     StandsFor recording.collapse events → ExceedsLimit events → ⊥
 recorded_exceeds_none recording within events keeps =
-    not_exceeding recording.collapse.points.capacities.entries recording.collapse.links.named.keys events keeps
+    not_exceeding recording.collapse.points.capacities.map.entries (keys_of recording.collapse.links.named.map.entries) events keeps
     (is_so _ recording.collapse.points.small) recording.collapse.points.few recording.collapse.links.few
 
 -- so is the graph of what a recording has that exceeds no limit

@@ -1,3 +1,4 @@
+pub mod Counters
 pub mod VisitRuns
 pub mod AddedVisits
 pub mod RecordedEvents

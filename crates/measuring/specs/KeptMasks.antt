@@ -1,5 +1,5 @@
 -- The masks of the visits of points, as they are kept by point.
-use Rattle.std.specs.Prelude.{◌≡◌, ◌++◌, ℕ, List, [], Option, Some, None, cond, replicate, slice_get, true}
+use Rattle.std.specs.Prelude.{◌≡◌, ◌++◌, ℕ, List, [], Option, Some, None, cond, replicate}
 use Rattle.std.specs.Map.{lookup}
 use Rattle.flow_base.specs.declared.points.Point.{Point}
 use Rattle.flow_base.specs.PointOrders.{is_same}
@@ -14,14 +14,6 @@ masks_if_any (Some visits) = point_masks visits
 -- the masks of the visits of a point that are kept in runs, in order; of a point that is not kept there are none
 abbrev pub kept_masks : List (Point × PointVisits) → Point → List ℕ
 kept_masks entries point = masks_if_any (lookup (is_same point) entries)
-
--- the point is kept at this index
-pub record StandsAt (entries : List (Point × PointVisits)) (point : Point) (index : ℕ) : Type 0 where
-  pub key : Point
-  pub visits : PointVisits
-  pub same : is_same point key ≡ true
-  pub at : slice_get entries index ≡ Some (key, visits)
-  pub found : lookup (is_same point) entries ≡ Some visits
 
 -- the visits of a run are added to a point
 abbrev pub Adds : List (Point × PointVisits) → List (Point × PointVisits) → Point → VisitRun → Type 0

@@ -1,3 +1,4 @@
+pub mod Counts
 pub mod VisitRuns
 pub mod PointMasks
 pub mod KeptMasks

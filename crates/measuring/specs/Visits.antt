@@ -4,13 +4,13 @@ use Rattle.flow_base.specs.declared.points.Point.{Point}
 use Rattle.flow_graph.specs.declared.events.Event.{Event}
 use Rattle.flow_base.specs.PointOrders.{is_same}
 use Rattle.covered_runs.specs.RunCuts.{visit_masks}
-use Rattle.visit_counts.specs.Counts.{count_of}
+use Rattle.measuring.specs.Counts.{count_of}
 use Rattle.measuring.specs.declared.kept_visits.KeptVisits.{KeptVisits}
 use Rattle.measuring.specs.KeptMasks.{kept_masks}
 
 -- those that are kept in runs, and then as many 0 as are counted
 abbrev pub all_masks : KeptVisits → Point → List ℕ
-all_masks visits point = kept_masks visits.points.entries point ++ replicate (count_of visits.counts point) 0
+all_masks visits point = kept_masks visits.points.map.entries point ++ replicate (count_of visits.counts point) 0
 
 -- what is kept are the masks of the visits of a list of events
 abbrev pub HasVisits : KeptVisits → List Event → Type 0

@@ -3,6 +3,9 @@
 #![tactic(auto)]
 
 mod accepting;
+mod counter_places;
+mod counter_rows;
+mod counting;
 mod cut_points;
 mod cutting;
 mod following;
@@ -13,9 +16,12 @@ mod measured;
 mod point_visits;
 mod recordings;
 mod splitting;
+mod visit_counts;
 mod weighing;
 
 pub use accepting::measure;
+#[doc(hidden)]
+pub use counter_rows::Row;
 #[doc(hidden)]
 pub use following::{Exit, RunEnd};
 #[doc(hidden)]
@@ -27,3 +33,5 @@ pub use point_visits::{PointVisits, VisitRun};
 #[doc(hidden)]
 pub use recordings::Recording;
 pub use run_labels::MeasureFault;
+#[doc(hidden)]
+pub use visit_counts::VisitCounts;

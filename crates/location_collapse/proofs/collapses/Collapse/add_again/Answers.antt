@@ -1,5 +1,6 @@
 use Rattle.std.proofs.Common.{◌≡◌, ◌∷◌, [], true, sym, ap, ◌∙◌, subst, inr, Err}
 use Rattle.std.proofs.lemmas.Bool.{OnTrue_at}
+use Rattle.std.specs.Map.{keys_of}
 use Rattle.flow_graph.specs.Again.{again_events}
 use Rattle.flow_graph.specs.declared.events.Event.TheVariants.{Pass, Link, Out}
 use Rattle.location_collapse.specs.Collapses.{HasAgainLinks}
@@ -13,10 +14,10 @@ returns-in-Ok-clause-ok c = λ events stands.
     let p = c.args.point.now in
     let has : HasAgainLinks c.args.self.now p =
     OnTrue_at c.if-not-has_latest_links.false c.has_latest_links.ensures in
-    taken_again c.pass.new.self.points.capacities.entries c.pass.new.self.links.named.keys p c.args.mask events
+    taken_again c.pass.new.self.points.capacities.map.entries (keys_of c.pass.new.self.links.named.map.entries) p c.args.mask events
     has.in_region
-    (subst (λ kept. has_flow kept.named.keys p p ≡ true) (sym c.pass.ensures.links) has.flow)
-    (subst (λ kept. has_output kept.named.keys p.region p ≡ true) (sym c.pass.ensures.links) has.output)
+    (subst (λ kept. has_flow (keys_of kept.named.map.entries) p p ≡ true) (sym c.pass.ensures.links) has.flow)
+    (subst (λ kept. has_output (keys_of kept.named.map.entries) p.region p ≡ true) (sym c.pass.ensures.links) has.output)
     (c.in-Ok.ensures.ok events stands)
 
 pub returns-in-Ok-clause-within : goal.returns-in-Ok-clause-within

@@ -1,5 +1,6 @@
 use Rattle.std.proofs.lemmas.Result.{on_ok_weaker}
 use Rattle.std.proofs.lemmas.Bool.{ne_eqb, OnTrue_at}
+use Rattle.std.specs.Map.{keys_of}
 use Rattle.location_collapse.specs.Collapses.{knows}
 use Rattle.location_collapse.proofs.EventSteps.{makes_link, makes_secret, makes_implicit, makes_output, no_output}
 use Rattle.location_collapse.proofs.EventSteps.{known_link}
@@ -7,18 +8,18 @@ use Rattle.location_collapse.proofs.collapses.Collapse.take.Goals as goal
 
 pub returns-then-region-eq0-clause-ok : goal.returns-then-region-eq0-clause-ok
 returns-then-region-eq0-clause-ok c = λ events stands.
-    rw c.in-Out.is (no_output c.args.self.now.points.capacities.entries c.args.self.now.links.named.keys c.in-Out.region
+    rw c.in-Out.is (no_output c.args.self.now.points.capacities.map.entries (keys_of c.args.self.now.links.named.map.entries) c.in-Out.region
     c.in-Out.point events c.if-region-eq0.true stands)
 
 pub returns-then-is_latest_flow-clause-ok : goal.returns-then-is_latest_flow-clause-ok
 returns-then-is_latest_flow-clause-ok c = λ events stands.
-    rw c.in-Link.is (known_link c.args.self.now.points.capacities.entries c.args.self.now.links.named.keys _ _ events
+    rw c.in-Link.is (known_link c.args.self.now.points.capacities.map.entries (keys_of c.args.self.now.links.named.map.entries) _ _ events
     (makes_link (knows c.args.self.now) c.in-Link.source c.in-Link.target)
     (OnTrue_at c.if-is_latest_flow.true c.is_latest_flow.ensures.known) stands)
 
 pub returns-then-is_latest_output-clause-ok : goal.returns-then-is_latest_output-clause-ok
 returns-then-is_latest_output-clause-ok c = λ events stands.
-    rw c.in-Out.is (known_link c.args.self.now.points.capacities.entries c.args.self.now.links.named.keys _ _ events
+    rw c.in-Out.is (known_link c.args.self.now.points.capacities.map.entries (keys_of c.args.self.now.links.named.map.entries) _ _ events
     (makes_output (knows c.args.self.now) c.in-Out.region c.in-Out.point (ne_eqb c.in-Out.region 0 c.if-region-eq0.false))
     (OnTrue_at c.if-is_latest_output.true c.is_latest_output.ensures.known) stands)
 

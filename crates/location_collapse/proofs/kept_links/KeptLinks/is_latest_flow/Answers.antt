@@ -1,4 +1,5 @@
 use Rattle.std.proofs.Common.{sym, ◌∙◌}
+use Rattle.std.specs.Map.{keys_of}
 use Rattle.std.proofs.lemmas.Bool.{OnTrue_from}
 use Rattle.location_collapse.proofs.LatestLinks.{flow_known, flow_told}
 use Rattle.location_collapse.proofs.kept_links.KeptLinks.is_latest_flow.Goals as goal
@@ -6,7 +7,7 @@ use Rattle.location_collapse.proofs.kept_links.KeptLinks.is_latest_flow.Goals as
 pub returns-then-eq-clause-known : goal.returns-then-eq-clause-known
 returns-then-eq-clause-known c =
     OnTrue_from c.eq-then-eq.result _
-    (λ e. flow_known c.args.self.now.named.keys c.args.self.now.flow c.args.source.now c.args.target.now c.in-Some.from
+    (λ e. flow_known (keys_of c.args.self.now.named.map.entries) c.args.self.now.flow c.args.source.now c.args.target.now c.in-Some.from
     c.in-Some.to c.args.self.now.has_latest_flow c.in-Some.is (sym c.eq.ensures ∙ c.if-eq.true)
     (sym c.eq-then-eq.ensures ∙ e))
 

@@ -9,8 +9,9 @@ use Rattle.flow_base.specs.Words.{bit_count}
 use Rattle.flow_base.specs.PointOrders.{is_same}
 use Rattle.flow_graph.specs.Keeping.{capacity_in, count_in}
 use Rattle.flow_graph.proofs.MaskBitCounts.{bit_count-zero, bit_count-ones, bit_count_bound, ones_some}
-use Rattle.location_collapse.specs.Limits.{HoldsAt, IsPointAt}
-use Rattle.location_collapse.proofs.CapacityMaps.{found_small, raised, grows_put, counted_put}
+use Rattle.hinted_map.specs.Places.{StandsAt}
+use Rattle.hinted_map.proofs.Places.{value_at}
+use Rattle.location_collapse.proofs.CapacityMaps.{found_small, grows_put, counted_put}
 use Rattle.location_collapse.proofs.kept_points.KeptPoints.pass.Goals as goal
 
 pub returns-then-mask-eq0-clause-counted : goal.returns-then-mask-eq0-clause-counted
@@ -21,16 +22,17 @@ returns-then-mask-eq0-clause-counted c = λ q.
 
 pub overflow_add-before : goal.overflow_add-before
 overflow_add-before c =
-    let small : unwrap_or (capacity_in c.args.self.now.capacities.entries c.args.point) 0 < 2 ^ 48 =
-    found_small (is_same c.args.point) c.args.self.now.capacities.entries c.args.self.now.small in
-    let before : c.in-Some.before ≡ unwrap_or (capacity_in c.args.self.now.capacities.entries c.args.point) 0 =
-    ap (λ o. unwrap_or o 0) c.in-Some.ensures.capacity in
+    let small : unwrap_or (capacity_in c.args.self.now.capacities.map.entries c.args.point) 0 < 2 ^ 48 =
+    found_small (is_same c.args.point) c.args.self.now.capacities.map.entries c.args.self.now.small in
+    let before : c.index-before.result.now ≡ count_in c.args.self.now.capacities.map.entries c.args.point =
+    sym (ap (λ o. unwrap_or o 0) (value_at c.args.self.now.capacities.map.entries c.args.point c.in-Some.index
+    c.index-before.result.now c.in-Some.ensures.at c.index-before.ensures)) in
     let bits : bit_count c.args.mask ≡ count_ones c.args.mask = bit_count-ones c.args.mask (omega arith) in
     let bound : bit_count c.args.mask ≤ 32 = bit_count_bound c.args.mask in
     omega (arith, small, before, bits, bound, c.from-bits.ensures)
 
 pub raise-requires-clause-within : goal.raise-requires-clause-within
-raise-requires-clause-within c = slice_get_within c.args.self.now.capacities.entries c.in-Some.index _
+raise-requires-clause-within c = slice_get_within c.args.self.now.capacities.map.entries c.in-Some.index _
     c.in-Some.ensures.at.at
 
 pub raise-requires-clause-some : goal.raise-requires-clause-some
@@ -46,38 +48,38 @@ start-requires-clause-some c =
 pub returns-in-Some-clause-counted : goal.returns-in-Some-clause-counted
 returns-in-Some-clause-counted c =
     let bits : bit_count c.args.mask ≡ count_ones c.args.mask = bit_count-ones c.args.mask (omega arith) in
-    let before : c.in-Some.before ≡ count_in c.args.self.now.capacities.entries c.args.point =
-    ap (λ o. unwrap_or o 0) c.in-Some.ensures.capacity in
+    let before : c.index-before.result.now ≡ count_in c.args.self.now.capacities.map.entries c.args.point =
+    sym (ap (λ o. unwrap_or o 0) (value_at c.args.self.now.capacities.map.entries c.args.point c.in-Some.index
+    c.index-before.result.now c.in-Some.ensures.at c.index-before.ensures)) in
     on_ok_weaker c.raise.result
-    (λ e. rw e (counted_put c.args.self.now.capacities.entries _ c.args.point (c.in-Some.before + c.from-bits.result)
+    (λ e. rw e (counted_put c.args.self.now.capacities.map.entries _ c.args.point (c.index-before.result.now + c.from-bits.result)
     (bit_count c.args.mask)
-    (raised c.args.self.now.capacities c.args.point c.in-Some.index c.in-Some.before _ c.tell_differ.ensures
-    c.in-Some.ensures.at) (omega (arith, bits, before, c.from-bits.ensures))))
+    (c.in-Some.ensures.at.written (c.index-before.result.now + c.from-bits.result)) (omega (arith, bits, before, c.from-bits.ensures))))
     c.raise.ensures.ok
 
 pub returns-in-Some-clause-grows : goal.returns-in-Some-clause-grows
 returns-in-Some-clause-grows c =
     on_ok_weaker c.raise.result
-    (λ e. rw e (grows_put c.args.self.now.capacities.entries _ c.args.point (c.in-Some.before + c.from-bits.result)
-    (raised c.args.self.now.capacities c.args.point c.in-Some.index c.in-Some.before _ c.tell_differ.ensures
-    c.in-Some.ensures.at)))
+    (λ e. rw e (grows_put c.args.self.now.capacities.map.entries _ c.args.point (c.index-before.result.now + c.from-bits.result)
+    (c.in-Some.ensures.at.written (c.index-before.result.now + c.from-bits.result))))
     c.raise.ensures.ok
 
 pub returns-in-Some-clause-limit : goal.returns-in-Some-clause-limit
 returns-in-Some-clause-limit c = λ e.
     let bits : bit_count c.args.mask ≡ count_ones c.args.mask = bit_count-ones c.args.mask (omega arith) in
-    let before : c.in-Some.before ≡ count_in c.args.self.now.capacities.entries c.args.point =
-    ap (λ o. unwrap_or o 0) c.in-Some.ensures.capacity in
-    let large : 2 ^ 48 ≤ c.in-Some.before + c.from-bits.result = c.raise.ensures.large e in
+    let before : c.index-before.result.now ≡ count_in c.args.self.now.capacities.map.entries c.args.point =
+    sym (ap (λ o. unwrap_or o 0) (value_at c.args.self.now.capacities.map.entries c.args.point c.in-Some.index
+    c.index-before.result.now c.in-Some.ensures.at c.index-before.ensures)) in
+    let large : 2 ^ 48 ≤ c.index-before.result.now + c.from-bits.result = c.raise.ensures.large e in
     inr (omega (arith, bits, before, large, c.from-bits.ensures))
 
 pub returns-in-None-clause-counted : goal.returns-in-None-clause-counted
 returns-in-None-clause-counted c =
     let bits : bit_count c.args.mask ≡ count_ones c.args.mask = bit_count-ones c.args.mask (omega arith) in
-    let none : 0 ≡ count_in c.args.self.now.capacities.entries c.args.point =
-    ap (λ o. unwrap_or o 0) c.in-None.ensures.capacity in
+    let none : 0 ≡ count_in c.args.self.now.capacities.map.entries c.args.point =
+    sym (ap (λ o. unwrap_or o 0) c.in-None.ensures.none) in
     on_ok_weaker c.start.result
-    (λ put. counted_put c.args.self.now.capacities.entries c.start.new.self.capacities.entries c.args.point
+    (λ put. counted_put c.args.self.now.capacities.map.entries c.start.new.self.capacities.map.entries c.args.point
     c.from-bits.result (bit_count c.args.mask) put (omega (arith, bits, none, c.from-bits.ensures)))
     c.start.ensures.ok
 
@@ -87,16 +89,14 @@ returns-in-None-clause-limit c = λ e.
     let bits : bit_count c.args.mask ≡ count_ones c.args.mask = bit_count-ones c.args.mask (omega arith) in
     inl (record {
       some = omega (arith, some, bits);
-      unknown = sym (ap is_some c.in-None.ensures.capacity);
+      unknown = ap is_some c.in-None.ensures.none;
       full = c.start.ensures.full e;
     })
 
 pub returns-in-Some-clause-latest : goal.returns-in-Some-clause-latest
 returns-in-Some-clause-latest c =
-    ⊎_elim (λ same. inl same)
-    (λ moved. inr (record {
-      capacity = c.in-Some.before;
-      holds = subst (λ i. HoldsAt c.args.self.now.capacities.entries c.args.point i c.in-Some.before) (sym moved)
-          c.in-Some.ensures.at;
-    }))
+    ⊎_elim
+    (λ same. inl same)
+    (λ moved. inr (subst (StandsAt is_same c.args.self.now.capacities.map.entries c.args.point) (sym moved)
+    c.in-Some.ensures.at))
     c.raise.ensures.latest

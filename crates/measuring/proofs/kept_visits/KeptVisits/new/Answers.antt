@@ -2,4 +2,4 @@ use Rattle.measuring.proofs.AddedVisits.{starts_empty}
 use Rattle.measuring.proofs.kept_visits.KeptVisits.new.Goals as goal
 
 pub returns : goal.returns
-returns c = starts_empty c.new.result c.new-2.result.entries c.new-2.ensures.empty c.new.ensures
+returns c = starts_empty c.new.result c.new-2.result.map.entries c.new-2.ensures c.new.ensures

@@ -1,6 +1,6 @@
 use Rattle.std.proofs.Common.{sym, subst, ◌∙◌, refl}
 use Rattle.std.proofs.lemmas.Result.{on_ok_weaker}
-use Rattle.visit_counts.specs.Counts.{Clears}
+use Rattle.measuring.specs.Counts.{Clears}
 use Rattle.measuring.proofs.AddedVisits.{adds_none, settled}
 use Rattle.measuring.proofs.kept_visits.KeptVisits.settle.Goals as goal
 
@@ -10,9 +10,8 @@ returns-then-count-eq0 c =
       counts = c.clear.new.self;
       points = c.args.self.now.points;
       alloc = c.args.self.now.alloc;
-      latest = c.args.self.now.latest;
     }) c.args.point (record { count = 0; mask = 0 }) (sym c.if-count-eq0.true
-    ∙ c.in_ok-count.ensures.counted) refl (adds_none c.args.self.now.points.entries c.args.point)
+    ∙ c.in_ok-count.ensures.counted) refl (adds_none c.args.self.now.points.map.entries c.args.point)
     c.in_ok-count.ensures.cleared
 
 pub returns : goal.returns

@@ -1,6 +1,6 @@
 use Rattle.std.proofs.Common.{refl, subst, cond}
 use Rattle.std.proofs.lemmas.Result.{on_ok_weaker}
-use Rattle.visit_counts.specs.Counts.{CountsMore}
+use Rattle.measuring.specs.Counts.{CountsMore}
 use Rattle.measuring.proofs.AddedVisits.{counts_visit, uncounted}
 use Rattle.measuring.proofs.kept_visits.KeptVisits.visit_clean.Goals as goal
 
@@ -10,7 +10,6 @@ returns-then-counted c =
       counts = c.more.new.self;
       points = c.args.self.now.points;
       alloc = c.args.self.now.alloc;
-      latest = c.args.self.now.latest;
     }) c.args.point refl
     (subst (λ b. CountsMore c.args.self.now.counts c.more.new.self c.args.point (cond b 1 0)) c.if-counted.true
     c.in_ok-counted.ensures.more)
@@ -22,7 +21,6 @@ returns-else-counted c =
       counts = c.more.new.self;
       points = c.args.self.now.points;
       alloc = c.args.self.now.alloc;
-      latest = c.args.self.now.latest;
     }) c.visit_uncounted.new.self c.args.point 0 refl
     (subst (λ b. CountsMore c.args.self.now.counts c.more.new.self c.args.point (cond b 1 0)) c.if-counted.false
     c.in_ok-counted.ensures.more) adds)

@@ -1,8 +1,0 @@
-use Rattle.std.proofs.Common.{subst}
-use Rattle.std.specs.List.{IsDistinct}
-use Rattle.std.specs.Map.{keys_of}
-use Rattle.location_collapse.proofs.EqualityByOrder.{points_same}
-use Rattle.measuring.proofs.kept_visits.KeptVisits.tell_differ.Goals as goal
-
-pub returns : goal.returns
-returns c = subst (λ e. IsDistinct e (keys_of c.args.self.now.points.entries)) points_same c.len-count.ensures.unique
