@@ -16,3 +16,4 @@ pub mod OneReply
 pub mod CompleteReplies
 pub mod HeldFiles
 pub mod Headlines
+pub mod WholeReplies

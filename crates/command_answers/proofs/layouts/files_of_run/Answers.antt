@@ -1,5 +1,7 @@
 use Rattle.std.proofs.Common.{◌∙◌, [], ◌∷◌, ◌++◌, option_map, sym}
 use Rattle.command_answers.specs.Guests.{region_wants, secret_wants}
+use Rattle.command_answers.specs.Loading.{want}
+use Rattle.command_answers.specs.declared.kinds.FileKind.TheVariants as kinds
 use Rattle.command_answers.proofs.Others.{is_some-mapped, within-behind}
 use Rattle.command_answers.proofs.layouts.files_of_run.Goals as goal
 
@@ -13,6 +15,6 @@ others_of-requires c =
         name,
         names,
         is_some-mapped (λ word. word.now) guest.regions ∙ sym c.is_some.ensures,
-        within-behind _ _ (region_wants name ++ secret_wants names) c.args.files.now c.requires.within,
+        within-behind (want guest.program.now kinds.Program) (want guest.public_input.now kinds.PublicInput) (region_wants name ++ secret_wants names) c.args.files.now c.requires.within,
       );
     }

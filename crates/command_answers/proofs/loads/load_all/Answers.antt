@@ -1,8 +1,9 @@
-use Rattle.std.proofs.Common.{◌≡◌, ◌≢◌, [], ◌+◌, ap, ◌∙◌, Err, arith, get_or, map, take, drop, take_all}
+use Rattle.std.proofs.Common.{◌≡◌, ◌≢◌, ℕ, List, Result, [], ◌+◌, ap, ◌∙◌, Ok, Err, arith, get_or, map, take, drop, take_all}
 use Rattle.std.proofs.lemmas.Grind.{common_steps}
 use Rattle.command_answers.specs.declared.kinds.FileKind.TheVariants.{Program}
 use Rattle.command_answers.specs.declared.loads.Want.{Want}
-use Rattle.command_answers.specs.declared.refusals.Refusal.TheVariants.{Memory}
+use Rattle.command_answers.specs.declared.refusals.Refusal.TheVariants.{Load, Memory}
+use Rattle.command_answers.specs.declared.refusals.Refusal.{Refusal}
 use Rattle.command_answers.specs.Wants.{want_of}
 use Rattle.command_answers.proofs.LoadSteps.{gave-more, refused-loads, part-loads, all-loads, all-part, within-more, refusal-among, wants-around, wants-up-to}
 use Rattle.command_answers.proofs.loads.load_all.Goals as goal
@@ -10,6 +11,10 @@ use Rattle.command_answers.proofs.loads.load_all.Goals as goal
 -- where an item is looked up outside of a list
 abbrev none : Want
 none = record { name = record { ref_ptr = (0, 0); now = [] }; kind = Program }
+
+ok-err : (result : Result (List ℕ) Refusal) (file : List ℕ) (refusal : Refusal) → result ≡ Ok file →
+    result ≡ Err refusal → ⊥
+ok-err result file refusal e f = cc
 
 pub returns-in_err-file-clause-loads : goal.returns-in_err-file-clause-loads
 returns-in_err-file-clause-loads g c = λ known.
@@ -58,7 +63,9 @@ loop-want-preserved g c =
           gave-more (g.F.Files.told c.args.files.now) _ l.loaded (g.F.Files.told l.files) _ c.in_ok-file.file l.invariant.gave
           c.in_ok-file.ensures.answers;
       within = within-more _ l.loaded _ c.in_ok-file.file l.invariant.within c.in_ok-file.ensures.limit;
-      faults = c.load.ensures.kept (λ e. cc) (λ name. λ e. cc) ∙ l.invariant.faults;
+      faults =
+          c.load.ensures.kept (ok-err c.load.result c.in_ok-file.file Memory c.in_ok-file.was)
+          (λ name. ok-err c.load.result c.in_ok-file.file (Load name) c.in_ok-file.was) ∙ l.invariant.faults;
     })
 
 pub returns-clause-loads : goal.returns-clause-loads
