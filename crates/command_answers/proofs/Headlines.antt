@@ -190,20 +190,23 @@ cut-headline source version run files task measured text answer loads is measure
       short =
           subst (λ t. length t ≤ 67108864) same
           (short-in task measured version text told.cut measure told.in_version told.is_text (version == 2) refl);
-      accepted =
-          (subst (λ n. HasAccepted (judged_by task.guest told.cut) (record { budget = told.cut.bits; turns = n })
-          task.secret) is.turns
-          (subst (λ v. HasAccepted (judged_by task.guest told.cut) (record { budget = v; turns = task.turns })
-          task.secret) (sym bits) (accepted-in task measured version told.cut measure told.in_version (version == 2) refl)), tt);
+      accepted = (
+        subst (λ n. HasAccepted (judged_by task.guest told.cut) (record { budget = told.cut.bits; turns = n })
+            task.secret) is.turns
+            (subst (λ v. HasAccepted (judged_by task.guest told.cut) (record { budget = v; turns = task.turns })
+            task.secret) (sym bits) (accepted-in task measured version told.cut measure told.in_version (version == 2) refl)),
+        tt,
+      );
       graph = measured.graph;
       flow = measured.flow;
       side = measured.side;
-      of_runs =
-          (measured,
-          subst (λ n. Measures run.table task.guest.regions (start_of task) (length task.secret) n measured) is.turns
-          (subst (λ t. Measures t task.guest.regions (start_of task) (length task.secret) task.turns measured) is.table
-          measure.measures),
-          refl);
+      of_runs = (
+        measured,
+        subst (λ n. Measures run.table task.guest.regions (start_of task) (length task.secret) n measured) is.turns
+            (subst (λ t. Measures t task.guest.regions (start_of task) (length task.secret) task.turns measured) is.table
+            measure.measures),
+        refl,
+      );
       greatest = record {
         flow = by_measure.flow;
         value = by_measure.value ∙ sym bits;

@@ -77,7 +77,6 @@ other-names : (name : Option (List ℕ)) (names : List (List ℕ)) → names_of 
 other-names None names = secret-names names
 other-names (Some name) names = ap (λ rest. name ∷ rest) (secret-names names)
 
-
 -- ---- the files of a guest
 
 none-held : (source : Option Told) → IsHeld source None None

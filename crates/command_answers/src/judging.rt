@@ -139,7 +139,12 @@ pub fn judge_secrets(alloc: Global, task: &CheckTask) -> Result<Reply, NoMemory>
         task.now).limits.budget) }
 {
     let lines = lines_of(alloc, &task.guest, &task.cut, task.secrets, task.limits)?;
-    let counts = counts_line(alloc, task.secrets.len(), lines.accepted, task.limits.budget)?;
+    let counts = counts_line(
+        alloc,
+        task.secrets.len(),
+        lines.accepted,
+        task.limits.budget,
+    )?;
     let status = status_of(lines.accepted, task.secrets.len());
     let mut text = lines.text;
     text.extend_from_slice(counts.as_slice())?;

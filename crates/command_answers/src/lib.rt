@@ -7,7 +7,7 @@ mod books;
 mod guests;
 mod judging;
 mod kinds;
-// mod laws;
+mod laws;
 mod layouts;
 mod loads;
 mod measured_runs;
@@ -24,5 +24,5 @@ mod trials;
 mod verdicts;
 mod wants;
 
-
+pub use laws::{replies_are_complete, replies_are_one};
 pub use top::flowcheck;

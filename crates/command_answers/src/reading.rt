@@ -121,11 +121,7 @@ fn read_check<'a>(
 }
 
 /// The run that is to be measured.
-fn read_run<'a>(
-    alloc: Global,
-    run: &RunWords,
-    files: &'a [Bytes],
-) -> Result<RunTask<'a>, Refusal>
+fn read_run<'a>(alloc: Global, run: &RunWords, files: &'a [Bytes]) -> Result<RunTask<'a>, Refusal>
     requires within { AreWithin (guest_wants (guest_of run.now.guest) [] (run.now.secret.now ∷ [])) files.now }
     ensures ok { IfOk result (λ task. IsRunTask (run_of run.now) files.entry.now (run_in task)) }
     ensures bounded { IfOk result (λ task. IsBoundedRun task) }
@@ -168,7 +164,10 @@ pub fn read_task<'a>(
             alloc,
             one_file(files),
         )?)),
-        CommandWords::Migrate { .. } => Ok(Task::MigrateCut(read_cut_file(alloc, one_file(files))?)),
+        CommandWords::Migrate { .. } => Ok(Task::MigrateCut(read_cut_file(
+            alloc,
+            one_file(files),
+        )?)),
         CommandWords::Trial { number } => Ok(Task::TryNumber(*number)),
     }
 }

@@ -79,10 +79,7 @@ fn guest_wants_of<'a>(
 }
 
 /// The files that a command wants, in the order of their loads.
-pub fn wants_of<'a>(
-    alloc: Global,
-    command: &CommandWords<'a>,
-) -> Result<List<Want<'a>>, NoMemory>
+pub fn wants_of<'a>(alloc: Global, command: &CommandWords<'a>) -> Result<List<Want<'a>>, NoMemory>
     ensures { IfOk result (λ wants. map want_of wants ≡ wants_of_of (command_of command.now)) }
 {
     match command {

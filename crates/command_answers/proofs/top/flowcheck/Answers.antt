@@ -1,26 +1,38 @@
-use Rattle.std.proofs.Common.{rules, ◌≡◌, ◌≢◌, ◌≤◌, ◌∷◌, [], map, string_bytes, IfOk, IsTrue, ℕ, ◌+◌, ◌-◌, ◌*◌, ◌<◌, length, ◌/◌, ◌%◌, Bool, true, false, nat_eq, nat_lt, List, ◌++◌, slice_index_or, slice_set, bit_and, bit_or, Fits, w8, w32, w64, Bor, MutBor}
-use Rattle.command_answers.specs.Clauses.{CountsFaults, IsPut, IsReply}
-use Rattle.command_answers.specs.Replies.{LeavesWords, LeavesWordsPart}
-use Rattle.command_answers.specs.Replies.{Reply as WholeReply}
-use Rattle.command_answers.specs.Statuses.{is_one_of, number_of}
+use Rattle.std.proofs.Common.{◌≡◌, ◌∙◌, map, string_bytes, subst, sym}
+use Rattle.command_answers.specs.Replies.{reply_of}
+use Rattle.command_answers.proofs.WholeReplies.{faults_put, faults_unanswered, faults_unput, is_reply, put_part, put_whole}
 use Rattle.command_answers.proofs.top.flowcheck.Goals as goal
 
--- src/top.rt:40:1
 pub returns-in-Ok-put-clause-reply : goal.returns-in-Ok-put-clause-reply
-returns-in-Ok-put-clause-reply g c = ?
+returns-in-Ok-put-clause-reply g c = λ eight.
+    let answers = rw c.as_slice.ensures.value at c.answer.ensures.answers c.in-Ok.ensures.0 in (
+      reply_of c.answer.result,
+      is_reply (g.F.Files.told c.args.files.now) (map string_bytes c.args.words.items) c.answer.result answers,
+      put_whole c.answer.result c.in-Ok.reply c.number-in-Ok-put.result (g.K.Sink.told c.args.out.now)
+          (g.K.Sink.told c.put.new.self) c.in-Ok.ensures.1 c.number-in-Ok-put.ensures
+          (rw c.as_slice-2.ensures at c.in-Ok-put.ensures.puts),
+    )
 
--- src/top.rt:40:1
 pub returns-in-Ok-put-clause-loads : goal.returns-in-Ok-put-clause-loads
-returns-in-Ok-put-clause-loads g c = ?
+returns-in-Ok-put-clause-loads g c = λ eight.
+    rw c.as_slice.ensures.value at c.answer.ensures.leaves c.in-Ok.ensures.0
 
--- src/top.rt:40:1
 pub returns-in-Ok-put-clause-faults : goal.returns-in-Ok-put-clause-faults
-returns-in-Ok-put-clause-faults g c = ?
+returns-in-Ok-put-clause-faults g c =
+    let answers = rw c.as_slice.ensures.value at c.answer.ensures.answers c.in-Ok.ensures.0 in
+    faults_put (g.F.Files.told c.args.files.now) (map string_bytes c.args.words.items) c.answer.result c.in-Ok.reply
+    c.number-in-Ok-put.result _ _ _ _ answers c.in-Ok.ensures.0 c.in-Ok.ensures.1 c.number-in-Ok-put.ensures
+    c.answer.ensures.cause c.answer.ensures.kept c.in-Ok-put.ensures.kept
 
--- src/top.rt:23:1
 pub returns-clause-reply : goal.returns-clause-reply
-returns-clause-reply g c = ?
+returns-clause-reply g c = λ eight.
+    let answers = rw c.as_slice.ensures.value at c.answer.ensures.answers c.in-Ok.ensures.0 in (
+      reply_of c.answer.result,
+      is_reply (g.F.Files.told c.args.files.now) (map string_bytes c.args.words.items) c.answer.result answers,
+      put_part c.answer.result c.in-Ok.reply c.number-in-Err.result (g.K.Sink.told c.args.out.now)
+          (g.K.Sink.told c.put.new.self) c.in-Ok.ensures.1 c.number-in-Err.ensures
+          (rw c.as_slice-2.ensures at c.in-Err.ensures.puts),
+    )
 
--- src/top.rt:23:1
 pub returns-clause-loads : goal.returns-clause-loads
-returns-clause-loads g c = ?
+returns-clause-loads g c = λ eight. rw c.as_slice.ensures.value at c.answer.ensures.leaves c.in-Ok.ensures.0

@@ -42,5 +42,5 @@ returns g c = λ known.
       measured,
       subst (λ (r : RunTask). IsMeasured r measured) run c.in_ok-measured.ensures.ok,
       ap (λ r. Ok r) c.done.ensures
-      ∙ ap done_by (c.in_ok-text.ensures ∙ ap (trial_line c.args.number measured) c.in_ok-crossing.ensures),
+          ∙ ap done_by (c.in_ok-text.ensures ∙ ap (trial_line c.args.number measured) c.in_ok-crossing.ensures),
     )
