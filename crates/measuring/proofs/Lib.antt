@@ -14,3 +14,4 @@ pub mod ShortTexts
 pub mod OwnCuts
 pub mod DecidedRuns
 pub mod MeasuredWithoutCause
+pub mod OneCause
