@@ -1,7 +1,7 @@
 -- The answers of a table decide a run: for lists of answers that are all by table 1, or all by table 2, labels, events
 -- and refusals are the same.
 use Rattle.std.proofs.Common.{◌≡◌, ℕ, List, [], ◌∷◌, ◌++◌, refl, sym, ap, ap₂, subst, ◌∙◌, arith, ⊎_elim}
-use Rattle.std.specs.Prelude.{◌⊎◌, ◌==◌, if◌then◌else◌}
+use Rattle.std.specs.Prelude.{◌==◌, if◌then◌else◌}
 use Rattle.enclosure_regions.specs.declared.region_parts.Region.{Region}
 use Rattle.flow_graph.specs.declared.events.Event.{Event}
 use Rattle.flow_graph.specs.declared.events.Event.TheVariants.{Pass}
