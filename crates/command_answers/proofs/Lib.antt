@@ -13,3 +13,4 @@ pub mod Counted
 pub mod OneCertificate
 pub mod Complete
 pub mod OneStatus
+pub mod OneReply
