@@ -1,11 +1,10 @@
 -- A certificate file is of one graph, one flow and one side, and its verdict has one status.
-use Rattle.std.proofs.Common.{◌≡◌, ◌∙◌, ℕ, List, [], ◌∷◌, Bool, true, IsTrue, length, map, refl, sym, ap, subst, arith}
+use Rattle.std.proofs.Common.{◌≡◌, ◌∙◌, ℕ, List, [], ◌∷◌, Bool, true, length, map, refl, sym, ap, arith}
 use Rattle.std.proofs.lemmas.Bool.Decides.{nat_tests}
-use mathlib.Core.Bool.{Bool-set}
 use Rattle.flow_graph.specs.declared.ends.Arc.{Arc}
 use Rattle.flow_graph.specs.declared.graphs.Graph.{Graph}
 use Rattle.flow_graph.specs.declared.nodes.Node.{Node}
-use Rattle.flow_graph.specs.Graphs.{are_arcs, are_links, are_points, are_relays}
+use Rattle.flow_graph.proofs.SameGraphs.{same-graph}
 use Rattle.max_flow.specs.declared.answers.Half.{Half}
 use Rattle.max_flow.specs.declared.answers.Solved.{Solved}
 use Rattle.flow_certificate.specs.Certificates.{Picture, arc_of, node_of, region_of}
@@ -73,50 +72,7 @@ solved_in picture = record {
   side = record { points = map half_at picture.points; relays = map inside_at picture.relays };
 }
 
--- ---- a graph is what its lists are
-
-made-graph : (points : List Node) (relays : List ℕ) (links : List Arc) → IsTrue (are_points points) →
-    IsTrue (are_relays relays) → IsTrue (are_arcs links) → IsTrue (are_links (length points) relays links) → Graph
-made-graph points relays links a b c d = record {
-  points = points;
-  relays = relays;
-  links = links;
-  points_ascend = a;
-  relays_ascend = b;
-  links_ascend = c;
-  links_are_valid = d;
-}
-
-true-once : (b : Bool) (first second : IsTrue b) → first ≡ second
-true-once b first second = Bool-set b true first second
-
-same-proofs : (graph : Graph) (a : IsTrue (are_points graph.points)) (b : IsTrue (are_relays graph.relays))
-    (c : IsTrue (are_arcs graph.links)) (d : IsTrue (are_links (length graph.points) graph.relays graph.links)) →
-    made-graph graph.points graph.relays graph.links a b c d ≡ graph
-unfolding made-graph
-same-proofs graph a b c d =
-    ap (λ v. made-graph graph.points graph.relays graph.links v b c d) (true-once _ a graph.points_ascend)
-    ∙ (ap (λ v. made-graph graph.points graph.relays graph.links graph.points_ascend v c d)
-    (true-once _ b graph.relays_ascend)
-    ∙ (ap (λ v. made-graph graph.points graph.relays graph.links graph.points_ascend graph.relays_ascend v d)
-    (true-once _ c graph.links_ascend)
-    ∙ ap (λ v. made-graph graph.points graph.relays graph.links graph.points_ascend graph.relays_ascend
-    graph.links_ascend v) (true-once _ d graph.links_are_valid)))
-
-abbrev IsMade : Graph → List Node → List ℕ → List Arc → Type 0
-IsMade graph points relays links =
-    (a : IsTrue (are_points points)) (b : IsTrue (are_relays relays)) (c : IsTrue (are_arcs links))
-    (d : IsTrue (are_links (length points) relays links)) → made-graph points relays links a b c d ≡ graph
-
-same-graph : (graph other : Graph) → graph.points ≡ other.points → graph.relays ≡ other.relays →
-    graph.links ≡ other.links → other ≡ graph
-unfolding made-graph
-same-graph graph other points relays links =
-    let made : IsMade graph other.points other.relays other.links =
-    subst (λ l. IsMade graph other.points other.relays l) links
-    (subst (λ r. IsMade graph other.points r graph.links) relays
-    (subst (λ p. IsMade graph p graph.relays graph.links) points (same-proofs graph))) in
-    made other.points_ascend other.relays_ascend other.links_ascend other.links_are_valid
+-- ---- a flow and a side are what their lists are
 
 made-solved : ℕ → List ℕ → List ℕ → List Half → List Bool → Solved
 made-solved value points links halves relays = record {
@@ -161,6 +117,6 @@ one_certificate file graph other solved another one second =
     let links = sym (arcs-kept graph.links solved.flow.links many.links)
     ∙ (ap (λ p. map arc_of p.links) same ∙ arcs-kept other.links another.flow.links also.links) in
     record {
-      graphs = sym (same-graph graph other points relays links);
+      graphs = same-graph graph other points relays links;
       solutions = sym (solved-kept graph solved many) ∙ (ap solved_in same ∙ solved-kept other another also);
     }

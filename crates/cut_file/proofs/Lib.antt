@@ -18,3 +18,5 @@ pub mod Answering
 pub mod CutMasks
 pub mod TextLengths
 pub mod FoldLengths
+pub mod OneRuns
+pub mod OneFold

@@ -8,3 +8,4 @@ pub mod Faults
 pub mod Unique
 pub mod Laying
 pub mod Spelling
+pub mod OneFault

@@ -13,3 +13,5 @@ pub mod FileReads
 pub mod WholeDrafts
 pub mod Written
 pub mod OneText
+pub mod OneFault
+pub mod OneVerdict

@@ -9,3 +9,4 @@ pub mod SameLinksSameRelays
 pub mod CapacityEntries
 pub mod Relays
 pub mod FewPoints
+pub mod SameGraphs

@@ -1,13 +1,18 @@
 -- The names of commands.
 use Rattle.std.specs.Prelude.{◌≡◌, ℕ, List, codes}
-use Rattle.command_words.specs.CommandLines.{Command, Checks, Measures, Graphs, Reports, Assembles, Lists, Verifies}
-use Rattle.command_words.specs.CommandLines.{Migrates, Tries, IsCommand}
+use Rattle.command_words.specs.declared.tellings.Telling.{Telling}
+use Rattle.command_words.specs.declared.tellings.Telling.TheVariants.{CutText, Certificate, Report}
+use Rattle.command_words.specs.CommandLines.{Command, Checks, Tells, Assembles, Lists, Verifies, Migrates, Tries}
+use Rattle.command_words.specs.CommandLines.{IsCommand}
+
+abbrev pub telling_name : Telling → List ℕ
+telling_name (CutText version) = codes "measure"
+telling_name Certificate = codes "graph"
+telling_name (Report json) = codes "report"
 
 abbrev pub name_of : Command → List ℕ
 name_of (Checks check) = codes "check"
-name_of (Measures version run) = codes "measure"
-name_of (Graphs run) = codes "graph"
-name_of (Reports json run) = codes "report"
+name_of (Tells telling run) = telling_name telling
 name_of (Assembles source) = codes "asm"
 name_of (Lists program) = codes "list"
 name_of (Verifies certificate) = codes "verify"

@@ -1,11 +1,22 @@
 ghost use Rattle.std.specs.Prelude.{◌≡◌, None, Ok, map, string_bytes, IfOk, IfSome};
 ghost use Rattle.command_words.specs.CommandLines.{IsNoCommand};
 ghost use Rattle.command_words.specs.Words.{command_of};
-ghost use Rattle.form_rows.specs.Names.{IsNamed, name_of};
+ghost use Rattle.form_rows.specs.Names.{IsNamed, name_of, telling_name};
 
-use command_words::{CommandWords, command_words};
+use command_words::{CommandWords, Telling, command_words};
 use flow_base::NoMemory;
 use std::alloc::Global;
+
+/// The name of the command that tells so of a run.
+fn name_of_telling<'a>(telling: Telling) -> &'a str
+    ensures { result.now ≡ telling_name telling }
+{
+    match telling {
+        Telling::CutText(_) => "measure",
+        Telling::Certificate => "graph",
+        Telling::Report(_) => "report",
+    }
+}
 
 /// The name of a command.
 fn name<'a>(command: &CommandWords<'_>) -> &'a str
@@ -13,9 +24,7 @@ fn name<'a>(command: &CommandWords<'_>) -> &'a str
 {
     match command {
         CommandWords::Check(_) => "check",
-        CommandWords::Measure { .. } => "measure",
-        CommandWords::Graph(_) => "graph",
-        CommandWords::Report { .. } => "report",
+        CommandWords::Tell { telling, .. } => name_of_telling(*telling),
         CommandWords::Assemble { .. } => "asm",
         CommandWords::List { .. } => "list",
         CommandWords::Verify { .. } => "verify",

@@ -1,3 +1,4 @@
 pub mod LineLists
 pub mod Floats
 pub mod MappedLists
+pub mod OneReport

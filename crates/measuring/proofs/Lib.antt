@@ -15,3 +15,9 @@ pub mod ShortTexts
 pub mod OwnCuts
 pub mod DecidedRuns
 pub mod MeasuredWithoutCause
+pub mod OneCause
+pub mod SortedLists
+pub mod OneGraph
+pub mod OneSide
+pub mod OneCut
+pub mod OneMeasure

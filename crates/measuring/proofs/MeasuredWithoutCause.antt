@@ -101,7 +101,7 @@ unrefused_first regions (a ∷ later) first start un = unrefused_first regions l
 -- ---- a run that exits
 
 -- it does not run any more after as many turns
-exits_not_running : (table : ℕ) (regions : List Region) (start : LabelledRun) (answers running : List (List ℕ)) →
+pub exits_not_running : (table : ℕ) (regions : List Region) (start : LabelledRun) (answers running : List (List ℕ)) →
     IsDeciding table → EachRunAnswer (IsTableAnswer table) regions answers start →
     has_exited (mode_of (run_after regions answers start)) ≡ true →
     EachRunAnswer (IsTableAnswer table) regions running start →
@@ -134,7 +134,7 @@ not_refused table regions run other first second fault deciding same by none als
     sym none_there ∙ (refusals_are_decided table regions other first second deciding by_same also ∙ refused) in
     cc
 
-turn_unrefused : (table : ℕ) (regions : List Region) (start : LabelledRun) (answers before : List (List ℕ))
+pub turn_unrefused : (table : ℕ) (regions : List Region) (start : LabelledRun) (answers before : List (List ℕ))
     (last : List ℕ) (fault : MeasureFault) → IsDeciding table →
     EachRunAnswer (IsTableAnswer table) regions answers start → IsUnrefused regions answers start →
     EachRunAnswer (IsTableAnswer table) regions before start →
@@ -159,7 +159,7 @@ turn_unrefused table regions start answers before last fault deciding each un al
         not_refused table regions (run_after regions first start) (run_after regions before start) a last fault
         deciding same each_part.1 un_part.1 by refused
 
-exits_unrefused : (table : ℕ) (regions : List Region) (start : LabelledRun) (answers : List (List ℕ)) (limit : ℕ)
+pub exits_unrefused : (table : ℕ) (regions : List Region) (start : LabelledRun) (answers : List (List ℕ)) (limit : ℕ)
     (fault : MeasureFault) → IsDeciding table → EachRunAnswer (IsTableAnswer table) regions answers start →
     IsUnrefused regions answers start → has_exited (mode_of (run_after regions answers start)) ≡ true →
     IsRefused table regions start limit fault → ⊥
@@ -176,7 +176,7 @@ exits_unrefused table regions start answers limit fault deciding each un exited 
 
 -- ---- a run that is measured
 
-exited_mode : (mode : Stepped) (status : ℕ) → mode ≡ Exited status → has_exited mode ≡ true
+pub exited_mode : (mode : Stepped) (status : ℕ) → mode ≡ Exited status → has_exited mode ≡ true
 exited_mode mode status is = ap has_exited is
 
 no_refusal : (table : ℕ) (regions : List Region) (start : LabelledRun) (secret_len limit : ℕ) (measured : Measured)
@@ -203,7 +203,7 @@ no_limit table regions start secret_len limit measured deciding measures goes_on
     goes_on.is_run.by_table goes_on.running (omega (arith, counted, within, all))
 
 -- two runs that exit do so in the same turn, with the same events
-not_longer : (table : ℕ) (regions : List Region) (start : LabelledRun) (limit turns other_turns : ℕ)
+pub not_longer : (table : ℕ) (regions : List Region) (start : LabelledRun) (limit turns other_turns : ℕ)
     (output other_output : Output) → IsDeciding table → (one : Exits table regions start limit turns output) →
     (other : Exits table regions start limit other_turns other_output) →
     length one.earlier < length other.earlier → ⊥
@@ -213,7 +213,7 @@ not_longer table regions start limit turns other_turns output other_output decid
     (exited_mode (mode_of (run_after regions (one.last ∷ one.earlier) start)) output.status one.exited)
     other.is_run.by_table.0 other.running (omega (arith, fewer))
 
-same_exits : (table : ℕ) (regions : List Region) (start : LabelledRun) (limit turns other_turns : ℕ)
+pub same_exits : (table : ℕ) (regions : List Region) (start : LabelledRun) (limit turns other_turns : ℕ)
     (output other_output : Output) → IsDeciding table → (one : Exits table regions start limit turns output) →
     (other : Exits table regions start limit other_turns other_output) →
     run_after regions (one.last ∷ one.earlier) start ≡ run_after regions (other.last ∷ other.earlier) start

@@ -130,7 +130,7 @@ ends_alike nodes up Sink (PointEnd j) a b = refl
 ends_alike nodes up Sink (Relay r) a b = refl
 ends_alike nodes up Sink Sink a b = refl
 
-links_alike_order : (nodes : List Node) (relays : List ℕ) → ascend node_cmp nodes ≡ true → (a b : Arc) →
+pub links_alike_order : (nodes : List Node) (relays : List ℕ) → ascend node_cmp nodes ≡ true → (a b : Arc) →
     is_link (length nodes) relays a ≡ true → is_link (length nodes) relays b ≡ true →
     arc_cmp a b ≡ link_cmp (named nodes a) (named nodes b)
 links_alike_order nodes relays up a b first second =
