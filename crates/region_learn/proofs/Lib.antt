@@ -1,0 +1,2 @@
+pub mod MappedLists
+pub mod Floats

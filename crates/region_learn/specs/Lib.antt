@@ -1,0 +1,2 @@
+pub mod RegionTexts
+pub mod Members

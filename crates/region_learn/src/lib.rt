@@ -1,0 +1,7 @@
+//! The least declaration of the regions of one run: what the instructions inside each region write, as regions that the
+//! run does not break; and regions as the text of a region file.
+#![tactic(auto)]
+
+mod writing;
+
+pub use writing::write_regions;
