@@ -1,2 +1,9 @@
 pub mod RegionTexts
 pub mod Members
+pub mod FaultTexts
+pub mod Written
+pub mod Learnt
+pub mod LearnAnswers
+pub mod Marks
+pub mod Noting
+pub mod Books

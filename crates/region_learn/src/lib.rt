@@ -2,6 +2,13 @@
 //! run does not break; and regions as the text of a region file.
 #![tactic(auto)]
 
+mod bits;
+mod byte_marks;
+mod faults;
+mod notes;
+mod pages;
+mod turns;
 mod writing;
 
+pub use faults::LearnFault;
 pub use writing::write_regions;
