@@ -4,3 +4,4 @@ pub mod MarkedCells
 pub mod NoteCalls
 pub mod Counting
 pub mod BookPlaces
+pub mod BookTurns
