@@ -5,3 +5,6 @@ pub mod NoteCalls
 pub mod Counting
 pub mod BookPlaces
 pub mod BookTurns
+pub mod KindRegions
+pub mod RunEnds
+pub mod RunFaults

@@ -6,7 +6,7 @@ use Rattle.rv32im_machine.specs.Rows.{walk_of}
 use Rattle.enclosure_regions.specs.declared.region_parts.Region.{Region}
 use Rattle.enclosure_regions.specs.declared.break_kinds.Place.{Place}
 use Rattle.enclosure_regions.specs.Breaks.{has_changed}
-use Rattle.enclosure_regions.specs.Regions.{are_distinct}
+use Rattle.enclosure_regions.specs.Regions.{are_distinct, ids_of}
 use Rattle.region_machine.specs.Enclosures.{Kind, Enters, Leaves, Steps, kind_of}
 use Rattle.region_learn.specs.declared.notes.Notes.{Notes}
 use Rattle.region_learn.specs.Marks.{has_bit}
@@ -52,7 +52,7 @@ pub record NotesOf (regions : List Region) (turns : ℕ) (start : State) (notes 
 
 -- the same for the notes of all regions
 pub record BookOf (regions : List Region) (turns : ℕ) (start : State) (book : List Notes) : Type 0 where
-  pub numbers : numbers_of book ≡ map (λ region. region.id) regions
+  pub numbers : numbers_of book ≡ ids_of regions
   pub each : (place : ℕ) (none : Notes) → place < length book →
       NotesOf regions turns start (slice_index_or book place none)
 
@@ -60,9 +60,17 @@ pub record BookOf (regions : List Region) (turns : ℕ) (start : State) (book : 
 abbrev pub have_base : List Notes → ℕ → Bool
 have_base book base = list_all (λ notes. notes.base == base) book
 
+-- the region of a turn of this kind, if there is one, passes a test
+abbrev pub kind_passes : (Region → Bool) → Kind → Bool
+kind_passes test (Enters region) = test region
+kind_passes test (Leaves region) = test region
+kind_passes test (Steps None) = true
+kind_passes test (Steps (Some region)) = test region
+
 -- the region of the turn, if there is one, has notes
 abbrev pub has_kind_notes : List Notes → Kind → Bool
-has_kind_notes book (Enters region) = has_notes book region.id
-has_kind_notes book (Leaves region) = has_notes book region.id
-has_kind_notes book (Steps None) = true
-has_kind_notes book (Steps (Some region)) = has_notes book region.id
+has_kind_notes book kind = kind_passes (λ region. has_notes book region.id) kind
+
+-- no region has a range
+abbrev pub are_bare : List Region → Bool
+are_bare regions = list_all (λ region. length region.ranges == 0) regions

@@ -7,6 +7,7 @@ mod byte_marks;
 mod faults;
 mod notes;
 mod pages;
+mod runs;
 mod turns;
 mod writing;
 
