@@ -8,3 +8,6 @@ pub mod BookTurns
 pub mod KindRegions
 pub mod RunEnds
 pub mod RunFaults
+pub mod GrowingSpans
+pub mod ScannedSpans
+pub mod Registers

@@ -1,6 +1,6 @@
 -- What is answered of a run: the least declaration, or why there is none.
 use Rattle.std.specs.Prelude.{◌≡◌, ℕ, zero, suc, min, nat_le, List, [], ◌∷◌, length, sum_by, Option, Some, None}
-use Rattle.std.specs.Prelude.{Result, Ok, Err, if◌then◌else◌}
+use Rattle.std.specs.Prelude.{◌⊎◌, if◌then◌else◌}
 use Rattle.rv32im_machine.specs.declared.stepping.Stepped.{Stepped}
 use Rattle.rv32im_machine.specs.declared.stepping.Stepped.TheVariants.{Ran, Exited, Stopped}
 use Rattle.rv32im_machine.specs.State.{State}
@@ -76,15 +76,14 @@ declaration_fault regions = first_fault (regions_fault regions) (text_fault (reg
 
 -- ---- the answer
 
-abbrev pub unless_fault : Option LearnFault → List Region → Result (List Region) LearnFault
-unless_fault None regions = Ok regions
-unless_fault (Some fault) regions = Err fault
+-- the regions are the least declaration of a run that has one
+pub record Grants (run : Run) (regions : List Region) : Type 0 where
+  pub exits : run_fault run ≡ None
+  pub learnt : Learnt run regions
+  pub fits : declaration_fault regions ≡ None
 
-abbrev pub AnswersRun : Run → Result (List Region) LearnFault → Option LearnFault → Type 0
-AnswersRun run answer (Some fault) = answer ≡ Err fault
-AnswersRun run answer None =
-    (regions : List Region) × Learnt run regions × (answer ≡ unless_fault (declaration_fault regions) regions)
-
--- the answer to a run
-abbrev pub Answers : Run → Result (List Region) LearnFault → Type 0
-Answers run answer = AnswersRun run answer (run_fault run)
+-- the run has none for this reason, or its least declaration is refused for this reason
+abbrev pub Refuses : Run → LearnFault → Type 0
+Refuses run fault =
+    (run_fault run ≡ Some fault)
+    ⊎ ((regions : List Region) × (run_fault run ≡ None) × Learnt run regions × (declaration_fault regions ≡ Some fault))

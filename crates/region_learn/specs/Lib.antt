@@ -7,3 +7,5 @@ pub mod LearnAnswers
 pub mod Marks
 pub mod Noting
 pub mod Books
+pub mod Spans
+pub mod Declarations

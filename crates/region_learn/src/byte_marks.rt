@@ -1,4 +1,4 @@
-ghost use Rattle.std.specs.Prelude.{◌≡◌, ◌==◌, ◌||◌, ℕ, ◌<◌, false, IfOk, IsTrue, OnOk, [], slice_index_or, vec_len};
+ghost use Rattle.std.specs.Prelude.{◌≡◌, ◌==◌, ◌||◌, ℕ, ◌<◌, false, IfOk, IsTrue, OnOk, [], length, slice_index_or, vec_len};
 ghost use Rattle.flow_base.specs.Guests.{memory_size};
 ghost use Rattle.region_learn.specs.Marks.{marks_have, page_has};
 
@@ -8,7 +8,7 @@ use std::alloc::Global;
 use std::marker::Model;
 
 /// The pages of guest memory.
-pub(crate) const PAGES: usize = 4096;
+const PAGES: usize = 4096;
 
 /// Marked bytes of guest memory, each by its index from the lowest address on.
 #[derive(Drop)]
@@ -38,6 +38,14 @@ impl ByteMarks {
             }
         }
         Ok(ByteMarks { pages })
+    }
+
+    /// The number of pages.
+    pub(crate) fn count(&self) -> usize
+        ensures count { result ≡ 4096 }
+        ensures pages { length self.now ≡ 4096 }
+    {
+        self.pages.len()
     }
 
     /// The page with an index.

@@ -4,10 +4,12 @@
 
 mod bits;
 mod byte_marks;
+mod declarations;
 mod faults;
 mod notes;
 mod pages;
 mod runs;
+mod spans;
 mod turns;
 mod writing;
 
