@@ -9,3 +9,4 @@ pub mod Noting
 pub mod Books
 pub mod Spans
 pub mod Declarations
+pub mod Learning

@@ -4,8 +4,10 @@
 
 mod bits;
 mod byte_marks;
+mod checks;
 mod declarations;
 mod faults;
+mod learning;
 mod notes;
 mod pages;
 mod runs;
