@@ -11,3 +11,5 @@ pub mod RunFaults
 pub mod GrowingSpans
 pub mod ScannedSpans
 pub mod Registers
+pub mod FreshNotes
+pub mod RegionRules

@@ -1,5 +1,5 @@
 -- The notes of all regions of a run, turn by turn.
-use Rattle.std.specs.Prelude.{◌≡◌, ℕ, ◌<◌, ◌==◌, ◌&&◌, ◌||◌, Bool, List, length, map, slice_index_or, true, Some, None}
+use Rattle.std.specs.Prelude.{◌≡◌, ℕ, ◌<◌, ◌==◌, ◌&&◌, ◌||◌, Bool, List, length, map, slice_index_or, true, false, Some, None}
 use Rattle.std.specs.List.{list_all, list_any}
 use Rattle.rv32im_machine.specs.State.{State}
 use Rattle.rv32im_machine.specs.Rows.{walk_of}
@@ -74,3 +74,14 @@ has_kind_notes book kind = kind_passes (λ region. has_notes book region.id) kin
 -- no region has a range
 abbrev pub are_bare : List Region → Bool
 are_bare regions = list_all (λ region. length region.ranges == 0) regions
+
+-- notes of a region with nothing noted
+pub record IsFresh (region base : ℕ) (notes : Notes) : Type 0 where
+  pub number : notes.region ≡ region
+  pub low : notes.base ≡ base
+  pub places : (place : Place) → has_place notes place ≡ false
+  pub changed : (register : ℕ) → has_bit notes.changed register ≡ false
+
+-- notes of whatever region with nothing noted
+abbrev pub IsNew : ℕ → Notes → Type 0
+IsNew base notes = IsFresh notes.region base notes

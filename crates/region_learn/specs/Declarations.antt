@@ -1,8 +1,9 @@
 -- The declaration that notes of a region give.
-use Rattle.std.specs.Prelude.{◌≡◌, ℕ, ◌+◌, ◌<◌, ◌-◌, ◌&&◌, nat_le, not, Bool, List, length, slice_index_or}
+use Rattle.std.specs.Prelude.{◌≡◌, ℕ, ◌+◌, ◌<◌, ◌-◌, ◌&&◌, nat_le, not, Bool, true, List, length, slice_index_or}
 use Rattle.std.specs.List.{filter}
 use Rattle.flow_base.specs.Guests.{memory_size}
 use Rattle.enclosure_regions.specs.declared.region_parts.Region.{Region}
+use Rattle.enclosure_regions.specs.Regions.{are_apart, are_registers}
 use Rattle.enclosure_regions.specs.Orders.{all_registers}
 use Rattle.region_learn.specs.declared.notes.Notes.{Notes}
 use Rattle.region_learn.specs.Learnt.{have_byte}
@@ -32,3 +33,10 @@ pub record DeclareAll (regions : List Region) (book : List Notes) (declared : Li
   pub each : (place : ℕ) (region other : Region) (notes : Notes) → place < length regions →
       Declares (slice_index_or regions place region) (slice_index_or book place notes)
       (slice_index_or declared place other)
+
+-- a region whose registers and ranges keep the rules but for how many ranges and bytes there may be
+pub record IsDraft (region : Region) : Type 0 where
+  pub outs : are_registers region.outs ≡ true
+  pub keep : are_registers region.keep ≡ true
+  pub apart : are_apart region.outs region.keep ≡ true
+  pub spans : SpansBelow 4294967295 region.ranges

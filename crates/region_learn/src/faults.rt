@@ -1,4 +1,4 @@
-use flow_base::HexWord;
+use flow_base::{HexWord, NoMemory};
 use rv32im_machine::Fault;
 use std::fmt;
 use thiserror::Error;
@@ -42,5 +42,17 @@ impl fmt::Display for LearnFault {
             LearnFault::TextSize { size } => write!(f, "text-size {size}"),
             LearnFault::Memory => write!(f, "memory"),
         }
+    }
+}
+
+impl From<NoMemory> for LearnFault {
+    ghost use Rattle.std.specs.Prelude.{◌≡◌};
+    ghost use Rattle.region_learn.specs.declared.faults.LearnFault.TheVariants.{Memory};
+    ghost use Rattle.flow_base.specs.declared.lists.NoMemory.{NoMemory as TheNoMemory};
+
+    ghost from_gives = { λ _ fault. fault ≡ Memory };
+
+    fn from(_: NoMemory) -> LearnFault {
+        LearnFault::Memory
     }
 }

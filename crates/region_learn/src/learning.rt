@@ -1,7 +1,8 @@
 ghost use Rattle.std.specs.Prelude.{◌≡◌, ◌≢◌, ◌<◌, ◌^◌, IfErr, IfOk, IsTrue, length, map, None};
 ghost use Rattle.elf32_loader.specs.Images.{picture_of};
-ghost use Rattle.enclosure_regions.specs.Regions.{are_regions};
-ghost use Rattle.region_learn.specs.Books.{BookOf, are_bare};
+ghost use Rattle.enclosure_regions.specs.Regions.{ids_of};
+ghost use Rattle.std.specs.List.{AllByRecursion};
+ghost use Rattle.region_learn.specs.Books.{IsFresh, IsNew, numbers_of};
 ghost use Rattle.region_learn.specs.LearnAnswers.{Grants, Refuses};
 ghost use Rattle.region_learn.specs.Learning.{run_of};
 ghost use Rattle.region_learn.specs.Written.{Run, bare as bare_of};
@@ -56,22 +57,27 @@ fn bare_regions(alloc: Global, regions: &Regions) -> Result<Regions, NoMemory>
     })
 }
 
-/// Notes of each region, before the first turn.
-fn new_book(alloc: Global, regions: &[Region], machine: &Machine) -> Result<Vec<Notes>, NoMemory>
-    ensures { IfOk result (λ book. BookOf regions.now 0 machine.now book.items) }
+/// Notes of a region, before the first turn.
+fn new_notes(alloc: Global, region: u16, base: u32) -> Result<Notes, NoMemory>
+    ensures { IfOk result (λ notes. IsFresh region base notes) }
 {
-    let mut book = Vec::new(alloc);
+    Ok(Notes {
+        region,
+        base,
+        written: 0,
+        changed: 0,
+        bytes: ByteMarks::new(alloc)?,
+    })
+}
+
+/// Notes of each region, before the first turn.
+fn new_book(alloc: Global, regions: &[Region], base: u32) -> Result<List<Notes>, NoMemory>
+    ensures numbers { IfOk result (λ book. numbers_of book ≡ ids_of regions.now) }
+    ensures fresh { IfOk result (λ book. AllByRecursion (IsNew base) book) }
+{
+    let mut book = List::new(alloc);
     for region in regions {
-        let notes = Notes {
-            region: region.id,
-            base: machine.base(),
-            written: 0,
-            changed: 0,
-            bytes: ByteMarks::new(alloc)?,
-        };
-        if book.push(notes).is_err() {
-            return Err(NoMemory);
-        }
+        book.push(new_notes(alloc, region.id, base)?)?;
     }
     Ok(book)
 }
