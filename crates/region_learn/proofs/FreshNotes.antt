@@ -43,21 +43,16 @@ unfolding some_turn
 at-start regions start notes h =
     record { base = h.low; places = h.places; changed = λ register below. h.changed register }
 
-each-at : {P : Notes → Type 0} (book : List Notes) (place : ℕ) (none : Notes) → AllByRecursion P book →
+each-at : (P : Notes → Type 0) (book : List Notes) (place : ℕ) (none : Notes) → AllByRecursion P book →
     place < length book → P (get_or book place none)
-each-at [] place none h below = absurd (omega arith)
-each-at (notes ∷ book) zero none h below = h.0
-each-at {P = P} (notes ∷ book) (suc place) none h below = each-at {P = P} book place none h.1 (omega arith)
+each-at P [] place none h below = absurd (omega arith)
+each-at P (notes ∷ book) zero none h below = h.0
+each-at P (notes ∷ book) (suc place) none h below = each-at P book place none h.1 (omega arith)
 
 pub new_book_of : (regions : List Region) (start : State) (book : List Notes) → numbers_of book ≡ ids_of regions →
     AllByRecursion (IsNew start.setting.base) book → BookOf regions 0 start book
 new_book_of regions start book numbers h = record {
   numbers = numbers;
   each = λ place none below. at-start regions start (get_or book place none)
-    (each-at {P = IsNew start.setting.base} book place none h below);
+    (each-at (IsNew start.setting.base) book place none h below);
 }
-
-pub all_push : {P : Notes → Type 0} (book : List Notes) (notes : Notes) → AllByRecursion P book → P notes →
-    AllByRecursion P (book ++ notes ∷ [])
-all_push [] notes h k = (k, tt)
-all_push {P = P} (first ∷ book) notes h k = (h.0, all_push {P = P} book notes h.1 k)

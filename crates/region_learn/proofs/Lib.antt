@@ -13,3 +13,4 @@ pub mod ScannedSpans
 pub mod Registers
 pub mod FreshNotes
 pub mod RegionRules
+pub mod LearntRegions

@@ -1,9 +1,11 @@
-ghost use Rattle.std.specs.Prelude.{◌≡◌, ◌≢◌, ◌<◌, ◌^◌, IfErr, IfOk, IsTrue, length, map, None};
+ghost use Rattle.std.specs.Prelude.{◌≡◌, ◌≢◌, ◌<◌, ◌^◌, IfErr, IfOk, IsTrue, length, map, None, Some, ◌+◌, ◌≤◌};
 ghost use Rattle.elf32_loader.specs.Images.{picture_of};
 ghost use Rattle.enclosure_regions.specs.Regions.{ids_of};
 ghost use Rattle.std.specs.List.{AllByRecursion};
-ghost use Rattle.region_learn.specs.Books.{IsFresh, IsNew, numbers_of};
-ghost use Rattle.region_learn.specs.LearnAnswers.{Grants, Refuses};
+ghost use Rattle.flow_base.specs.Guests.{memory_size};
+ghost use Rattle.region_learn.specs.Books.{BookOf, IsFresh, IsNew, have_base, numbers_of};
+ghost use Rattle.region_learn.specs.Declarations.{IsDraft};
+ghost use Rattle.region_learn.specs.LearnAnswers.{Grants, Refuses, declaration_fault, run_fault};
 ghost use Rattle.region_learn.specs.Learning.{run_of};
 ghost use Rattle.region_learn.specs.Written.{Run, bare as bare_of};
 
@@ -80,4 +82,73 @@ fn new_book(alloc: Global, regions: &[Region], base: u32) -> Result<List<Notes>,
         book.push(new_notes(alloc, region.id, base)?)?;
     }
     Ok(book)
+}
+
+/// Regions that are declared, if they are not too large.
+fn checked(
+    alloc: Global,
+    bare: &Regions,
+    declared: List<Region>,
+) -> Result<Regions, LearnFault>
+    requires same { map bare_of declared ≡ bare.now.items }
+    requires drafts { AllByRecursion IsDraft declared }
+    ensures items { IfOk result (λ regions. regions.items ≡ declared) }
+    ensures fits { IfOk result (λ regions. declaration_fault declared ≡ None) }
+    ensures fault { IfErr result (λ fault. fault ≢ LearnFault.Memory → declaration_fault declared ≡ Some fault) }
+{
+    if let Some(fault) = regions_fault(declared.as_slice()) {
+        return Err(fault);
+    }
+    let regions = Regions { items: declared };
+    let text = write_regions(alloc, &regions)?;
+    match text_fault(text.as_slice()) {
+        Some(fault) => Err(fault),
+        None => Ok(regions),
+    }
+}
+
+/// The least declaration of regions, where the run is made and its notes are these.
+fn declaration(
+    alloc: Global,
+    bare: &Regions,
+    book: &[Notes],
+    base: u32,
+) -> Result<Regions, LearnFault>
+    requires same { map bare_of bare.now.items ≡ bare.now.items }
+    requires numbers { numbers_of book.now ≡ ids_of bare.now.items }
+    requires base { IsTrue (have_base book.now base) }
+    requires room { base + memory_size ≤ 4294967295 }
+    ensures ok { IfOk result (λ regions. (run : Run) → run.regions ≡ bare.now.items →
+        BookOf run.regions run.turns run.start book.now → run_fault run ≡ None → Grants run regions.items) }
+    ensures err { IfErr result (λ fault. fault ≢ LearnFault.Memory → (run : Run) → run.regions ≡ bare.now.items →
+        BookOf run.regions run.turns run.start book.now → run_fault run ≡ None → Refuses run fault) }
+{
+    let declared = declare_all(alloc, bare.items.as_slice(), book, base)?;
+    checked(alloc, bare, declared)
+}
+
+/// The least declaration of the regions of one run of a program on a public input and a secret of fewer than 2^32
+/// bytes, within a limit of turns: each region declares the registers and the bytes that its instructions write, and
+/// gives back the registers that had their value of the entry at every leave. Of the given regions only the numbers and
+/// the addresses are used.
+pub fn learn(
+    alloc: Global,
+    image: &Image,
+    public: &Bytes,
+    secret: &Bytes,
+    regions: &Regions,
+    turns: u32,
+) -> Result<Regions, LearnFault>
+    requires { length secret.now < 2 ^ 32 }
+    ensures ok { IfOk result (λ learnt.
+        Grants (run_of (picture_of image.now) public.now secret.now regions.now.items turns) learnt.items) }
+    ensures err { IfErr result (λ fault. fault ≢ LearnFault.Memory →
+        Refuses (run_of (picture_of image.now) public.now secret.now regions.now.items turns) fault) }
+{
+    let marked = MarkedRegions::new(alloc, bare_regions(alloc, regions)?)?;
+    let mut machine = Machine::new(alloc, image, public, secret, OUTPUT_LIMIT)?;
+    let base = machine.base();
+    let mut book = new_book(alloc, marked.regions.items.as_slice(), base)?.into_vec();
+    run(&mut machine, &marked, &mut book, turns)?;
+    declaration(alloc, &marked.regions, &book, base)
 }

@@ -16,4 +16,5 @@ mod turns;
 mod writing;
 
 pub use faults::LearnFault;
+pub use learning::learn;
 pub use writing::write_regions;
