@@ -1,9 +1,9 @@
 -- What notes of a whole run declare is the least declaration.
-use Rattle.std.proofs.Common.{◌≡◌, ◌∙◌, ◌+◌, ◌≤◌, ◌<◌, ◌&&◌, not, ℕ, zero, suc, Bool, true, List, [], ◌∷◌, drop, get_or, length, map}
+use Rattle.std.proofs.Common.{◌≡◌, ◌∙◌, ◌+◌, ◌≤◌, ◌<◌, ◌==◌, ◌&&◌, not, ℕ, zero, suc, Bool, true, List, [], ◌∷◌, drop, get_or, length, map}
 use Rattle.std.proofs.Common.{refl, sym, ap, ap₂, subst, arith}
 use Rattle.std.specs.Prelude.{nat_lt}
 use Rattle.std.specs.List.{AllByRecursion, filter, list_all}
-use Rattle.std.proofs.lemmas.Bool.{and_parts}
+use Rattle.std.proofs.lemmas.Bool.{and_parts, eqb-true}
 use Rattle.std.proofs.lemmas.Grind.{common_steps}
 use Rattle.rv32im_machine.specs.State.{State}
 use Rattle.enclosure_regions.specs.declared.region_parts.Range.{Range}
@@ -12,7 +12,7 @@ use Rattle.enclosure_regions.specs.declared.break_kinds.Place.TheVariants.{Reg, 
 use Rattle.enclosure_regions.specs.Orders.{all_registers}
 use Rattle.enclosure_regions.specs.Regions.{ids_of}
 use Rattle.region_learn.specs.declared.notes.Notes.{Notes}
-use Rattle.region_learn.specs.Books.{BookOf, NotesOf, numbers_of}
+use Rattle.region_learn.specs.Books.{BookOf, NotesOf, have_base, numbers_of}
 use Rattle.region_learn.specs.Declarations.{DeclareAll, Declares, IsDraft, kept_bit, out_bit}
 use Rattle.region_learn.specs.Learnt.{IsLearnt, Learnt, is_kept, is_out}
 use Rattle.region_learn.specs.Marks.{has_bit}
@@ -128,3 +128,35 @@ draft_all_of regions book declared notes base room count low made = all-from IsD
     let here : (get_or book place notes).base ≡ base = low place notes (omega (arith, count, within)) in
     draft_of (get_or regions place none) (get_or declared place none) (get_or book place notes)
     (omega (arith, here, room)) (made.each place none none notes within))
+
+-- ---- what is known of a book
+
+pub no_notes : Notes
+no_notes = record { region = 0; base = 0; written = 0; changed = 0; bytes = [] }
+
+count-numbers : (book : List Notes) → length (numbers_of book) ≡ length book
+count-numbers [] = refl
+count-numbers (notes ∷ book) = let e = count-numbers book in omega (arith, e)
+
+count-ids : (regions : List Region) → length (ids_of regions) ≡ length regions
+count-ids [] = refl
+count-ids (region ∷ regions) = let e = count-ids regions in omega (arith, e)
+
+pub book_count : (book : List Notes) (regions : List Region) → numbers_of book ≡ ids_of regions →
+    length book ≡ length regions
+book_count book regions e = sym (count-numbers book) ∙ (ap length e ∙ count-ids regions)
+
+pub notes_base : (book : List Notes) (base : ℕ) → have_base book base ≡ true → (place : ℕ) (none : Notes) →
+    place < length book → (get_or book place none).base ≡ base
+notes_base [] base h place none below = absurd (omega arith)
+notes_base (notes ∷ book) base h zero none below =
+    eqb-true notes.base base (and_parts (notes.base == base) (have_base book base) h).0
+notes_base (notes ∷ book) base h (suc place) none below =
+    notes_base book base (and_parts (notes.base == base) (have_base book base) h).1 place none (omega arith)
+
+pub declared_same : (regions : List Region) (book : List Notes) (declared : List Region) →
+    map bare regions ≡ regions → DeclareAll regions book declared → map bare declared ≡ regions
+declared_same regions book declared bared made =
+    same-bare regions declared made.count
+    (λ place region other below. bare-same (get_or regions place region) (get_or declared place other)
+    (get_or book place no_notes) (made.each place region other no_notes below)) ∙ bared

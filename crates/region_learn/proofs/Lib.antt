@@ -14,3 +14,4 @@ pub mod Registers
 pub mod FreshNotes
 pub mod RegionRules
 pub mod LearntRegions
+pub mod BareLists

@@ -5,6 +5,7 @@ use Rattle.std.specs.Prelude.{nat_le, nat_lt, sum_by}
 use Rattle.std.specs.List.{AllByRecursion, filter, list_all, list_any}
 use Rattle.std.proofs.lemmas.Bool.{and_parts, and_from, cases_Bool}
 use Rattle.std.proofs.lemmas.Grind.{common_steps}
+use Rattle.std.proofs.lemmas.List.Sums.{sum_by-cons}
 use Rattle.enclosure_regions.specs.declared.region_parts.Range.{Range}
 use Rattle.enclosure_regions.specs.declared.region_parts.Region.{Region}
 use Rattle.enclosure_regions.specs.Orders.{all_registers}
@@ -138,7 +139,8 @@ range_rules lowest [] h end few = refl
 range_rules lowest (range ∷ ranges) h end few =
     let one : 1 ≤ range.length = h.2 in
     let high : range.offset + range.length ≤ 4294967295 = end.0 in
-    let total : range.length + sum_by (λ range. range.length) ranges ≤ 65536 = few in
+    let total : range.length + sum_by (λ (r : Range). r.length) ranges ≤ 65536 =
+    subst (λ (n : ℕ). n ≤ 65536) (sum_by-cons (λ (r : Range). r.length) range ranges) few in
     and_from _ _ (and_from _ _ (ap is_base h.0)
     (and_from _ _ (lt-true range.offset (2 ^ 32) (omega (arith, one, high)))
     (and_from _ _ (le-true 1 range.length one) (le-true range.length 65536 (omega (arith, total))))))

@@ -3,10 +3,11 @@ ghost use Rattle.elf32_loader.specs.Images.{picture_of};
 ghost use Rattle.enclosure_regions.specs.Regions.{ids_of};
 ghost use Rattle.std.specs.List.{AllByRecursion};
 ghost use Rattle.flow_base.specs.Guests.{memory_size};
-ghost use Rattle.region_learn.specs.Books.{BookOf, IsFresh, IsNew, have_base, numbers_of};
+ghost use Rattle.region_learn.specs.Books.{BookOf, are_bare, IsFresh, IsNew, have_base, numbers_of};
 ghost use Rattle.region_learn.specs.Declarations.{IsDraft};
 ghost use Rattle.region_learn.specs.LearnAnswers.{Grants, Refuses, declaration_fault, run_fault};
 ghost use Rattle.region_learn.specs.Learning.{run_of};
+ghost use Rattle.rv32im_machine.specs.declared.stepping.Stepped.TheVariants.{Ran as RanMode};
 ghost use Rattle.region_learn.specs.Written.{Run, bare as bare_of};
 
 use crate::byte_marks::ByteMarks;
@@ -96,8 +97,9 @@ fn checked(
     ensures fits { IfOk result (λ regions. declaration_fault declared ≡ None) }
     ensures fault { IfErr result (λ fault. fault ≢ LearnFault.Memory → declaration_fault declared ≡ Some fault) }
 {
-    if let Some(fault) = regions_fault(declared.as_slice()) {
-        return Err(fault);
+    match regions_fault(declared.as_slice()) {
+        Some(fault) => return Err(fault),
+        None => {}
     }
     let regions = Regions { items: declared };
     let text = write_regions(alloc, &regions)?;
@@ -124,7 +126,39 @@ fn declaration(
         BookOf run.regions run.turns run.start book.now → run_fault run ≡ None → Refuses run fault) }
 {
     let declared = declare_all(alloc, bare.items.as_slice(), book, base)?;
-    checked(alloc, bare, declared)
+    match checked(alloc, bare, declared) {
+        Ok(regions) => Ok(regions),
+        Err(fault) => Err(fault),
+    }
+}
+
+/// The least declaration of the regions of a run from this start on.
+fn learn_from(
+    alloc: Global,
+    machine: &mut Machine,
+    marked: &MarkedRegions,
+    book: &mut [Notes],
+    turns: u32,
+) -> Result<Regions, LearnFault>
+    requires bare { IsTrue (are_bare marked.now.regions.items) }
+    requires same { map bare_of marked.now.regions.items ≡ marked.now.regions.items }
+    requires book { BookOf marked.now.regions.items 0 machine.old book.old }
+    requires ran { machine.old.control.mode ≡ RanMode }
+    requires room { machine.old.setting.base + memory_size ≤ 4294967295 }
+    ensures ok { IfOk result (λ learnt.
+        Grants (record { regions = marked.now.regions.items; start = machine.old; turns = turns }) learnt.items) }
+    ensures err { IfErr result (λ fault. fault ≢ LearnFault.Memory →
+        Refuses (record { regions = marked.now.regions.items; start = machine.old; turns = turns }) fault) }
+{
+    let base = machine.base();
+    match run(machine, marked, book, turns) {
+        Ok(()) => {}
+        Err(fault) => return Err(fault),
+    }
+    match declaration(alloc, &marked.regions, book, base) {
+        Ok(regions) => Ok(regions),
+        Err(fault) => Err(fault),
+    }
 }
 
 /// The least declaration of the regions of one run of a program on a public input and a secret of fewer than 2^32
@@ -145,10 +179,12 @@ pub fn learn(
     ensures err { IfErr result (λ fault. fault ≢ LearnFault.Memory →
         Refuses (run_of (picture_of image.now) public.now secret.now regions.now.items turns) fault) }
 {
-    let marked = MarkedRegions::new(alloc, bare_regions(alloc, regions)?)?;
+    let bare = bare_regions(alloc, regions)?;
+    let mut book = new_book(alloc, bare.items.as_slice(), image.base)?.into_vec();
+    let marked = MarkedRegions::new(alloc, bare)?;
     let mut machine = Machine::new(alloc, image, public, secret, OUTPUT_LIMIT)?;
-    let base = machine.base();
-    let mut book = new_book(alloc, marked.regions.items.as_slice(), base)?.into_vec();
-    run(&mut machine, &marked, &mut book, turns)?;
-    declaration(alloc, &marked.regions, &book, base)
+    match learn_from(alloc, &mut machine, &marked, book.as_mut_slice(), turns) {
+        Ok(regions) => Ok(regions),
+        Err(fault) => Err(fault),
+    }
 }

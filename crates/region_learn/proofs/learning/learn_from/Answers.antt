@@ -1,0 +1,20 @@
+use Rattle.std.proofs.Common.{◌≡◌, ◌∙◌, refl, sym}
+use Rattle.region_learn.proofs.RunEnds.{book_base}
+use Rattle.region_learn.proofs.learning.learn_from.Goals as goal
+
+pub declaration-requires-clause-base : goal.declaration-requires-clause-base
+declaration-requires-clause-base c =
+    book_base c.run.new.book c.base-base.result
+    (λ place none below. (c.in-Ok.ensures.book.each place none below).base ∙ sym c.base-base.ensures)
+
+pub returns-in-Ok-declaration-clause-ok : goal.returns-in-Ok-declaration-clause-ok
+returns-in-Ok-declaration-clause-ok c =
+    c.in-Ok-declaration.ensures.ok
+    (record { regions = c.args.marked.now.regions.items; start = c.args.machine.now; turns = c.args.turns }) refl
+    c.in-Ok.ensures.book c.in-Ok.ensures.exit
+
+pub returns-in-Err-declaration-clause-err : goal.returns-in-Err-declaration-clause-err
+returns-in-Err-declaration-clause-err c = λ free.
+    c.in-Err-declaration.ensures.err free
+    (record { regions = c.args.marked.now.regions.items; start = c.args.machine.now; turns = c.args.turns }) refl
+    c.in-Ok.ensures.book c.in-Ok.ensures.exit
