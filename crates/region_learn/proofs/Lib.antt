@@ -15,3 +15,4 @@ pub mod FreshNotes
 pub mod RegionRules
 pub mod LearntRegions
 pub mod BareLists
+pub mod EdgesAlike

@@ -10,3 +10,4 @@ pub mod Books
 pub mod Spans
 pub mod Declarations
 pub mod Learning
+pub mod Unbroken
