@@ -16,3 +16,4 @@ pub mod RegionRules
 pub mod LearntRegions
 pub mod BareLists
 pub mod EdgesAlike
+pub mod UnbrokenRuns
