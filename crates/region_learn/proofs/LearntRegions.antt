@@ -54,7 +54,7 @@ learnt_of run region declared notes number of made =
 
 -- ---- lists
 
-number-at : (book : List Notes) (regions : List Region) (place : ℕ) (notes : Notes) (region : Region) →
+pub number-at : (book : List Notes) (regions : List Region) (place : ℕ) (notes : Notes) (region : Region) →
     numbers_of book ≡ ids_of regions → place < length regions →
     (get_or book place notes).region ≡ (get_or regions place region).id
 number-at book [] place notes region e below = absurd (omega arith)
@@ -74,7 +74,7 @@ same-bare (first ∷ regions) (one ∷ declared) count h =
     ap₂ (λ (r : Region) (l : List Region). r ∷ l) (h 0 first one (omega arith))
     (same-bare regions declared (omega (arith, count)) (λ place region other below. h (suc place) region other (omega arith)))
 
-all-from : (P : Region → Type 0) (regions : List Region) →
+pub all-from : (P : Region → Type 0) (regions : List Region) →
     ((place : ℕ) (none : Region) → place < length regions → P (get_or regions place none)) → AllByRecursion P regions
 all-from P [] h = tt
 all-from P (region ∷ regions) h =

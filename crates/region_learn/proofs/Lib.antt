@@ -17,3 +17,4 @@ pub mod LearntRegions
 pub mod BareLists
 pub mod EdgesAlike
 pub mod UnbrokenRuns
+pub mod TightRegions

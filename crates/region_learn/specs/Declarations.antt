@@ -21,6 +21,7 @@ pub record Declares (region : Region) (notes : Notes) (declared : Region) : Type
   pub id : declared.id ≡ region.id
   pub enter : declared.enter ≡ region.enter
   pub leave : declared.leave ≡ region.leave
+  pub word : notes.written < 4294967296
   pub keep : declared.keep ≡ filter (kept_bit notes.written notes.changed) all_registers
   pub outs : declared.outs ≡ filter (out_bit notes.written notes.changed) all_registers
   pub spans : SpansBelow (notes.base + memory_size) declared.ranges

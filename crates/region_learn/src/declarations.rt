@@ -64,7 +64,8 @@ fn outs_among(
     changed: u32,
 ) -> Result<List<u8>, NoMemory>
     requires { IsTrue (list_all (λ register. nat_lt register 32) all.now) }
-    ensures { IfOk result (λ found. found ≡ filter (out_bit written changed) all.now) }
+    ensures found { IfOk result (λ found. found ≡ filter (out_bit written changed) all.now) }
+    ensures word { written < 4294967296 }
 {
     let mut found = List::new(alloc);
     let mut rest = all;

@@ -6,6 +6,8 @@ ghost use Rattle.flow_base.specs.Guests.{memory_size};
 ghost use Rattle.region_learn.specs.Books.{BookOf, are_bare, IsFresh, IsNew, have_base, numbers_of};
 ghost use Rattle.region_learn.specs.Declarations.{IsDraft};
 ghost use Rattle.region_learn.specs.LearnAnswers.{Grants, Refuses, declaration_fault, run_fault};
+ghost use Rattle.region_machine.specs.Starts.{guest};
+ghost use Rattle.region_learn.specs.Unbroken.{IsTight, RunsUnbroken};
 ghost use Rattle.region_learn.specs.Learning.{run_of};
 ghost use Rattle.rv32im_machine.specs.declared.stepping.Stepped.TheVariants.{Ran as RanMode};
 ghost use Rattle.region_learn.specs.Written.{Run, bare as bare_of};
@@ -122,6 +124,9 @@ fn declaration(
     requires room { base + memory_size ≤ 4294967295 }
     ensures ok { IfOk result (λ regions. (run : Run) → run.regions ≡ bare.now.items →
         BookOf run.regions run.turns run.start book.now → run_fault run ≡ None → Grants run regions.items) }
+    ensures tight { IfOk result (λ regions. (run : Run) → run.regions ≡ bare.now.items →
+        run.start.setting.base ≡ base → BookOf run.regions run.turns run.start book.now →
+        AllByRecursion (IsTight run) regions.items) }
     ensures err { IfErr result (λ fault. fault ≢ LearnFault.Memory → (run : Run) → run.regions ≡ bare.now.items →
         BookOf run.regions run.turns run.start book.now → run_fault run ≡ None → Refuses run fault) }
 {
@@ -147,6 +152,7 @@ fn learn_from(
     requires room { machine.old.setting.base + memory_size ≤ 4294967295 }
     ensures ok { IfOk result (λ learnt.
         Grants (record { regions = marked.now.regions.items; start = machine.old; turns = turns }) learnt.items) }
+    ensures unbroken { IfOk result (λ learnt. RunsUnbroken learnt.items turns machine.old) }
     ensures err { IfErr result (λ fault. fault ≢ LearnFault.Memory →
         Refuses (record { regions = marked.now.regions.items; start = machine.old; turns = turns }) fault) }
 {
@@ -176,6 +182,8 @@ pub fn learn(
     requires { length secret.now < 2 ^ 32 }
     ensures ok { IfOk result (λ learnt.
         Grants (run_of (picture_of image.now) public.now secret.now regions.now.items turns) learnt.items) }
+    ensures unbroken { IfOk result (λ learnt.
+        RunsUnbroken learnt.items turns (guest (picture_of image.now) public.now secret.now).state) }
     ensures err { IfErr result (λ fault. fault ≢ LearnFault.Memory →
         Refuses (run_of (picture_of image.now) public.now secret.now regions.now.items turns) fault) }
 {

@@ -1,4 +1,4 @@
-use Rattle.std.proofs.Common.{◌≡◌, ◌∙◌, ℕ, List, [], ap, length, subst, sym, map, None, inr, Some}
+use Rattle.std.proofs.Common.{◌≡◌, ◌∙◌, ◌+◌, ◌≤◌, ℕ, List, [], ap, length, subst, sym, map, None, inr, Some}
 use Rattle.enclosure_regions.specs.declared.region_parts.Region.{Region}
 use Rattle.region_learn.specs.declared.notes.Notes.{Notes}
 use Rattle.region_learn.specs.declared.faults.LearnFault.{LearnFault}
@@ -8,6 +8,9 @@ use Rattle.region_learn.specs.LearnAnswers.{declaration_fault}
 use Rattle.region_learn.specs.Learnt.{Learnt}
 use Rattle.region_learn.specs.Written.{Run, bare}
 use Rattle.region_learn.proofs.LearntRegions.{book_count, declared_same, draft_all_of, learnt_all, no_notes, notes_base}
+use Rattle.std.specs.List.{AllByRecursion}
+use Rattle.region_learn.specs.Unbroken.{IsTight}
+use Rattle.region_learn.proofs.TightRegions.{tight_all}
 use Rattle.region_learn.proofs.learning.declaration.Goals as goal
 
 pub checked-requires-clause-same : goal.checked-requires-clause-same
@@ -49,3 +52,13 @@ returns-in-Err-clause-err c = λ free run same of exits.
     (ap (map bare) same ∙ (c.requires.same ∙ sym same))
     (book_count c.args.book.now run.regions of.numbers) of made in
     inr (c.in_ok-declared.declared, exits, learnt, c.in-Err.ensures.fault free)
+
+pub returns-in-Ok-clause-tight : goal.returns-in-Ok-clause-tight
+returns-in-Ok-clause-tight c = λ run same low of.
+    let made : DeclareAll run.regions c.args.book.now c.in_ok-declared.declared =
+    subst (λ (l : List Region). DeclareAll l c.args.book.now c.in_ok-declared.declared)
+    (c.as_slice.ensures ∙ sym same) c.in_ok-declared.ensures in
+    subst (λ (l : List Region). AllByRecursion (IsTight run) l) (sym c.in-Ok.ensures.items)
+    (tight_all run c.args.book.now c.in_ok-declared.declared
+    (book_count c.args.book.now run.regions of.numbers)
+    (subst (λ (n : ℕ). n + 16777216 ≤ 4294967295) (sym low) c.requires.room) of made)

@@ -1,4 +1,6 @@
 use Rattle.std.proofs.Common.{◌≡◌, ◌∙◌, refl, sym}
+use Rattle.region_learn.specs.Written.{Run}
+use Rattle.region_learn.proofs.UnbrokenRuns.{runs_unbroken}
 use Rattle.region_learn.proofs.RunEnds.{book_base}
 use Rattle.region_learn.proofs.learning.learn_from.Goals as goal
 
@@ -18,3 +20,11 @@ returns-in-Err-declaration-clause-err c = λ free.
     c.in-Err-declaration.ensures.err free
     (record { regions = c.args.marked.now.regions.items; start = c.args.machine.now; turns = c.args.turns }) refl
     c.in-Ok.ensures.book c.in-Ok.ensures.exit
+
+pub returns-in-Ok-declaration-clause-unbroken : goal.returns-in-Ok-declaration-clause-unbroken
+returns-in-Ok-declaration-clause-unbroken c =
+    let run : Run =
+    record { regions = c.args.marked.now.regions.items; start = c.args.machine.now; turns = c.args.turns } in
+    runs_unbroken run c.in-Ok-declaration.regions.items
+    (c.in-Ok-declaration.ensures.ok run refl c.in-Ok.ensures.book c.in-Ok.ensures.exit)
+    (c.in-Ok-declaration.ensures.tight run refl (sym c.base-base.ensures) c.in-Ok.ensures.book)
