@@ -1,8 +1,8 @@
 -- The notes of a region stand at one place of a book.
-use Rattle.std.proofs.Common.{◌≡◌, ◌≢◌, ◌∙◌, ◌+◌, ◌<◌, ◌≤◌, ◌==◌, ◌||◌, ℕ, zero, suc, Bool, true, false, List, [], ◌∷◌, length, get_or, map, not}
+use Rattle.std.proofs.Common.{◌≡◌, ◌≢◌, ◌∙◌, ◌<◌, ◌==◌, ◌||◌, ℕ, zero, suc, Bool, true, false, List, [], ◌∷◌, length, get_or, not}
 use Rattle.std.proofs.Common.{refl, sym, ap, arith, inl, inr, subst}
-use Rattle.std.proofs.lemmas.Bool.{cases_Bool, eqb-true, eqb-false, eq-eqb, and_parts, not_from_true, or_left, or_right}
-use Rattle.enclosure_regions.specs.Regions.{are_distinct, stands_in}
+use Rattle.std.proofs.lemmas.Bool.{cases_Bool, eqb-true, eq-eqb, and_parts, not_from_true, or_left, or_right}
+use Rattle.enclosure_regions.specs.Regions.{stands_in}
 use Rattle.region_learn.specs.declared.notes.Notes.{Notes}
 use Rattle.region_learn.specs.Books.{are_own, has_notes, numbers_of}
 

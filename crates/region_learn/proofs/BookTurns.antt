@@ -1,6 +1,6 @@
 -- What a turn adds to the notes of all regions, where the notes of its region have been changed.
 use Rattle.std.proofs.Common.{◌≡◌, ◌≢◌, ◌∙◌, ◌<◌, ◌==◌, ◌&&◌, ◌||◌, ℕ, Bool, true, false, List, length, get_or}
-use Rattle.std.proofs.Common.{refl, sym, ap, subst, arith, inl, inr, Some, get_or-set_same, get_or-set_other}
+use Rattle.std.proofs.Common.{refl, sym, ap, subst, inl, inr, Some, get_or-set_same, get_or-set_other}
 use Rattle.std.proofs.Math.ListN.{set}
 use Rattle.std.proofs.lemmas.Bool.{cases_Bool, eqb-true, eqb-false, eq-eqb}
 use Rattle.std.proofs.lemmas.List.{get_or_default, length-set}
@@ -10,7 +10,7 @@ use Rattle.enclosure_regions.specs.declared.region_parts.Region.{Region}
 use Rattle.enclosure_regions.specs.declared.break_kinds.Place.{Place}
 use Rattle.enclosure_regions.specs.declared.break_kinds.Place.TheVariants.{Reg, Byte}
 use Rattle.enclosure_regions.specs.Breaks.{has_changed}
-use Rattle.region_machine.specs.Enclosures.{Kind, Enters, Leaves, Steps}
+use Rattle.region_machine.specs.Enclosures.{Kind, Leaves, Steps}
 use Rattle.region_learn.specs.declared.notes.Notes.{Notes}
 use Rattle.region_learn.specs.Books.{BookAfter, NotesAfter, are_own}
 use Rattle.region_learn.specs.Marks.{has_bit}
@@ -29,10 +29,10 @@ still kind state notes step leave = record {
   region = refl;
   base = refl;
   places = λ place. or-none (has_place notes place) (is_step_in notes.region kind && walk_writes place (walk_of state))
-    (ap (λ (b : Bool). b && walk_writes place (walk_of state)) step);
+      (ap (λ (b : Bool). b && walk_writes place (walk_of state)) step);
   changed = λ register below. or-none (has_bit notes.changed register)
-    (is_leave_of notes.region kind && has_changed state.store.kept state.store.registers register)
-    (ap (λ (b : Bool). b && has_changed state.store.kept state.store.registers register) leave);
+      (is_leave_of notes.region kind && has_changed state.store.kept state.store.registers register)
+      (ap (λ (b : Bool). b && has_changed state.store.kept state.store.registers register) leave);
 }
 
 -- the turn concerns the region with this number alone
@@ -100,8 +100,8 @@ left region state before after number written bytes same base changed = record {
   base = base;
   places = λ place. place-same before after place written bytes base ∙ or-none (has_place before place) false refl;
   changed = λ register below. changed register below
-    ∙ ap (λ (b : Bool). has_bit before.changed register || (b && has_changed state.store.kept state.store.registers register))
-    (sym (is-number region before number));
+      ∙ ap (λ (b : Bool). has_bit before.changed register || (b && has_changed state.store.kept state.store.registers register))
+      (sym (is-number region before number));
 }
 
 -- ---- a step inside
@@ -113,10 +113,10 @@ stepped region state end before after number h = record {
   region = h.region;
   base = h.base;
   places = λ place. h.places place
-    ∙ ap (λ (b : Bool). has_place before place || (b && walk_writes place (walk_of state)))
-    (sym (is-number region before number));
+      ∙ ap (λ (b : Bool). has_place before place || (b && walk_writes place (walk_of state)))
+      (sym (is-number region before number));
   changed = λ register below. ap (λ (w : ℕ). has_bit w register) h.changed
-    ∙ or-none (has_bit before.changed register) false refl;
+      ∙ or-none (has_bit before.changed register) false refl;
 }
 
 -- a turn of no region
@@ -126,5 +126,5 @@ pub book-still : (kind : Kind) (state : State) (book : List Notes) →
 book-still kind state book step leave = record {
   count = refl;
   each = λ place none below. still kind state (get_or book place none) (step (get_or book place none).region)
-    (leave (get_or book place none).region);
+      (leave (get_or book place none).region);
 }

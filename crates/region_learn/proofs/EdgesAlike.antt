@@ -1,13 +1,13 @@
 -- What a turn does depends on the numbers and addresses of regions alone.
-use Rattle.std.proofs.Common.{◌≡◌, ◌∙◌, ◌+◌, ◌-◌, ◌==◌, ℕ, zero, suc, Bool, true, false, List, [], ◌∷◌, Option, Some, None, map}
-use Rattle.std.proofs.Common.{refl, sym, ap, subst, inl, inr, cond}
+use Rattle.std.proofs.Common.{◌≡◌, ◌∙◌, ◌+◌, ◌-◌, ◌==◌, ℕ, zero, suc, Bool, List, [], ◌∷◌, Option, Some, None, map}
+use Rattle.std.proofs.Common.{refl, sym, ap, inl, inr}
 use Rattle.std.specs.Prelude.{option_map, slice_index, slice_set}
 use Rattle.std.specs.List.{find}
 use Rattle.std.proofs.lemmas.Bool.{cases_Bool, cond-false, cond-true}
 use Rattle.std.proofs.lemmas.List.{set-get_or}
 use Rattle.rv32im_machine.specs.declared.stepping.Stepped.{Stepped}
 use Rattle.rv32im_machine.specs.declared.stepping.Stepped.TheVariants.{Ran, Exited, Stopped}
-use Rattle.rv32im_machine.specs.State.{Control, Setting, State, Store, entered, saved, with_byte, with_register}
+use Rattle.rv32im_machine.specs.State.{Control, Setting, State, Store, entered, with_byte, with_register}
 use Rattle.rv32im_machine.specs.Language.{Held, Turn, Ends, Saves, walked, none_held}
 use Rattle.rv32im_machine.specs.Folds.{real_end}
 use Rattle.enclosure_regions.specs.declared.region_parts.Range.{Range}
@@ -15,7 +15,7 @@ use Rattle.enclosure_regions.specs.declared.region_parts.Region.{Region}
 use Rattle.enclosure_regions.specs.Turns.{start_of}
 use Rattle.region_machine.specs.Enclosures.{Kind, Enters, Leaves, Steps, kind_in, kind_of, kind_outside, kind_within}
 use Rattle.region_machine.specs.Enclosures.{region_entered_at, region_numbered}
-use Rattle.region_machine.specs.Guests.{gives, gives_bytes, gives_ranges, gives_registers, guest_walk, kind_walk, looks}
+use Rattle.region_machine.specs.Guests.{gives_bytes, gives_ranges, gives_registers, guest_walk, kind_walk, looks}
 use Rattle.region_machine.specs.Guests.{looks_at}
 use Rattle.region_learn.specs.Written.{bare}
 

@@ -1,6 +1,6 @@
 -- Notes before the first turn.
-use Rattle.std.proofs.Common.{◌≡◌, ◌∙◌, ◌-◌, ◌<◌, ◌++◌, ◌==◌, ◌&&◌, ℕ, zero, suc, Bool, true, false, List, [], ◌∷◌, length, get_or, map}
-use Rattle.std.proofs.Common.{refl, sym, ap, arith, subst}
+use Rattle.std.proofs.Common.{◌≡◌, ◌∙◌, ◌-◌, ◌<◌, ◌==◌, ◌&&◌, ℕ, zero, suc, Bool, true, false, List, [], ◌∷◌, length, get_or}
+use Rattle.std.proofs.Common.{refl, ap, arith}
 use Rattle.std.specs.Prelude.{nat_le}
 use Rattle.std.specs.List.{AllByRecursion}
 use Rattle.std.proofs.lemmas.Nat.Bits.{bit_at-zero}
@@ -54,5 +54,5 @@ pub new_book_of : (regions : List Region) (start : State) (book : List Notes) �
 new_book_of regions start book numbers h = record {
   numbers = numbers;
   each = λ place none below. at-start regions start (get_or book place none)
-    (each-at (IsNew start.setting.base) book place none h below);
+      (each-at (IsNew start.setting.base) book place none h below);
 }

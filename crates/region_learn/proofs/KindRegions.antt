@@ -1,7 +1,7 @@
 -- The region of a turn is one of the list.
-use Rattle.std.proofs.Common.{◌≡◌, ◌∙◌, ◌==◌, ◌&&◌, ◌||◌, ℕ, Bool, true, false, List, [], ◌∷◌, Option, Some, None, length, map}
+use Rattle.std.proofs.Common.{◌≡◌, ◌∙◌, ◌==◌, ◌||◌, ℕ, Bool, true, List, [], ◌∷◌, Option, Some, None, length}
 use Rattle.std.proofs.Common.{refl, sym, ap, subst, inl, inr}
-use Rattle.std.specs.List.{find, list_all, list_any}
+use Rattle.std.specs.List.{find, list_all}
 use Rattle.std.proofs.lemmas.Bool.{cases_Bool, and_parts, cond-false, cond-true, eqb-true, eq-eqb, or_left, or_right}
 use Rattle.rv32im_machine.specs.declared.stepping.Stepped.{Stepped}
 use Rattle.rv32im_machine.specs.declared.stepping.Stepped.TheVariants.{Ran, Exited, Stopped}
@@ -9,7 +9,7 @@ use Rattle.rv32im_machine.specs.State.{Control, State}
 use Rattle.enclosure_regions.specs.declared.region_parts.Range.{Range}
 use Rattle.enclosure_regions.specs.declared.region_parts.Region.{Region}
 use Rattle.enclosure_regions.specs.Regions.{ids_of, stands_in}
-use Rattle.region_machine.specs.Enclosures.{Kind, Enters, Leaves, Steps, kind_in, kind_of, kind_outside, kind_within}
+use Rattle.region_machine.specs.Enclosures.{Leaves, Steps, kind_in, kind_of, kind_outside, kind_within}
 use Rattle.region_machine.specs.Enclosures.{region_entered_at, region_numbered}
 use Rattle.region_machine.specs.Within.{are_inside, may_leave, may_leave_of}
 use Rattle.region_learn.specs.declared.notes.Notes.{Notes}

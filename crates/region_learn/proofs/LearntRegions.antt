@@ -1,11 +1,10 @@
 -- What notes of a whole run declare is the least declaration.
 use Rattle.std.proofs.Common.{◌≡◌, ◌∙◌, ◌+◌, ◌≤◌, ◌<◌, ◌==◌, ◌&&◌, not, ℕ, zero, suc, Bool, true, List, [], ◌∷◌, drop, get_or, length, map}
-use Rattle.std.proofs.Common.{refl, sym, ap, ap₂, subst, arith}
+use Rattle.std.proofs.Common.{refl, sym, ap, ap₂, arith}
 use Rattle.std.specs.Prelude.{nat_lt}
 use Rattle.std.specs.List.{AllByRecursion, filter, list_all}
 use Rattle.std.proofs.lemmas.Bool.{and_parts, eqb-true}
 use Rattle.std.proofs.lemmas.Grind.{common_steps}
-use Rattle.rv32im_machine.specs.State.{State}
 use Rattle.enclosure_regions.specs.declared.region_parts.Range.{Range}
 use Rattle.enclosure_regions.specs.declared.region_parts.Region.{Region}
 use Rattle.enclosure_regions.specs.declared.break_kinds.Place.TheVariants.{Reg, Byte}
@@ -16,7 +15,7 @@ use Rattle.region_learn.specs.Books.{BookOf, NotesOf, have_base, numbers_of}
 use Rattle.region_learn.specs.Declarations.{DeclareAll, Declares, IsDraft, kept_bit, out_bit}
 use Rattle.region_learn.specs.Learnt.{IsLearnt, Learnt, is_kept, is_out}
 use Rattle.region_learn.specs.Marks.{has_bit}
-use Rattle.region_learn.specs.Spans.{End, SpansBelow}
+use Rattle.region_learn.specs.Spans.{End}
 use Rattle.region_learn.specs.Written.{Changed, Run, Written, bare}
 use Rattle.region_learn.proofs.RegionRules.{apart, out_not_kept, picked}
 
@@ -44,12 +43,12 @@ learnt_of run region declared notes number of made =
     λ register below. of.changed register below ∙ ap (λ (n : ℕ). Changed run n register) number in
     record {
       keep = made.keep ∙ filter-same (kept_bit notes.written notes.changed) (is_kept run declared.id) all_registers
-        all-small (λ register below. ap₂ (λ (w c : Bool). w && not c) (written register) (changed register below));
+          all-small (λ register below. ap₂ (λ (w c : Bool). w && not c) (written register) (changed register below));
       outs = made.outs ∙ filter-same (out_bit notes.written notes.changed) (is_out run declared.id) all_registers
-        all-small (λ register below. ap₂ (λ (w c : Bool). w && c) (written register) (changed register below));
+          all-small (λ register below. ap₂ (λ (w c : Bool). w && c) (written register) (changed register below));
       spread = made.spans.spread;
       bytes = λ address. made.bytes address
-        ∙ (of.places (Byte address) ∙ ap (λ (n : ℕ). Written run n (Byte address)) number);
+          ∙ (of.places (Byte address) ∙ ap (λ (n : ℕ). Written run n (Byte address)) number);
     }
 
 -- ---- lists
@@ -88,14 +87,14 @@ pub learnt_all : (run : Run) (book : List Notes) (declared : List Region) (notes
     BookOf run.regions run.turns run.start book → DeclareAll run.regions book declared → Learnt run declared
 learnt_all run book declared notes bared count of made = record {
   same = same-bare run.regions declared made.count
-    (λ place region other below. bare-same (get_or run.regions place region) (get_or declared place other)
-    (get_or book place notes) (made.each place region other notes below)) ∙ bared;
+      (λ place region other below. bare-same (get_or run.regions place region) (get_or declared place other)
+      (get_or book place notes) (made.each place region other notes below)) ∙ bared;
   each = all-from (IsLearnt run) declared (λ place none below.
-    let within : place < length run.regions = omega (arith, made.count, below) in
-    let one = made.each place none none notes within in
-    learnt_of run (get_or run.regions place none) (get_or declared place none) (get_or book place notes)
-    (number-at book run.regions place notes none of.numbers within ∙ sym one.id)
-    (of.each place notes (omega (arith, count, within))) one);
+      let within : place < length run.regions = omega (arith, made.count, below) in
+      let one = made.each place none none notes within in
+      learnt_of run (get_or run.regions place none) (get_or declared place none) (get_or book place notes)
+      (number-at book run.regions place notes none of.numbers within ∙ sym one.id)
+      (of.each place notes (omega (arith, count, within))) one);
 }
 
 -- ---- drafts
@@ -111,8 +110,8 @@ draft_of region declared notes room made = record {
   outs = rw made.outs (picked (out_bit notes.written notes.changed));
   keep = rw made.keep (picked (kept_bit notes.written notes.changed));
   apart = rw (made.outs, made.keep)
-    (apart (out_bit notes.written notes.changed) (kept_bit notes.written notes.changed)
-    (out_not_kept notes.written notes.changed));
+      (apart (out_bit notes.written notes.changed) (kept_bit notes.written notes.changed)
+      (out_not_kept notes.written notes.changed));
   spans = record {
     spread = made.spans.spread;
     end = end-more (notes.base + 16777216) 4294967295 declared.ranges room made.spans.end;

@@ -1,8 +1,7 @@
 -- One mark more: in a word, and in a list of words or of pages.
 use Rattle.std.proofs.Common.{◌≡◌, ◌≢◌, ◌∙◌, ◌+◌, ◌*◌, ◌/◌, ◌%◌, ◌^◌, ◌<◌, ◌==◌, ◌||◌, ℕ, Bool, true, false, List, length}
 use Rattle.std.proofs.Common.{refl, sym, ap, ap₂, subst, arith, inl, inr, bit_or, get_or, replicate, div-add-mod'}
-use Rattle.std.proofs.Common.{get_or-set_same, get_or-set_other, [], cond}
-use Rattle.std.specs.Prelude.{slice_index}
+use Rattle.std.proofs.Common.{get_or-set_same, get_or-set_other, []}
 use Rattle.std.specs.Int.{bit_at}
 use Rattle.std.proofs.Math.ListN.{set}
 use Rattle.std.proofs.lemmas.Bool.{cases_Bool, eqb-true, eqb-false, eq-eqb, cases_lt}
@@ -50,9 +49,9 @@ rest-same other index w at = elim (cases_Bool (other % w == index % w)) [
       ∙ (ap₂ (λ (q r : ℕ). q * w + r) at (eqb-true (other % w) (index % w) same) ∙ div-add-mod' index w) in
       same ∙ sym (eq-eqb other index one)
   | inr apart ↦ elim (cases_Bool (other == index)) [
-      | inl same ↦ absurd (eqb-false (other % w) (index % w) apart (ap (λ (n : ℕ). n % w) (eqb-true other index same)))
-      | inr other-one ↦ apart ∙ sym other-one
-    ]
+    | inl same ↦ absurd (eqb-false (other % w) (index % w) apart (ap (λ (n : ℕ). n % w) (eqb-true other index same)))
+    | inr other-one ↦ apart ∙ sym other-one
+  ]
 ]
 
 -- the cell of an index is at its quotient, the place in the cell is its remainder
@@ -92,4 +91,3 @@ zeros_have_none count index =
 
 pub none_have_none : (index : ℕ) → page_has [] index ≡ false
 none_have_none index = ap (λ (n : ℕ). n == 1) (bit_at-zero (index % 32))
-

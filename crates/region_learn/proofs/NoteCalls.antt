@@ -4,7 +4,6 @@ use Rattle.std.proofs.Math.Bool.{or_assoc}
 use Rattle.rv32im_machine.specs.declared.language.Place.{Place as MachinePlace}
 use Rattle.rv32im_machine.specs.declared.language.Passing.{Passing}
 use Rattle.rv32im_machine.specs.declared.language.Aim.{Aim}
-use Rattle.rv32im_machine.specs.declared.language.Aim.TheVariants.{Put, Decide, Give}
 use Rattle.rv32im_machine.specs.declared.language.Seen.{Seen}
 use Rattle.rv32im_machine.specs.declared.language.Shape.{Shape}
 use Rattle.rv32im_machine.specs.declared.language.Source.{Source}
@@ -14,7 +13,7 @@ use Rattle.rv32im_machine.specs.Playing.{Played, Finished, Halted}
 use Rattle.enclosure_regions.specs.declared.break_kinds.Place.{Place}
 use Rattle.region_learn.specs.declared.notes.Halt.{Halt}
 use Rattle.region_learn.specs.declared.notes.Halt.TheVariants.{Call, Memory}
-use Rattle.region_learn.specs.Noting.{Noted, NotesPlay, Notes-walk}
+use Rattle.region_learn.specs.Noting.{Noted, NotesPlay}
 use Rattle.region_learn.specs.Written.{is_number, is_place, puts_into, walk_calls, walk_writes}
 
 -- what is written here is noted, and nothing else
@@ -28,7 +27,12 @@ pub looked : (noted : Noted) (seen : Seen) (value : ℕ) (walk : Walk) (out : Pl
     NotesPlay noted walk out → NotesPlay noted (Looked seen value walk) out
 unfolding real_end walk_calls walk_writes
 looked noted seen value walk (Finished state after) h = record {
-  end = h.end; quiet = h.quiet; places = h.places; changed = h.changed; region = h.region; base = h.base;
+  end = h.end;
+  quiet = h.quiet;
+  places = h.places;
+  changed = h.changed;
+  region = h.region;
+  base = h.base;
 }
 looked noted seen value walk (Halted Call) h = h
 looked noted seen value walk (Halted Memory) h = h
@@ -37,7 +41,12 @@ pub kept : (noted : Noted) (walk : Walk) (out : Played Halt Noted) →
     NotesPlay noted walk out → NotesPlay noted (Saved walk) out
 unfolding real_end walk_calls walk_writes
 kept noted walk (Finished state after) h = record {
-  end = h.end; quiet = h.quiet; places = h.places; changed = h.changed; region = h.region; base = h.base;
+  end = h.end;
+  quiet = h.quiet;
+  places = h.places;
+  changed = h.changed;
+  region = h.region;
+  base = h.base;
 }
 kept noted walk (Halted Call) h = h
 kept noted walk (Halted Memory) h = h
@@ -46,7 +55,12 @@ pub stayed : (noted : Noted) (registers : List ℕ) (walk back : Walk) (out : Pl
     NotesPlay noted walk out → NotesPlay noted (Restored registers walk back) out
 unfolding real_end walk_calls walk_writes
 stayed noted registers walk back (Finished state after) h = record {
-  end = h.end; quiet = h.quiet; places = h.places; changed = h.changed; region = h.region; base = h.base;
+  end = h.end;
+  quiet = h.quiet;
+  places = h.places;
+  changed = h.changed;
+  region = h.region;
+  base = h.base;
 }
 stayed noted registers walk back (Halted Call) h = h
 stayed noted registers walk back (Halted Memory) h = h
@@ -64,7 +78,7 @@ moved before middle other shape source value walk (Finished state after) e h = r
   end = h.end;
   quiet = h.quiet;
   places = λ place. more (before.has place) (middle.has place) (after.has place) (is_place place other)
-    (walk_writes place walk) (e.places place) (h.places place);
+      (walk_writes place walk) (e.places place) (h.places place);
   changed = h.changed ∙ e.changed;
   region = h.region ∙ e.region;
   base = h.base ∙ e.base;
@@ -80,7 +94,7 @@ passed before middle passing go (Finished state after) quiet e h = record {
   end = h.end;
   quiet = ap (λ (b : Bool). b || walk_calls (go passing.value)) quiet ∙ h.quiet;
   places = λ place. more (before.has place) (middle.has place) (after.has place) (puts_into place passing.aim)
-    (walk_writes place (go passing.value)) (e.places place) (h.places place);
+      (walk_writes place (go passing.value)) (e.places place) (h.places place);
   changed = h.changed ∙ e.changed;
   region = h.region ∙ e.region;
   base = h.base ∙ e.base;

@@ -1,8 +1,8 @@
 -- The rules of regions that have the numbers and addresses of others.
-use Rattle.std.proofs.Common.{◌≡◌, ◌∙◌, ◌+◌, ◌≤◌, ◌<◌, ◌^◌, ◌==◌, ◌&&◌, ◌||◌, not, ℕ, Bool, true, false, List, [], ◌∷◌, length, map, Option, Some, None}
+use Rattle.std.proofs.Common.{◌≡◌, ◌∙◌, ◌+◌, ◌≤◌, ◌<◌, ◌^◌, ◌==◌, ◌&&◌, not, ℕ, Bool, true, false, List, [], ◌∷◌, length, map, Option, Some, None}
 use Rattle.std.proofs.Common.{refl, sym, ap, subst, arith, IsTrue, inl, inr}
 use Rattle.std.specs.Prelude.{nat_le, nat_lt, sum_by}
-use Rattle.std.specs.List.{AllByRecursion, filter, list_all, list_any}
+use Rattle.std.specs.List.{AllByRecursion, filter, list_all}
 use Rattle.std.proofs.lemmas.Bool.{and_parts, and_from, cases_Bool}
 use Rattle.std.proofs.lemmas.Grind.{common_steps}
 use Rattle.std.proofs.lemmas.List.Sums.{sum_by-cons}
@@ -150,11 +150,11 @@ few-ranges : (region : Region) → region_fault region ≡ None →
     (nat_le (length region.ranges) 64 ≡ true) × (nat_le (byte_count region) 65536 ≡ true)
 few-ranges region h = elim (cases_Bool (nat_le (length region.ranges) 64)) [
   | inl few ↦ elim (cases_Bool (nat_le (byte_count region) 65536)) [
-      | inl small ↦ (few, small)
-      | inr large ↦
-          let e : region_fault region ≡ Some (Bytes region.id (counted (byte_count region))) = rw (few, large) refl in
-          let both = sym e ∙ h in absurd (cc)
-    ]
+    | inl small ↦ (few, small)
+    | inr large ↦
+        let e : region_fault region ≡ Some (Bytes region.id (counted (byte_count region))) = rw (few, large) refl in
+        let both = sym e ∙ h in absurd (cc)
+  ]
   | inr many ↦
       let e : region_fault region ≡ Some (Ranges region.id (counted (length region.ranges))) = rw many refl in
       let both = sym e ∙ h in absurd (cc)

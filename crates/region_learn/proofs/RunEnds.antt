@@ -1,15 +1,10 @@
 -- What is known of a run after a number of turns, and after all its turns, once it has ended.
-use Rattle.std.proofs.Common.{◌≡◌, ◌∙◌, ◌<◌, ◌≤◌, ◌||◌, ◌&&◌, ◌==◌, ℕ, zero, suc, Bool, true, false, List, [], ◌∷◌, Option, Some, None, length, get_or, map}
-use Rattle.std.proofs.Common.{refl, sym, ap, subst, arith, inl, inr}
-use Rattle.std.specs.List.{list_all}
+use Rattle.std.proofs.Common.{◌≡◌, ◌∙◌, ◌<◌, ◌≤◌, ◌||◌, ◌&&◌, ℕ, zero, suc, Bool, true, false, List, [], ◌∷◌, Option, Some, None, length, get_or}
+use Rattle.std.proofs.Common.{refl, sym, ap, arith, inl, inr}
 use Rattle.std.proofs.lemmas.Bool.{cases_lt, eq-eqb}
-use Rattle.rv32im_machine.specs.declared.stepping.Stepped.TheVariants.{Ran, Exited, Stopped}
 use Rattle.rv32im_machine.specs.State.{State}
 use Rattle.rv32im_machine.specs.Folds.{real_end, real-Ended}
-use Rattle.rv32im_machine.specs.Language.{Ended}
 use Rattle.enclosure_regions.specs.declared.region_parts.Region.{Region}
-use Rattle.enclosure_regions.specs.declared.break_kinds.Place.{Place}
-use Rattle.enclosure_regions.specs.Regions.{ids_of}
 use Rattle.region_machine.specs.Enclosures.{Kind, Steps, kind_of}
 use Rattle.region_machine.specs.Guests.{guest_walk}
 use Rattle.region_machine.proofs.Stillness.{IsOver, still_guest, still_kind}
@@ -17,8 +12,6 @@ use Rattle.region_learn.specs.declared.faults.LearnFault.{LearnFault}
 use Rattle.region_learn.specs.declared.notes.Notes.{Notes}
 use Rattle.region_learn.specs.Books.{BookAfter, BookOf, NotesAfter, NotesOf, have_base, numbers_of}
 use Rattle.region_learn.specs.LearnAnswers.{call_in, first_call, first_fault}
-use Rattle.region_learn.specs.Marks.{has_bit}
-use Rattle.region_learn.specs.Noting.{has_place}
 use Rattle.region_learn.specs.Written.{is_leave_of, is_step_in, leaves_changed, some_turn, state_after, walk_writes}
 use Rattle.region_learn.specs.Written.{writes_in}
 use Rattle.rv32im_machine.specs.Rows.{walk_of}
@@ -129,17 +122,17 @@ unfolding some_turn
 notes-more regions start state turns before after is of more = record {
   base = more.base ∙ of.base;
   places = λ place. more.places place
-    ∙ (ap (λ (b : Bool). b || writes_in regions before.region place state) (of.places place)
-    ∙ (ap (λ (s : State). some_turn (writes_in regions before.region place) regions turns start
-    || writes_in regions before.region place s) is
-    ∙ ap (λ (n : ℕ). some_turn (writes_in regions n place) regions turns start
-    || writes_in regions n place (state_after regions turns start)) (sym more.region)));
+      ∙ (ap (λ (b : Bool). b || writes_in regions before.region place state) (of.places place)
+      ∙ (ap (λ (s : State). some_turn (writes_in regions before.region place) regions turns start
+      || writes_in regions before.region place s) is
+      ∙ ap (λ (n : ℕ). some_turn (writes_in regions n place) regions turns start
+      || writes_in regions n place (state_after regions turns start)) (sym more.region)));
   changed = λ register below. more.changed register below
-    ∙ (ap (λ (b : Bool). b || leaves_changed regions before.region register state) (of.changed register below)
-    ∙ (ap (λ (s : State). some_turn (leaves_changed regions before.region register) regions turns start
-    || leaves_changed regions before.region register s) is
-    ∙ ap (λ (n : ℕ). some_turn (leaves_changed regions n register) regions turns start
-    || leaves_changed regions n register (state_after regions turns start)) (sym more.region)));
+      ∙ (ap (λ (b : Bool). b || leaves_changed regions before.region register state) (of.changed register below)
+      ∙ (ap (λ (s : State). some_turn (leaves_changed regions before.region register) regions turns start
+      || leaves_changed regions before.region register s) is
+      ∙ ap (λ (n : ℕ). some_turn (leaves_changed regions n register) regions turns start
+      || leaves_changed regions n register (state_after regions turns start)) (sym more.region)));
 }
 
 numbers-same : (before after : List Notes) → length after ≡ length before →
@@ -159,9 +152,9 @@ pub book_more : (regions : List Region) (start state : State) (turns : ℕ) (bef
 book_more regions start state turns before after is of more = record {
   numbers = numbers-same before after more.count (λ place none below. (more.each place none below).region) ∙ of.numbers;
   each = λ place none below.
-    let within : place < length before = omega (arith, more.count, below) in
-    notes-more regions start state turns (get_or before place none) (get_or after place none) is
-    (of.each place none within) (more.each place none within);
+      let within : place < length before = omega (arith, more.count, below) in
+      notes-more regions start state turns (get_or before place none) (get_or after place none) is
+      (of.each place none within) (more.each place none within);
 }
 
 still-notes : (regions : List Region) (start : State) (first turns : ℕ) (notes : Notes) → first ≤ turns →
@@ -172,12 +165,12 @@ still-notes regions start first turns notes le over of =
     record {
       base = of.base;
       places = λ place. of.places place
-        ∙ sym (still_some (writes_in regions notes.region place) regions start first turns le over
-        (ap (λ (k : Kind). is_step_in notes.region k && walk_writes place (walk_of last)) kind));
+          ∙ sym (still_some (writes_in regions notes.region place) regions start first turns le over
+          (ap (λ (k : Kind). is_step_in notes.region k && walk_writes place (walk_of last)) kind));
       changed = λ register below. of.changed register below
-        ∙ sym (still_some (leaves_changed regions notes.region register) regions start first turns le over
-        (ap (λ (k : Kind). is_leave_of notes.region k
-        && has_changed last.store.kept last.store.registers register) kind));
+          ∙ sym (still_some (leaves_changed regions notes.region register) regions start first turns le over
+          (ap (λ (k : Kind). is_leave_of notes.region k
+          && has_changed last.store.kept last.store.registers register) kind));
     }
 
 pub still_book : (regions : List Region) (start : State) (first turns : ℕ) (book : List Notes) → first ≤ turns →
@@ -185,7 +178,7 @@ pub still_book : (regions : List Region) (start : State) (first turns : ℕ) (bo
 still_book regions start first turns book le over of = record {
   numbers = of.numbers;
   each = λ place none below.
-    still-notes regions start first turns (get_or book place none) le over (of.each place none below);
+      still-notes regions start first turns (get_or book place none) le over (of.each place none below);
 }
 
 pub book_base : (book : List Notes) (base : ℕ) →

@@ -1,5 +1,5 @@
 -- One byte more of a page, and one page more of guest memory.
-use Rattle.std.proofs.Common.{◌≡◌, ◌∙◌, ◌+◌, ◌-◌, ◌*◌, ◌/◌, ◌%◌, ◌≤◌, ◌<◌, ◌==◌, ◌&&◌, ◌||◌, ℕ, suc, Bool, true, false, List, []}
+use Rattle.std.proofs.Common.{◌≡◌, ◌∙◌, ◌+◌, ◌-◌, ◌*◌, ◌/◌, ◌%◌, ◌≤◌, ◌<◌, ◌==◌, ◌&&◌, ◌||◌, ℕ, Bool, true, false, List, []}
 use Rattle.std.proofs.Common.{refl, sym, ap, ap₂, arith, inl, inr, nat_lt, get_or, length}
 use Rattle.std.specs.Prelude.{nat_le}
 use Rattle.std.proofs.Math.Bool.{or_assoc}
@@ -46,23 +46,32 @@ place-more test first place other = elim (cases_lt other first) [
   | inl less ↦
       rw (le-false first other less, eq-false other (first + place) (omega (arith, less)), and-none (test place)) refl
   | inr more ↦ elim (cases_Bool (other == (first + place))) [
-      | inl same ↦
-          let at : other ≡ first + place = eqb-true other (first + place) same in
-          let e : other - first ≡ place = omega (arith, at) in
-          rw (e, same, le-true first other more, lt-true place (place + 1) (omega arith),
-          lt-false place place (omega arith), and-true (test place)) refl
-      | inr differs ↦
-          let apart = eqb-false other (first + place) differs in
-          rw (differs, and-none (test place))
-          (elim (cases_lt (other - first) place) [
-            | inl below ↦
-                rw (lt-true (other - first) place below, lt-true (other - first) (place + 1) (omega (arith, below)))
-                (sym (or-none (nat_le first other && test (other - first))))
-            | inr past ↦
-                rw (lt-false (other - first) place past,
-                lt-false (other - first) (place + 1) (omega (arith, past, apart, more)), and-none (nat_le first other)) refl
-          ])
-    ]
+    | inl same ↦
+        let at : other ≡ first + place = eqb-true other (first + place) same in
+        let e : other - first ≡ place = omega (arith, at) in
+        rw (
+          e,
+          same,
+          le-true first other more,
+          lt-true place (place + 1) (omega arith),
+          lt-false place place (omega arith),
+          and-true (test place),
+        ) refl
+    | inr differs ↦
+        let apart = eqb-false other (first + place) differs in
+        rw (differs, and-none (test place))
+        (elim (cases_lt (other - first) place) [
+          | inl below ↦
+              rw (lt-true (other - first) place below, lt-true (other - first) (place + 1) (omega (arith, below)))
+              (sym (or-none (nat_le first other && test (other - first))))
+          | inr past ↦
+              rw (
+                lt-false (other - first) place past,
+                lt-false (other - first) (place + 1) (omega (arith, past, apart, more)),
+                and-none (nat_le first other),
+              ) refl
+        ])
+  ]
 ]
 
 pub page_more : (page : List ℕ) (first place other : ℕ) (before old now : Bool) →
@@ -95,25 +104,34 @@ memory-more marks base index other = elim (cases_lt other base) [
   | inl less ↦
       rw (le-false base other less, le-false (base + index * 4096) other (omega (arith, less))) refl
   | inr more ↦ elim (cases_lt other (base + index * 4096)) [
-      | inl before ↦
-          rw (le-true base other more, le-false (base + index * 4096) other before,
+    | inl before ↦
+        rw (
+          le-true base other more,
+          le-false (base + index * 4096) other before,
           lt-true (other - base) (index * 4096) (omega (arith, before, more)),
-          lt-true (other - base) ((index + 1) * 4096) (omega (arith, before, more)))
-          (sym (or-none (marks_have marks (other - base))))
-      | inr from ↦ elim (cases_lt other (base + index * 4096 + 4096)) [
-          | inl within ↦
-              rw (le-true base other more, le-true (base + index * 4096) other from,
-              lt-false (other - base) (index * 4096) (omega (arith, from, more)),
-              lt-true (other - base) ((index + 1) * 4096) (omega (arith, within, more)),
-              lt-true (other - (base + index * 4096)) 4096 (omega (arith, within, from)))
-              (piece marks base index other from within)
-          | inr past ↦
-              rw (le-true base other more, le-true (base + index * 4096) other from,
-              lt-false (other - base) (index * 4096) (omega (arith, from, more)),
-              lt-false (other - base) ((index + 1) * 4096) (omega (arith, past, more)),
-              lt-false (other - (base + index * 4096)) 4096 (omega (arith, past, from))) refl
-        ]
+          lt-true (other - base) ((index + 1) * 4096) (omega (arith, before, more)),
+        )
+        (sym (or-none (marks_have marks (other - base))))
+    | inr from ↦ elim (cases_lt other (base + index * 4096 + 4096)) [
+      | inl within ↦
+          rw (
+            le-true base other more,
+            le-true (base + index * 4096) other from,
+            lt-false (other - base) (index * 4096) (omega (arith, from, more)),
+            lt-true (other - base) ((index + 1) * 4096) (omega (arith, within, more)),
+            lt-true (other - (base + index * 4096)) 4096 (omega (arith, within, from)),
+          )
+          (piece marks base index other from within)
+      | inr past ↦
+          rw (
+            le-true base other more,
+            le-true (base + index * 4096) other from,
+            lt-false (other - base) (index * 4096) (omega (arith, from, more)),
+            lt-false (other - base) ((index + 1) * 4096) (omega (arith, past, more)),
+            lt-false (other - (base + index * 4096)) 4096 (omega (arith, past, from)),
+          ) refl
     ]
+  ]
 ]
 
 pub memory_more : (marks : List (List ℕ)) (base index other : ℕ) (old now : Bool) →

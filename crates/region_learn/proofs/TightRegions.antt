@@ -1,17 +1,16 @@
 -- What notes declare lies in guest memory.
-use Rattle.std.proofs.Common.{◌≡◌, ◌∙◌, ◌+◌, ◌-◌, ◌≤◌, ◌<◌, ◌%◌, ◌^◌, ◌==◌, ◌&&◌, ◌||◌, ℕ, Bool, true, false, List, [], ◌∷◌, Option, None, get_or, length, map}
+use Rattle.std.proofs.Common.{◌≡◌, ◌∙◌, ◌+◌, ◌-◌, ◌≤◌, ◌<◌, ◌%◌, ◌^◌, ◌==◌, ◌||◌, ℕ, Bool, true, false, List, [], ◌∷◌, Option, None, get_or, length}
 use Rattle.std.proofs.Common.{refl, sym, ap, ap₂, subst, arith, zero-add, mod-eq_of_lt}
 use Rattle.std.specs.Prelude.{nat_le, nat_lt}
-use Rattle.std.specs.Int.{bit_at}
-use Rattle.std.specs.List.{AllByRecursion, list_all, list_any}
+use Rattle.std.specs.List.{AllByRecursion, list_any}
 use Rattle.std.proofs.lemmas.Bool.{and_from, and_parts, or_left, or_right}
 use Rattle.std.proofs.lemmas.Grind.{common_steps}
 use Rattle.std.proofs.lemmas.Nat.Bits.{bit_at_above}
 use Rattle.flow_base.specs.Guests.{is_inside}
 use Rattle.enclosure_regions.specs.declared.region_parts.Range.{Range}
 use Rattle.enclosure_regions.specs.declared.region_parts.Region.{Region}
-use Rattle.enclosure_regions.specs.declared.break_kinds.Place.TheVariants.{Reg, Byte}
-use Rattle.enclosure_regions.specs.Breaks.{declares_byte, has_byte}
+use Rattle.enclosure_regions.specs.declared.break_kinds.Place.TheVariants.{Reg}
+use Rattle.enclosure_regions.specs.Breaks.{has_byte}
 use Rattle.enclosure_regions.specs.Turns.{base_value, start_of}
 use Rattle.region_machine.specs.Within.{are_inside}
 use Rattle.region_learn.specs.declared.notes.Notes.{Notes}
@@ -93,15 +92,15 @@ tight_of run region declared notes number room of made =
     let noted : notes.base + 16777216 ≤ 4294967295 = omega (arith, low, room) in
     record {
       registers = λ register high.
-        sym (of.places (Reg register) ∙ ap (λ (n : ℕ). Written run n (Reg register)) number)
-        ∙ high-bit notes.written register made.word high;
+          sym (of.places (Reg register) ∙ ap (λ (n : ℕ). Written run n (Reg register)) number)
+          ∙ high-bit notes.written register made.word high;
       inside = λ kept. subst (λ (n : ℕ). are_inside declared.ranges kept n ≡ true) low
-        (ranges-inside notes.base 0 kept declared.ranges noted made.spans.spread made.spans.end
-        (λ address h. le-of notes.base address
-        (and_parts (nat_le notes.base address) (marks_have notes.bytes (address - notes.base))
-        (sym (made.bytes address) ∙ h)).0));
+          (ranges-inside notes.base 0 kept declared.ranges noted made.spans.spread made.spans.end
+          (λ address h. le-of notes.base address
+          (and_parts (nat_le notes.base address) (marks_have notes.bytes (address - notes.base))
+          (sym (made.bytes address) ∙ h)).0));
       bytes = λ kept address.
-        bytes-plain kept address 0 (notes.base + 16777216) declared.ranges noted made.spans.spread made.spans.end;
+          bytes-plain kept address 0 (notes.base + 16777216) declared.ranges noted made.spans.spread made.spans.end;
     }
 
 pub tight_all : (run : Run) (book : List Notes) (declared : List Region) → length book ≡ length run.regions →

@@ -1,9 +1,9 @@
 -- The real run with the least declaration breaks no region.
 use Rattle.std.proofs.Common.{◌≡◌, ◌∙◌, ◌+◌, ◌≤◌, ◌<◌, ◌==◌, ◌&&◌, ◌||◌, ◌⊎◌, not, ℕ, zero, suc, Bool, true, false, List, [], ◌∷◌, Option, Some, None, map}
-use Rattle.std.proofs.Common.{refl, sym, ap, subst, arith, inl, inr, cond, below_more, below_none}
-use Rattle.std.specs.Prelude.{option_map, slice_index}
-use Rattle.std.specs.List.{AllByRecursion, filter, find, list_all, list_any, position_from}
-use Rattle.std.proofs.lemmas.Bool.{and_from, and_parts, cases_Bool, cases_lt, cond-false, cond-true, eqb-true, eq-eqb, or_left, or_parts, or_right}
+use Rattle.std.proofs.Common.{refl, sym, ap, subst, arith, inl, inr, below_more, below_none}
+use Rattle.std.specs.Prelude.{option_map}
+use Rattle.std.specs.List.{AllByRecursion, filter, find, list_all, position_from}
+use Rattle.std.proofs.lemmas.Bool.{and_parts, cases_Bool, cases_lt, cond-false, cond-true, eq-eqb, or_left, or_parts, or_right}
 use Rattle.std.proofs.lemmas.Grind.{common_steps}
 use Rattle.flow_base.specs.Guests.{is_inside}
 use Rattle.flow_base.specs.declared.points.Slot.{Slot}
@@ -26,8 +26,8 @@ use Rattle.enclosure_regions.specs.declared.break_kinds.Place.{Place}
 use Rattle.enclosure_regions.specs.declared.break_kinds.Place.TheVariants.{Reg, Byte}
 use Rattle.enclosure_regions.specs.declared.region_parts.Range.{Range}
 use Rattle.enclosure_regions.specs.declared.region_parts.Region.{Region}
-use Rattle.enclosure_regions.specs.Breaks.{byte_break, declares_byte, declares_register, has_changed, keep_break}
-use Rattle.enclosure_regions.specs.Breaks.{register_break, register_changed, range_break}
+use Rattle.enclosure_regions.specs.Breaks.{declares_byte, declares_register, has_changed}
+use Rattle.enclosure_regions.specs.Breaks.{register_changed}
 use Rattle.enclosure_regions.specs.Orders.{all_registers}
 use Rattle.enclosure_regions.specs.Regions.{stands_in}
 use Rattle.enclosure_regions.specs.Turns.{start_of}
@@ -37,9 +37,9 @@ use Rattle.region_machine.specs.Enclosures.{kind_within, region_entered_at, regi
 use Rattle.region_machine.specs.Guests.{guest_walk, kind_walk}
 use Rattle.region_machine.specs.Runs.{Place as RunPlace, fresh, real_after, turn_unless, unbroken_turn}
 use Rattle.region_learn.specs.declared.faults.LearnFault.{LearnFault}
-use Rattle.region_learn.specs.LearnAnswers.{Grants, call_in, first_call, first_fault, no_exit, run_fault}
-use Rattle.region_learn.specs.Learnt.{IsLearnt, have_byte, is_kept, is_out}
-use Rattle.region_learn.specs.Unbroken.{HasExitedUnbroken, IsTight, RunsUnbroken}
+use Rattle.region_learn.specs.LearnAnswers.{Grants, call_in, first_call, first_fault, no_exit}
+use Rattle.region_learn.specs.Learnt.{IsLearnt, is_kept, is_out}
+use Rattle.region_learn.specs.Unbroken.{IsTight, RunsUnbroken}
 use Rattle.region_learn.specs.Written.{Changed, Run, Written, bare, is_leave_of, is_number, is_place, is_step_in, leaves_changed}
 use Rattle.region_learn.specs.Written.{puts_into, some_turn, state_after, walk_calls, walk_writes, writes_in}
 use Rattle.region_learn.proofs.EdgesAlike.{bare_kind, edges_alike, kind_bare}
@@ -298,7 +298,7 @@ enter-unbroken : (run : Run) (region : Region) (state : State) → IsKnown run r
 enter-unbroken run region state known same =
     let base = state.setting.base in
     let inside : list_all (λ range. is_inside base (start_of state.store.registers range) range.length) region.ranges
-        ≡ true =
+    ≡ true =
     subst (λ (s : Setting). list_all (λ range. is_inside s.base (start_of state.store.registers range) range.length)
     region.ranges ≡ true) (sym same) (known.tight.inside state.store.registers) in
     ap (option_map (λ range. Break.RangeOutside region.id range))
@@ -348,24 +348,24 @@ register-declared : (run : Run) (region : Region) (register : ℕ) → IsKnown r
     Written run region.id (Reg register) ≡ true → declares_register region register ≡ true
 register-declared run region register known written = elim (cases_lt register 32) [
   | inl below ↦ elim (cases_lt register 1) [
-      | inl none ↦
-          let e : register ≡ 0 = omega (arith, none) in
-          or_left (register == 0) (stands_in region.outs register || stands_in region.keep register)
-          (eq-eqb register 0 e)
-      | inr some ↦
-          let all = listed register below some in
-          or_right (register == 0) (stands_in region.outs register || stands_in region.keep register)
-          (elim (out-or-kept (Written run region.id (Reg register)) (Changed run region.id register) written) [
-            | inl out ↦
-                or_left (stands_in region.outs register) (stands_in region.keep register)
-                (ap (λ (l : List ℕ). stands_in l register) known.learnt.outs
-                ∙ pick-stands (is_out run region.id) register all_registers out all)
-            | inr kept ↦
-                or_right (stands_in region.outs register) (stands_in region.keep register)
-                (ap (λ (l : List ℕ). stands_in l register) known.learnt.keep
-                ∙ pick-stands (is_kept run region.id) register all_registers kept all)
-          ])
-    ]
+    | inl none ↦
+        let e : register ≡ 0 = omega (arith, none) in
+        or_left (register == 0) (stands_in region.outs register || stands_in region.keep register)
+        (eq-eqb register 0 e)
+    | inr some ↦
+        let all = listed register below some in
+        or_right (register == 0) (stands_in region.outs register || stands_in region.keep register)
+        (elim (out-or-kept (Written run region.id (Reg register)) (Changed run region.id register) written) [
+          | inl out ↦
+              or_left (stands_in region.outs register) (stands_in region.keep register)
+              (ap (λ (l : List ℕ). stands_in l register) known.learnt.outs
+              ∙ pick-stands (is_out run region.id) register all_registers out all)
+          | inr kept ↦
+              or_right (stands_in region.outs register) (stands_in region.keep register)
+              (ap (λ (l : List ℕ). stands_in l register) known.learnt.keep
+              ∙ pick-stands (is_kept run region.id) register all_registers kept all)
+        ])
+  ]
   | inr high ↦ absurd (true-false (sym written ∙ known.tight.registers register high))
 ]
 
@@ -482,9 +482,9 @@ sound-turn run enclosures turns place below none same known sound =
     let state = state_after run.regions turns run.start in
     record {
       unbroken = ap (λ (s : State). Breaks regions s) sound.state
-        ∙ turn-unbroken run regions turns below none same known;
+          ∙ turn-unbroken run regions turns below none same known;
       state = ap (λ (s : State). real_end (guest_walk regions s)) sound.state
-        ∙ (sym (edges_alike regions state) ∙ ap (λ (l : List Region). real_end (guest_walk l state)) same);
+          ∙ (sym (edges_alike regions state) ∙ ap (λ (l : List Region). real_end (guest_walk l state)) same);
     }
 
 sound-after : (run : Run) (enclosures : Enclosures) (turns : ℕ) → turns ≤ run.turns →

@@ -7,7 +7,7 @@ use Rattle.enclosure_regions.specs.declared.region_parts.Region.{Region}
 use Rattle.enclosure_regions.specs.declared.break_kinds.Place.{Place}
 use Rattle.enclosure_regions.specs.Breaks.{has_changed}
 use Rattle.enclosure_regions.specs.Regions.{are_distinct, ids_of}
-use Rattle.region_machine.specs.Enclosures.{Kind, Enters, Leaves, Steps, kind_of}
+use Rattle.region_machine.specs.Enclosures.{Kind, Enters, Leaves, Steps}
 use Rattle.region_learn.specs.declared.notes.Notes.{Notes}
 use Rattle.region_learn.specs.Marks.{has_bit}
 use Rattle.region_learn.specs.Noting.{has_place}

@@ -1,11 +1,10 @@
 -- The real run with a declaration.
-use Rattle.std.specs.Prelude.{◌≡◌, ◌≤◌, ℕ, Bool, true, false, List, None}
+use Rattle.std.specs.Prelude.{◌≡◌, ◌≤◌, ℕ, true, false, List, None}
 use Rattle.rv32im_machine.specs.declared.stepping.Stepped.TheVariants.{Exited}
 use Rattle.rv32im_machine.specs.State.{State}
 use Rattle.enclosure_regions.specs.declared.region_parts.Region.{Region}
 use Rattle.enclosure_regions.specs.declared.break_kinds.Place.TheVariants.{Reg}
 use Rattle.enclosure_regions.specs.Breaks.{declares_byte}
-use Rattle.region_machine.specs.Enclosures.{Enclosures}
 use Rattle.region_machine.specs.Runs.{Place, fresh, real_after}
 use Rattle.region_machine.specs.Within.{are_inside}
 use Rattle.region_learn.specs.Learnt.{have_byte}

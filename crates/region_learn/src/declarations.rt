@@ -36,12 +36,7 @@ fn is_out(written: u32, changed: u32, register: u8) -> bool
 }
 
 /// Those of some registers that are kept.
-fn kept_among(
-    alloc: Global,
-    all: &[u8],
-    written: u32,
-    changed: u32,
-) -> Result<List<u8>, NoMemory>
+fn kept_among(alloc: Global, all: &[u8], written: u32, changed: u32) -> Result<List<u8>, NoMemory>
     requires { IsTrue (list_all (λ register. nat_lt register 32) all.now) }
     ensures { IfOk result (λ found. found ≡ filter (kept_bit written changed) all.now) }
 {
@@ -57,12 +52,7 @@ fn kept_among(
 }
 
 /// Those of some registers that were written and are not kept.
-fn outs_among(
-    alloc: Global,
-    all: &[u8],
-    written: u32,
-    changed: u32,
-) -> Result<List<u8>, NoMemory>
+fn outs_among(alloc: Global, all: &[u8], written: u32, changed: u32) -> Result<List<u8>, NoMemory>
     requires { IsTrue (list_all (λ register. nat_lt register 32) all.now) }
     ensures found { IfOk result (λ found. found ≡ filter (out_bit written changed) all.now) }
     ensures word { written < 4294967296 }

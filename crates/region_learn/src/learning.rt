@@ -88,11 +88,7 @@ fn new_book(alloc: Global, regions: &[Region], base: u32) -> Result<List<Notes>,
 }
 
 /// Regions that are declared, if they are not too large.
-fn checked(
-    alloc: Global,
-    bare: &Regions,
-    declared: List<Region>,
-) -> Result<Regions, LearnFault>
+fn checked(alloc: Global, bare: &Regions, declared: List<Region>) -> Result<Regions, LearnFault>
     requires same { map bare_of declared ≡ bare.now.items }
     requires drafts { AllByRecursion IsDraft declared }
     ensures items { IfOk result (λ regions. regions.items ≡ declared) }

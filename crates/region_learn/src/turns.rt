@@ -87,11 +87,7 @@ fn leave_noting(machine: &mut Machine, book: &mut [Notes], region: &Region)
 }
 
 /// A step inside a region, with what it writes noted. A call is refused, and the machine is then left in the middle of it.
-fn step_noting(
-    machine: &mut Machine,
-    book: &mut [Notes],
-    region: &Region,
-) -> Result<(), LearnFault>
+fn step_noting(machine: &mut Machine, book: &mut [Notes], region: &Region) -> Result<(), LearnFault>
     requires own { IsTrue (are_own book.old) }
     requires notes { IsTrue (has_notes book.old region.now.id) }
     requires base { IsTrue (have_base book.old machine.old.setting.base) }

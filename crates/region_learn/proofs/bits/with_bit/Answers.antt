@@ -1,4 +1,4 @@
-use Rattle.std.proofs.Common.{◌≡◌, ◌∙◌, ◌*◌, ◌%◌, ◌^◌, ◌==◌, ◌||◌, ℕ, ap, bit_or}
+use Rattle.std.proofs.Common.{◌≡◌, ◌∙◌, ◌*◌, ◌%◌, ◌^◌, ℕ, ap, bit_or}
 use Rattle.std.proofs.lemmas.Nat.{one_shl}
 use Rattle.region_learn.specs.Marks.{has_bit}
 use Rattle.region_learn.proofs.MarkedCells as cells

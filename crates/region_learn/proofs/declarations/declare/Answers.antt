@@ -1,4 +1,4 @@
-use Rattle.std.proofs.Common.{◌≡◌, ◌∙◌, ◌+◌, List, ap, refl, subst, sym}
+use Rattle.std.proofs.Common.{◌∙◌, ◌+◌, List, ap, refl, subst, sym}
 use Rattle.std.specs.List.{filter}
 use Rattle.enclosure_regions.specs.declared.region_parts.Range.{Range}
 use Rattle.region_learn.specs.Declarations.{kept_bit, out_bit}
@@ -18,7 +18,7 @@ returns c =
       keep = c.in_ok-kept_among.ensures ∙ ap (filter (kept_bit notes.written notes.changed)) table;
       outs = c.in_ok-outs_among.ensures.found ∙ ap (filter (out_bit notes.written notes.changed)) table;
       spans = subst (λ (l : List Range). SpansBelow (notes.base + 16777216) l) (sym c.from_vec.ensures)
-        c.in_ok-ranges_of.ensures.below;
+          c.in_ok-ranges_of.ensures.below;
       bytes = λ address. ap (λ (l : List Range). have_byte l address) c.from_vec.ensures
-        ∙ c.in_ok-ranges_of.ensures.bytes address;
+          ∙ c.in_ok-ranges_of.ensures.bytes address;
     }

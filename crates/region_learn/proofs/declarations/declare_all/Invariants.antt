@@ -8,5 +8,5 @@ abbrev pub invariant-loop-place : goal.invariant-loop-place
 invariant-loop-place l = record {
   count : length l.declared ≡ l.place;
   each : (place : ℕ) (region other : Region) (notes : Notes) → place < l.place →
-    Declares (get_or l.regions place region) (get_or l.book place notes) (get_or l.declared place other);
+      Declares (get_or l.regions place region) (get_or l.book place notes) (get_or l.declared place other);
 }

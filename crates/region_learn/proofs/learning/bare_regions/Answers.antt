@@ -8,6 +8,6 @@ use Rattle.region_learn.proofs.learning.bare_regions.Goals as goal
 pub invariant_of-result : goal.invariant_of-result
 invariant_of-result c = record {
   keeps_rules = subst (λ (l : List Region). are_regions l ≡ true)
-    (sym (c.in_ok-bare_items.ensures ∙ ap (map bare) c.as_slice.ensures))
-    (bare_regions_rules c.args.regions.now.items c.args.regions.now.keeps_rules);
+      (sym (c.in_ok-bare_items.ensures ∙ ap (map bare) c.as_slice.ensures))
+      (bare_regions_rules c.args.regions.now.items c.args.regions.now.keeps_rules);
 }

@@ -1,12 +1,9 @@
-use Rattle.std.proofs.Common.{◌≡◌, ◌∙◌, ◌+◌, ◌≤◌, ℕ, List, [], ap, length, subst, sym, map, None, inr, Some}
+use Rattle.std.proofs.Common.{◌∙◌, ◌+◌, ◌≤◌, ℕ, List, ap, subst, sym, map, inr}
 use Rattle.enclosure_regions.specs.declared.region_parts.Region.{Region}
-use Rattle.region_learn.specs.declared.notes.Notes.{Notes}
-use Rattle.region_learn.specs.declared.faults.LearnFault.{LearnFault}
-use Rattle.region_learn.specs.Books.{BookOf}
 use Rattle.region_learn.specs.Declarations.{DeclareAll}
 use Rattle.region_learn.specs.LearnAnswers.{declaration_fault}
 use Rattle.region_learn.specs.Learnt.{Learnt}
-use Rattle.region_learn.specs.Written.{Run, bare}
+use Rattle.region_learn.specs.Written.{bare}
 use Rattle.region_learn.proofs.LearntRegions.{book_count, declared_same, draft_all_of, learnt_all, no_notes, notes_base}
 use Rattle.std.specs.List.{AllByRecursion}
 use Rattle.region_learn.specs.Unbroken.{IsTight}

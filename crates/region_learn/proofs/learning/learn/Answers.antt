@@ -1,4 +1,4 @@
-use Rattle.std.proofs.Common.{◌≡◌, ◌∙◌, ◌+◌, ◌≤◌, true, ℕ, List, ap, ap₂, map, refl, subst, sym, arith}
+use Rattle.std.proofs.Common.{◌≡◌, ◌∙◌, ◌+◌, ◌≤◌, true, ℕ, List, ap, map, subst, sym}
 use Rattle.std.specs.List.{AllByRecursion}
 use Rattle.rv32im_machine.specs.State.{State}
 use Rattle.enclosure_regions.specs.Regions.{ids_of}
@@ -46,8 +46,8 @@ learn_from-requires-clause-room c =
 pub returns-clause-err : goal.returns-clause-err
 returns-clause-err c = λ free.
     let same : ◌≡◌ {A = Run}
-        (record { regions = c.in_ok-marked.marked.regions.items; start = c.in_ok-machine.machine; turns = c.args.turns })
-        (record { regions = map bare c.args.regions.now.items; start = c.in_ok-machine.machine; turns = c.args.turns }) =
+    (record { regions = c.in_ok-marked.marked.regions.items; start = c.in_ok-machine.machine; turns = c.args.turns })
+    (record { regions = map bare c.args.regions.now.items; start = c.in_ok-machine.machine; turns = c.args.turns }) =
     ap (λ (l : List Region). record { regions = l; start = c.in_ok-machine.machine; turns = c.args.turns })
     (ap (λ (r : Regions). r.items) c.in_ok-marked.ensures ∙ c.in_ok-bare.ensures) in
     let refused = subst (λ (r : Run). Refuses r c.in-Err.fault) same (c.in-Err.ensures.err free) in

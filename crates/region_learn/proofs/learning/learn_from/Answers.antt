@@ -1,4 +1,4 @@
-use Rattle.std.proofs.Common.{◌≡◌, ◌∙◌, refl, sym}
+use Rattle.std.proofs.Common.{◌∙◌, refl, sym}
 use Rattle.region_learn.specs.Written.{Run}
 use Rattle.region_learn.proofs.UnbrokenRuns.{runs_unbroken}
 use Rattle.region_learn.proofs.RunEnds.{book_base}

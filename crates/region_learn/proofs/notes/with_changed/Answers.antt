@@ -1,4 +1,3 @@
-use Rattle.std.proofs.Common.{◌≡◌}
 use Rattle.enclosure_regions.specs.Breaks.{has_changed}
 use Rattle.region_learn.specs.Marks.{has_bit}
 use Rattle.region_learn.proofs.Counting.{below_more}

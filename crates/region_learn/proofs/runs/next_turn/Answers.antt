@@ -16,6 +16,6 @@ noted_turn-requires c =
       leave = c.next_turn-turn.ensures.leave (bare_leave regions c.args.machine.now c.requires.bare);
       own = subst (λ (l : List ℕ). are_distinct l ≡ true) (sym c.requires.numbers) distinct;
       notes = subst (λ (k : Kind). has_kind_notes book k ≡ true) (sym c.next_turn-turn.ensures.kind)
-        (notes_of_turn regions book c.args.machine.now.control c.requires.numbers);
+          (notes_of_turn regions book c.args.machine.now.control c.requires.numbers);
       base = c.requires.base;
     }

@@ -1,12 +1,12 @@
-use Rattle.std.proofs.Common.{◌≡◌, ◌∙◌, ◌+◌, ◌≤◌, ℕ, suc, None, Some, refl, sym, ap, subst, arith}
-use Rattle.rv32im_machine.specs.declared.stepping.Stepped.TheVariants.{Ran, Exited, Stopped}
+use Rattle.std.proofs.Common.{◌≡◌, ◌∙◌, ◌+◌, ℕ, suc, None, Some, refl, sym, ap, subst, arith}
+use Rattle.rv32im_machine.specs.declared.stepping.Stepped.TheVariants.{Exited, Stopped}
 use Rattle.rv32im_machine.specs.State.{State}
 use Rattle.region_machine.proofs.Stillness.{IsOver}
 use Rattle.region_learn.specs.Books.{BookOf}
 use Rattle.region_learn.specs.LearnAnswers.{first_call}
 use Rattle.region_learn.specs.Written.{state_after}
 use Rattle.region_learn.proofs.RunEnds.{book_base, book_more, first_more, state_more, still_book}
-use Rattle.region_learn.proofs.RunFaults.{call_fault, end_fault, limit_fault}
+use Rattle.region_learn.proofs.RunFaults.{call_fault, end_fault}
 use Rattle.region_learn.proofs.runs.run.Goals as goal
 
 pub loop-init : goal.loop-init
@@ -70,14 +70,14 @@ loop-preserved c =
     let e : suc n ≡ n + 1 = omega arith in
     record {
       state =
-        state_more regions start c.loop.machine c.next_turn.new.machine n c.loop.invariant.state c.in-Ok.ensures.state
-        ∙ ap (λ (k : ℕ). state_after regions k start) e;
+          state_more regions start c.loop.machine c.next_turn.new.machine n c.loop.invariant.state c.in-Ok.ensures.state
+          ∙ ap (λ (k : ℕ). state_after regions k start) e;
       setting = c.next_turn.ensures.setting ∙ c.loop.invariant.setting;
       book = subst (λ (k : ℕ). BookOf regions k start c.next_turn.new.book) e
-        (book_more regions start c.loop.machine n c.loop.book c.next_turn.new.book c.loop.invariant.state
-        c.loop.invariant.book c.in-Ok.ensures.noted);
+          (book_more regions start c.loop.machine n c.loop.book c.next_turn.new.book c.loop.invariant.state
+          c.loop.invariant.book c.in-Ok.ensures.noted);
       quiet = ap (λ (k : ℕ). first_call regions k start) (sym e)
-        ∙ first_more regions start c.loop.machine n None c.loop.invariant.state c.loop.invariant.quiet
-        c.in-Ok.ensures.quiet;
+          ∙ first_more regions start c.loop.machine n None c.loop.invariant.state c.loop.invariant.quiet
+          c.in-Ok.ensures.quiet;
       ran = sym c.mode.ensures ∙ c.in-Ran.is;
     }

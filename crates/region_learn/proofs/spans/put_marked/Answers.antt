@@ -1,4 +1,4 @@
-use Rattle.std.proofs.Common.{◌≡◌, ◌∙◌, ◌+◌, ◌&&◌, ◌||◌, ◌==◌, Bool, List, ap, subst, sym}
+use Rattle.std.proofs.Common.{◌∙◌, ◌+◌, ◌&&◌, ◌||◌, ◌==◌, Bool, List, ap, subst, sym}
 use Rattle.enclosure_regions.specs.declared.region_parts.Range.{Range}
 use Rattle.region_learn.specs.Learnt.{have_byte}
 use Rattle.region_learn.specs.Spans.{SpansBelow}

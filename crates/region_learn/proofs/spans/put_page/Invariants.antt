@@ -7,5 +7,5 @@ abbrev pub invariant-loop-place : goal.invariant-loop-place
 invariant-loop-place l = record {
   below : SpansBelow (l.first + l.place) l.ranges.items;
   bytes : (other : ℕ) → have_byte l.ranges.items other
-    ≡ (have_byte l.initial.ranges.items other || in_page l.page l.first l.place other);
+      ≡ (have_byte l.initial.ranges.items other || in_page l.page l.first l.place other);
 }

@@ -1,4 +1,4 @@
-use Rattle.std.proofs.Common.{◌≡◌, ◌∙◌, ◌||◌, ℕ, Bool, List, ap, get_or, sym, subst}
+use Rattle.std.proofs.Common.{◌≡◌, ◌∙◌, ◌||◌, ℕ, List, ap, get_or, subst}
 use Rattle.enclosure_regions.specs.Breaks.{has_changed}
 use Rattle.region_machine.specs.Enclosures.{Leaves}
 use Rattle.region_learn.specs.declared.notes.Notes.{Notes}

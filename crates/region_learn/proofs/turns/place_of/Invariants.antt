@@ -1,4 +1,4 @@
-use Rattle.std.proofs.Common.{◌≡◌, ◌≢◌, ◌<◌, ◌≤◌, ◌-◌, ℕ, get_or, length}
+use Rattle.std.proofs.Common.{◌≢◌, ◌<◌, ◌≤◌, ◌-◌, ℕ, get_or, length}
 use Rattle.region_learn.specs.declared.notes.Notes.{Notes}
 use Rattle.region_learn.proofs.turns.place_of.Given as goal
 

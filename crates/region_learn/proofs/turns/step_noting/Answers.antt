@@ -1,4 +1,4 @@
-use Rattle.std.proofs.Common.{◌≡◌, ◌∙◌, Some, ap, get_or, subst}
+use Rattle.std.proofs.Common.{◌≡◌, Some, get_or, subst}
 use Rattle.std.proofs.lemmas.List.{get_or_default}
 use Rattle.region_machine.specs.Enclosures.{Steps}
 use Rattle.region_learn.specs.declared.notes.Notes.{Notes}

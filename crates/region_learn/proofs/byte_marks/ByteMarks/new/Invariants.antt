@@ -1,4 +1,4 @@
-use Rattle.std.proofs.Common.{◌≡◌, ◌%◌, ℕ, List, [], false, get_or, vec_len}
+use Rattle.std.proofs.Common.{◌≡◌, ℕ, [], false, get_or, vec_len}
 use Rattle.region_learn.specs.Marks.{page_has}
 use Rattle.region_learn.proofs.byte_marks.ByteMarks.new.Given as goal
 

@@ -1,6 +1,5 @@
-use Rattle.std.proofs.Common.{◌≡◌, ◌∙◌, ◌||◌, ap, sym}
+use Rattle.std.proofs.Common.{◌∙◌, ◌||◌, ap, sym}
 use Rattle.rv32im_machine.specs.declared.language.Aim.{Aim}
-use Rattle.enclosure_regions.specs.declared.break_kinds.Place.{Place}
 use Rattle.region_learn.specs.Noting.{noted_of}
 use Rattle.region_learn.specs.Written.{puts_into}
 use Rattle.region_learn.proofs.NoteCalls.{called, passed, unwritten}
@@ -15,7 +14,7 @@ returns-in_ok-note-in-Put-clause-goes c = λ go out h.
     (sym c.is_number.ensures ∙ c.if-is_number.false)
     (record {
       places = λ place. c.in_ok-note-in-Put.ensures.places place
-        ∙ ap (λ (aim : Aim). (noted_of c.args.self.now).has place || puts_into place aim) (sym c.in-Put.is);
+          ∙ ap (λ (aim : Aim). (noted_of c.args.self.now).has place || puts_into place aim) (sym c.in-Put.is);
       changed = c.note.ensures.changed;
       region = c.note.ensures.region;
       base = c.note.ensures.base;

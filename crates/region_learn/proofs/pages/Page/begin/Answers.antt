@@ -11,7 +11,7 @@ returns-in_ok-extend_from_slice-clause-same c = λ index.
     eqb-true (vec_len c.self.inside.words) 0 (sym c.is_empty.ensures ∙ c.if-is_empty.true) in
     let none : length c.self.inside.words.items ≡ 0 = omega arith in
     let empty : c.self.inside.words.items ≡ [] = nil_of c.self.inside.words.items none in
-    let filled : c.extend_from_slice.new.self.items ≡ replicate 128 0 = 
+    let filled : c.extend_from_slice.new.self.items ≡ replicate 128 0 =
     c.in_ok-extend_from_slice.ensures.items ∙ ap (λ (l : List ℕ). l ++ replicate 128 0) empty in
     ap (λ (words : List ℕ). page_has words index) filled
     ∙ (zeros_have_none 128 index
