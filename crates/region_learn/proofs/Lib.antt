@@ -18,3 +18,6 @@ pub mod BareLists
 pub mod EdgesAlike
 pub mod UnbrokenRuns
 pub mod TightRegions
+pub mod WeakerRuns
+pub mod WeakerRegions
+pub mod LeftOut

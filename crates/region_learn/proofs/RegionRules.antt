@@ -102,7 +102,7 @@ pub picked : (pick : ℕ → Bool) → IsTrue (are_registers (filter pick all_re
 picked pick =
     grind (arith, common_steps, all-are, filter-all is_register pick all_registers, ascends pick 0 all_registers)
 
-stands-picked : (pick : ℕ → Bool) (r : ℕ) (xs : List ℕ) → IsTrue (stands_in (filter pick xs) r) → IsTrue (pick r)
+pub stands-picked : (pick : ℕ → Bool) (r : ℕ) (xs : List ℕ) → IsTrue (stands_in (filter pick xs) r) → IsTrue (pick r)
 stands-picked pick r [] h = grind arith
 stands-picked pick r (x ∷ xs) h = grind (arith, common_steps, stands-picked pick r xs)
 

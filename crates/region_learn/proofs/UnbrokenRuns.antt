@@ -64,7 +64,7 @@ place-unbroken region kept pc (MachineByte address) h =
 place-unbroken region kept pc First h = refl
 place-unbroken region kept pc Second h = refl
 
-slot-unbroken : (region : Region) (pc : ℕ) (slot : Slot) → is_number slot ≡ false → slot_break region pc slot ≡ None
+pub slot-unbroken : (region : Region) (pc : ℕ) (slot : Slot) → is_number slot ≡ false → slot_break region pc slot ≡ None
 slot-unbroken region pc Number h = absurd (cc)
 slot-unbroken region pc FirstSlot h = refl
 slot-unbroken region pc SecondSlot h = refl
@@ -137,7 +137,7 @@ none_true test regions start turn turns below h = elim (cases_Bool (test (state_
   | inr fails ↦ fails
 ]
 
-fault-none : (first later : Option LearnFault) → first_fault first later ≡ None → (first ≡ None) × (later ≡ None)
+pub fault-none : (first later : Option LearnFault) → first_fault first later ≡ None → (first ≡ None) × (later ≡ None)
 fault-none None later h = (refl, h)
 fault-none (Some fault) later h = absurd (cc)
 
@@ -157,7 +157,7 @@ no_call regions start turn (suc turns) below h =
           ∙ parts.1
     ]
 
-quiet-walk : (region : Region) (state : State) → call_in (Steps (Some region)) state ≡ None →
+pub quiet-walk : (region : Region) (state : State) → call_in (Steps (Some region)) state ≡ None →
     walk_calls (walk_of state) ≡ false
 quiet-walk region state h = elim (cases_Bool (walk_calls (walk_of state))) [
   | inl calls ↦
@@ -268,19 +268,19 @@ listed =
     (λ low. refl))
     (λ low. refl))
 
-pick-stands : (pick : ℕ → Bool) (register : ℕ) (xs : List ℕ) → pick register ≡ true → stands_in xs register ≡ true →
+pub pick-stands : (pick : ℕ → Bool) (register : ℕ) (xs : List ℕ) → pick register ≡ true → stands_in xs register ≡ true →
     stands_in (filter pick xs) register ≡ true
 pick-stands pick register [] p h = h
 pick-stands pick register (x ∷ xs) p h = grind (arith, common_steps, pick-stands pick register xs p)
 
-none-found : (test pick : ℕ → Bool) (xs : List ℕ) → ((x : ℕ) → pick x ≡ true → test x ≡ false) →
+pub none-found : (test pick : ℕ → Bool) (xs : List ℕ) → ((x : ℕ) → pick x ≡ true → test x ≡ false) →
     find test (filter pick xs) ≡ None
 none-found test pick [] h = refl
 none-found test pick (x ∷ xs) h = grind (arith, common_steps, h x, none-found test pick xs h)
 
 -- ---- the break of a turn
 
-none-outside : (test : Range → Bool) (place : ℕ) (ranges : List Range) → list_all test ranges ≡ true →
+pub none-outside : (test : Range → Bool) (place : ℕ) (ranges : List Range) → list_all test ranges ≡ true →
     position_from (λ range. not (test range)) place ranges ≡ None
 none-outside test place [] h = refl
 none-outside test place (range ∷ ranges) h =
@@ -312,7 +312,7 @@ not-true : (b : Bool) → not b ≡ true → b ≡ false
 not-true true h = absurd (cc)
 not-true false h = refl
 
-kept-unchanged : (run : Run) (region : Region) (turn : ℕ) → turn < run.turns →
+pub kept-unchanged : (run : Run) (region : Region) (turn : ℕ) → turn < run.turns →
     kind_of run.regions (state_after run.regions turn run.start).control ≡ Leaves (bare region) →
     (register : ℕ) → is_kept run region.id register ≡ true →
     has_changed (state_after run.regions turn run.start).store.kept
@@ -369,7 +369,7 @@ register-declared run region register known written = elim (cases_lt register 32
   | inr high ↦ absurd (true-false (sym written ∙ known.tight.registers register high))
 ]
 
-place-declared : (run : Run) (region : Region) (kept : List ℕ) (place : Place) → IsKnown run region →
+pub place-declared : (run : Run) (region : Region) (kept : List ℕ) (place : Place) → IsKnown run region →
     Written run region.id place ≡ true → declares region kept place ≡ true
 place-declared run region kept (Reg register) known written = register-declared run region register known written
 place-declared run region kept (Byte address) known written =
@@ -393,11 +393,11 @@ step-unbroken run region turn below known none kind =
 
 -- ---- each region of a turn is known
 
-abbrev option-has : (P : Region → Type 0) → Option Region → Type 0
+abbrev pub option-has : (P : Region → Type 0) → Option Region → Type 0
 option-has P None = Unit {0}
 option-has P (Some region) = P region
 
-abbrev kind-has : (P : Region → Type 0) → Kind → Type 0
+abbrev pub kind-has : (P : Region → Type 0) → Kind → Type 0
 kind-has P (Enters region) = P region
 kind-has P (Leaves region) = P region
 kind-has P (Steps None) = Unit {0}
@@ -437,7 +437,7 @@ within-has P regions (Some region) pc h all = elim (cases_Bool (region.leave == 
   | inr off ↦ subst (kind-has P) (sym (cond-false (region.leave == pc) (Leaves region) (Steps (Some region)) off)) h
 ]
 
-in-has : (P : Region → Type 0) (mode : Stepped) (regions : List Region) (control : Control) → AllByRecursion P regions →
+pub in-has : (P : Region → Type 0) (mode : Stepped) (regions : List Region) (control : Control) → AllByRecursion P regions →
     kind-has P (kind_in mode regions control)
 in-has P Ran regions control h =
     within-has P regions (region_numbered regions control.region) control.pc
@@ -504,7 +504,7 @@ exit-of turns Ran h = absurd (cc)
 exit-of turns (Exited status) h = (status, refl)
 exit-of turns (Stopped fault) h = absurd (cc)
 
-both-known : (run : Run) (regions : List Region) → AllByRecursion (IsLearnt run) regions →
+pub both-known : (run : Run) (regions : List Region) → AllByRecursion (IsLearnt run) regions →
     AllByRecursion (IsTight run) regions → AllByRecursion (IsKnown run) regions
 both-known run [] learnt tight = tt
 both-known run (region ∷ regions) learnt tight =

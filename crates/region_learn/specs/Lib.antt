@@ -11,3 +11,4 @@ pub mod Spans
 pub mod Declarations
 pub mod Learning
 pub mod Unbroken
+pub mod Minimal

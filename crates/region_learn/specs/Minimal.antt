@@ -1,0 +1,41 @@
+-- What breaks where a written register is left out of a declaration.
+use Rattle.std.specs.Prelude.{◌≡◌, ◌==◌, ◌||◌, ℕ, not, Bool, true, List, map, Some, if◌then◌else◌}
+use Rattle.std.specs.List.{AllByRecursion, filter}
+use Rattle.rv32im_machine.specs.State.{State}
+use Rattle.enclosure_regions.specs.declared.break_kinds.Break.{Break}
+use Rattle.enclosure_regions.specs.declared.break_kinds.Break.TheVariants.{UndeclaredWrite}
+use Rattle.enclosure_regions.specs.declared.break_kinds.Place.{Place}
+use Rattle.enclosure_regions.specs.declared.break_kinds.Place.TheVariants.{Reg}
+use Rattle.enclosure_regions.specs.declared.region_parts.Region.{Region}
+use Rattle.enclosure_regions.specs.Regions.{stands_in}
+use Rattle.region_machine.specs.Runs.{fresh, real_after}
+
+-- the real run with these regions, whichever of them are skipped, breaks one of them so within so many turns
+abbrev pub RunsBroken : (Break → Type 0) → List Region → ℕ → State → Type 0
+RunsBroken so regions turns start =
+    (skip : List ℕ) → (broken : Break)
+    × ((real_after (record { regions = regions; skip = skip }) turns (fresh start)).broken ≡ Some broken) × so broken
+
+-- an instruction inside the region with a number has written to a place that is not declared
+abbrev pub IsUndeclared : ℕ → Place → Break → Type 0
+IsUndeclared number place broken = (pc : ℕ) × (broken ≡ UndeclaredWrite number pc place)
+
+-- the regions with the one of a number changed
+abbrev pub changed_at : ℕ → (Region → Region) → List Region → List Region
+changed_at number change regions = map (λ region. if region.id == number then change region else region) regions
+
+abbrev pub without : ℕ → List ℕ → List ℕ
+without register registers = filter (λ other. not (other == register)) registers
+
+-- a region that declares a register no more
+abbrev pub without_register : ℕ → Region → Region
+without_register register region =
+    record region { outs = without register region.outs; keep = without register region.keep }
+
+-- with any one register left out, the run breaks by the write of it
+abbrev pub NoRegisterCanGo : List Region → ℕ → State → Type 0
+NoRegisterCanGo regions turns start =
+    AllByRecursion (λ region. (register : ℕ) →
+    (stands_in region.outs register || stands_in region.keep register) ≡ true →
+    RunsBroken (IsUndeclared region.id (Reg register)) (changed_at region.id (without_register register) regions)
+    turns start) regions
