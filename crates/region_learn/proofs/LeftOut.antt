@@ -34,7 +34,7 @@ use Rattle.region_learn.proofs.UnbrokenRuns.{IsKnown, IsSound, both-known, decla
 use Rattle.region_learn.proofs.UnbrokenRuns.{kind-has, no_call, none-found, none-outside, pick-stands, place-declared}
 use Rattle.region_learn.proofs.UnbrokenRuns.{quiet-walk, setting_after, some_true}
 use Rattle.enclosure_regions.specs.Breaks.{declares_byte, declares_register}
-use Rattle.region_learn.proofs.WeakerRuns.{DeclaresBut}
+use Rattle.region_learn.proofs.WeakerRuns.{DeclaresBut, LosesTo}
 use Rattle.region_learn.proofs.WeakerRegions.{HasStronger, IsWeaker, weaker_breaks}
 
 -- ---- a register left out
@@ -90,7 +90,7 @@ register-others register other region h = elim (cases_Bool (other == register)) 
 ]
 
 others-left : (number register : ℕ) (region : Region) (kept : List ℕ) (other : Place) → region.id ≡ number →
-    declares region kept other ≡ true → DeclaresBut number (Reg register) (without_register register region) kept other
+    declares region kept other ≡ true → DeclaresBut number (λ q. q ≡ Reg register) (without_register register region) kept other
 others-left number register region kept (Reg other) same h =
     elim (register-others register other region h) [
       | inl declared ↦ inl declared
@@ -106,7 +106,7 @@ register-gone register region some =
     (gone register region.outs) (gone register region.keep))
 
 weaker-register : (run : Run) (number register : ℕ) (region : Region) → IsKnown run region → region.id ≡ number →
-    (register == 0) ≡ false → IsWeaker run number (Reg register) region (without_register register region)
+    (register == 0) ≡ false → IsWeaker run number (λ q. q ≡ Reg register) (Reg register) region (without_register register region)
 weaker-register run number register region known same some = record {
   edges = refl;
   known = known;
@@ -116,9 +116,9 @@ weaker-register run number register region known same some = record {
   lacks = λ is kept. register-gone register region some;
 }
 
-as-it-is : (run : Run) (number : ℕ) (place : Place) (region : Region) → IsKnown run region → (region.id ≡ number → ⊥) →
-    IsWeaker run number place region region
-as-it-is run number place region known other = record {
+as-it-is : (run : Run) (number : ℕ) (lost : Place → Type 0) (place : Place) (region : Region) → IsKnown run region → (region.id ≡ number → ⊥) →
+    IsWeaker run number lost place region region
+as-it-is run number lost place region known other = record {
   edges = refl;
   known = known;
   keep = λ test none. none;
@@ -129,18 +129,18 @@ as-it-is run number place region known other = record {
 
 changed-has : (run : Run) (number register : ℕ) (regions : List Region) → AllByRecursion (IsKnown run) regions →
     (register == 0) ≡ false →
-    AllByRecursion (HasStronger run number (Reg register)) (changed_at number (without_register register) regions)
+    AllByRecursion (HasStronger run number (λ q. q ≡ Reg register) (Reg register)) (changed_at number (without_register register) regions)
 changed-has run number register [] known some = tt
 changed-has run number register (region ∷ regions) known some = (
   elim (cases_Bool (region.id == number)) [
     | inl same ↦
-        subst (HasStronger run number (Reg register))
+        subst (HasStronger run number (λ q. q ≡ Reg register) (Reg register))
         (sym (cond-true (region.id == number) (without_register register region) region same))
         (region, weaker-register run number register region known.0 (eqb-true region.id number same) some)
     | inr differs ↦
-        subst (HasStronger run number (Reg register))
+        subst (HasStronger run number (λ q. q ≡ Reg register) (Reg register))
         (sym (cond-false (region.id == number) (without_register register region) region differs))
-        (region, as-it-is run number (Reg register) region known.0 (eqb-false region.id number differs))
+        (region, as-it-is run number (λ q. q ≡ Reg register) (Reg register) region known.0 (eqb-false region.id number differs))
   ],
   changed-has run number register regions known.1 some,
 )
@@ -187,6 +187,13 @@ declared-written run region register known h =
           (stands-picked (is_kept run region.id) register all_registers stands)).0)
     ]
 
+one-lost : (number : ℕ) (place : Place) (regions : List Region) (turns : ℕ) (start : State) →
+    RunsBroken (LosesTo number (λ q. q ≡ place)) regions turns start →
+    RunsBroken (IsUndeclared number place) regions turns start
+one-lost number place regions turns start h = λ skip.
+    let broken = h skip in
+    (broken.0, broken.1, subst (λ (q : Place). IsUndeclared number q broken.0) broken.2.1 broken.2.2)
+
 each-register : (run : Run) (regions some : List Region) → first_call run.regions run.turns run.start ≡ None →
     map bare regions ≡ run.regions → AllByRecursion (IsKnown run) regions → AllByRecursion (IsKnown run) some →
     AllByRecursion (λ region. (register : ℕ) →
@@ -197,8 +204,10 @@ each-register run regions [] none same known h = tt
 each-register run regions (region ∷ some) none same known h = (
   λ register declared.
     let facts = declared-written run region register h.0 declared in
-    weaker_breaks run region.id (Reg register) (changed_at region.id (without_register register) regions) none
-    (changed-bare region.id register regions ∙ same) (changed-has run region.id register regions known facts.0) facts.1,
+    one-lost region.id (Reg register) (changed_at region.id (without_register register) regions) run.turns run.start
+    (weaker_breaks run region.id (λ q. q ≡ Reg register) (Reg register)
+    (changed_at region.id (without_register register) regions) none
+    (changed-bare region.id register regions ∙ same) (changed-has run region.id register regions known facts.0) facts.1),
   each-register run regions some none same known h.1,
 )
 

@@ -33,21 +33,21 @@ use Rattle.region_learn.proofs.RegionRules.{stands-picked}
 use Rattle.region_learn.proofs.UnbrokenRuns.{IsKnown, IsSound, both-known, declares, fault-none, in-has, kept-unchanged}
 use Rattle.region_learn.proofs.UnbrokenRuns.{kind-has, no_call, none-found, none-outside, pick-stands, place-declared}
 use Rattle.region_learn.proofs.UnbrokenRuns.{quiet-walk, setting_after, some_true}
-use Rattle.region_learn.proofs.WeakerRuns.{DeclaresBut, Fate, IsBroken, walk_breaks, walk_fate}
+use Rattle.region_learn.proofs.WeakerRuns.{DeclaresBut, Fate, IsBroken, LosesTo, walk_breaks, walk_fate}
 
 -- ---- weaker regions
 
-pub record IsWeaker (run : Run) (number : ℕ) (place : Place) (region weak : Region) : Type 0 where
+pub record IsWeaker (run : Run) (number : ℕ) (lost : Place → Type 0) (place : Place) (region weak : Region) : Type 0 where
   pub edges : bare weak ≡ bare region
   pub known : IsKnown run region
   pub keep : (test : ℕ → Bool) → find test region.keep ≡ None → find test weak.keep ≡ None
   pub inside : (kept : List ℕ) → are_inside weak.ranges kept run.start.setting.base ≡ true
   pub others : (kept : List ℕ) (other : Place) → declares region kept other ≡ true →
-      DeclaresBut number place weak kept other
+      DeclaresBut number lost weak kept other
   pub lacks : weak.id ≡ number → (kept : List ℕ) → declares weak kept place ≡ false
 
-abbrev pub HasStronger : Run → ℕ → Place → Region → Type 0
-HasStronger run number place weak = (region : Region) × IsWeaker run number place region weak
+abbrev pub HasStronger : Run → ℕ → (Place → Type 0) → Place → Region → Type 0
+HasStronger run number lost place weak = (region : Region) × IsWeaker run number lost place region weak
 
 enter-none : (run : Run) (weak : Region) (state : State) →
     ((kept : List ℕ) → are_inside weak.ranges kept run.start.setting.base ≡ true) →
@@ -60,11 +60,11 @@ enter-none run weak state inside same =
     ap (option_map (λ range. Break.RangeOutside weak.id range))
     (none-outside (λ range. is_inside base (start_of state.store.registers range) range.length) 0 weak.ranges all)
 
-leave-none : (run : Run) (number : ℕ) (place : Place) (region weak : Region) (turn : ℕ) → turn < run.turns →
-    IsWeaker run number place region weak →
+leave-none : (run : Run) (number : ℕ) (lost : Place → Type 0) (place : Place) (region weak : Region) (turn : ℕ) → turn < run.turns →
+    IsWeaker run number lost place region weak →
     kind_of run.regions (state_after run.regions turn run.start).control ≡ Leaves (bare weak) →
     kind_break (Leaves weak) (state_after run.regions turn run.start) ≡ None
-leave-none run number place region weak turn below weaker kind =
+leave-none run number lost place region weak turn below weaker kind =
     let state = state_after run.regions turn run.start in
     let test = has_changed state.store.kept state.store.registers in
     let strong : kind_of run.regions state.control ≡ Leaves (bare region) =
@@ -74,37 +74,37 @@ leave-none run number place region weak turn below weaker kind =
     ∙ none-found test (is_kept run region.id) all_registers (kept-unchanged run region turn below strong) in
     ap (option_map (register_changed weak state.store.kept state.store.registers)) (weaker.keep test none)
 
-step-fate : (run : Run) (number : ℕ) (place : Place) (region weak : Region) (turn : ℕ) → turn < run.turns →
-    IsWeaker run number place region weak → first_call run.regions run.turns run.start ≡ None →
+step-fate : (run : Run) (number : ℕ) (lost : Place → Type 0) (place : Place) (region weak : Region) (turn : ℕ) → turn < run.turns →
+    IsWeaker run number lost place region weak → first_call run.regions run.turns run.start ≡ None →
     kind_of run.regions (state_after run.regions turn run.start).control ≡ Steps (Some (bare weak)) →
-    Fate number place (kind_break (Steps (Some weak)) (state_after run.regions turn run.start))
-step-fate run number place region weak turn below weaker none kind =
+    Fate (LosesTo number lost) (kind_break (Steps (Some weak)) (state_after run.regions turn run.start))
+step-fate run number lost place region weak turn below weaker none kind =
     let state = state_after run.regions turn run.start in
     let quiet = quiet-walk (bare weak) state (ap (λ (k : Kind). call_in k state) (sym kind)
     ∙ no_call run.regions run.start turn run.turns below none) in
     let same : weak.id ≡ region.id = ap (λ (r : Region). r.id) weaker.edges in
     let inside : is_step_in region.id (kind_of run.regions state.control) ≡ true =
     ap (is_step_in region.id) kind ∙ eq-eqb weak.id region.id same in
-    walk_fate number place weak state.store.kept state.control.pc (walk_of state) quiet
+    walk_fate number lost weak state.store.kept state.control.pc (walk_of state) quiet
     (λ q writes. weaker.others state.store.kept q
     (place-declared run region state.store.kept q weaker.known
     (some_true (writes_in run.regions region.id q) run.regions run.start turn run.turns below
     (ap (λ (b : Bool). b && walk_writes q (walk_of state)) inside ∙ writes))))
 
-kind-fate : (run : Run) (number : ℕ) (place : Place) (turn : ℕ) (kind : Kind) → turn < run.turns →
+kind-fate : (run : Run) (number : ℕ) (lost : Place → Type 0) (place : Place) (turn : ℕ) (kind : Kind) → turn < run.turns →
     first_call run.regions run.turns run.start ≡ None →
     kind_of run.regions (state_after run.regions turn run.start).control ≡ bare_kind kind →
-    kind-has (HasStronger run number place) kind →
-    Fate number place (kind_break kind (state_after run.regions turn run.start))
-kind-fate run number place turn (Enters weak) below none kind has =
-    subst (Fate number place)
+    kind-has (HasStronger run number lost place) kind →
+    Fate (LosesTo number lost) (kind_break kind (state_after run.regions turn run.start))
+kind-fate run number lost place turn (Enters weak) below none kind has =
+    subst (Fate (LosesTo number lost))
     (sym (enter-none run weak (state_after run.regions turn run.start) has.1.inside
     (setting_after run.regions turn run.start))) tt
-kind-fate run number place turn (Leaves weak) below none kind has =
-    subst (Fate number place) (sym (leave-none run number place has.0 weak turn below has.1 kind)) tt
-kind-fate run number place turn (Steps None) below none kind has = tt
-kind-fate run number place turn (Steps (Some weak)) below none kind has =
-    step-fate run number place has.0 weak turn below has.1 none kind
+kind-fate run number lost place turn (Leaves weak) below none kind has =
+    subst (Fate (LosesTo number lost)) (sym (leave-none run number lost place has.0 weak turn below has.1 kind)) tt
+kind-fate run number lost place turn (Steps None) below none kind has = tt
+kind-fate run number lost place turn (Steps (Some weak)) below none kind has =
+    step-fate run number lost place has.0 weak turn below has.1 none kind
 
 kinds-same : (run : Run) (weaker : List Region) (turn : ℕ) → map bare weaker ≡ run.regions →
     kind_of run.regions (state_after run.regions turn run.start).control
@@ -113,14 +113,14 @@ kinds-same run weaker turn same =
     let control = (state_after run.regions turn run.start).control in
     ap (λ (l : List Region). kind_of l control) (sym same) ∙ kind_bare weaker control
 
-turn-fate : (run : Run) (number : ℕ) (place : Place) (weaker : List Region) (turn : ℕ) → turn < run.turns →
+turn-fate : (run : Run) (number : ℕ) (lost : Place → Type 0) (place : Place) (weaker : List Region) (turn : ℕ) → turn < run.turns →
     first_call run.regions run.turns run.start ≡ None → map bare weaker ≡ run.regions →
-    AllByRecursion (HasStronger run number place) weaker →
-    Fate number place (Breaks weaker (state_after run.regions turn run.start))
-turn-fate run number place weaker turn below none same has =
+    AllByRecursion (HasStronger run number lost place) weaker →
+    Fate (LosesTo number lost) (Breaks weaker (state_after run.regions turn run.start))
+turn-fate run number lost place weaker turn below none same has =
     let control = (state_after run.regions turn run.start).control in
-    kind-fate run number place turn (kind_of weaker control) below none (kinds-same run weaker turn same)
-    (in-has (HasStronger run number place) control.mode weaker control has)
+    kind-fate run number lost place turn (kind_of weaker control) below none (kinds-same run weaker turn same)
+    (in-has (HasStronger run number lost place) control.mode weaker control has)
 
 -- ---- the turn of the write
 
@@ -138,40 +138,40 @@ written-at test regions start (suc turns) h =
       | inr last ↦ (turns, omega arith, last)
     ]
 
-kind-broken : (run : Run) (number : ℕ) (place : Place) (kind : Kind) (state : State) →
+kind-broken : (run : Run) (number : ℕ) (lost : Place → Type 0) (place : Place) (kind : Kind) (state : State) →
     is_step_in number (bare_kind kind) ≡ true → walk_writes place (walk_of state) ≡ true →
-    kind-has (HasStronger run number place) kind → IsBroken (kind_break kind state)
-kind-broken run number place (Enters weak) state is writes has = absurd (cc)
-kind-broken run number place (Leaves weak) state is writes has = absurd (cc)
-kind-broken run number place (Steps None) state is writes has = absurd (cc)
-kind-broken run number place (Steps (Some weak)) state is writes has =
+    kind-has (HasStronger run number lost place) kind → IsBroken (kind_break kind state)
+kind-broken run number lost place (Enters weak) state is writes has = absurd (cc)
+kind-broken run number lost place (Leaves weak) state is writes has = absurd (cc)
+kind-broken run number lost place (Steps None) state is writes has = absurd (cc)
+kind-broken run number lost place (Steps (Some weak)) state is writes has =
     walk_breaks weak state.store.kept state.control.pc place (walk_of state)
     (has.1.lacks (eqb-true weak.id number is) state.store.kept) writes
 
-turn-broken : (run : Run) (number : ℕ) (place : Place) (weaker : List Region) (turn : ℕ) →
-    map bare weaker ≡ run.regions → AllByRecursion (HasStronger run number place) weaker →
+turn-broken : (run : Run) (number : ℕ) (lost : Place → Type 0) (place : Place) (weaker : List Region) (turn : ℕ) →
+    map bare weaker ≡ run.regions → AllByRecursion (HasStronger run number lost place) weaker →
     writes_in run.regions number place (state_after run.regions turn run.start) ≡ true →
     IsBroken (Breaks weaker (state_after run.regions turn run.start))
-turn-broken run number place weaker turn same has writes =
+turn-broken run number lost place weaker turn same has writes =
     let state = state_after run.regions turn run.start in
     let parts = and_parts (is_step_in number (kind_of run.regions state.control)) (walk_writes place (walk_of state)) writes in
-    kind-broken run number place (kind_of weaker state.control) state
+    kind-broken run number lost place (kind_of weaker state.control) state
     (sym (ap (is_step_in number) (kinds-same run weaker turn same)) ∙ parts.0) parts.1
-    (in-has (HasStronger run number place) state.control.mode weaker state.control has)
+    (in-has (HasStronger run number lost place) state.control.mode weaker state.control has)
 
 -- ---- the run
 
 -- nothing was broken so far, or the write of the place has broken the run
-abbrev Course : Run → ℕ → Place → List Region → ℕ → RunPlace → Type 0
-Course run number place weaker turns at =
+abbrev Course : Run → ℕ → (Place → Type 0) → Place → List Region → ℕ → RunPlace → Type 0
+Course run number lost place weaker turns at =
     (IsSound run turns at
     × ((turn : ℕ) → turn < turns → Breaks weaker (state_after run.regions turn run.start) ≡ None))
-    ⊎ ((broken : Break) × (at.broken ≡ Some broken) × IsUndeclared number place broken)
+    ⊎ ((broken : Break) × (at.broken ≡ Some broken) × LosesTo number lost broken)
 
-split : (number : ℕ) (place : Place) (broken : Option Break) → Fate number place broken →
-    (broken ≡ None) ⊎ ((first : Break) × (broken ≡ Some first) × IsUndeclared number place first)
-split number place None h = inl refl
-split number place (Some broken) h = inr (broken, refl, h)
+split : (so : Break → Type 0) (broken : Option Break) → Fate so broken →
+    (broken ≡ None) ⊎ ((first : Break) × (broken ≡ Some first) × so first)
+split so None h = inl refl
+split so (Some broken) h = inr (broken, refl, h)
 
 more-none : (run : Run) (weaker : List Region) (turns : ℕ) →
     ((turn : ℕ) → turn < turns → Breaks weaker (state_after run.regions turn run.start) ≡ None) →
@@ -184,18 +184,18 @@ more-none run weaker turns h last turn below = elim (cases_lt turn turns) [
       ap (λ (n : ℕ). Breaks weaker (state_after run.regions n run.start)) e ∙ last
 ]
 
-course-turn : (run : Run) (number : ℕ) (place : Place) (enclosures : Enclosures) (turns : ℕ) (at : RunPlace) →
+course-turn : (run : Run) (number : ℕ) (lost : Place → Type 0) (place : Place) (enclosures : Enclosures) (turns : ℕ) (at : RunPlace) →
     turns < run.turns → first_call run.regions run.turns run.start ≡ None →
     map bare enclosures.regions ≡ run.regions →
-    AllByRecursion (HasStronger run number place) enclosures.regions → IsSound run turns at →
+    AllByRecursion (HasStronger run number lost place) enclosures.regions → IsSound run turns at →
     ((turn : ℕ) → turn < turns → Breaks enclosures.regions (state_after run.regions turn run.start) ≡ None) →
-    Course run number place enclosures.regions (suc turns) (unbroken_turn enclosures at)
+    Course run number lost place enclosures.regions (suc turns) (unbroken_turn enclosures at)
 unfolding state_after
-course-turn run number place enclosures turns at below none same has sound before =
+course-turn run number lost place enclosures turns at below none same has sound before =
     let weaker = enclosures.regions in
     let state = state_after run.regions turns run.start in
     let here : Breaks weaker at.state ≡ Breaks weaker state = ap (λ (s : State). Breaks weaker s) sound.state in
-    elim (split number place (Breaks weaker state) (turn-fate run number place weaker turns below none same has)) [
+    elim (split (LosesTo number lost) (Breaks weaker state) (turn-fate run number lost place weaker turns below none same has)) [
       | inl whole ↦ inl (
             record {
               unbroken = here ∙ whole;
@@ -207,36 +207,36 @@ course-turn run number place enclosures turns at below none same has sound befor
       | inr broken ↦ inr (broken.0, here ∙ broken.1, broken.2)
     ]
 
-course : (run : Run) (number : ℕ) (place : Place) (enclosures : Enclosures) (turns : ℕ) → turns ≤ run.turns →
+course : (run : Run) (number : ℕ) (lost : Place → Type 0) (place : Place) (enclosures : Enclosures) (turns : ℕ) → turns ≤ run.turns →
     first_call run.regions run.turns run.start ≡ None → map bare enclosures.regions ≡ run.regions →
-    AllByRecursion (HasStronger run number place) enclosures.regions →
-    Course run number place enclosures.regions turns (real_after enclosures turns (fresh run.start))
+    AllByRecursion (HasStronger run number lost place) enclosures.regions →
+    Course run number lost place enclosures.regions turns (real_after enclosures turns (fresh run.start))
 unfolding real_after state_after
-course run number place enclosures zero le none same has =
+course run number lost place enclosures zero le none same has =
     inl (record { unbroken = refl; state = refl }, λ turn below. absurd (omega arith))
-course run number place enclosures (suc turns) le none same has =
+course run number lost place enclosures (suc turns) le none same has =
     let at = real_after enclosures turns (fresh run.start) in
-    elim (course run number place enclosures turns (omega arith) none same has) [
+    elim (course run number lost place enclosures turns (omega arith) none same has) [
       | inl whole ↦
           subst (λ (b : Option Break).
-          Course run number place enclosures.regions (suc turns) (turn_unless b enclosures at)) (sym whole.0.unbroken)
-          (course-turn run number place enclosures turns at (omega arith) none same has whole.0 whole.1)
+          Course run number lost place enclosures.regions (suc turns) (turn_unless b enclosures at)) (sym whole.0.unbroken)
+          (course-turn run number lost place enclosures turns at (omega arith) none same has whole.0 whole.1)
       | inr broken ↦
           subst (λ (b : Option Break).
-          Course run number place enclosures.regions (suc turns) (turn_unless b enclosures at)) (sym broken.1)
+          Course run number lost place enclosures.regions (suc turns) (turn_unless b enclosures at)) (sym broken.1)
           (inr broken)
     ]
 
 -- a run with a weaker declaration is broken by the write of what it lacks
-pub weaker_breaks : (run : Run) (number : ℕ) (place : Place) (weaker : List Region) →
+pub weaker_breaks : (run : Run) (number : ℕ) (lost : Place → Type 0) (place : Place) (weaker : List Region) →
     first_call run.regions run.turns run.start ≡ None → map bare weaker ≡ run.regions →
-    AllByRecursion (HasStronger run number place) weaker → Written run number place ≡ true →
-    RunsBroken (IsUndeclared number place) weaker run.turns run.start
-weaker_breaks run number place weaker none same has written skip =
+    AllByRecursion (HasStronger run number lost place) weaker → Written run number place ≡ true →
+    RunsBroken (LosesTo number lost) weaker run.turns run.start
+weaker_breaks run number lost place weaker none same has written skip =
     let found = written-at (writes_in run.regions number place) run.regions run.start run.turns written in
-    elim (course run number place (record { regions = weaker; skip = skip }) run.turns (omega arith) none same has) [
+    elim (course run number lost place (record { regions = weaker; skip = skip }) run.turns (omega arith) none same has) [
       | inl whole ↦
           absurd (subst IsBroken (whole.1 found.0 found.1)
-          (turn-broken run number place weaker found.0 same has found.2))
+          (turn-broken run number lost place weaker found.0 same has found.2))
       | inr broken ↦ (broken.0, broken.1, broken.2)
     ]

@@ -26,79 +26,83 @@ use Rattle.region_learn.proofs.UnbrokenRuns.{declares, slot-unbroken}
 
 -- ---- what a walk breaks
 
--- nothing breaks, or the write of the place does
-abbrev pub Fate : ℕ → Place → Option Break → Type 0
-Fate number place None = Unit {0}
-Fate number place (Some broken) = IsUndeclared number place broken
+-- nothing breaks, or it breaks so
+abbrev pub Fate : (Break → Type 0) → Option Break → Type 0
+Fate so None = Unit {0}
+Fate so (Some broken) = so broken
 
--- a region declares a place, or it is the region and the place that are meant
-abbrev pub DeclaresBut : ℕ → Place → Region → List ℕ → Place → Type 0
-DeclaresBut number place region kept other =
-    (declares region kept other ≡ true) ⊎ ((region.id ≡ number) × (other ≡ place))
+-- the region with a number is broken by the write of a place that is lost
+abbrev pub LosesTo : ℕ → (Place → Type 0) → Break → Type 0
+LosesTo number lost broken = (place : Place) × lost place × IsUndeclared number place broken
 
-either : (declared : Bool) (number : ℕ) (place : Place) (broken : Break) →
-    (declared ≡ true) ⊎ IsUndeclared number place broken → Fate number place (if declared then None else Some broken)
-either true number place broken h = tt
-either false number place broken (inl h) = absurd (cc)
-either false number place broken (inr h) = h
+-- a region declares a place, or it is the region that is meant, and the place is lost
+abbrev pub DeclaresBut : ℕ → (Place → Type 0) → Region → List ℕ → Place → Type 0
+DeclaresBut number lost region kept other =
+    (declares region kept other ≡ true) ⊎ ((region.id ≡ number) × lost other)
 
-undeclared : (number : ℕ) (place other : Place) (region : Region) (kept : List ℕ) (pc : ℕ) →
-    DeclaresBut number place region kept other →
-    (declares region kept other ≡ true) ⊎ IsUndeclared number place (Break.UndeclaredWrite region.id pc other)
-undeclared number place other region kept pc (inl h) = inl h
-undeclared number place other region kept pc (inr h) =
-    inr (pc, ap (λ (n : ℕ). Break.UndeclaredWrite n pc other) h.0 ∙ ap (λ (p : Place). Break.UndeclaredWrite number pc p) h.1)
+either : (declared : Bool) (so : Break → Type 0) (broken : Break) → (declared ≡ true) ⊎ so broken →
+    Fate so (if declared then None else Some broken)
+either true so broken h = tt
+either false so broken (inl h) = absurd (cc)
+either false so broken (inr h) = h
 
-place-fate : (number : ℕ) (place : Place) (region : Region) (kept : List ℕ) (pc : ℕ) (other : MachinePlace) →
-    ((q : Place) → is_place q other ≡ true → DeclaresBut number place region kept q) →
-    Fate number place (place_break region kept pc other)
-place-fate number place region kept pc (Register register) h =
-    either (declares_register region register) number place (Break.UndeclaredWrite region.id pc (Reg register))
-    (undeclared number place (Reg register) region kept pc (h (Reg register) (eq-eqb register register refl)))
-place-fate number place region kept pc (MachineByte address) h =
-    either (declares_byte region kept address) number place (Break.UndeclaredWrite region.id pc (Byte address))
-    (undeclared number place (Byte address) region kept pc (h (Byte address) (eq-eqb address address refl)))
-place-fate number place region kept pc First h = tt
-place-fate number place region kept pc Second h = tt
+undeclared : (number : ℕ) (lost : Place → Type 0) (other : Place) (region : Region) (kept : List ℕ) (pc : ℕ) →
+    DeclaresBut number lost region kept other →
+    (declares region kept other ≡ true) ⊎ LosesTo number lost (Break.UndeclaredWrite region.id pc other)
+undeclared number lost other region kept pc (inl h) = inl h
+undeclared number lost other region kept pc (inr h) =
+    inr (other, h.1, (pc, ap (λ (n : ℕ). Break.UndeclaredWrite n pc other) h.0))
 
-aim-fate : (number : ℕ) (place : Place) (region : Region) (kept : List ℕ) (pc : ℕ) (slot : Slot) (aim : Aim) →
-    is_number slot ≡ false → ((q : Place) → puts_into q aim ≡ true → DeclaresBut number place region kept q) →
-    Fate number place (aim_break region kept pc slot aim)
-aim-fate number place region kept pc slot (Put other) quiet h = place-fate number place region kept pc other h
-aim-fate number place region kept pc slot Decide quiet h =
-    subst (Fate number place) (sym (slot-unbroken region pc slot quiet)) tt
-aim-fate number place region kept pc slot (Give other) quiet h = tt
+place-fate : (number : ℕ) (lost : Place → Type 0) (region : Region) (kept : List ℕ) (pc : ℕ) (other : MachinePlace) →
+    ((q : Place) → is_place q other ≡ true → DeclaresBut number lost region kept q) →
+    Fate (LosesTo number lost) (place_break region kept pc other)
+place-fate number lost region kept pc (Register register) h =
+    either (declares_register region register) (LosesTo number lost) (Break.UndeclaredWrite region.id pc (Reg register))
+    (undeclared number lost (Reg register) region kept pc (h (Reg register) (eq-eqb register register refl)))
+place-fate number lost region kept pc (MachineByte address) h =
+    either (declares_byte region kept address) (LosesTo number lost) (Break.UndeclaredWrite region.id pc (Byte address))
+    (undeclared number lost (Byte address) region kept pc (h (Byte address) (eq-eqb address address refl)))
+place-fate number lost region kept pc First h = tt
+place-fate number lost region kept pc Second h = tt
 
-first-fate : (number : ℕ) (place : Place) (first later : Option Break) → Fate number place first →
-    Fate number place later → Fate number place (first_break first later)
-first-fate number place None later h k = k
-first-fate number place (Some broken) later h k = h
+aim-fate : (number : ℕ) (lost : Place → Type 0) (region : Region) (kept : List ℕ) (pc : ℕ) (slot : Slot) (aim : Aim) →
+    is_number slot ≡ false → ((q : Place) → puts_into q aim ≡ true → DeclaresBut number lost region kept q) →
+    Fate (LosesTo number lost) (aim_break region kept pc slot aim)
+aim-fate number lost region kept pc slot (Put other) quiet h = place-fate number lost region kept pc other h
+aim-fate number lost region kept pc slot Decide quiet h =
+    subst (Fate (LosesTo number lost)) (sym (slot-unbroken region pc slot quiet)) tt
+aim-fate number lost region kept pc slot (Give other) quiet h = tt
 
-pub walk_fate : (number : ℕ) (place : Place) (region : Region) (kept : List ℕ) (pc : ℕ) (walk : Walk) →
+first-fate : (so : Break → Type 0) (first later : Option Break) → Fate so first → Fate so later →
+    Fate so (first_break first later)
+first-fate so None later h k = k
+first-fate so (Some broken) later h k = h
+
+pub walk_fate : (number : ℕ) (lost : Place → Type 0) (region : Region) (kept : List ℕ) (pc : ℕ) (walk : Walk) →
     walk_calls walk ≡ false →
-    ((q : Place) → walk_writes q walk ≡ true → DeclaresBut number place region kept q) →
-    Fate number place (walk_break region kept pc walk)
+    ((q : Place) → walk_writes q walk ≡ true → DeclaresBut number lost region kept q) →
+    Fate (LosesTo number lost) (walk_break region kept pc walk)
 unfolding walk_break walk_calls walk_writes
-walk_fate number place region kept pc (Looked seen value walk) quiet h =
-    walk_fate number place region kept pc walk quiet h
-walk_fate number place region kept pc (Passed passing go) quiet h =
+walk_fate number lost region kept pc (Looked seen value walk) quiet h =
+    walk_fate number lost region kept pc walk quiet h
+walk_fate number lost region kept pc (Passed passing go) quiet h =
     let parts = or_parts (is_number passing.point.slot) (walk_calls (go passing.value)) quiet in
-    first-fate number place (aim_break region kept pc passing.point.slot passing.aim)
+    first-fate (LosesTo number lost) (aim_break region kept pc passing.point.slot passing.aim)
     (walk_break region kept pc (go passing.value))
-    (aim-fate number place region kept pc passing.point.slot passing.aim parts.0
+    (aim-fate number lost region kept pc passing.point.slot passing.aim parts.0
     (λ q puts. h q (or_left (puts_into q passing.aim) (walk_writes q (go passing.value)) puts)))
-    (walk_fate number place region kept pc (go passing.value) parts.1
+    (walk_fate number lost region kept pc (go passing.value) parts.1
     (λ q writes. h q (or_right (puts_into q passing.aim) (walk_writes q (go passing.value)) writes)))
-walk_fate number place region kept pc (Moved other shape source value walk) quiet h =
-    first-fate number place (place_break region kept pc other) (walk_break region kept pc walk)
-    (place-fate number place region kept pc other
+walk_fate number lost region kept pc (Moved other shape source value walk) quiet h =
+    first-fate (LosesTo number lost) (place_break region kept pc other) (walk_break region kept pc walk)
+    (place-fate number lost region kept pc other
     (λ q puts. h q (or_left (is_place q other) (walk_writes q walk) puts)))
-    (walk_fate number place region kept pc walk quiet
+    (walk_fate number lost region kept pc walk quiet
     (λ q writes. h q (or_right (is_place q other) (walk_writes q walk) writes)))
-walk_fate number place region kept pc (Saved walk) quiet h = walk_fate number place region kept pc walk quiet h
-walk_fate number place region kept pc (Restored registers walk back) quiet h =
-    walk_fate number place region kept pc walk quiet h
-walk_fate number place region kept pc (Ended state) quiet h = tt
+walk_fate number lost region kept pc (Saved walk) quiet h = walk_fate number lost region kept pc walk quiet h
+walk_fate number lost region kept pc (Restored registers walk back) quiet h =
+    walk_fate number lost region kept pc walk quiet h
+walk_fate number lost region kept pc (Ended state) quiet h = tt
 
 -- ---- a written place that is not declared does break
 
