@@ -116,7 +116,7 @@ weaker-register run number register region known same some = record {
   lacks = λ is kept. register-gone register region some;
 }
 
-as-it-is : (run : Run) (number : ℕ) (lost : Place → Type 0) (place : Place) (region : Region) → IsKnown run region → (region.id ≡ number → ⊥) →
+pub as-it-is : (run : Run) (number : ℕ) (lost : Place → Type 0) (place : Place) (region : Region) → IsKnown run region → (region.id ≡ number → ⊥) →
     IsWeaker run number lost place region region
 as-it-is run number lost place region known other = record {
   edges = refl;

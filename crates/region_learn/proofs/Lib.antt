@@ -21,3 +21,4 @@ pub mod TightRegions
 pub mod WeakerRuns
 pub mod WeakerRegions
 pub mod LeftOut
+pub mod LostBytes

@@ -33,7 +33,7 @@ le-of : (a b : ℕ) → nat_le a b ≡ true → a ≤ b
 le-of a b h = grind (arith, common_steps)
 
 -- a range without a base starts at its offset
-start-plain : (kept : List ℕ) (range : Range) → range.base ≡ None → range.offset < 2 ^ 32 →
+pub start-plain : (kept : List ℕ) (range : Range) → range.base ≡ None → range.offset < 2 ^ 32 →
     start_of kept range ≡ range.offset
 start-plain kept range none small =
     ap (λ (b : Option ℕ). (base_value kept b + range.offset) % 2 ^ 32) none

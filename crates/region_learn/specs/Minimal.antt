@@ -1,13 +1,16 @@
--- What breaks where a written register is left out of a declaration.
-use Rattle.std.specs.Prelude.{◌≡◌, ◌==◌, ◌||◌, ℕ, not, Bool, true, List, map, Some, if◌then◌else◌}
+-- What breaks where a written register or byte is left out of a declaration.
+use Rattle.std.specs.Prelude.{◌≡◌, ◌<◌, ◌^◌, ◌==◌, ◌||◌, ℕ, not, Bool, true, false, None, List, map, Some, if◌then◌else◌}
 use Rattle.std.specs.List.{AllByRecursion, filter}
 use Rattle.rv32im_machine.specs.State.{State}
 use Rattle.enclosure_regions.specs.declared.break_kinds.Break.{Break}
 use Rattle.enclosure_regions.specs.declared.break_kinds.Break.TheVariants.{UndeclaredWrite}
 use Rattle.enclosure_regions.specs.declared.break_kinds.Place.{Place}
-use Rattle.enclosure_regions.specs.declared.break_kinds.Place.TheVariants.{Reg}
+use Rattle.enclosure_regions.specs.declared.break_kinds.Place.TheVariants.{Reg, Byte}
+use Rattle.flow_base.specs.Guests.{is_inside}
+use Rattle.enclosure_regions.specs.declared.region_parts.Range.{Range}
 use Rattle.enclosure_regions.specs.declared.region_parts.Region.{Region}
 use Rattle.enclosure_regions.specs.Regions.{stands_in}
+use Rattle.region_learn.specs.Learnt.{have_byte}
 use Rattle.region_machine.specs.Runs.{fresh, real_after}
 
 -- the real run with these regions, whichever of them are skipped, breaks one of them so within so many turns
@@ -39,3 +42,28 @@ NoRegisterCanGo regions turns start =
     (stands_in region.outs register || stands_in region.keep register) ≡ true →
     RunsBroken (IsUndeclared region.id (Reg register)) (changed_at region.id (without_register register) regions)
     turns start) regions
+
+-- ---- bytes
+
+-- ranges without a base that lie in the guest memory with this lowest address
+abbrev pub ArePlain : ℕ → List Range → Type 0
+ArePlain base ranges =
+    AllByRecursion (λ range. (range.base ≡ None) × (range.offset < 2 ^ 32)
+    × (is_inside base range.offset range.length ≡ true)) ranges
+
+abbrev pub with_ranges : List Range → Region → Region
+with_ranges ranges region = record region { ranges = ranges }
+
+-- the write of a byte of the region that other ranges do not have
+abbrev pub IsLostByte : Region → List Range → Break → Type 0
+IsLostByte region less broken =
+    (address : ℕ) × (have_byte region.ranges address ≡ true) × (have_byte less address ≡ false)
+    × IsUndeclared region.id (Byte address) broken
+
+-- with any other ranges, at most 64 of them or more, that do not have each byte of the region, the run breaks by the
+-- write of such a byte
+abbrev pub NoByteCanGo : List Region → ℕ → State → Type 0
+NoByteCanGo regions turns start =
+    AllByRecursion (λ region. (less : List Range) (address : ℕ) → ArePlain start.setting.base less →
+    have_byte region.ranges address ≡ true → have_byte less address ≡ false →
+    RunsBroken (IsLostByte region less) (changed_at region.id (with_ranges less) regions) turns start) regions
