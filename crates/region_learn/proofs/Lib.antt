@@ -22,3 +22,4 @@ pub mod WeakerRuns
 pub mod WeakerRegions
 pub mod LeftOut
 pub mod LostBytes
+pub mod BrokenRuns

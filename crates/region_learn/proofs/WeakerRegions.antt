@@ -33,6 +33,7 @@ use Rattle.region_learn.proofs.RegionRules.{stands-picked}
 use Rattle.region_learn.proofs.UnbrokenRuns.{IsKnown, IsSound, both-known, declares, fault-none, in-has, kept-unchanged}
 use Rattle.region_learn.proofs.UnbrokenRuns.{kind-has, no_call, none-found, none-outside, pick-stands, place-declared}
 use Rattle.region_learn.proofs.UnbrokenRuns.{quiet-walk, setting_after, some_true}
+use Rattle.region_learn.proofs.BrokenRuns.{broken_run}
 use Rattle.region_learn.proofs.WeakerRuns.{DeclaresBut, Fate, IsBroken, LosesTo, walk_breaks, walk_fate}
 
 -- ---- weaker regions
@@ -49,7 +50,7 @@ pub record IsWeaker (run : Run) (number : ℕ) (lost : Place → Type 0) (place 
 abbrev pub HasStronger : Run → ℕ → (Place → Type 0) → Place → Region → Type 0
 HasStronger run number lost place weak = (region : Region) × IsWeaker run number lost place region weak
 
-enter-none : (run : Run) (weak : Region) (state : State) →
+pub enter-none : (run : Run) (weak : Region) (state : State) →
     ((kept : List ℕ) → are_inside weak.ranges kept run.start.setting.base ≡ true) →
     state.setting ≡ run.start.setting → kind_break (Enters weak) state ≡ None
 enter-none run weak state inside same =
@@ -106,7 +107,7 @@ kind-fate run number lost place turn (Steps None) below none kind has = tt
 kind-fate run number lost place turn (Steps (Some weak)) below none kind has =
     step-fate run number lost place has.0 weak turn below has.1 none kind
 
-kinds-same : (run : Run) (weaker : List Region) (turn : ℕ) → map bare weaker ≡ run.regions →
+pub kinds-same : (run : Run) (weaker : List Region) (turn : ℕ) → map bare weaker ≡ run.regions →
     kind_of run.regions (state_after run.regions turn run.start).control
     ≡ bare_kind (kind_of weaker (state_after run.regions turn run.start).control)
 kinds-same run weaker turn same =
@@ -124,7 +125,7 @@ turn-fate run number lost place weaker turn below none same has =
 
 -- ---- the turn of the write
 
-written-at : (test : State → Bool) (regions : List Region) (start : State) (turns : ℕ) →
+pub written-at : (test : State → Bool) (regions : List Region) (start : State) (turns : ℕ) →
     some_turn test regions turns start ≡ true →
     (turn : ℕ) × (turn < turns) × (test (state_after regions turn start) ≡ true)
 unfolding some_turn
@@ -159,84 +160,13 @@ turn-broken run number lost place weaker turn same has writes =
     (sym (ap (is_step_in number) (kinds-same run weaker turn same)) ∙ parts.0) parts.1
     (in-has (HasStronger run number lost place) state.control.mode weaker state.control has)
 
--- ---- the run
-
--- nothing was broken so far, or the write of the place has broken the run
-abbrev Course : Run → ℕ → (Place → Type 0) → Place → List Region → ℕ → RunPlace → Type 0
-Course run number lost place weaker turns at =
-    (IsSound run turns at
-    × ((turn : ℕ) → turn < turns → Breaks weaker (state_after run.regions turn run.start) ≡ None))
-    ⊎ ((broken : Break) × (at.broken ≡ Some broken) × LosesTo number lost broken)
-
-split : (so : Break → Type 0) (broken : Option Break) → Fate so broken →
-    (broken ≡ None) ⊎ ((first : Break) × (broken ≡ Some first) × so first)
-split so None h = inl refl
-split so (Some broken) h = inr (broken, refl, h)
-
-more-none : (run : Run) (weaker : List Region) (turns : ℕ) →
-    ((turn : ℕ) → turn < turns → Breaks weaker (state_after run.regions turn run.start) ≡ None) →
-    Breaks weaker (state_after run.regions turns run.start) ≡ None →
-    (turn : ℕ) → turn < suc turns → Breaks weaker (state_after run.regions turn run.start) ≡ None
-more-none run weaker turns h last turn below = elim (cases_lt turn turns) [
-  | inl before ↦ h turn before
-  | inr here ↦
-      let e : turn ≡ turns = omega (arith, below, here) in
-      ap (λ (n : ℕ). Breaks weaker (state_after run.regions n run.start)) e ∙ last
-]
-
-course-turn : (run : Run) (number : ℕ) (lost : Place → Type 0) (place : Place) (enclosures : Enclosures) (turns : ℕ) (at : RunPlace) →
-    turns < run.turns → first_call run.regions run.turns run.start ≡ None →
-    map bare enclosures.regions ≡ run.regions →
-    AllByRecursion (HasStronger run number lost place) enclosures.regions → IsSound run turns at →
-    ((turn : ℕ) → turn < turns → Breaks enclosures.regions (state_after run.regions turn run.start) ≡ None) →
-    Course run number lost place enclosures.regions (suc turns) (unbroken_turn enclosures at)
-unfolding state_after
-course-turn run number lost place enclosures turns at below none same has sound before =
-    let weaker = enclosures.regions in
-    let state = state_after run.regions turns run.start in
-    let here : Breaks weaker at.state ≡ Breaks weaker state = ap (λ (s : State). Breaks weaker s) sound.state in
-    elim (split (LosesTo number lost) (Breaks weaker state) (turn-fate run number lost place weaker turns below none same has)) [
-      | inl whole ↦ inl (
-            record {
-              unbroken = here ∙ whole;
-              state = ap (λ (s : State). real_end (guest_walk weaker s)) sound.state
-                ∙ (sym (edges_alike weaker state) ∙ ap (λ (l : List Region). real_end (guest_walk l state)) same);
-            },
-            more-none run weaker turns before whole,
-          )
-      | inr broken ↦ inr (broken.0, here ∙ broken.1, broken.2)
-    ]
-
-course : (run : Run) (number : ℕ) (lost : Place → Type 0) (place : Place) (enclosures : Enclosures) (turns : ℕ) → turns ≤ run.turns →
-    first_call run.regions run.turns run.start ≡ None → map bare enclosures.regions ≡ run.regions →
-    AllByRecursion (HasStronger run number lost place) enclosures.regions →
-    Course run number lost place enclosures.regions turns (real_after enclosures turns (fresh run.start))
-unfolding real_after state_after
-course run number lost place enclosures zero le none same has =
-    inl (record { unbroken = refl; state = refl }, λ turn below. absurd (omega arith))
-course run number lost place enclosures (suc turns) le none same has =
-    let at = real_after enclosures turns (fresh run.start) in
-    elim (course run number lost place enclosures turns (omega arith) none same has) [
-      | inl whole ↦
-          subst (λ (b : Option Break).
-          Course run number lost place enclosures.regions (suc turns) (turn_unless b enclosures at)) (sym whole.0.unbroken)
-          (course-turn run number lost place enclosures turns at (omega arith) none same has whole.0 whole.1)
-      | inr broken ↦
-          subst (λ (b : Option Break).
-          Course run number lost place enclosures.regions (suc turns) (turn_unless b enclosures at)) (sym broken.1)
-          (inr broken)
-    ]
-
 -- a run with a weaker declaration is broken by the write of what it lacks
 pub weaker_breaks : (run : Run) (number : ℕ) (lost : Place → Type 0) (place : Place) (weaker : List Region) →
     first_call run.regions run.turns run.start ≡ None → map bare weaker ≡ run.regions →
     AllByRecursion (HasStronger run number lost place) weaker → Written run number place ≡ true →
     RunsBroken (LosesTo number lost) weaker run.turns run.start
-weaker_breaks run number lost place weaker none same has written skip =
+weaker_breaks run number lost place weaker none same has written =
     let found = written-at (writes_in run.regions number place) run.regions run.start run.turns written in
-    elim (course run number lost place (record { regions = weaker; skip = skip }) run.turns (omega arith) none same has) [
-      | inl whole ↦
-          absurd (subst IsBroken (whole.1 found.0 found.1)
-          (turn-broken run number lost place weaker found.0 same has found.2))
-      | inr broken ↦ (broken.0, broken.1, broken.2)
-    ]
+    broken_run (LosesTo number lost) run weaker found.0 found.1 same
+    (λ turn below. turn-fate run number lost place weaker turn below none same has)
+    (turn-broken run number lost place weaker found.0 same has found.2)

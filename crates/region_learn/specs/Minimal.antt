@@ -1,14 +1,15 @@
--- What breaks where a written register or byte is left out of a declaration.
-use Rattle.std.specs.Prelude.{◌≡◌, ◌<◌, ◌^◌, ◌==◌, ◌||◌, ℕ, not, Bool, true, false, None, List, map, Some, if◌then◌else◌}
+-- What breaks where a written register or byte is left out of a declaration, or an output is to be kept.
+use Rattle.std.specs.Prelude.{◌≡◌, ◌<◌, ◌^◌, ◌==◌, ◌||◌, ℕ, not, Bool, true, false, None, ◌∷◌, List, map, Some, if◌then◌else◌}
 use Rattle.std.specs.List.{AllByRecursion, filter}
 use Rattle.rv32im_machine.specs.State.{State}
 use Rattle.enclosure_regions.specs.declared.break_kinds.Break.{Break}
-use Rattle.enclosure_regions.specs.declared.break_kinds.Break.TheVariants.{UndeclaredWrite}
+use Rattle.enclosure_regions.specs.declared.break_kinds.Break.TheVariants.{KeepBroken, UndeclaredWrite}
 use Rattle.enclosure_regions.specs.declared.break_kinds.Place.{Place}
 use Rattle.enclosure_regions.specs.declared.break_kinds.Place.TheVariants.{Reg, Byte}
 use Rattle.flow_base.specs.Guests.{is_inside}
 use Rattle.enclosure_regions.specs.declared.region_parts.Range.{Range}
 use Rattle.enclosure_regions.specs.declared.region_parts.Region.{Region}
+use Rattle.enclosure_regions.specs.Orders.{in_order}
 use Rattle.enclosure_regions.specs.Regions.{stands_in}
 use Rattle.region_learn.specs.Learnt.{have_byte}
 use Rattle.region_machine.specs.Runs.{fresh, real_after}
@@ -67,3 +68,22 @@ NoByteCanGo regions turns start =
     AllByRecursion (λ region. (less : List Range) (address : ℕ) → ArePlain start.setting.base less →
     have_byte region.ranges address ≡ true → have_byte less address ≡ false →
     RunsBroken (IsLostByte region less) (changed_at region.id (with_ranges less) regions) turns start) regions
+
+-- ---- kept registers
+
+-- a region that is to give back a register that was an output
+abbrev pub moved_to_keep : ℕ → Region → Region
+moved_to_keep register region =
+    record region { outs = without register region.outs; keep = in_order (register ∷ region.keep) }
+
+-- at the leave of the region with a number the register has not its value of the entry
+abbrev pub IsKeepBroken : ℕ → ℕ → Break → Type 0
+IsKeepBroken number register broken =
+    (before : ℕ) × (after : ℕ) × (broken ≡ KeepBroken number register before after)
+
+-- with any one output moved to the kept registers, the run breaks at a leave
+abbrev pub NoOutputIsKept : List Region → ℕ → State → Type 0
+NoOutputIsKept regions turns start =
+    AllByRecursion (λ region. (register : ℕ) → stands_in region.outs register ≡ true →
+    RunsBroken (IsKeepBroken region.id register) (changed_at region.id (moved_to_keep register) regions) turns start)
+    regions
