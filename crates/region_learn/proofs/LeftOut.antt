@@ -43,11 +43,11 @@ no-more : (test pick : ℕ → Bool) (xs : List ℕ) → find test xs ≡ None �
 no-more test pick [] h = refl
 no-more test pick (x ∷ xs) h = grind (arith, common_steps, no-more test pick xs)
 
-stands-among : (pick : ℕ → Bool) (r : ℕ) (xs : List ℕ) → stands_in (filter pick xs) r ≡ true → stands_in xs r ≡ true
+pub stands-among : (pick : ℕ → Bool) (r : ℕ) (xs : List ℕ) → stands_in (filter pick xs) r ≡ true → stands_in xs r ≡ true
 stands-among pick r [] h = h
 stands-among pick r (x ∷ xs) h = grind (arith, common_steps, stands-among pick r xs)
 
-true-false : ◌≡◌ {A = Bool} true false → ⊥
+pub true-false : ◌≡◌ {A = Bool} true false → ⊥
 true-false e = cc
 
 not-same : (register : ℕ) → not (register == register) ≡ false
@@ -62,7 +62,7 @@ gone register xs = elim (cases_Bool (stands_in (without register xs) register)) 
   | inr none ↦ none
 ]
 
-stays : (register other : ℕ) (xs : List ℕ) → (other == register) ≡ false → stands_in xs other ≡ true →
+pub stays : (register other : ℕ) (xs : List ℕ) → (other == register) ≡ false → stands_in xs other ≡ true →
     stands_in (without register xs) other ≡ true
 stays register other xs differs h = pick-stands (λ q. not (q == register)) other xs (ap not differs) h
 

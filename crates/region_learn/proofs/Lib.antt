@@ -23,3 +23,4 @@ pub mod WeakerRegions
 pub mod LeftOut
 pub mod LostBytes
 pub mod BrokenRuns
+pub mod KeptOutputs

@@ -90,7 +90,7 @@ aim-unbroken region kept pc slot (Give place) quiet h = refl
 first-none : (first later : Option Break) → first ≡ None → later ≡ None → first_break first later ≡ None
 first-none first later e h = ap (λ (b : Option Break). first_break b later) e ∙ h
 
-walk-unbroken : (region : Region) (kept : List ℕ) (pc : ℕ) (walk : Walk) → walk_calls walk ≡ false →
+pub walk-unbroken : (region : Region) (kept : List ℕ) (pc : ℕ) (walk : Walk) → walk_calls walk ≡ false →
     ((place : Place) → walk_writes place walk ≡ true → declares region kept place ≡ true) →
     walk_break region kept pc walk ≡ None
 unfolding walk_break walk_calls walk_writes

@@ -7,7 +7,7 @@ ghost use Rattle.region_learn.specs.Books.{BookOf, are_bare, IsFresh, IsNew, hav
 ghost use Rattle.region_learn.specs.Declarations.{IsDraft};
 ghost use Rattle.region_learn.specs.LearnAnswers.{Grants, Refuses, declaration_fault, run_fault};
 ghost use Rattle.region_machine.specs.Starts.{guest};
-ghost use Rattle.region_learn.specs.Minimal.{NoByteCanGo, NoRegisterCanGo};
+ghost use Rattle.region_learn.specs.Minimal.{NoByteCanGo, NoOutputIsKept, NoRegisterCanGo};
 ghost use Rattle.region_learn.specs.Unbroken.{IsTight, RunsUnbroken};
 ghost use Rattle.region_learn.specs.Learning.{run_of};
 ghost use Rattle.rv32im_machine.specs.declared.stepping.Stepped.TheVariants.{Ran as RanMode};
@@ -152,6 +152,7 @@ fn learn_from(
     ensures unbroken { IfOk result (λ learnt. RunsUnbroken learnt.items turns machine.old) }
     ensures registers { IfOk result (λ learnt. NoRegisterCanGo learnt.items turns machine.old) }
     ensures bytes { IfOk result (λ learnt. NoByteCanGo learnt.items turns machine.old) }
+    ensures outputs { IfOk result (λ learnt. NoOutputIsKept learnt.items turns machine.old) }
     ensures err { IfErr result (λ fault. fault ≢ LearnFault.Memory →
         Refuses (record { regions = marked.now.regions.items; start = machine.old; turns = turns }) fault) }
 {
@@ -187,6 +188,8 @@ pub fn learn(
         NoRegisterCanGo learnt.items turns (guest (picture_of image.now) public.now secret.now).state) }
     ensures bytes { IfOk result (λ learnt.
         NoByteCanGo learnt.items turns (guest (picture_of image.now) public.now secret.now).state) }
+    ensures outputs { IfOk result (λ learnt.
+        NoOutputIsKept learnt.items turns (guest (picture_of image.now) public.now secret.now).state) }
     ensures err { IfErr result (λ fault. fault ≢ LearnFault.Memory →
         Refuses (run_of (picture_of image.now) public.now secret.now regions.now.items turns) fault) }
 {

@@ -1,5 +1,6 @@
 use Rattle.std.proofs.Common.{◌∙◌, refl, sym}
 use Rattle.region_learn.specs.Written.{Run}
+use Rattle.region_learn.proofs.KeptOutputs.{no_output_is_kept}
 use Rattle.region_learn.proofs.LostBytes.{no_byte_can_go}
 use Rattle.region_learn.proofs.LeftOut.{no_register_can_go}
 use Rattle.region_learn.proofs.UnbrokenRuns.{runs_unbroken}
@@ -44,5 +45,13 @@ returns-in-Ok-declaration-clause-bytes c =
     let run : Run =
     record { regions = c.args.marked.now.regions.items; start = c.args.machine.now; turns = c.args.turns } in
     no_byte_can_go run c.in-Ok-declaration.regions.items
+    (c.in-Ok-declaration.ensures.ok run refl c.in-Ok.ensures.book c.in-Ok.ensures.exit)
+    (c.in-Ok-declaration.ensures.tight run refl (sym c.base-base.ensures) c.in-Ok.ensures.book)
+
+pub returns-in-Ok-declaration-clause-outputs : goal.returns-in-Ok-declaration-clause-outputs
+returns-in-Ok-declaration-clause-outputs c =
+    let run : Run =
+    record { regions = c.args.marked.now.regions.items; start = c.args.machine.now; turns = c.args.turns } in
+    no_output_is_kept run c.in-Ok-declaration.regions.items
     (c.in-Ok-declaration.ensures.ok run refl c.in-Ok.ensures.book c.in-Ok.ensures.exit)
     (c.in-Ok-declaration.ensures.tight run refl (sym c.base-base.ensures) c.in-Ok.ensures.book)
