@@ -1,39 +1,20 @@
 -- A run whose turns break no region, or break one in a certain way.
-use Rattle.std.proofs.Common.{◌≡◌, ◌≢◌, ◌∙◌, ◌+◌, ◌≤◌, ◌<◌, ◌==◌, ◌&&◌, ◌||◌, ◌⊎◌, not, ℕ, zero, suc, Bool, true, false, List, [], ◌∷◌, Option, Some, None, map}
+use Rattle.std.proofs.Common.{◌≡◌, ◌∙◌, ◌≤◌, ◌<◌, ◌⊎◌, ℕ, zero, suc, List, Option, Some, None, map}
 use Rattle.std.proofs.Common.{refl, sym, ap, subst, arith, inl, inr}
-use Rattle.std.specs.Prelude.{option_map, if◌then◌else◌}
-use Rattle.std.specs.List.{AllByRecursion, filter, find, list_all}
-use Rattle.std.proofs.lemmas.Bool.{and_parts, cases_Bool, cases_lt, cond-false, cond-true, eqb-true, eqb-false, eq-eqb, or_cases, or_from, or_left, or_right}
-use Rattle.std.proofs.lemmas.Grind.{common_steps}
-use Rattle.flow_base.specs.Guests.{is_inside}
-use Rattle.rv32im_machine.specs.State.{Setting, State}
+use Rattle.std.proofs.lemmas.Bool.{cases_lt}
+use Rattle.rv32im_machine.specs.State.{State}
 use Rattle.rv32im_machine.specs.Folds.{real_end}
-use Rattle.rv32im_machine.specs.Rows.{walk_of}
 use Rattle.enclosure_regions.specs.declared.break_kinds.Break.{Break}
-use Rattle.enclosure_regions.specs.declared.break_kinds.Place.{Place}
-use Rattle.enclosure_regions.specs.declared.break_kinds.Place.TheVariants.{Reg, Byte}
-use Rattle.enclosure_regions.specs.declared.region_parts.Range.{Range}
 use Rattle.enclosure_regions.specs.declared.region_parts.Region.{Region}
-use Rattle.enclosure_regions.specs.Breaks.{has_changed, register_changed}
-use Rattle.enclosure_regions.specs.Orders.{all_registers}
-use Rattle.enclosure_regions.specs.Regions.{stands_in}
-use Rattle.enclosure_regions.specs.Turns.{start_of}
-use Rattle.region_machine.specs.Breaking.{Breaks, kind_break, walk_break}
-use Rattle.region_machine.specs.Enclosures.{Enclosures, Kind, Enters, Leaves, Steps, kind_of}
+use Rattle.region_machine.specs.Breaking.{Breaks}
+use Rattle.region_machine.specs.Enclosures.{Enclosures}
 use Rattle.region_machine.specs.Guests.{guest_walk}
 use Rattle.region_machine.specs.Runs.{Place as RunPlace, fresh, real_after, turn_unless, unbroken_turn}
-use Rattle.region_machine.specs.Within.{are_inside}
-use Rattle.region_learn.specs.LearnAnswers.{Grants, call_in, first_call, no_exit}
-use Rattle.region_learn.specs.Learnt.{is_kept, is_out}
-use Rattle.region_learn.specs.Minimal.{IsUndeclared, NoRegisterCanGo, RunsBroken, changed_at, without, without_register}
-use Rattle.region_learn.specs.Unbroken.{IsTight}
-use Rattle.region_learn.specs.Written.{Changed, Run, Written, bare, is_step_in, some_turn, state_after, walk_writes, writes_in}
-use Rattle.region_learn.proofs.EdgesAlike.{bare_kind, edges_alike, kind_bare}
-use Rattle.region_learn.proofs.RegionRules.{stands-picked}
-use Rattle.region_learn.proofs.UnbrokenRuns.{IsKnown, IsSound, both-known, declares, fault-none, in-has, kept-unchanged}
-use Rattle.region_learn.proofs.UnbrokenRuns.{kind-has, no_call, none-found, none-outside, pick-stands, place-declared}
-use Rattle.region_learn.proofs.UnbrokenRuns.{quiet-walk, setting_after, some_true}
-use Rattle.region_learn.proofs.WeakerRuns.{DeclaresBut, Fate, IsBroken, LosesTo, walk_breaks, walk_fate}
+use Rattle.region_learn.specs.Minimal.{RunsBroken}
+use Rattle.region_learn.specs.Written.{Run, bare, state_after}
+use Rattle.region_learn.proofs.EdgesAlike.{edges_alike}
+use Rattle.region_learn.proofs.UnbrokenRuns.{IsSound}
+use Rattle.region_learn.proofs.WeakerRuns.{Fate, IsBroken}
 
 -- nothing was broken so far, or the run is broken so
 abbrev Course : (Break → Type 0) → Run → List Region → ℕ → RunPlace → Type 0
@@ -74,13 +55,13 @@ course-turn so run enclosures turns at below same fates sound before =
     let here : Breaks weaker at.state ≡ Breaks weaker state = ap (λ (s : State). Breaks weaker s) sound.state in
     elim (split so (Breaks weaker state) (fates turns below)) [
       | inl whole ↦ inl (
-            record {
-              unbroken = here ∙ whole;
-              state = ap (λ (s : State). real_end (guest_walk weaker s)) sound.state
-                ∙ (sym (edges_alike weaker state) ∙ ap (λ (l : List Region). real_end (guest_walk l state)) same);
-            },
-            more-none run weaker turns before whole,
-          )
+        record {
+          unbroken = here ∙ whole;
+          state = ap (λ (s : State). real_end (guest_walk weaker s)) sound.state
+              ∙ (sym (edges_alike weaker state) ∙ ap (λ (l : List Region). real_end (guest_walk l state)) same);
+        },
+        more-none run weaker turns before whole,
+      )
       | inr broken ↦ inr (broken.0, here ∙ broken.1, broken.2)
     ]
 

@@ -11,10 +11,10 @@ registers_whole : (registers : List ℕ) → items_have_float (items_of (map reg
 registers_whole [] = refl
 registers_whole (register ∷ registers) = registers_whole registers
 
-base_whole : (base : Option ℕ) (members : Members) → members_have_float members ≡ false →
-    members_have_float (with_base base members) ≡ false
-base_whole None members h = h
-base_whole (Some register) members h = h
+base_whole : (base : Option ℕ) (rest : Members) → members_have_float rest ≡ false →
+    members_have_float (with_base base rest) ≡ false
+base_whole None rest h = h
+base_whole (Some register) rest h = h
 
 ranges_whole : (ranges : List Range) → items_have_float (items_of (map range_data ranges)) ≡ false
 ranges_whole [] = refl

@@ -1,44 +1,32 @@
 -- A declaration that is to keep an output is broken at a leave.
-use Rattle.std.proofs.Common.{◌≡◌, ◌≢◌, ◌∙◌, ◌+◌, ◌≤◌, ◌<◌, ◌==◌, ◌&&◌, ◌||◌, ◌⊎◌, not, ℕ, zero, suc, Bool, true, false, List, [], ◌∷◌, Option, Some, None, map}
-use Rattle.std.proofs.Common.{refl, sym, ap, subst, arith, inl, inr}
-use Rattle.std.specs.Prelude.{option_map, if◌then◌else◌}
-use Rattle.std.specs.List.{AllByRecursion, filter, find, list_all}
-use Rattle.std.proofs.lemmas.Bool.{and_parts, cases_Bool, cases_lt, cond-false, cond-true, eqb-true, eqb-false, eq-eqb, or_cases, or_from, or_left, or_right}
-use Rattle.std.proofs.lemmas.Grind.{common_steps}
-use Rattle.flow_base.specs.Guests.{is_inside}
-use Rattle.rv32im_machine.specs.State.{Setting, State}
-use Rattle.rv32im_machine.specs.Folds.{real_end}
+use Rattle.std.proofs.Common.{◌≡◌, ◌∙◌, ◌<◌, ◌==◌, ◌&&◌, ◌||◌, ℕ, Bool, true, false, List, [], ◌∷◌, Option, Some, None, map}
+use Rattle.std.proofs.Common.{refl, sym, ap, subst, inl, inr}
+use Rattle.std.specs.Prelude.{option_map}
+use Rattle.std.specs.List.{AllByRecursion, find}
+use Rattle.std.proofs.lemmas.Bool.{and_parts, cases_Bool, cond-false, cond-true, eqb-true, eqb-false, eq-eqb, or_cases, or_left, or_right}
+use Rattle.rv32im_machine.specs.State.{State}
 use Rattle.rv32im_machine.specs.Rows.{walk_of}
 use Rattle.enclosure_regions.specs.declared.break_kinds.Break.{Break}
 use Rattle.enclosure_regions.specs.declared.break_kinds.Place.{Place}
 use Rattle.enclosure_regions.specs.declared.break_kinds.Place.TheVariants.{Reg, Byte}
-use Rattle.enclosure_regions.specs.declared.region_parts.Range.{Range}
 use Rattle.enclosure_regions.specs.declared.region_parts.Region.{Region}
 use Rattle.enclosure_regions.specs.Breaks.{has_changed, register_changed}
 use Rattle.enclosure_regions.specs.Orders.{all_registers}
 use Rattle.enclosure_regions.specs.Regions.{stands_in}
-use Rattle.enclosure_regions.specs.Turns.{start_of}
-use Rattle.region_machine.specs.Breaking.{Breaks, kind_break, walk_break}
-use Rattle.region_machine.specs.Enclosures.{Enclosures, Kind, Enters, Leaves, Steps, kind_of}
-use Rattle.region_machine.specs.Guests.{guest_walk}
-use Rattle.region_machine.specs.Runs.{Place as RunPlace, fresh, real_after, turn_unless, unbroken_turn}
+use Rattle.region_machine.specs.Breaking.{kind_break}
+use Rattle.region_machine.specs.Enclosures.{Kind, Enters, Leaves, Steps, kind_of}
 use Rattle.region_machine.specs.Within.{are_inside}
 use Rattle.region_learn.specs.LearnAnswers.{Grants, call_in, first_call, no_exit}
 use Rattle.region_learn.specs.Learnt.{is_kept, is_out}
 use Rattle.region_learn.specs.Minimal.{IsKeepBroken, NoOutputIsKept, RunsBroken, changed_at, moved_to_keep, without}
 use Rattle.region_learn.specs.Unbroken.{IsTight}
-use Rattle.region_learn.specs.Written.{Changed, Run, Written, bare, is_step_in, some_turn, state_after, walk_writes, writes_in}
-use Rattle.region_learn.proofs.EdgesAlike.{bare_kind, edges_alike, kind_bare}
+use Rattle.region_learn.specs.Written.{Changed, Run, Written, bare, is_step_in, state_after, walk_writes, writes_in}
+use Rattle.region_learn.proofs.EdgesAlike.{bare_kind}
 use Rattle.region_learn.proofs.RegionRules.{stands-picked}
-use Rattle.region_learn.proofs.UnbrokenRuns.{IsKnown, IsSound, both-known, declares, fault-none, in-has, kept-unchanged}
-use Rattle.region_learn.proofs.UnbrokenRuns.{kind-has, no_call, none-found, none-outside, pick-stands, place-declared}
+use Rattle.region_learn.proofs.UnbrokenRuns.{IsKnown, both-known, declares, fault-none, in-has, kept-unchanged}
+use Rattle.region_learn.proofs.UnbrokenRuns.{kind-has, no_call, none-found, pick-stands, place-declared}
 use Rattle.region_learn.proofs.UnbrokenRuns.{quiet-walk, setting_after, some_true}
-use Rattle.enclosure_regions.specs.Breaks.{declares_byte, declares_register}
-use Rattle.std.specs.List.{list_any}
-use Rattle.std.proofs.Common.{ap₂}
-use Rattle.std.proofs.lemmas.Bool.{and_from}
-use Rattle.enclosure_regions.specs.Breaks.{has_byte}
-use Rattle.region_learn.specs.Learnt.{have_byte}
+use Rattle.enclosure_regions.specs.Breaks.{declares_register}
 use Rattle.region_learn.proofs.LeftOut.{stands-among, stays, true-false}
 use Rattle.std.specs.Prelude.{slice_index}
 use Rattle.enclosure_regions.specs.Orders.{in_order}
@@ -47,8 +35,6 @@ use Rattle.region_learn.proofs.BrokenRuns.{broken_run}
 use Rattle.region_learn.proofs.UnbrokenRuns.{walk-unbroken}
 use Rattle.region_learn.proofs.WeakerRuns.{Fate, IsBroken}
 use Rattle.region_learn.proofs.WeakerRegions.{enter-none, kinds-same, written-at}
-
-
 
 -- ---- lists
 
@@ -110,10 +96,12 @@ keep-fate : (number register : ℕ) (weak : Region) (before after : List ℕ) (f
     Fate (IsKeepBroken number register) (option_map (register_changed weak before after) found)
 keep-fate number register weak before after None h = tt
 keep-fate number register weak before after (Some other) h =
-    let same = h other refl in
-    (slice_index before other, slice_index after other,
-    ap (λ (n : ℕ). Break.KeepBroken n other (slice_index before other) (slice_index after other)) same.0
-    ∙ ap (λ (r : ℕ). Break.KeepBroken number r (slice_index before other) (slice_index after other)) same.1)
+    let same = h other refl in (
+      slice_index before other,
+      slice_index after other,
+      ap (λ (n : ℕ). Break.KeepBroken n other (slice_index before other) (slice_index after other)) same.0
+          ∙ ap (λ (r : ℕ). Break.KeepBroken number r (slice_index before other) (slice_index after other)) same.1,
+    )
 
 leave-fate : (run : Run) (number register : ℕ) (region weak : Region) (turn : ℕ) → turn < run.turns →
     IsMoved run number register region weak →
@@ -223,14 +211,14 @@ others-moved run register other region known h =
           or_right (other == 0) (stands_in outs other || stands_in keep other)
           (elim (or_cases (stands_in region.outs other) (stands_in region.keep other) some) [
             | inl out ↦ elim (cases_Bool (other == register)) [
-                | inl same ↦
-                    or_right (stands_in outs other) (stands_in keep other)
-                    (in-new-keep register other region.keep
-                    (or_left (register == other) (stands_in region.keep other)
-                    (eq-eqb register other (sym (eqb-true other register same)))) all)
-                | inr differs ↦
-                    or_left (stands_in outs other) (stands_in keep other) (stays register other region.outs differs out)
-              ]
+              | inl same ↦
+                  or_right (stands_in outs other) (stands_in keep other)
+                  (in-new-keep register other region.keep
+                  (or_left (register == other) (stands_in region.keep other)
+                  (eq-eqb register other (sym (eqb-true other register same)))) all)
+              | inr differs ↦
+                  or_left (stands_in outs other) (stands_in keep other) (stays register other region.outs differs out)
+            ]
             | inr kept ↦
                 or_right (stands_in outs other) (stands_in keep other)
                 (in-new-keep register other region.keep
@@ -248,11 +236,13 @@ new-kept : (number register : ℕ) (region : Region) (test : ℕ → Bool) (foun
     (region.id ≡ number) × (found ≡ register)
 new-kept number register region test found same none h =
     let facts = found-in test (in_order (register ∷ region.keep)) found h in
-    let stands = stands-picked (stands_in (register ∷ region.keep)) found all_registers facts.1 in
-    (same, elim (or_cases (register == found) (stands_in region.keep found) stands) [
-      | inl is ↦ sym (eqb-true register found is)
-      | inr among ↦ absurd (true-false (sym facts.0 ∙ none-in test region.keep found none among))
-    ])
+    let stands = stands-picked (stands_in (register ∷ region.keep)) found all_registers facts.1 in (
+      same,
+      elim (or_cases (register == found) (stands_in region.keep found) stands) [
+        | inl is ↦ sym (eqb-true register found is)
+        | inr among ↦ absurd (true-false (sym facts.0 ∙ none-in test region.keep found none among))
+      ],
+    )
 
 moved-of : (run : Run) (number register : ℕ) (region : Region) → IsKnown run region → region.id ≡ number →
     stands_in all_registers register ≡ true → IsMoved run number register region (moved_to_keep register region)
@@ -263,7 +253,7 @@ moved-of run number register region known same all = record {
   others = λ kept other h. place-moved run register region kept other known h;
   keep = λ test none found h. new-kept number register region test found same none h;
   has = λ is. in-new-keep register register region.keep
-    (or_left (register == register) (stands_in region.keep register) (eq-eqb register register refl)) all;
+      (or_left (register == register) (stands_in region.keep register) (eq-eqb register register refl)) all;
 }
 
 none-some : (found : Option ℕ) (other : ℕ) → found ≡ None → found ≡ Some other → ⊥
@@ -324,11 +314,11 @@ each-output : (run : Run) (regions some : List Region) → first_call run.region
 each-output run regions [] none same known h = tt
 each-output run regions (region ∷ some) none same known h = (
   λ register out.
-    moved-breaks run region.id register (changed_at region.id (moved_to_keep register) regions) none
-    (moved-bare region.id register regions ∙ same)
-    (moved-has run region.id register regions known
-    (among-all run region register h.0 (or_left (stands_in region.outs register) (stands_in region.keep register) out)))
-    (out-changed run region register h.0 out),
+      moved-breaks run region.id register (changed_at region.id (moved_to_keep register) regions) none
+      (moved-bare region.id register regions ∙ same)
+      (moved-has run region.id register regions known
+      (among-all run region register h.0 (or_left (stands_in region.outs register) (stands_in region.keep register) out)))
+      (out-changed run region register h.0 out),
   each-output run regions some none same known h.1,
 )
 

@@ -1,39 +1,24 @@
 -- A declaration that lacks a register is broken by the write of it.
-use Rattle.std.proofs.Common.{◌≡◌, ◌≢◌, ◌∙◌, ◌+◌, ◌≤◌, ◌<◌, ◌==◌, ◌&&◌, ◌||◌, ◌⊎◌, not, ℕ, zero, suc, Bool, true, false, List, [], ◌∷◌, Option, Some, None, map}
+use Rattle.std.proofs.Common.{◌≡◌, ◌∙◌, ◌==◌, ◌||◌, ◌⊎◌, not, ℕ, Bool, true, false, List, [], ◌∷◌, None, map}
 use Rattle.std.proofs.Common.{refl, sym, ap, subst, arith, inl, inr}
-use Rattle.std.specs.Prelude.{option_map, if◌then◌else◌}
-use Rattle.std.specs.List.{AllByRecursion, filter, find, list_all}
-use Rattle.std.proofs.lemmas.Bool.{and_parts, cases_Bool, cases_lt, cond-false, cond-true, eqb-true, eqb-false, eq-eqb, or_cases, or_from, or_left, or_right}
+use Rattle.std.specs.List.{AllByRecursion, filter, find}
+use Rattle.std.proofs.lemmas.Bool.{and_parts, cases_Bool, cond-false, cond-true, eqb-true, eqb-false, eq-eqb, or_cases, or_from, or_left, or_right}
 use Rattle.std.proofs.lemmas.Grind.{common_steps}
-use Rattle.flow_base.specs.Guests.{is_inside}
-use Rattle.rv32im_machine.specs.State.{Setting, State}
-use Rattle.rv32im_machine.specs.Folds.{real_end}
-use Rattle.rv32im_machine.specs.Rows.{walk_of}
-use Rattle.enclosure_regions.specs.declared.break_kinds.Break.{Break}
+use Rattle.rv32im_machine.specs.State.{State}
 use Rattle.enclosure_regions.specs.declared.break_kinds.Place.{Place}
 use Rattle.enclosure_regions.specs.declared.break_kinds.Place.TheVariants.{Reg, Byte}
-use Rattle.enclosure_regions.specs.declared.region_parts.Range.{Range}
 use Rattle.enclosure_regions.specs.declared.region_parts.Region.{Region}
-use Rattle.enclosure_regions.specs.Breaks.{has_changed, register_changed}
 use Rattle.enclosure_regions.specs.Orders.{all_registers}
 use Rattle.enclosure_regions.specs.Regions.{stands_in}
-use Rattle.enclosure_regions.specs.Turns.{start_of}
-use Rattle.region_machine.specs.Breaking.{Breaks, kind_break, walk_break}
-use Rattle.region_machine.specs.Enclosures.{Enclosures, Kind, Enters, Leaves, Steps, kind_of}
-use Rattle.region_machine.specs.Guests.{guest_walk}
-use Rattle.region_machine.specs.Runs.{Place as RunPlace, fresh, real_after, turn_unless, unbroken_turn}
-use Rattle.region_machine.specs.Within.{are_inside}
-use Rattle.region_learn.specs.LearnAnswers.{Grants, call_in, first_call, no_exit}
+use Rattle.region_learn.specs.LearnAnswers.{Grants, first_call, no_exit}
 use Rattle.region_learn.specs.Learnt.{is_kept, is_out}
 use Rattle.region_learn.specs.Minimal.{IsUndeclared, NoRegisterCanGo, RunsBroken, changed_at, without, without_register}
 use Rattle.region_learn.specs.Unbroken.{IsTight}
-use Rattle.region_learn.specs.Written.{Changed, Run, Written, bare, is_step_in, some_turn, state_after, walk_writes, writes_in}
-use Rattle.region_learn.proofs.EdgesAlike.{bare_kind, edges_alike, kind_bare}
+use Rattle.region_learn.specs.Written.{Changed, Run, Written, bare, state_after}
 use Rattle.region_learn.proofs.RegionRules.{stands-picked}
-use Rattle.region_learn.proofs.UnbrokenRuns.{IsKnown, IsSound, both-known, declares, fault-none, in-has, kept-unchanged}
-use Rattle.region_learn.proofs.UnbrokenRuns.{kind-has, no_call, none-found, none-outside, pick-stands, place-declared}
-use Rattle.region_learn.proofs.UnbrokenRuns.{quiet-walk, setting_after, some_true}
-use Rattle.enclosure_regions.specs.Breaks.{declares_byte, declares_register}
+use Rattle.region_learn.proofs.UnbrokenRuns.{IsKnown, both-known, declares, fault-none}
+use Rattle.region_learn.proofs.UnbrokenRuns.{pick-stands}
+use Rattle.enclosure_regions.specs.Breaks.{declares_register}
 use Rattle.region_learn.proofs.WeakerRuns.{DeclaresBut, LosesTo}
 use Rattle.region_learn.proofs.WeakerRegions.{HasStronger, IsWeaker, weaker_breaks}
 
@@ -175,16 +160,18 @@ declared-written run region register known h =
     elim (or_cases (stands_in region.outs register) (stands_in region.keep register) h) [
       | inl out ↦
           let stands : stands_in (filter (is_out run region.id) all_registers) register ≡ true =
-          sym (ap (λ (l : List ℕ). stands_in l register) known.learnt.outs) ∙ out in
-          (some-register register (stands-among (is_out run region.id) register all_registers stands),
-          (and_parts (Written run region.id (Reg register)) (Changed run region.id register)
-          (stands-picked (is_out run region.id) register all_registers stands)).0)
+          sym (ap (λ (l : List ℕ). stands_in l register) known.learnt.outs) ∙ out in (
+            some-register register (stands-among (is_out run region.id) register all_registers stands),
+            (and_parts (Written run region.id (Reg register)) (Changed run region.id register)
+                (stands-picked (is_out run region.id) register all_registers stands)).0,
+          )
       | inr kept ↦
           let stands : stands_in (filter (is_kept run region.id) all_registers) register ≡ true =
-          sym (ap (λ (l : List ℕ). stands_in l register) known.learnt.keep) ∙ kept in
-          (some-register register (stands-among (is_kept run region.id) register all_registers stands),
-          (and_parts (Written run region.id (Reg register)) (not (Changed run region.id register))
-          (stands-picked (is_kept run region.id) register all_registers stands)).0)
+          sym (ap (λ (l : List ℕ). stands_in l register) known.learnt.keep) ∙ kept in (
+            some-register register (stands-among (is_kept run region.id) register all_registers stands),
+            (and_parts (Written run region.id (Reg register)) (not (Changed run region.id register))
+                (stands-picked (is_kept run region.id) register all_registers stands)).0,
+          )
     ]
 
 one-lost : (number : ℕ) (place : Place) (regions : List Region) (turns : ℕ) (start : State) →
@@ -203,11 +190,11 @@ each-register : (run : Run) (regions some : List Region) → first_call run.regi
 each-register run regions [] none same known h = tt
 each-register run regions (region ∷ some) none same known h = (
   λ register declared.
-    let facts = declared-written run region register h.0 declared in
-    one-lost region.id (Reg register) (changed_at region.id (without_register register) regions) run.turns run.start
-    (weaker_breaks run region.id (λ q. q ≡ Reg register) (Reg register)
-    (changed_at region.id (without_register register) regions) none
-    (changed-bare region.id register regions ∙ same) (changed-has run region.id register regions known facts.0) facts.1),
+      let facts = declared-written run region register h.0 declared in
+      one-lost region.id (Reg register) (changed_at region.id (without_register register) regions) run.turns run.start
+      (weaker_breaks run region.id (λ q. q ≡ Reg register) (Reg register)
+      (changed_at region.id (without_register register) regions) none
+      (changed-bare region.id register regions ∙ same) (changed-has run region.id register regions known facts.0) facts.1),
   each-register run regions some none same known h.1,
 )
 

@@ -1,39 +1,21 @@
 -- A declaration that lacks a byte is broken by the write of such a byte.
-use Rattle.std.proofs.Common.{◌≡◌, ◌≢◌, ◌∙◌, ◌+◌, ◌≤◌, ◌<◌, ◌==◌, ◌&&◌, ◌||◌, ◌⊎◌, not, ℕ, zero, suc, Bool, true, false, List, [], ◌∷◌, Option, Some, None, map}
-use Rattle.std.proofs.Common.{refl, sym, ap, subst, arith, inl, inr}
-use Rattle.std.specs.Prelude.{option_map, if◌then◌else◌}
-use Rattle.std.specs.List.{AllByRecursion, filter, find, list_all}
-use Rattle.std.proofs.lemmas.Bool.{and_parts, cases_Bool, cases_lt, cond-false, cond-true, eqb-true, eqb-false, eq-eqb, or_cases, or_from, or_left, or_right}
-use Rattle.std.proofs.lemmas.Grind.{common_steps}
+use Rattle.std.proofs.Common.{◌≡◌, ◌∙◌, ◌==◌, ◌||◌, ℕ, Bool, true, false, List, [], ◌∷◌, None, map}
+use Rattle.std.proofs.Common.{refl, sym, ap, subst, inl, inr}
+use Rattle.std.specs.List.{AllByRecursion}
+use Rattle.std.proofs.lemmas.Bool.{cases_Bool, cond-false, cond-true, eqb-true, eqb-false}
 use Rattle.flow_base.specs.Guests.{is_inside}
-use Rattle.rv32im_machine.specs.State.{Setting, State}
-use Rattle.rv32im_machine.specs.Folds.{real_end}
-use Rattle.rv32im_machine.specs.Rows.{walk_of}
 use Rattle.enclosure_regions.specs.declared.break_kinds.Break.{Break}
 use Rattle.enclosure_regions.specs.declared.break_kinds.Place.{Place}
 use Rattle.enclosure_regions.specs.declared.break_kinds.Place.TheVariants.{Reg, Byte}
 use Rattle.enclosure_regions.specs.declared.region_parts.Range.{Range}
 use Rattle.enclosure_regions.specs.declared.region_parts.Region.{Region}
-use Rattle.enclosure_regions.specs.Breaks.{has_changed, register_changed}
-use Rattle.enclosure_regions.specs.Orders.{all_registers}
-use Rattle.enclosure_regions.specs.Regions.{stands_in}
 use Rattle.enclosure_regions.specs.Turns.{start_of}
-use Rattle.region_machine.specs.Breaking.{Breaks, kind_break, walk_break}
-use Rattle.region_machine.specs.Enclosures.{Enclosures, Kind, Enters, Leaves, Steps, kind_of}
-use Rattle.region_machine.specs.Guests.{guest_walk}
-use Rattle.region_machine.specs.Runs.{Place as RunPlace, fresh, real_after, turn_unless, unbroken_turn}
 use Rattle.region_machine.specs.Within.{are_inside}
-use Rattle.region_learn.specs.LearnAnswers.{Grants, call_in, first_call, no_exit}
-use Rattle.region_learn.specs.Learnt.{is_kept, is_out}
+use Rattle.region_learn.specs.LearnAnswers.{Grants, first_call, no_exit}
 use Rattle.region_learn.specs.Minimal.{ArePlain, IsLostByte, IsUndeclared, NoByteCanGo, RunsBroken, changed_at, with_ranges}
 use Rattle.region_learn.specs.Unbroken.{IsTight}
-use Rattle.region_learn.specs.Written.{Changed, Run, Written, bare, is_step_in, some_turn, state_after, walk_writes, writes_in}
-use Rattle.region_learn.proofs.EdgesAlike.{bare_kind, edges_alike, kind_bare}
-use Rattle.region_learn.proofs.RegionRules.{stands-picked}
-use Rattle.region_learn.proofs.UnbrokenRuns.{IsKnown, IsSound, both-known, declares, fault-none, in-has, kept-unchanged}
-use Rattle.region_learn.proofs.UnbrokenRuns.{kind-has, no_call, none-found, none-outside, pick-stands, place-declared}
-use Rattle.region_learn.proofs.UnbrokenRuns.{quiet-walk, setting_after, some_true}
-use Rattle.enclosure_regions.specs.Breaks.{declares_byte, declares_register}
+use Rattle.region_learn.specs.Written.{Run, Written, bare, state_after}
+use Rattle.region_learn.proofs.UnbrokenRuns.{IsKnown, both-known, declares, fault-none}
 use Rattle.std.specs.List.{list_any}
 use Rattle.std.proofs.Common.{ap₂}
 use Rattle.std.proofs.lemmas.Bool.{and_from}
@@ -43,7 +25,6 @@ use Rattle.region_learn.proofs.LeftOut.{as-it-is}
 use Rattle.region_learn.proofs.TightRegions.{start-plain}
 use Rattle.region_learn.proofs.WeakerRuns.{DeclaresBut, LosesTo}
 use Rattle.region_learn.proofs.WeakerRegions.{HasStronger, IsWeaker, weaker_breaks}
-
 
 -- ---- plain ranges
 
@@ -109,9 +90,11 @@ ranges-has run number address less (region ∷ regions) plain lacks known = (
         (region, weaker-bytes run number address less region plain lacks known.0 (eqb-true region.id number same))
     | inr differs ↦
         subst (HasStronger run number (LostByte run number less) (Byte address))
-        (sym (cond-false (region.id == number) (with_ranges less region) region differs))
-        (region, as-it-is run number (LostByte run number less) (Byte address) region known.0
-        (eqb-false region.id number differs))
+        (sym (cond-false (region.id == number) (with_ranges less region) region differs)) (
+          region,
+          as-it-is run number (LostByte run number less) (Byte address) region known.0
+              (eqb-false region.id number differs),
+        )
   ],
   ranges-has run number address less regions plain lacks known.1,
 )
@@ -130,9 +113,12 @@ ranges-bare number less (region ∷ regions) =
 lost-of : (run : Run) (region : Region) (less : List Range) (broken : Break) → IsKnown run region →
     LosesTo region.id (LostByte run region.id less) broken → IsLostByte region less broken
 lost-of run region less broken known h =
-    let lost = h.1 in
-    (lost.0, known.learnt.bytes lost.0 ∙ lost.2, lost.3,
-    subst (λ (q : Place). IsUndeclared region.id q broken) lost.1 h.2)
+    let lost = h.1 in (
+      lost.0,
+      known.learnt.bytes lost.0 ∙ lost.2,
+      lost.3,
+      subst (λ (q : Place). IsUndeclared region.id q broken) lost.1 h.2,
+    )
 
 each-byte : (run : Run) (regions some : List Region) → first_call run.regions run.turns run.start ≡ None →
     map bare regions ≡ run.regions → AllByRecursion (IsKnown run) regions → AllByRecursion (IsKnown run) some →
@@ -142,10 +128,10 @@ each-byte : (run : Run) (regions some : List Region) → first_call run.regions 
 each-byte run regions [] none same known h = tt
 each-byte run regions (region ∷ some) none same known h = (
   λ less address plain has lacks skip.
-    let broken = weaker_breaks run region.id (LostByte run region.id less) (Byte address)
-    (changed_at region.id (with_ranges less) regions) none (ranges-bare region.id less regions ∙ same)
-    (ranges-has run region.id address less regions plain lacks known) (sym (h.0.learnt.bytes address) ∙ has) skip in
-    (broken.0, broken.1, lost-of run region less broken.0 h.0 broken.2),
+      let broken = weaker_breaks run region.id (LostByte run region.id less) (Byte address)
+      (changed_at region.id (with_ranges less) regions) none (ranges-bare region.id less regions ∙ same)
+      (ranges-has run region.id address less regions plain lacks known) (sym (h.0.learnt.bytes address) ∙ has) skip in
+      (broken.0, broken.1, lost-of run region less broken.0 h.0 broken.2),
   each-byte run regions some none same known h.1,
 )
 

@@ -1,37 +1,28 @@
 -- A declaration that lacks one written place is broken by the write of it.
-use Rattle.std.proofs.Common.{◌≡◌, ◌≢◌, ◌∙◌, ◌+◌, ◌≤◌, ◌<◌, ◌==◌, ◌&&◌, ◌||◌, ◌⊎◌, not, ℕ, zero, suc, Bool, true, false, List, [], ◌∷◌, Option, Some, None, map}
-use Rattle.std.proofs.Common.{refl, sym, ap, subst, arith, inl, inr}
-use Rattle.std.specs.Prelude.{option_map, if◌then◌else◌}
-use Rattle.std.specs.List.{AllByRecursion, filter, find, list_all}
-use Rattle.std.proofs.lemmas.Bool.{and_parts, cases_Bool, cases_lt, cond-false, cond-true, eqb-true, eqb-false, eq-eqb, or_cases, or_from, or_left, or_right}
-use Rattle.std.proofs.lemmas.Grind.{common_steps}
+use Rattle.std.proofs.Common.{◌≡◌, ◌∙◌, ◌<◌, ◌&&◌, ℕ, zero, suc, Bool, true, false, List, Some, None, map}
+use Rattle.std.proofs.Common.{sym, ap, subst, arith, inl, inr}
+use Rattle.std.specs.Prelude.{option_map}
+use Rattle.std.specs.List.{AllByRecursion, find, list_all}
+use Rattle.std.proofs.lemmas.Bool.{and_parts, eqb-true, eq-eqb, or_cases}
 use Rattle.flow_base.specs.Guests.{is_inside}
 use Rattle.rv32im_machine.specs.State.{Setting, State}
-use Rattle.rv32im_machine.specs.Folds.{real_end}
 use Rattle.rv32im_machine.specs.Rows.{walk_of}
 use Rattle.enclosure_regions.specs.declared.break_kinds.Break.{Break}
 use Rattle.enclosure_regions.specs.declared.break_kinds.Place.{Place}
-use Rattle.enclosure_regions.specs.declared.break_kinds.Place.TheVariants.{Reg, Byte}
-use Rattle.enclosure_regions.specs.declared.region_parts.Range.{Range}
 use Rattle.enclosure_regions.specs.declared.region_parts.Region.{Region}
 use Rattle.enclosure_regions.specs.Breaks.{has_changed, register_changed}
 use Rattle.enclosure_regions.specs.Orders.{all_registers}
-use Rattle.enclosure_regions.specs.Regions.{stands_in}
 use Rattle.enclosure_regions.specs.Turns.{start_of}
-use Rattle.region_machine.specs.Breaking.{Breaks, kind_break, walk_break}
-use Rattle.region_machine.specs.Enclosures.{Enclosures, Kind, Enters, Leaves, Steps, kind_of}
-use Rattle.region_machine.specs.Guests.{guest_walk}
-use Rattle.region_machine.specs.Runs.{Place as RunPlace, fresh, real_after, turn_unless, unbroken_turn}
+use Rattle.region_machine.specs.Breaking.{Breaks, kind_break}
+use Rattle.region_machine.specs.Enclosures.{Kind, Enters, Leaves, Steps, kind_of}
 use Rattle.region_machine.specs.Within.{are_inside}
-use Rattle.region_learn.specs.LearnAnswers.{Grants, call_in, first_call, no_exit}
-use Rattle.region_learn.specs.Learnt.{is_kept, is_out}
-use Rattle.region_learn.specs.Minimal.{IsUndeclared, NoRegisterCanGo, RunsBroken, changed_at, without, without_register}
-use Rattle.region_learn.specs.Unbroken.{IsTight}
-use Rattle.region_learn.specs.Written.{Changed, Run, Written, bare, is_step_in, some_turn, state_after, walk_writes, writes_in}
-use Rattle.region_learn.proofs.EdgesAlike.{bare_kind, edges_alike, kind_bare}
-use Rattle.region_learn.proofs.RegionRules.{stands-picked}
-use Rattle.region_learn.proofs.UnbrokenRuns.{IsKnown, IsSound, both-known, declares, fault-none, in-has, kept-unchanged}
-use Rattle.region_learn.proofs.UnbrokenRuns.{kind-has, no_call, none-found, none-outside, pick-stands, place-declared}
+use Rattle.region_learn.specs.LearnAnswers.{call_in, first_call}
+use Rattle.region_learn.specs.Learnt.{is_kept}
+use Rattle.region_learn.specs.Minimal.{RunsBroken}
+use Rattle.region_learn.specs.Written.{Run, Written, bare, is_step_in, some_turn, state_after, walk_writes, writes_in}
+use Rattle.region_learn.proofs.EdgesAlike.{bare_kind, kind_bare}
+use Rattle.region_learn.proofs.UnbrokenRuns.{IsKnown, declares, in-has, kept-unchanged}
+use Rattle.region_learn.proofs.UnbrokenRuns.{kind-has, no_call, none-found, none-outside, place-declared}
 use Rattle.region_learn.proofs.UnbrokenRuns.{quiet-walk, setting_after, some_true}
 use Rattle.region_learn.proofs.BrokenRuns.{broken_run}
 use Rattle.region_learn.proofs.WeakerRuns.{DeclaresBut, Fate, IsBroken, LosesTo, walk_breaks, walk_fate}

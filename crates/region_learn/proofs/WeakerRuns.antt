@@ -1,25 +1,20 @@
 -- The real run with a declaration that lacks one place that is written.
-use Rattle.std.proofs.Common.{◌≡◌, ◌∙◌, ◌+◌, ◌≤◌, ◌<◌, ◌==◌, ◌&&◌, ◌||◌, ◌⊎◌, not, ℕ, zero, suc, Bool, true, false, List, [], ◌∷◌, Option, Some, None, map}
-use Rattle.std.proofs.Common.{refl, sym, ap, subst, arith, inl, inr, cond}
-use Rattle.std.specs.Prelude.{option_map, slice_index, if◌then◌else◌}
-use Rattle.std.specs.List.{AllByRecursion, filter, find, list_all, list_any}
-use Rattle.std.proofs.lemmas.Bool.{and_parts, cases_Bool, cases_lt, cond-false, cond-true, eqb-true, eqb-false, eq-eqb, or_cases, or_left, or_parts, or_right}
-use Rattle.std.proofs.lemmas.Grind.{common_steps}
+use Rattle.std.proofs.Common.{◌≡◌, ◌∙◌, ◌⊎◌, ℕ, Bool, true, false, List, Option, Some, None}
+use Rattle.std.proofs.Common.{refl, sym, ap, subst, inl, inr}
+use Rattle.std.specs.Prelude.{if◌then◌else◌}
+use Rattle.std.proofs.lemmas.Bool.{eqb-true, eq-eqb, or_cases, or_left, or_parts, or_right}
 use Rattle.rv32im_machine.specs.declared.language.Place.{Place as MachinePlace}
 use Rattle.rv32im_machine.specs.declared.language.Place.TheVariants.{Register, Byte as MachineByte, First, Second}
 use Rattle.rv32im_machine.specs.declared.language.Aim.{Aim}
 use Rattle.rv32im_machine.specs.declared.language.Aim.TheVariants.{Put, Decide, Give}
 use Rattle.flow_base.specs.declared.points.Slot.{Slot}
-use Rattle.rv32im_machine.specs.State.{State}
 use Rattle.rv32im_machine.specs.Language.{Ended, Looked, Moved, Passed, Restored, Saved, Walk}
-use Rattle.rv32im_machine.specs.Folds.{real_end}
-use Rattle.rv32im_machine.specs.Rows.{walk_of}
 use Rattle.enclosure_regions.specs.declared.break_kinds.Break.{Break}
 use Rattle.enclosure_regions.specs.declared.break_kinds.Place.{Place}
 use Rattle.enclosure_regions.specs.declared.break_kinds.Place.TheVariants.{Reg, Byte}
 use Rattle.enclosure_regions.specs.declared.region_parts.Region.{Region}
 use Rattle.enclosure_regions.specs.Breaks.{declares_byte, declares_register}
-use Rattle.region_machine.specs.Breaking.{Breaks, aim_break, first_break, kind_break, place_break, slot_break, walk_break}
+use Rattle.region_machine.specs.Breaking.{aim_break, first_break, place_break, walk_break}
 use Rattle.region_learn.specs.Minimal.{IsUndeclared}
 use Rattle.region_learn.specs.Written.{is_number, is_place, puts_into, walk_calls, walk_writes}
 use Rattle.region_learn.proofs.UnbrokenRuns.{declares, slot-unbroken}

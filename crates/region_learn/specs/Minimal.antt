@@ -1,5 +1,5 @@
 -- What breaks where a written register or byte is left out of a declaration, or an output is to be kept.
-use Rattle.std.specs.Prelude.{◌≡◌, ◌<◌, ◌^◌, ◌==◌, ◌||◌, ℕ, not, Bool, true, false, None, ◌∷◌, List, map, Some, if◌then◌else◌}
+use Rattle.std.specs.Prelude.{◌≡◌, ◌<◌, ◌^◌, ◌==◌, ◌||◌, ℕ, not, true, false, None, ◌∷◌, List, map, Some, if◌then◌else◌}
 use Rattle.std.specs.List.{AllByRecursion, filter}
 use Rattle.rv32im_machine.specs.State.{State}
 use Rattle.enclosure_regions.specs.declared.break_kinds.Break.{Break}
@@ -61,8 +61,8 @@ IsLostByte region less broken =
     (address : ℕ) × (have_byte region.ranges address ≡ true) × (have_byte less address ≡ false)
     × IsUndeclared region.id (Byte address) broken
 
--- with any other ranges, at most 64 of them or more, that do not have each byte of the region, the run breaks by the
--- write of such a byte
+-- with any other ranges, however many, that do not have each byte of the region, the run breaks by the write of such a
+-- byte
 abbrev pub NoByteCanGo : List Region → ℕ → State → Type 0
 NoByteCanGo regions turns start =
     AllByRecursion (λ region. (less : List Range) (address : ℕ) → ArePlain start.setting.base less →

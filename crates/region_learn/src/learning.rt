@@ -168,9 +168,18 @@ fn learn_from(
 }
 
 /// The least declaration of the regions of one run of a program on a public input and a secret of fewer than 2^32
-/// bytes, within a limit of turns: each region declares the registers and the bytes that its instructions write, and
-/// gives back the registers that had their value of the entry at every leave. Of the given regions only the numbers and
-/// the addresses are used.
+/// bytes, within a limit of turns. Each region declares what its instructions write over the whole run, a write of the
+/// value that is there among it: in `keep` the registers that had their value of the entry at every leave, in `outs` the
+/// others, and the bytes as ranges without a base, of greatest length, ascending. Of the given regions only the numbers
+/// and the addresses are used.
+///
+/// The run with the answer exits within the limit and breaks no region. With any one register left out, or any byte, it
+/// breaks by the write of it, and with any one of `outs` moved to `keep` it breaks at a leave. Of another secret nothing
+/// is said.
+///
+/// The error is the first stop of the run, a call inside a region before any other stop of its turn; that no turn within
+/// the limit exits; or that the answer would have too many ranges, bytes or text. Want of memory answers
+/// [`LearnFault::Memory`].
 pub fn learn(
     alloc: Global,
     image: &Image,

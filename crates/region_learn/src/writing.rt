@@ -144,7 +144,8 @@ fn regions_value(alloc: Global, regions: &[Region]) -> Result<Value, NoMemory>
     Ok(value)
 }
 
-/// Regions as the text of a region file.
+/// Regions as the text of a region file: the compact text of one object of JSON (RFC 8259), whose keys ascend, and a line
+/// feed. Its error is want of memory.
 pub fn write_regions(alloc: Global, regions: &Regions) -> Result<Bytes, NoMemory>
     ensures { IfOk result (λ text. text ≡ regions_text regions.now.items) }
 {
