@@ -24,3 +24,4 @@ pub mod LeftOut
 pub mod LostBytes
 pub mod BrokenRuns
 pub mod KeptOutputs
+pub mod OneDeclaration

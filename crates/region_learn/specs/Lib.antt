@@ -12,3 +12,4 @@ pub mod Declarations
 pub mod Learning
 pub mod Unbroken
 pub mod Minimal
+pub mod Laws

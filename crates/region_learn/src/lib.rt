@@ -7,6 +7,7 @@ mod byte_marks;
 mod checks;
 mod declarations;
 mod faults;
+mod laws;
 mod learning;
 mod notes;
 mod pages;
@@ -16,5 +17,6 @@ mod turns;
 mod writing;
 
 pub use faults::LearnFault;
+pub use laws::declarations_are_one;
 pub use learning::learn;
 pub use writing::write_regions;
