@@ -1,9 +1,9 @@
 -- A run has one least declaration.
-use Rattle.std.proofs.Common.{◌≡◌, ◌∙◌, ◌+◌, ◌≤◌, ◌<◌, ◌==◌, ◌&&◌, ◌||◌, ℕ, Bool, true, false, List, [], ◌∷◌, Option, None, drop, length, map}
-use Rattle.std.proofs.Common.{refl, sym, ap, ap₂, subst, arith, inl, inr}
+use Rattle.std.proofs.Common.{◌≡◌, ◌∙◌, ◌+◌, ◌≤◌, ◌<◌, ℕ, Bool, true, false, List, [], ◌∷◌, Option, drop, length, map}
+use Rattle.std.proofs.Common.{refl, sym, ap, ap₂, arith, inl, inr}
 use Rattle.std.specs.Prelude.{nat_le, nat_lt}
 use Rattle.std.specs.List.{AllByRecursion, filter}
-use Rattle.std.proofs.lemmas.Bool.{and_from, and_parts, cases_Bool, cases_lt, or_cases, or_left, or_right}
+use Rattle.std.proofs.lemmas.Bool.{and_from, and_parts, cases_lt, or_cases, or_left, or_right}
 use Rattle.std.proofs.lemmas.Grind.{common_steps}
 use Rattle.enclosure_regions.specs.declared.region_parts.Range.{Range}
 use Rattle.enclosure_regions.specs.declared.region_parts.Region.{Region}
