@@ -1,0 +1,207 @@
+-- A declaration that lacks a register is broken by the write of it.
+use Rattle.std.proofs.Common.{◌≡◌, ◌∙◌, ◌==◌, ◌||◌, ◌⊎◌, not, ℕ, Bool, true, false, List, [], ◌∷◌, None, map}
+use Rattle.std.proofs.Common.{refl, sym, ap, subst, arith, inl, inr}
+use Rattle.std.specs.List.{AllByRecursion, filter, find}
+use Rattle.std.proofs.lemmas.Bool.{and_parts, cases_Bool, cond-false, cond-true, eqb-true, eqb-false, eq-eqb, or_cases, or_from, or_left, or_right}
+use Rattle.std.proofs.lemmas.Grind.{common_steps}
+use Rattle.rv32im_machine.specs.State.{State}
+use Rattle.enclosure_regions.specs.declared.break_kinds.Place.{Place}
+use Rattle.enclosure_regions.specs.declared.break_kinds.Place.TheVariants.{Reg, Byte}
+use Rattle.enclosure_regions.specs.declared.region_parts.Region.{Region}
+use Rattle.enclosure_regions.specs.Orders.{all_registers}
+use Rattle.enclosure_regions.specs.Regions.{stands_in}
+use Rattle.region_learn.specs.LearnAnswers.{Grants, first_call, no_exit}
+use Rattle.region_learn.specs.Learnt.{is_kept, is_out}
+use Rattle.region_learn.specs.Minimal.{IsUndeclared, NoRegisterCanGo, RunsBroken, changed_at, without, without_register}
+use Rattle.region_learn.specs.Unbroken.{IsTight}
+use Rattle.region_learn.specs.Written.{Changed, Run, Written, bare, state_after}
+use Rattle.region_learn.proofs.RegionRules.{stands-picked}
+use Rattle.region_learn.proofs.UnbrokenRuns.{IsKnown, both-known, declares, fault-none}
+use Rattle.region_learn.proofs.UnbrokenRuns.{pick-stands}
+use Rattle.enclosure_regions.specs.Breaks.{declares_register}
+use Rattle.region_learn.proofs.WeakerRuns.{DeclaresBut, LosesTo}
+use Rattle.region_learn.proofs.WeakerRegions.{HasStronger, IsWeaker, weaker_breaks}
+
+-- ---- a register left out
+
+no-more : (test pick : ℕ → Bool) (xs : List ℕ) → find test xs ≡ None → find test (filter pick xs) ≡ None
+no-more test pick [] h = refl
+no-more test pick (x ∷ xs) h = grind (arith, common_steps, no-more test pick xs)
+
+pub stands-among : (pick : ℕ → Bool) (r : ℕ) (xs : List ℕ) → stands_in (filter pick xs) r ≡ true → stands_in xs r ≡ true
+stands-among pick r [] h = h
+stands-among pick r (x ∷ xs) h = grind (arith, common_steps, stands-among pick r xs)
+
+pub true-false : ◌≡◌ {A = Bool} true false → ⊥
+true-false e = cc
+
+not-same : (register : ℕ) → not (register == register) ≡ false
+not-same register = ap not (eq-eqb register register refl)
+
+gone : (register : ℕ) (xs : List ℕ) → stands_in (without register xs) register ≡ false
+gone register xs = elim (cases_Bool (stands_in (without register xs) register)) [
+  | inl stands ↦
+      let kept : not (register == register) ≡ true =
+      stands-picked (λ other. not (other == register)) register xs stands in
+      absurd (true-false (sym kept ∙ not-same register))
+  | inr none ↦ none
+]
+
+pub stays : (register other : ℕ) (xs : List ℕ) → (other == register) ≡ false → stands_in xs other ≡ true →
+    stands_in (without register xs) other ≡ true
+stays register other xs differs h = pick-stands (λ q. not (q == register)) other xs (ap not differs) h
+
+register-others : (register other : ℕ) (region : Region) → declares_register region other ≡ true →
+    (declares_register (without_register register region) other ≡ true) ⊎ (other ≡ register)
+register-others register other region h = elim (cases_Bool (other == register)) [
+  | inl same ↦ inr (eqb-true other register same)
+  | inr differs ↦ inl
+      (elim (or_cases (other == 0) (stands_in region.outs other || stands_in region.keep other) h) [
+        | inl none ↦
+            or_left (other == 0)
+            (stands_in (without register region.outs) other || stands_in (without register region.keep) other) none
+        | inr some ↦
+            or_right (other == 0)
+            (stands_in (without register region.outs) other || stands_in (without register region.keep) other)
+            (elim (or_cases (stands_in region.outs other) (stands_in region.keep other) some) [
+              | inl out ↦
+                  or_left (stands_in (without register region.outs) other)
+                  (stands_in (without register region.keep) other) (stays register other region.outs differs out)
+              | inr kept ↦
+                  or_right (stands_in (without register region.outs) other)
+                  (stands_in (without register region.keep) other) (stays register other region.keep differs kept)
+            ])
+      ])
+]
+
+others-left : (number register : ℕ) (region : Region) (kept : List ℕ) (other : Place) → region.id ≡ number →
+    declares region kept other ≡ true → DeclaresBut number (λ q. q ≡ Reg register) (without_register register region) kept other
+others-left number register region kept (Reg other) same h =
+    elim (register-others register other region h) [
+      | inl declared ↦ inl declared
+      | inr is ↦ inr (same, ap Reg is)
+    ]
+others-left number register region kept (Byte address) same h = inl h
+
+register-gone : (register : ℕ) (region : Region) → (register == 0) ≡ false →
+    declares_register (without_register register region) register ≡ false
+register-gone register region some =
+    or_from (register == 0) _ some
+    (or_from (stands_in (without register region.outs) register) (stands_in (without register region.keep) register)
+    (gone register region.outs) (gone register region.keep))
+
+weaker-register : (run : Run) (number register : ℕ) (region : Region) → IsKnown run region → region.id ≡ number →
+    (register == 0) ≡ false → IsWeaker run number (λ q. q ≡ Reg register) (Reg register) region (without_register register region)
+weaker-register run number register region known same some = record {
+  edges = refl;
+  known = known;
+  keep = λ test none. no-more test (λ other. not (other == register)) region.keep none;
+  inside = known.tight.inside;
+  others = λ kept other h. others-left number register region kept other same h;
+  lacks = λ is kept. register-gone register region some;
+}
+
+pub as-it-is : (run : Run) (number : ℕ) (lost : Place → Type 0) (place : Place) (region : Region) → IsKnown run region → (region.id ≡ number → ⊥) →
+    IsWeaker run number lost place region region
+as-it-is run number lost place region known other = record {
+  edges = refl;
+  known = known;
+  keep = λ test none. none;
+  inside = known.tight.inside;
+  others = λ kept q h. inl h;
+  lacks = λ is kept. absurd (other is);
+}
+
+changed-has : (run : Run) (number register : ℕ) (regions : List Region) → AllByRecursion (IsKnown run) regions →
+    (register == 0) ≡ false →
+    AllByRecursion (HasStronger run number (λ q. q ≡ Reg register) (Reg register)) (changed_at number (without_register register) regions)
+changed-has run number register [] known some = tt
+changed-has run number register (region ∷ regions) known some = (
+  elim (cases_Bool (region.id == number)) [
+    | inl same ↦
+        subst (HasStronger run number (λ q. q ≡ Reg register) (Reg register))
+        (sym (cond-true (region.id == number) (without_register register region) region same))
+        (region, weaker-register run number register region known.0 (eqb-true region.id number same) some)
+    | inr differs ↦
+        subst (HasStronger run number (λ q. q ≡ Reg register) (Reg register))
+        (sym (cond-false (region.id == number) (without_register register region) region differs))
+        (region, as-it-is run number (λ q. q ≡ Reg register) (Reg register) region known.0 (eqb-false region.id number differs))
+  ],
+  changed-has run number register regions known.1 some,
+)
+
+changed-bare : (number register : ℕ) (regions : List Region) →
+    map bare (changed_at number (without_register register) regions) ≡ map bare regions
+changed-bare number register [] = refl
+changed-bare number register (region ∷ regions) =
+    ap (λ (r : Region). r ∷ map bare (changed_at number (without_register register) regions))
+    (elim (cases_Bool (region.id == number)) [
+      | inl same ↦ ap bare (cond-true (region.id == number) (without_register register region) region same)
+      | inr differs ↦ ap bare (cond-false (region.id == number) (without_register register region) region differs)
+    ])
+    ∙ ap (λ (l : List Region). bare region ∷ l) (changed-bare number register regions)
+
+no-zero : stands_in all_registers 0 ≡ false
+unfolding all_registers
+no-zero = refl
+
+some-register : (register : ℕ) → stands_in all_registers register ≡ true → (register == 0) ≡ false
+some-register register h = elim (cases_Bool (register == 0)) [
+  | inl none ↦
+      absurd (true-false (sym h ∙ (ap (stands_in all_registers) (eqb-true register 0 none) ∙ no-zero)))
+  | inr some ↦ some
+]
+
+-- a declared register is not x0, and is written
+declared-written : (run : Run) (region : Region) (register : ℕ) → IsKnown run region →
+    (stands_in region.outs register || stands_in region.keep register) ≡ true →
+    ((register == 0) ≡ false) × (Written run region.id (Reg register) ≡ true)
+declared-written run region register known h =
+    elim (or_cases (stands_in region.outs register) (stands_in region.keep register) h) [
+      | inl out ↦
+          let stands : stands_in (filter (is_out run region.id) all_registers) register ≡ true =
+          sym (ap (λ (l : List ℕ). stands_in l register) known.learnt.outs) ∙ out in (
+            some-register register (stands-among (is_out run region.id) register all_registers stands),
+            (and_parts (Written run region.id (Reg register)) (Changed run region.id register)
+                (stands-picked (is_out run region.id) register all_registers stands)).0,
+          )
+      | inr kept ↦
+          let stands : stands_in (filter (is_kept run region.id) all_registers) register ≡ true =
+          sym (ap (λ (l : List ℕ). stands_in l register) known.learnt.keep) ∙ kept in (
+            some-register register (stands-among (is_kept run region.id) register all_registers stands),
+            (and_parts (Written run region.id (Reg register)) (not (Changed run region.id register))
+                (stands-picked (is_kept run region.id) register all_registers stands)).0,
+          )
+    ]
+
+one-lost : (number : ℕ) (place : Place) (regions : List Region) (turns : ℕ) (start : State) →
+    RunsBroken (LosesTo number (λ q. q ≡ place)) regions turns start →
+    RunsBroken (IsUndeclared number place) regions turns start
+one-lost number place regions turns start h = λ skip.
+    let broken = h skip in
+    (broken.0, broken.1, subst (λ (q : Place). IsUndeclared number q broken.0) broken.2.1 broken.2.2)
+
+each-register : (run : Run) (regions some : List Region) → first_call run.regions run.turns run.start ≡ None →
+    map bare regions ≡ run.regions → AllByRecursion (IsKnown run) regions → AllByRecursion (IsKnown run) some →
+    AllByRecursion (λ region. (register : ℕ) →
+    (stands_in region.outs register || stands_in region.keep register) ≡ true →
+    RunsBroken (IsUndeclared region.id (Reg register)) (changed_at region.id (without_register register) regions)
+    run.turns run.start) some
+each-register run regions [] none same known h = tt
+each-register run regions (region ∷ some) none same known h = (
+  λ register declared.
+      let facts = declared-written run region register h.0 declared in
+      one-lost region.id (Reg register) (changed_at region.id (without_register register) regions) run.turns run.start
+      (weaker_breaks run region.id (λ q. q ≡ Reg register) (Reg register)
+      (changed_at region.id (without_register register) regions) none
+      (changed-bare region.id register regions ∙ same) (changed-has run region.id register regions known facts.0) facts.1),
+  each-register run regions some none same known h.1,
+)
+
+pub no_register_can_go : (run : Run) (regions : List Region) → Grants run regions →
+    AllByRecursion (IsTight run) regions → NoRegisterCanGo regions run.turns run.start
+no_register_can_go run regions grants tight =
+    let parts = fault-none (first_call run.regions run.turns run.start)
+    (no_exit run.turns (state_after run.regions run.turns run.start).control.mode) grants.exits in
+    let known = both-known run regions grants.learnt.each tight in
+    each-register run regions regions parts.0 grants.learnt.same known known
