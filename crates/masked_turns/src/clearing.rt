@@ -10,7 +10,7 @@ use crate::uses::LeftBits;
 use flow_base::{NoMemory, Point, Slot};
 use rv32im_machine::{Aim, Passing};
 use shadow_masks::Shadow;
-use tracked_run::{Held, answer_of, labelled, put_aimed, masks_of_sources, work_mask};
+use tracked_run::{Held, answer_of, labelled, masks_of_sources, put_aimed, work_mask};
 use transfer_rules::RuleBook;
 
 /// The point of each label: none.
@@ -64,7 +64,10 @@ pub fn note_cleared(
     let Some(made) = work_mask(passing.work, masks, answer) else {
         return Err(NoMemory);
     };
-    let mask = uncrossed(aimed_mask(passing.aim, passing.point.slot, skipped, made), crossing);
+    let mask = uncrossed(
+        aimed_mask(passing.aim, passing.point.slot, skipped, made),
+        crossing,
+    );
     put_aimed(shadow, held, passing.aim, labelled(mask, NOWHERE))?;
     Ok(mask)
 }
