@@ -4,3 +4,4 @@ pub mod Tainted
 pub mod TaintTexts
 pub mod Tapes
 pub mod Turns
+pub mod Laws

@@ -5,11 +5,13 @@
 mod beginning;
 mod checking;
 mod clearing;
+mod laws;
 mod reasons;
 mod turns;
 mod verdicts;
 mod whys;
 
 pub use checking::taint;
+pub use laws::clean_secrets_are_accepted;
 pub use verdicts::TaintVerdict;
 pub use whys::TaintWhy;
