@@ -6,7 +6,6 @@ mod accepting;
 mod cut_points;
 mod cutting;
 mod following;
-mod inputs;
 mod kept_visits;
 mod laws;
 mod measured;

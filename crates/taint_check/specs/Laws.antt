@@ -5,9 +5,9 @@ use Rattle.elf32_loader.specs.Pictures.{Picture}
 use Rattle.enclosure_regions.specs.declared.region_parts.Region.{Region}
 use Rattle.flow_base.specs.declared.outputs.Output.{Output}
 use Rattle.covered_runs.specs.MeasuredLaws.{AreInputs}
-use Rattle.lockstep_replay.specs.Tasks.{Limits, task_of}
+use Rattle.lockstep_replay.specs.Tasks.{Limits, Task, task_of}
 use Rattle.lockstep_replay.specs.Verdicts.{Accepts, First}
-use Rattle.taint_check.specs.Tainted.{IsClean, IsVerdict}
+use Rattle.taint_check.specs.Tainted.{Finding, IsClean, IsUnclear, IsVerdict}
 
 -- Of a program with its public input, its regions and a cut: where the check with one machine is clean, by whatever
 -- rules, with these bits and this output, the verdict on the secret is that it is accepted with them.
@@ -18,3 +18,8 @@ CleanLaw =
     is_valid_cut cut ≡ true →
     IsVerdict table (task_of program public_input regions cut) limits secret (IsClean bits output) →
     First (task_of program public_input regions cut) limits secret ≡ Accepts bits output
+
+-- a secret of which this is found is accepted with the same bits and the same output, where it is clean
+abbrev pub IsAcceptedIfClean : Task → Limits → List ℕ → Finding → Type 0
+IsAcceptedIfClean task limits secret (IsClean bits output) = First task limits secret ≡ Accepts bits output
+IsAcceptedIfClean task limits secret (IsUnclear why) = Unit {0}

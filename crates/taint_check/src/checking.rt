@@ -2,6 +2,7 @@ ghost use Rattle.std.specs.Prelude.{◌≡◌, ℕ, ◌<◌, ◌^◌, [], length
 ghost use Rattle.elf32_loader.specs.Images.{picture_of};
 ghost use Rattle.cut_file.specs.Pictures.{picture_of as cut_picture};
 ghost use Rattle.lockstep_replay.specs.Tasks.{Task, Limits, task_of};
+ghost use Rattle.taint_check.specs.Laws.{IsAcceptedIfClean};
 ghost use Rattle.taint_check.specs.Tainted.{IsClean, IsVerdict, exit_of, finding_of};
 ghost use Rattle.taint_check.specs.Tapes.{tape_of};
 ghost use Rattle.taint_check.specs.Turns.{Begins, IsReady};
@@ -11,6 +12,7 @@ use crate::clearing::Clearing;
 use crate::turns::make_turn;
 use crate::verdicts::TaintVerdict;
 use crate::whys::TaintWhy;
+use covered_runs::{tell_cut, tell_inputs};
 use cut_file::Cut;
 use elf32_loader::Image;
 use enclosure_regions::{Regions, copy_regions};
@@ -79,11 +81,8 @@ fn run_turns(
     Ok(TaintVerdict::Unclear(TaintWhy::TurnLimit { limit: turns }))
 }
 
-/// Checks one secret of fewer than 2^32 bytes against a cut with one machine, for one program with its regions and one
-/// public input, by the mask rules of a book, within a budget of fewer than 4,294,967,295 bits and a limit of turns. It
-/// is clean where nothing in its run is decided by a bit that may depend on the secret and has not crossed, and else
-/// unclear, for the first reason. `NoMemory` where there is not enough.
-pub fn taint(
+/// The verdict of a check of one secret. `NoMemory` where there is not enough.
+fn checked(
     alloc: Global,
     image: &Image,
     public: &Bytes,
@@ -111,4 +110,36 @@ pub fn taint(
     let side = beginning(alloc, image.base, cut, book, budget)?;
     let marked = MarkedRegions::new(alloc, copy_regions(alloc, regions)?)?;
     run_turns(machine, side, &marked, cut.skip.as_slice(), turns)
+}
+
+/// Checks one secret of fewer than 2^32 bytes against a cut with one machine, for one program with its regions and one
+/// public input, by the mask rules of a book, within a budget of fewer than 4,294,967,295 bits and a limit of turns. It
+/// is clean where nothing in its run is decided by a bit that may depend on the secret and has not crossed, and else
+/// unclear, for the first reason. A secret of which it is clean is accepted by the check with two machines, with the same
+/// bits and the same output, whatever the book. `NoMemory` where there is not enough.
+pub fn taint(
+    alloc: Global,
+    image: &Image,
+    public: &Bytes,
+    secret: &Bytes,
+    regions: &Regions,
+    cut: &Cut,
+    book: &RuleBook,
+    budget: u32,
+    turns: u32,
+) -> Result<TaintVerdict, NoMemory>
+    requires secret { length secret.now < 2 ^ 32 }
+    requires budget { budget < 4294967295 }
+    ensures verdict { IfOk result (λ verdict. IsVerdict book.now.table
+        (task_of (picture_of image.now) public.now regions.now.items (cut_picture cut.now))
+        (record { budget = budget; turns = turns }) secret.now (finding_of verdict)) }
+    ensures accepted { IfOk result (λ verdict. IsAcceptedIfClean
+        (task_of (picture_of image.now) public.now regions.now.items (cut_picture cut.now))
+        (record { budget = budget; turns = turns }) secret.now (finding_of verdict)) }
+{
+    tell_inputs(image, public, secret, regions);
+    tell_cut(cut);
+    checked(
+        alloc, image, public, secret, regions, cut, book, budget, turns,
+    )
 }
