@@ -1,15 +1,17 @@
 -- What the law of one passing needs of values that agree outside a mask.
-use Rattle.std.proofs.Common.{◌≡◌, ℕ, zero, suc, ◌+◌, ◌*◌, ◌/◌, ◌%◌, ◌^◌, ◌-◌, ◌<◌, ◌≤◌, ◌⊎◌, inl, inr, ⊎_elim}
+use Rattle.std.proofs.Common.{◌≡◌, ℕ, zero, suc, ◌+◌, ◌*◌, ◌/◌, ◌%◌, ◌^◌, ◌-◌, ◌<◌, ◌≤◌, ◌⊎◌, inl, inr, ⊎_elim, min}
 use Rattle.std.proofs.Common.{Bool, List, refl, sym, ap, ap₂, subst, ◌∙◌, arith, shr-shr}
 use Rattle.std.proofs.Common.{div-add-mod', mod-lt, pow_pos}
-use Rattle.std.specs.Prelude.{◌==◌}
+use Rattle.std.specs.Prelude.{◌==◌, bit_and}
 use Rattle.std.specs.Int.{bit_at}
 use Rattle.std.proofs.lemmas.Bool.{cases_lt}
-use Rattle.std.proofs.lemmas.Nat.Bits.{bit_at_lowest, bit_at-suc, bit_at-zero, bit_at-lt, same_from_bits}
+use Rattle.std.proofs.lemmas.Nat.Bits.{bit_at_lowest, bit_at-suc, bit_at-zero, bit_at-lt, bit_at_and, same_from_bits}
 use Rattle.std.proofs.lemmas.Nat.Bits.{bit_at_above, bit_at_cat_low, bit_at_cat_high, bit_at_ones, bit_at_ones_above}
 use Rattle.flow_base.specs.Words.{Agree, bits_below, bits_under, patched_below, patched, first_bit, later_bits}
 use Rattle.flow_base.specs.Words.{number_of_bit}
 use Rattle.crossing_bits.proofs.Places.{parity, put_back, patched_bound}
+use Rattle.transfer_rules.specs.Table1.{flipped}
+use Rattle.transfer_rules.proofs.BitRules.{bit_flipped}
 use Rattle.covered_runs.specs.Covers.{IsWithin}
 
 pub agree_refl : (mask a : ℕ) → Agree mask a a
@@ -75,6 +77,20 @@ bit_patched (suc p) y m r (suc i) h =
     (λ same. inr (later ∙ same ∙ sym (bit_at-suc y i)))
     (bit_patched p (y / 2) (m / 2) (r / 2) i below)
 
+-- at a place of the mask it is that of the one
+patched_takes :
+    (p y m r i : ℕ) → i < p → bit_at m i ≡ 1 → bit_at (patched_below p y m (bits_below p r m)) i ≡ bit_at r i
+patched_takes zero y m r i h e = absurd (omega arith)
+patched_takes (suc p) y m r zero h e = bit_lowest _ r _ (patched_odd p y m r (sym (bit_at_lowest m) ∙ e))
+patched_takes (suc p) y m r (suc i) h e =
+    let below : i < p = omega arith in
+    let later : bit_at (patched_below (suc p) y m (bits_below (suc p) r m)) (suc i)
+    ≡ bit_at (patched_below p (y / 2) (m / 2) (bits_below p (r / 2) (m / 2))) i = elim (parity m) [
+      | inl none ↦ bit_later _ y _ i (patched_even p y m r none)
+      | inr one ↦ bit_later _ r _ i (patched_odd p y m r one)
+    ] in
+    later ∙ patched_takes p (y / 2) (m / 2) (r / 2) i below (sym (bit_at-suc m i) ∙ e) ∙ sym (bit_at-suc r i)
+
 -- a patch keeps that two values agree outside a mask
 pub patched_agrees : (m c r y : ℕ) → r < 2 ^ 32 → Agree m r y → Agree m r (patched y c (bits_under r c))
 patched_agrees m c r y fits agree i clear = ⊎_elim
@@ -107,6 +123,24 @@ pub patched_covers :
     (m c r y : ℕ) → r < 2 ^ 32 → IsWithin m c → Agree m r y → r ≡ patched y c (bits_under r c)
 patched_covers m c r y fits inside agree =
     sym (put_back r c fits) ∙ patched_alike 32 c r y (bits_under r c) (agree_more m c r y inside agree)
+
+-- a patch under a mask leaves of the bits in which two values may differ those that the mask does not have
+pub patched_uncrossed : (m c r y : ℕ) → r < 2 ^ 32 → c < 2 ^ 32 → Agree m r y →
+    Agree (bit_and m (flipped c)) r (patched y c (bits_under r c))
+patched_uncrossed m c r y fits small agree i clear = ⊎_elim
+    (λ below. taken below (bit_at c i) refl (bit_at-lt c i))
+    (λ above. bit_at_above r 32 i fits above
+    ∙ sym (bit_at_above (patched y c (bits_under r c)) 32 i (patched_bound y c (bits_under r c)) above))
+    (cases_lt i 32)
+  where
+    taken : i < 32 → (b : ℕ) → bit_at c i ≡ b → b < 2 → bit_at r i ≡ bit_at (patched y c (bits_under r c)) i
+    taken below zero e small_bit =
+        let turned : bit_at (flipped c) i ≡ 1 - bit_at c i = bit_flipped c i small below in
+        let low = bit_at-lt m i in
+        let none : min (bit_at m i) (bit_at (flipped c) i) ≡ 0 = sym (bit_at_and m (flipped c) i) ∙ clear in
+        patched_agrees m c r y fits agree i (omega (arith, turned, e, low, none))
+    taken below (suc zero) e small_bit = sym (patched_takes 32 y c r i below e)
+    taken below (suc (suc b)) e small_bit = absurd (omega (arith, small_bit))
 
 pub patched_same : (c r : ℕ) → r < 2 ^ 32 → r ≡ patched r c (bits_under r c)
 patched_same c r fits = sym (put_back r c fits)

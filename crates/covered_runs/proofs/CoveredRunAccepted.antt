@@ -47,12 +47,12 @@ unfolding zeros
 length_zeros count = length-replicate count 0
 
 -- what runs on, or has exited, ends alike with itself
-end_alike : (mode : Stepped) → stopped_fault mode ≡ None → EndAlike mode mode
+pub end_alike : (mode : Stepped) → stopped_fault mode ≡ None → EndAlike mode mode
 end_alike Ran e = tt
 end_alike (Exited status) e = tt
 end_alike (Stopped fault) e = absurd (cc)
 
-same_fed : {A : Type 0} (x y : A) (bits : List Bool) → Fed' x bits ≡ Fed' y bits → x ≡ y
+pub same_fed : {A : Type 0} (x y : A) (bits : List Bool) → Fed' x bits ≡ Fed' y bits → x ≡ y
 same_fed x y bits e = cc
 
 module _ (side : NamedSide) (skip : List ℕ) (regions : List Region) (masks : Masks) (setting : Setting)

@@ -34,7 +34,7 @@ SameStarts ranges registers others =
 
 module _ (setting : Setting) (secret : List ℕ) (store : Store) (held : Held) where
   -- what does not see looks, sees no looks at base registers
-  looks_same : {A : Type 0} (F : Walk → A) → ((seen : Seen) (value : ℕ) (walk : Walk) → F
+  pub looks_same : {A : Type 0} (F : Walk → A) → ((seen : Seen) (value : ℕ) (walk : Walk) → F
       (Looked seen value walk) ≡ F walk) →
       (ranges : List Range) (turn : Turn) →
       F (walked setting secret (looks ranges turn) store held) ≡ F (walked setting secret turn store held)

@@ -36,7 +36,7 @@ use Rattle.covered_runs.proofs.StandsOrSkips.{enclosures, the_run, the_real, con
 use Rattle.covered_runs.proofs.StandsOrSkips.{Inside, Facts, Next, Known, Later, to_outside, to_inside}
 use Rattle.covered_runs.proofs.RunFacts.{Premises, earlier, run_facts, next_turn, turn_known}
 
-ran_of : (mode : Stepped) → has_exited mode ≡ false → stopped_fault mode ≡ None → mode ≡ Ran
+pub ran_of : (mode : Stepped) → has_exited mode ≡ false → stopped_fault mode ≡ None → mode ≡ Ran
 ran_of Ran e f = refl
 ran_of (Exited status) e f = absurd (cc)
 ran_of (Stopped fault) e f = absurd (cc)

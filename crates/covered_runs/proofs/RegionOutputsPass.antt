@@ -55,11 +55,11 @@ and_false : (b : Bool) → (b && false) ≡ false
 and_false true = refl
 and_false false = refl
 
-output_width : (o : Output) → width_of (output_slot o) ≡ place_limit (output_place o)
+pub output_width : (o : Output) → width_of (output_slot o) ≡ place_limit (output_place o)
 output_width (OfRegister register) = refl
 output_width (OfByte range address) = refl
 
-is_place : (base : ℕ) (o : Output) → IsOutput base o → IsPlace base (output_place o)
+pub is_place : (base : ℕ) (o : Output) → IsOutput base o → IsPlace base (output_place o)
 is_place base (OfRegister register) is = tt
 is_place base (OfByte range address) is = is
 
@@ -136,7 +136,7 @@ waiting_of side region base os labels real held copy taken beside = record {
 }
 
 -- where all outputs have passed
-beside_of : (side : NamedSide) (region base : ℕ) (labels : TurnLabels) (real : Store) (held : Held) (copy : Store)
+pub beside_of : (side : NamedSide) (region base : ℕ) (labels : TurnLabels) (real : Store) (held : Held) (copy : Store)
     (taken : Held) → Waiting side region base [] labels real held copy taken →
     Beside side base labels real held copy taken
 unfolding IsAmong

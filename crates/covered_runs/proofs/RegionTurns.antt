@@ -64,15 +64,15 @@ leave_end setting secret region registers control store =
     (sym (gives_given region registers (Ends (entered 0 control))))
     (given_end setting secret region (outputs_of region registers) (entered 0 control) store none_held)
 
-left_region : (control : Control) → (entered 0 control).region ≡ 0
+pub left_region : (control : Control) → (entered 0 control).region ≡ 0
 unfolding entered
 left_region control = refl
 
-left_break : (control : Control) → (entered 0 control).current_break ≡ control.current_break
+pub left_break : (control : Control) → (entered 0 control).current_break ≡ control.current_break
 unfolding entered
 left_break control = refl
 
-entered_region : (region : ℕ) (control : Control) → (entered region control).region ≡ region
+pub entered_region : (region : ℕ) (control : Control) → (entered region control).region ≡ region
 unfolding entered
 entered_region region control = refl
 
@@ -80,14 +80,14 @@ entered_break : (region : ℕ) (control : Control) → (entered region control).
 unfolding entered
 entered_break region control = refl
 
-saved_kept : (store : Store) → (saved store).kept ≡ store.registers
+pub saved_kept : (store : Store) → (saved store).kept ≡ store.registers
 unfolding saved
 saved_kept store = refl
 
-some_same : {A : Type 0} (x y : A) → Some x ≡ Some y → x ≡ y
+pub some_same : {A : Type 0} (x y : A) → Some x ≡ Some y → x ≡ y
 some_same x y e = cc
 
-saved_beside : (side : NamedSide) (base : ℕ) (labels : LabelMap) (real copy : Store) →
+pub saved_beside : (side : NamedSide) (base : ℕ) (labels : LabelMap) (real copy : Store) →
     Beside side base (at_start labels) real none_held copy none_held →
     Beside side base (at_start (after Save labels)) (saved real) none_held (saved copy) none_held
 unfolding saved
@@ -127,7 +127,7 @@ saved_beside side base labels real copy beside = record {
     label_limits First = beside.label_limits First
     label_limits Second = beside.label_limits Second
 
-saved_inside : (side : NamedSide) (base : ℕ) (region : Region) (labels : LabelMap) (real copy : Store) →
+pub saved_inside : (side : NamedSide) (base : ℕ) (region : Region) (labels : LabelMap) (real copy : Store) →
     Beside side base (at_start labels) real none_held copy none_held →
     SameStarts region.ranges real.registers copy.registers → are_inside region.ranges real.registers base ≡ true →
     InsideBeside side base region (after Save labels) (saved real) (saved copy)

@@ -60,13 +60,13 @@ walked_setting (Saves turn) setting secret store held = walked_setting turn sett
 walked_setting (Restores registers turn) setting secret store held = walked_setting turn setting secret store held
 walked_setting (Ends control) setting secret store held = record { setting_is = refl; secret_is = refl }
 
-kind_setting : (kind : Kind) (setting : Setting) (secret : List ℕ) (control : Control) (store : Store) →
+pub kind_setting : (kind : Kind) (setting : Setting) (secret : List ℕ) (control : Control) (store : Store) →
     SameSetting setting secret (real_end (kind_walk kind (state_of setting secret control store)))
 kind_setting (Enters region) setting secret control store = walked_setting _ setting secret store _
 kind_setting (Leaves region) setting secret control store = walked_setting _ setting secret store _
 kind_setting (Steps found) setting secret control store = walked_setting _ setting secret store _
 
-state_parts : (state : State) (setting : Setting) (secret : List ℕ) → SameSetting setting secret state →
+pub state_parts : (state : State) (setting : Setting) (secret : List ℕ) → SameSetting setting secret state →
     state ≡ state_of setting secret state.control state.store
 state_parts state setting secret same =
     ap₂ (λ a b. state_of a b state.control state.store) same.setting_is same.secret_is

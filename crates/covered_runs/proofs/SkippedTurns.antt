@@ -69,7 +69,7 @@ pub record Skips (side : NamedSide) (skip : List ℕ) (regions : List Region) (b
 
 -- ---- controls
 
-same_control : (control entered_by : Control) (leave id : ℕ) → SameInside (entered id entered_by) control →
+pub same_control : (control entered_by : Control) (leave id : ℕ) → SameInside (entered id entered_by) control →
     control.mode ≡ Ran → entered_by.mode ≡ Ran → entered_by.region ≡ 0 → control.pc ≡ leave →
     entered 0 control ≡ moved_to leave entered_by
 unfolding entered moved_to
@@ -79,7 +79,7 @@ same_control control entered_by leave id quiet ran entry_ran nowhere pc =
     let f : 0 ≡ entered_by.region = sym nowhere in
     cc
 
-same_inside_later : (first second third : Control) → SameInside first second → SameInside second third →
+pub same_inside_later : (first second third : Control) → SameInside first second → SameInside second third →
     SameInside first third
 same_inside_later first second third h k = record {
   public_at = k.public_at ∙ h.public_at;
@@ -89,19 +89,19 @@ same_inside_later first second third h k = record {
   region = k.region ∙ h.region;
 }
 
-same_inside_refl : (control : Control) → SameInside control control
+pub same_inside_refl : (control : Control) → SameInside control control
 same_inside_refl control =
     record { public_at = refl; secret_at = refl; current_break = refl; output = refl; region = refl }
 
-region_of_entered : (region : ℕ) (control : Control) → (entered region control).region ≡ region
+pub region_of_entered : (region : ℕ) (control : Control) → (entered region control).region ≡ region
 unfolding entered
 region_of_entered region control = refl
 
-entered_break : (region : ℕ) (control : Control) → (entered region control).current_break ≡ control.current_break
+pub entered_break : (region : ℕ) (control : Control) → (entered region control).current_break ≡ control.current_break
 unfolding entered
 entered_break region control = refl
 
-entered_mode : (region : ℕ) (control : Control) → (entered region control).mode ≡ control.mode
+pub entered_mode : (region : ℕ) (control : Control) → (entered region control).mode ≡ control.mode
 unfolding entered
 entered_mode region control = refl
 
@@ -120,7 +120,7 @@ left_at regions control region found ran numbered kind =
     pick true e is = (sym (eqb-true region.leave control.pc e), (let same : region ≡ found = cc in sym same))
     pick false e is = absurd (cc)
 
-entered_to : (base : ℕ) (region : Region) (labels : LabelMap) (real : Store) →
+pub entered_to : (base : ℕ) (region : Region) (labels : LabelMap) (real : Store) →
     ((q : Place) → at_place base real none_held q ≤ place_limit q) →
     ((q : Place) → (label_at (at_start labels) q).mask ≤ place_limit q) →
     SkippedTo base region labels real (after Save labels) (saved real)

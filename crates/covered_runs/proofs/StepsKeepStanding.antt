@@ -80,7 +80,7 @@ pub record HasRules (region : Region) : Type 0 where
 
 -- ---- moves of what is kept
 
-kept_moved : (side : NamedSide) (base : ℕ) (region : Region) (labels later : LabelMap) (real new copy changed : Store) →
+pub kept_moved : (side : NamedSide) (base : ℕ) (region : Region) (labels later : LabelMap) (real new copy changed : Store) →
     later.kept ≡ labels.kept → new.kept ≡ real.kept → changed.kept ≡ copy.kept →
     InsideBeside side base region labels real copy → InsideBeside side base region later new changed
 kept_moved side base region labels later real new copy changed el er ec h = record {
@@ -111,7 +111,7 @@ module _ (side : NamedSide) (skip : List ℕ) (regions : List Region) (masks : M
   After control labels answers walk copy past all =
       Stood side skip regions masks setting other control labels answers walk copy past all
 
-  is_guest : (control : Control) (labels : LabelMap) (real copy : Store) (past all : List Point) →
+  pub is_guest : (control : Control) (labels : LabelMap) (real copy : Store) (past all : List Point) →
       At control labels real copy past all → IsGuest (state_of setting secret control real)
   is_guest control labels real copy past all at = record {
     store = record {

@@ -48,7 +48,7 @@ use Rattle.covered_runs.proofs.Turns.{none_append, none_sources, none_aim, conta
 use Rattle.covered_runs.proofs.Turns.{closed_if, label_of_limit, first-none, look_equal, seen_word}
 
 -- what may move into a place and what it is made of
-copied_close : (side : NamedSide) (shape : Shape) (label : Label) (real copy : ℕ) → Close side label real copy →
+pub copied_close : (side : NamedSide) (shape : Shape) (label : Label) (real copy : ℕ) → Close side label real copy →
     Close side (label_of (shaped shape (label.mask ∷ [])) label.point) (shaped shape (real ∷ []))
     (shaped shape (copy ∷ []))
 unfolding AgreeAll BytesBelow

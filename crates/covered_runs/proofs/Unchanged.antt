@@ -98,7 +98,7 @@ abbrev pub SamePlace : ℕ → Place → TurnLabels → Store → Held → TurnL
 SamePlace base q labels store held later changed taken =
     (at_place base changed taken q ≡ at_place base store held q) × (label_at later q ≡ label_at labels q)
 
-put_other : (base : ℕ) (region : Region) (registers : List ℕ) (p q : Place) (label : Label) (value : ℕ)
+pub put_other : (base : ℕ) (region : Region) (registers : List ℕ) (p q : Place) (label : Label) (value : ℕ)
     (labels : TurnLabels) (store : Store) (held : Held) → IsPlace base p → IsPlace base q →
     MayWrite region registers p → declared region registers q ≡ false →
     SamePlace base q labels store held (put_label p label labels) (put base p value store) (hold p value held)
@@ -122,7 +122,7 @@ put_other base region registers p Second label value labels store held ip iq dp 
 
 -- ---- breaks
 
-first-unbroken : (first later : Option Break) → first_break first later ≡ None → (first ≡ None) × (later ≡ None)
+pub first-unbroken : (first later : Option Break) → first_break first later ≡ None → (first ≡ None) × (later ≡ None)
 first-unbroken None later e = (refl, e)
 first-unbroken (Some broken) later e = absurd (cc)
 
@@ -130,7 +130,7 @@ declared_if : (t : Bool) (broken : Break) → (if t then None else Some broken) 
 declared_if true broken e = refl
 declared_if false broken e = absurd (cc)
 
-may_write : (region : Region) (registers : List ℕ) (pc : ℕ) (p : Place) →
+pub may_write : (region : Region) (registers : List ℕ) (pc : ℕ) (p : Place) →
     place_break region registers pc p ≡ None → MayWrite region registers p
 may_write region registers pc (Register r) e =
     pick (r == 0) refl (declared_if (declares_register region r) (UndeclaredWrite region.id pc (Reg r)) e)
@@ -205,7 +205,7 @@ module _ (setting : Setting) (secret : List ℕ) (bytes : AreBytes secret) (numb
   same_start First region registers labels store held dq = absurd (not_alike refl dq)
   same_start Second region registers labels store held dq = absurd (not_alike refl dq)
 
-  start_limits : (store : Store) (held : Held) →
+  pub start_limits : (store : Store) (held : Held) →
       ((place : Place) → at_place setting.base store held place ≤ place_limit place) →
       (place : Place) → at_place setting.base store none_held place ≤ place_limit place
   start_limits store held limits (Register q) = limits (Register q)
@@ -224,7 +224,7 @@ module _ (setting : Setting) (secret : List ℕ) (bytes : AreBytes secret) (numb
       stands_in skip number ≡ true → is_inner skip point ≡ true
   inner_is skip point inside none stands = rw (inside, stands, none) refl
 
-  move_limit : (place : Place) (shape : Shape) (source : Source) (store : Store) (held : Held) →
+  pub move_limit : (place : Place) (shape : Shape) (source : Source) (store : Store) (held : Held) →
       ((place : Place) → at_place setting.base store held place ≤ place_limit place) →
       IsMove setting.base place shape source →
       shaped shape (value_of setting secret store held source ∷ []) ≤ place_limit place
@@ -239,7 +239,7 @@ module _ (setting : Setting) (secret : List ℕ) (bytes : AreBytes secret) (numb
   move_label_limit place shape (Constant value) labels limits is = omega arith
   move_label_limit place shape (Secret index) labels limits is = absurd is
 
-  move_place : (place : Place) (shape : Shape) (source : Source) → IsMove setting.base place shape source →
+  pub move_place : (place : Place) (shape : Shape) (source : Source) → IsMove setting.base place shape source →
       IsPlace setting.base place
   move_place place shape (At from) is = is.0
   move_place place shape (Constant value) is = is.0

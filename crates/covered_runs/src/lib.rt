@@ -4,6 +4,7 @@
 #![tactic(auto)]
 
 mod graph_laws;
+mod inputs;
 mod laws;
 mod secret_laws;
 mod visit_laws;
@@ -12,6 +13,7 @@ pub use graph_laws::{
     cuts_of_runs_cover, cuts_of_runs_cross, guests_stay_guests, sides_are_closed_for_events,
     sides_are_closed_for_links,
 };
+pub use inputs::{tell_cut, tell_inputs};
 pub use laws::{
     covered_runs_are_accepted, cuts_have_few_runs, folded_cuts_are_accepted,
     measured_runs_are_accepted, turns_are_proper,

@@ -16,4 +16,5 @@ mod verdicts;
 pub use laws::{accepted_runs_are_bounded, verdicts_are_acceptance};
 pub use lockstep::Lockstep;
 pub use memories::Memories;
+pub use tallies::Tallying;
 pub use verdicts::{ReplayStop, Verdict, Why};

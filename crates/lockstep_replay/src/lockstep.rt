@@ -14,12 +14,11 @@ use crate::rounds::{Round, make_round};
 use crate::tallies::Tallying;
 use crate::two_runs::{TwoRuns, memories_of};
 use crate::verdicts::{Verdict, Why};
-use crossing_bits::Bits;
 use cut_file::Cut;
 use elf32_loader::Image;
 use enclosure_regions::Regions;
 use flow_base::{Bytes, NoMemory, Output};
-use replay_machine::{Replay, VisitMasks};
+use replay_machine::Replay;
 use rv32im_machine::{Machine, Stepped};
 use std::alloc::Global;
 
@@ -95,15 +94,8 @@ impl Lockstep {
             (record { budget = budget; turns = turns }) secret.now) }
     {
         let real = Machine::new_in(memories.real, alloc, image, public, secret, OUTPUT_LIMIT)?;
-        let masks = VisitMasks::new(alloc, cut)?;
-        let bits = Bits::with_room(alloc, budget)?;
+        let tally = Tallying::new(alloc, cut, budget)?;
         let replay = Replay::new_in(memories.replay, alloc, image, public, regions, cut)?;
-        let tally = Tallying {
-            masks,
-            bits,
-            needed: 0,
-            budget,
-        };
         let got = secret.len() as u32;
         Ok(Lockstep {
             runs: TwoRuns {

@@ -8,19 +8,25 @@ ghost use Rattle.lockstep_replay.specs.Verdicts.{counted_bits};
 ghost use Rattle.lockstep_replay.specs.Tapes.{Tally, Tallies};
 
 use crossing_bits::{Bits, bit_count};
-use flow_base::Point;
+use cut_file::Cut;
+use flow_base::{NoMemory, Point};
 use region_machine::Observer;
 use replay_machine::VisitMasks;
 use rv32im_machine::{Passer, Passing, Place, Seen, Shape, Source};
+use std::alloc::Global;
 use std::convert::Infallible;
 
-/// The real side of a lockstep: each value goes on as it is, and its bits under the mask of its visit are counted, and
-/// are kept as long as the budget holds.
+/// What crosses in a real run: each value goes on as it is, and its bits under the mask of its visit are counted, and are
+/// kept as long as the budget holds.
 #[derive(Drop)]
-pub(crate) struct Tallying {
+pub struct Tallying {
+    /// The masks of the visits that are ahead.
     pub masks: VisitMasks,
+    /// The bits that have crossed, as long as the budget holds.
     pub bits: Bits,
+    /// How many bits have crossed, or 4,294,967,295 where there are more.
     pub needed: u32,
+    /// How many bits are kept.
     pub budget: u32,
     ghost room: { budget ≤ length bits.bits + bits.room },
     ghost kept: { length bits.bits ≤ needed },
@@ -65,12 +71,36 @@ fn push_fitting(bits: &mut Bits, value: u32, mask: u32)
 }
 
 impl Tallying {
+    ghost use Rattle.std.specs.Prelude.{[], IfOk};
+    ghost use Rattle.cut_file.specs.Masks.{MaskAt};
     ghost use Rattle.lockstep_replay.specs.Sides.{tally_of};
 
-    /// The bits of a value under the mask of the next visit of its point cross.
+    /// Nothing has crossed yet, at a cut, of which up to a budget of fewer than 4,294,967,295 bits is kept.
+    /// `NoMemory` where there is not enough; no later call takes memory.
+    pub fn new(alloc: Global, cut: &Cut, budget: u32) -> Result<Tallying, NoMemory>
+        requires { budget < 4294967295 }
+        ensures ahead { IfOk result (λ tally. IsAhead tally.masks (MaskAt cut.now.points) []) }
+        ensures empty { IfOk result (λ tally. tally.bits.bits ≡ []) }
+        ensures untaken { IfOk result (λ tally. tally.bits.taken ≡ 0) }
+        ensures uncounted { IfOk result (λ tally. tally.needed ≡ 0) }
+        ensures budget { IfOk result (λ tally. tally.budget ≡ budget) }
+    {
+        let masks = VisitMasks::new(alloc, cut)?;
+        let bits = Bits::with_room(alloc, budget)?;
+        Ok(Tallying {
+            masks,
+            bits,
+            needed: 0,
+            budget,
+        })
+    }
+
+    /// The bits of a value under the mask of the next visit of its point cross. The answer is that mask.
     #[inline(always)]
-    pub(crate) fn cross(&mut self, point: Point, value: u32)
+    pub fn cross(&mut self, point: Point, value: u32) -> u32
         requires { IsTrue (is_slot point.slot) }
+        ensures mask { (masks : Masks) (past : List APoint) → IsAhead self.old.masks masks past →
+            result ≡ mask_at masks past point }
         ensures budget { self.new.budget ≡ self.old.budget }
         ensures tally { (masks : Masks) (past : List APoint) → IsAhead self.old.masks masks past →
             Tallies (tally_of self.old) (bits_under value (mask_at masks past point)) (tally_of self.new) }
@@ -79,9 +109,10 @@ impl Tallying {
     {
         let mask = self.masks.next(point);
         if mask == 0 {
-            return;
+            return 0;
         }
         self.needed = keep(&mut self.bits, self.needed, self.budget, value, mask);
+        mask
     }
 }
 

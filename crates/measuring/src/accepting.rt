@@ -5,9 +5,9 @@ ghost use Rattle.run_labels.specs.Runs.{unlabelled};
 ghost use Rattle.measuring.specs.Accepting.{HasShortText, HasSmallCut, IsAcceptedByFolds, IsAcceptedByItsCut};
 ghost use Rattle.measuring.specs.Measures.{HasCause, Measures};
 
-use crate::inputs::tell_inputs;
 use crate::measured::Measured;
 use crate::weighing::measure_run;
+use covered_runs::tell_inputs;
 use elf32_loader::Image;
 use enclosure_regions::Regions;
 use flow_base::Bytes;

@@ -9,7 +9,6 @@ mod counting;
 mod cut_points;
 mod cutting;
 mod following;
-mod inputs;
 mod kept_visits;
 mod laws;
 mod measured;

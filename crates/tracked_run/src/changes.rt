@@ -98,7 +98,7 @@ fn moved_label(shadow: &Shadow, held: Held, shape: Shape, source: Source) -> Opt
 
 /// A value moves to a place, which gets the label of what moves there.
 /// `NoMemory` where there is not enough.
-pub(crate) fn note_move(
+pub fn note_move(
     shadow: &mut Shadow,
     held: &mut Held,
     place: Place,
@@ -118,7 +118,7 @@ pub(crate) fn note_move(
 }
 
 /// At the entry of a region the labels of all registers are kept.
-pub(crate) fn note_save(shadow: &mut Shadow)
+pub fn note_save(shadow: &mut Shadow)
     ensures base { shadow.new.base ≡ shadow.old.base }
     ensures labels { (held : TheHeld) → labels_of shadow.new held ≡ save_labels (labels_of shadow.old held) }
 {
@@ -126,7 +126,7 @@ pub(crate) fn note_save(shadow: &mut Shadow)
 }
 
 /// At its leave these registers get back the labels that were kept.
-pub(crate) fn note_restore(shadow: &mut Shadow, registers: &[u8])
+pub fn note_restore(shadow: &mut Shadow, registers: &[u8])
     requires { All (λ register. register < 32) registers.now }
     ensures base { shadow.new.base ≡ shadow.old.base }
     ensures labels { (held : TheHeld) →

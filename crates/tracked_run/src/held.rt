@@ -5,14 +5,14 @@ use shadow_masks::Label;
 
 /// The labels of the two operands that have gone on in a turn.
 #[derive(Clone, Copy, Debug)]
-pub(crate) struct Held {
+pub struct Held {
     pub first: Label,
     pub second: Label,
 }
 
 impl Held {
     /// A turn begins with no operand.
-    pub(crate) fn none() -> Held
+    pub fn none() -> Held
         ensures { result ≡ none_held }
     {
         Held {

@@ -16,5 +16,11 @@ mod tracked;
 mod tracking;
 mod turns;
 
+pub use changes::{note_move, note_restore, note_save};
+pub use held::Held;
 pub use outcomes::{Spent, TrackedTurn};
+pub use passing_masks::work_mask;
+pub use placing::{labelled, put_aimed};
+pub use rule_answers::answer_of;
+pub use source_masks::{SourceMasks, masks_of_sources};
 pub use tracked::Tracked;

@@ -12,7 +12,7 @@ use crate::linking::add_passing;
 use crate::passing_masks::{aimed_mask, work_mask};
 use crate::placing::{labelled, put_aimed};
 use crate::rule_answers::answer_of;
-use crate::source_masks::source_masks;
+use crate::source_masks::masks_of_sources;
 use flow_base::NoMemory;
 use flow_graph::{Event, Events};
 use rv32im_machine::Passing;
@@ -26,7 +26,7 @@ fn passing_mask(shadow: &Shadow, held: Held, book: &RuleBook, passing: Passing) 
     requires sources { AreSources (Some shadow.now.base) passing.sources }
     ensures { Answers book.now.table (labels_of shadow.now held) passing result }
 {
-    let masks = source_masks(shadow, held, passing.sources);
+    let masks = masks_of_sources(shadow, held, passing.sources);
     let answer = answer_of(book, passing.work, masks);
     let mask = work_mask(passing.work, masks, answer)?;
     Some(aimed_mask(passing.aim, passing.point.slot, mask))

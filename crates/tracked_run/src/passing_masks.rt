@@ -20,7 +20,7 @@ fn answered_mask(operation: Operation, answer: u32) -> u32
 }
 
 /// The mask of what is made of sources of these masks, by the rule's answer; none as in [`shaped_mask`].
-pub(crate) fn work_mask(work: Work, masks: SourceMasks, answer: u32) -> Option<u32>
+pub fn work_mask(work: Work, masks: SourceMasks, answer: u32) -> Option<u32>
     ensures { IfSome result (λ mask. mask ≡ mask_worked work (listed_masks masks) answer) }
 {
     match work {

@@ -27,7 +27,7 @@ pub(crate) fn label_at(shadow: &Shadow, held: Held, place: Place) -> Label
 
 /// The label of a mask and a point: the clean one where the mask is 0.
 #[inline(always)]
-pub(crate) fn labelled(mask: u32, point: Point) -> Label
+pub fn labelled(mask: u32, point: Point) -> Label
     ensures label { result ≡ label_of mask point }
     ensures is_label { IsLabel result }
 {
@@ -101,7 +101,7 @@ pub(crate) fn put_label(
 /// What a value goes to gets its label; a decision goes to no place.
 /// `NoMemory` where there is not enough.
 #[inline(always)]
-pub(crate) fn put_aimed(
+pub fn put_aimed(
     shadow: &mut Shadow,
     held: &mut Held,
     aim: Aim,

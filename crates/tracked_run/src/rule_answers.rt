@@ -20,7 +20,7 @@ fn rule_answer(book: &RuleBook, operation: Operation, operands: Operands) -> u32
 
 /// The mask that the book's rule answers for what is computed from sources of these masks; of what moves bits about no
 /// rule is asked.
-pub(crate) fn answer_of(book: &RuleBook, work: Work, masks: SourceMasks) -> u32
+pub fn answer_of(book: &RuleBook, work: Work, masks: SourceMasks) -> u32
     ensures sound { Holds IsSoundAnswer work (listed_masks masks) result }
     ensures table { Holds (IsTableAnswer book.now.table) work (listed_masks masks) result }
 {

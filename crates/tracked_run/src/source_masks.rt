@@ -15,7 +15,7 @@ use shadow_masks::Shadow;
 
 /// The masks of the sources of a passing, those of bytes by ascending address, and 0 where there are fewer than four.
 #[derive(Clone, Copy, Debug)]
-pub(crate) struct SourceMasks {
+pub struct SourceMasks {
     pub first: u32,
     pub second: u32,
     pub third: u32,
@@ -57,7 +57,7 @@ fn byte_masks(shadow: &Shadow, address: u32, count: u32) -> SourceMasks
 
 /// The masks of the sources of a passing.
 #[inline(always)]
-pub(crate) fn source_masks(shadow: &Shadow, held: Held, sources: Sources) -> SourceMasks
+pub fn masks_of_sources(shadow: &Shadow, held: Held, sources: Sources) -> SourceMasks
     requires { AreSources (Some shadow.now.base) sources }
     ensures { AreMasks result (masks_of (labels_of shadow.now held) sources) }
 {

@@ -1,6 +1,6 @@
 use Rattle.std.specs.Prelude.{length}
 use Rattle.covered_runs.specs.GuestLaws.{HasBytes}
-use Rattle.measuring.proofs.inputs.tell_segments.Given as goal
+use Rattle.covered_runs.proofs.inputs.tell_segments.Given as goal
 
 abbrev pub invariant-loop-rest : goal.invariant-loop-rest
 invariant-loop-rest l = HasBytes l.rest → HasBytes l.segments

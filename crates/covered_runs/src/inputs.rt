@@ -1,14 +1,17 @@
-//! What is known of a program, its inputs and its regions, told to proofs. None of these functions does anything when it
+//! What is known of a program, its inputs, its regions and a cut, told to proofs. None of these functions does anything when it
 //! is called.
 
 ghost use Rattle.std.specs.Prelude.{◌≡◌, true};
 ghost use Rattle.covered_runs.specs.GuestLaws.{HasBytes};
 ghost use Rattle.covered_runs.specs.MeasuredLaws.{AreInputs};
 ghost use Rattle.covered_runs.specs.Proper.{AreBytes};
+ghost use Rattle.cut_file.specs.Cuts.{is_valid as is_valid_cut};
+ghost use Rattle.cut_file.specs.Pictures.{picture_of as cut_picture};
 ghost use Rattle.elf32_loader.specs.Images.{picture_of};
 ghost use Rattle.elf32_loader.specs.Pictures.{is_valid};
 ghost use Rattle.enclosure_regions.specs.Regions.{are_regions};
 
+use cut_file::Cut;
 use elf32_loader::{Image, Segment};
 use enclosure_regions::Regions;
 use flow_base::Bytes;
@@ -52,7 +55,7 @@ fn tell_regions(regions: &Regions)
 }
 
 /// Tells that a program, its inputs and its regions are as files have them.
-pub(crate) fn tell_inputs(image: &Image, public: &Bytes, secret: &Bytes, regions: &Regions)
+pub fn tell_inputs(image: &Image, public: &Bytes, secret: &Bytes, regions: &Regions)
     ensures { AreInputs (picture_of image.now) public.now regions.now.items secret.now }
 {
     tell_image(image);
@@ -60,3 +63,8 @@ pub(crate) fn tell_inputs(image: &Image, public: &Bytes, secret: &Bytes, regions
     tell_bytes(secret);
     tell_regions(regions);
 }
+
+/// Tells what a cut keeps by its type.
+pub fn tell_cut(cut: &Cut)
+    ensures { is_valid_cut (cut_picture cut.now) ≡ true }
+{}

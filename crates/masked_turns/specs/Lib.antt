@@ -1,0 +1,5 @@
+pub mod Clearing
+pub mod Deciding
+pub mod Looking
+pub mod Answers
+pub mod Notes

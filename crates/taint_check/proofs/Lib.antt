@@ -1,0 +1,17 @@
+pub mod Nodes
+pub mod ReasonsCounted
+pub mod MaskedTurns
+pub mod Beginnings
+pub mod MadeTurns
+pub mod RunVerdicts
+pub mod LooksAgree
+pub mod TurnsAgree
+pub mod StepEnds
+pub mod OutputsAgree
+pub mod LeavesAgree
+pub mod StandsAgree
+pub mod SkipsAgree
+pub mod RunsAgree
+pub mod CleanRuns
+pub mod CleanSecrets
+pub mod FoundRuns

@@ -1,0 +1,174 @@
+-- The verdict of a run, turn by turn.
+use Rattle.std.proofs.Common.{◌≡◌, ◌<◌, ℕ, suc, List, [], ◌∷◌, ◌++◌, length, Bool, Option, Some, None}
+use Rattle.std.proofs.Common.{refl, ap, ap₂, sym, ◌∙◌, subst, arith, eq-eqb, ne_eqb}
+use Rattle.std.specs.Prelude.{if◌then◌else◌}
+use Rattle.rv32im_machine.specs.declared.stepping.Stepped.{Stepped}
+use Rattle.rv32im_machine.specs.declared.stepping.Stepped.TheVariants.{Ran, Exited, Stopped}
+use Rattle.rv32im_machine.specs.State.{State}
+use Rattle.enclosure_regions.specs.declared.region_parts.Region.{Region}
+use Rattle.region_machine.specs.Runs.{real_after, real_turn}
+use Rattle.lockstep_replay.specs.Crossing.{cross_after, crossing_of}
+use Rattle.lockstep_replay.specs.Tasks.{Task, Limits, real_of, Cross}
+use Rattle.taint_check.specs.declared.whys.TaintWhy.{TaintWhy}
+use Rattle.taint_check.specs.declared.whys.TaintWhy.TheVariants.{TurnLimit, SecretLength}
+use Rattle.taint_check.specs.Cleared.{Cleared, AreRunAnswers}
+use Rattle.taint_check.specs.Reasons.{why_turned}
+use Rattle.taint_check.specs.Tainted.{Finding, IsClean, IsUnclear, found, found_in, found_turn, found_mode, found_within}
+use Rattle.taint_check.specs.Tainted.{first_found, exit_of, IsVerdict}
+use Rattle.taint_check.specs.Tapes.{Tape}
+use Rattle.taint_check.specs.Turns.{Begins, Stands, Makes, crossed_after}
+
+-- a run with masks stands where the real run does, whatever the rules answer
+pub cleared-place : (task : Task) (secret : List ℕ) (answers : List (List ℕ)) →
+    (Cleared task secret answers).place ≡ real_of task secret (length answers)
+unfolding Cleared real_after
+cleared-place task secret [] = refl
+cleared-place task secret (last ∷ answers) =
+    ap (λ place. real_turn task.enclosures place) (cleared-place task secret answers)
+
+crossed-next : (task : Task) (secret : List ℕ) (answers : List (List ℕ)) →
+    crossed_after task (Cleared task secret answers) (Cross task secret (length answers))
+    ≡ Cross task secret (suc (length answers))
+unfolding cross_after
+crossed-next task secret answers =
+    ap (λ place. Cross task secret (length answers) ++ crossing_of task.enclosures task.masks place)
+    (cleared-place task secret answers)
+
+-- nothing has been found in so many turns, after which machine and masks stand so
+pub record IsGoing (table : ℕ) (task : Task) (limits : Limits) (secret : List ℕ) (turns : ℕ) (machine : State)
+    (tape : Tape) : Type 0 where
+  pub answers : List (List ℕ)
+  pub are_answers : AreRunAnswers table task secret answers
+  pub count : length answers ≡ turns
+  pub stands : Stands task limits (Cleared task secret answers) (Cross task secret (length answers)) machine tape
+  pub none : found task limits secret answers ≡ None
+
+pub going-start : (table : ℕ) (task : Task) (limits : Limits) (secret : List ℕ) (machine : State) (tape : Tape)
+    (regions : List Region) (skip : List ℕ) → Begins task limits secret machine tape regions skip →
+    IsGoing table task limits secret 0 machine tape
+unfolding Cleared AreRunAnswers found cross_after
+going-start table task limits secret machine tape regions skip begins =
+    record { answers = []; are_answers = tt; count = refl; stands = begins.stands; none = refl }
+
+module _ (table : ℕ) (task : Task) (limits : Limits) (secret : List ℕ) (turns : ℕ) (machine : State) (tape : Tape)
+    (going : IsGoing table task limits secret turns machine tape) (reached : State) (after : Tape)
+    (why : Option TaintWhy)
+    (makes : Makes table task limits (Cleared task secret going.answers) (Cross task secret (length going.answers)) reached
+    after why) where
+  abbrev all : List (List ℕ)
+  all = makes.answers ∷ going.answers
+
+  abbrev crossed : List Bool
+  crossed = Cross task secret (suc (length going.answers))
+
+  all-answers : AreRunAnswers table task secret all
+  unfolding AreRunAnswers
+  all-answers = (going.are_answers, makes.are_answers)
+
+  found-all : found task limits secret all ≡ found_turn why reached crossed
+  unfolding found Cleared
+  found-all =
+      let now = found_in task limits secret makes.answers going.answers in
+      let is : why ≡ why_turned task limits (length crossed) makes.answers (Cleared task secret going.answers) =
+      makes.why_is ∙ ap (λ bits. why_turned task limits (length bits) makes.answers (Cleared task secret going.answers))
+      (crossed-next task secret going.answers) in
+      ap (λ f. first_found f now) going.none
+      ∙ (ap (λ w. found_turn w (Cleared task secret all).place.state crossed) (sym is)
+      ∙ ap (λ s. found_turn why s crossed) (sym makes.state))
+
+  verdict-found : (finding : Finding) → found_turn why reached crossed ≡ Some finding → turns < limits.turns →
+      length secret ≡ task.secret_length → IsVerdict table task limits secret finding
+  verdict-found finding e below same = record {
+    answers = all;
+    are_answers = all-answers;
+    within = omega (arith, going.count, below);
+    reached = λ long none. absurd (apart (sym none ∙ (found-all ∙ e)));
+    is = sym (ap (λ t. if t then found_within (found task limits secret all) limits.turns
+        else IsUnclear (SecretLength task.secret_length (length secret)))
+        (eq-eqb (length secret) task.secret_length same)
+        ∙ ap (λ f. found_within f limits.turns) (found-all ∙ e));
+  }
+    where
+      apart : None ≡ Some finding → ⊥
+      apart none = cc
+
+  -- a turn that is unclear
+  pub verdict-unclear : (reason : TaintWhy) → why ≡ Some reason → turns < limits.turns →
+      length secret ≡ task.secret_length → IsVerdict table task limits secret (IsUnclear reason)
+  verdict-unclear reason e below same =
+      verdict-found (IsUnclear reason) (ap (λ w. found_turn w reached crossed) e) below same
+
+  exit-found : (mode : Stepped) (status : ℕ) → exit_of mode ≡ Some status →
+      found_mode mode reached.control.output crossed
+      ≡ Some (IsClean crossed (record { bytes = reached.control.output; status = status }))
+  exit-found Ran status e = absurd (cc)
+  exit-found (Exited other) status e =
+      let same : other ≡ status = cc in
+      ap (λ n. Some (IsClean crossed (record { bytes = reached.control.output; status = n }))) same
+  exit-found (Stopped fault) status e = absurd (cc)
+
+  on-found : (mode : Stepped) → exit_of mode ≡ None → found_mode mode reached.control.output crossed ≡ None
+  on-found Ran e = refl
+  on-found (Exited status) e = absurd (cc)
+  on-found (Stopped fault) e = refl
+
+  -- the exit
+  pub verdict-clean : (status : ℕ) → why ≡ None → exit_of reached.control.mode ≡ Some status → turns < limits.turns →
+      length secret ≡ task.secret_length →
+      IsVerdict table task limits secret
+      (IsClean after.tally.stream.bits (record { bytes = reached.control.output; status = status }))
+  verdict-clean status fine exits below same =
+      let bits : after.tally.stream.bits ≡ crossed =
+      (makes.next fine).bits ∙ crossed-next task secret going.answers in
+      subst (λ b. IsVerdict table task limits secret
+      (IsClean b (record { bytes = reached.control.output; status = status }))) (sym bits)
+      (verdict-found (IsClean crossed (record { bytes = reached.control.output; status = status }))
+      (ap (λ w. found_turn w reached crossed) fine ∙ exit-found reached.control.mode status exits) below same)
+
+  -- a turn in which nothing is found
+  pub going-on : why ≡ None → exit_of reached.control.mode ≡ None →
+      IsGoing table task limits secret (suc turns) reached after
+  unfolding Cleared
+  going-on fine runs = record {
+    answers = all;
+    are_answers = all-answers;
+    count = omega (arith, going.count);
+    stands = subst (λ bits. Stands task limits (Cleared task secret all) bits reached after)
+        (crossed-next task secret going.answers) (makes.next fine);
+    none = found-all ∙ (ap (λ w. found_turn w reached crossed) fine ∙ on-found reached.control.mode runs);
+  }
+
+-- as many turns as may be made
+pub verdict-limit : (table : ℕ) (task : Task) (limits : Limits) (secret : List ℕ) (turns limit : ℕ) (machine : State)
+    (tape : Tape) → IsGoing table task limits secret turns machine tape → turns ≡ limits.turns → limit ≡ limits.turns →
+    length secret ≡ task.secret_length → IsVerdict table task limits secret (IsUnclear (TurnLimit limit))
+verdict-limit table task limits secret turns limit machine tape going all e same = record {
+  answers = going.answers;
+  are_answers = going.are_answers;
+  within = omega (arith, going.count, all);
+  reached = λ long none. going.count ∙ all;
+  is = ap (λ n. IsUnclear (TurnLimit n)) e
+      ∙ sym (ap (λ t. if t then found_within (found task limits secret going.answers) limits.turns
+      else IsUnclear (SecretLength task.secret_length (length secret))) (eq-eqb (length secret) task.secret_length same)
+      ∙ ap (λ f. found_within f limits.turns) going.none);
+}
+
+pub none-of : {A : Type 0} (found : Option A) → ((item : A) → found ≡ Some item → ⊥) → found ≡ None
+none-of None h = refl
+none-of (Some item) h = absurd (h item refl)
+
+-- a secret of another length is unclear before the first turn
+pub verdict-length : (table : ℕ) (task : Task) (limits : Limits) (secret : List ℕ) (cut got : ℕ) →
+    cut ≡ task.secret_length → got ≡ length secret → (length secret ≡ task.secret_length → ⊥) →
+    IsVerdict table task limits secret (IsUnclear (SecretLength cut got))
+unfolding AreRunAnswers
+verdict-length table task limits secret cut got c g other = record {
+  answers = [];
+  are_answers = tt;
+  within = omega arith;
+  reached = λ long none. absurd (other long);
+  is = ap₂ (λ m n. IsUnclear (SecretLength m n)) c g
+      ∙ sym (ap (λ t. if t then found_within (found task limits secret []) limits.turns
+      else IsUnclear (SecretLength task.secret_length (length secret)))
+      (ne_eqb (length secret) task.secret_length other));
+}

@@ -1,0 +1,30 @@
+use Rattle.std.specs.Prelude.{◌≡◌, true, ℕ, List}
+use Rattle.std.proofs.lemmas.Result.{IfOk-weaker}
+use Rattle.cut_file.specs.Cuts.{CutPicture, is_valid as is_valid_cut}
+use Rattle.cut_file.specs.Pictures.{picture_of as cut_picture}
+use Rattle.elf32_loader.specs.Images.{picture_of}
+use Rattle.elf32_loader.specs.Pictures.{Picture}
+use Rattle.enclosure_regions.specs.declared.region_parts.Region.{Region}
+use Rattle.covered_runs.specs.MeasuredLaws.{AreInputs}
+use Rattle.lockstep_replay.specs.Tasks.{Limits, task_of}
+use Rattle.taint_check.specs.Laws.{IsAcceptedIfClean}
+use Rattle.taint_check.specs.Tainted.{Finding, IsClean, IsUnclear, IsVerdict, finding_of}
+use Rattle.taint_check.proofs.CleanSecrets.{clean_law}
+use Rattle.taint_check.proofs.checking.taint.Goals as goal
+
+accepted : (table : ℕ) (program : Picture) (public_input : List ℕ) (regions : List Region) (secret : List ℕ)
+    (cut : CutPicture) (limits : Limits) (finding : Finding) → AreInputs program public_input regions secret →
+    is_valid_cut cut ≡ true → IsVerdict table (task_of program public_input regions cut) limits secret finding →
+    IsAcceptedIfClean (task_of program public_input regions cut) limits secret finding
+accepted table program public_input regions secret cut limits (IsClean bits output) inputs valid verdict =
+    clean_law table program public_input regions secret cut limits bits output inputs valid verdict
+accepted table program public_input regions secret cut limits (IsUnclear why) inputs valid verdict = tt
+
+pub returns-clause-accepted : goal.returns-clause-accepted
+returns-clause-accepted g c =
+    IfOk-weaker c.checked.result _ _
+    (λ verdict is. accepted c.args.book.now.table (picture_of c.args.image.now) c.args.public.now
+    c.args.regions.now.items c.args.secret.now (cut_picture c.args.cut.now)
+    (record { budget = c.args.budget; turns = c.args.turns }) (finding_of verdict) c.tell_inputs.ensures
+    c.tell_cut.ensures is)
+    c.checked.ensures

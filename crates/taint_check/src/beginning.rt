@@ -1,0 +1,60 @@
+ghost use Rattle.std.specs.Prelude.{◌≡◌, ◌+◌, ◌^◌, ◌<◌, ◌≤◌, [], IfOk, None};
+ghost use Rattle.cut_file.specs.Masks.{MaskAt};
+ghost use Rattle.flow_base.specs.Guests.{memory_size};
+ghost use Rattle.replay_machine.specs.Visits.{IsAhead};
+ghost use Rattle.shadow_masks.specs.Writes.{default_map};
+ghost use Rattle.tracked_run.specs.Labels.{map_of};
+
+use crate::clearing::Clearing;
+use cut_file::Cut;
+use flow_base::NoMemory;
+use lockstep_replay::Tallying;
+use shadow_masks::Shadow;
+use std::alloc::Global;
+use tracked_run::Held;
+use transfer_rules::RuleBook;
+
+/// The masks of a guest whose memory begins at an address: no bit may differ.
+fn no_masks(alloc: Global, base: u32) -> Result<Shadow, NoMemory>
+    requires { base + memory_size ≤ 2 ^ 32 }
+    ensures masks { IfOk result (λ shadow. map_of shadow ≡ default_map) }
+    ensures base { IfOk result (λ shadow. shadow.base ≡ base) }
+{
+    let shadow = Shadow::new(alloc, base)?;
+    Ok(shadow)
+}
+
+/// The masks of a guest whose memory begins at an address, before its first turn: no bit may differ, and none has crossed.
+/// `NoMemory` where there is not enough.
+pub(crate) fn beginning<'b>(
+    alloc: Global,
+    base: u32,
+    cut: &Cut,
+    book: &'b RuleBook,
+    budget: u32,
+) -> Result<Clearing<'b>, NoMemory>
+    requires memory { base + memory_size ≤ 2 ^ 32 }
+    requires budget { budget < 4294967295 }
+    ensures masks { IfOk result (λ side. map_of side.shadow ≡ default_map) }
+    ensures base { IfOk result (λ side. side.shadow.base ≡ base) }
+    ensures ahead { IfOk result (λ side. IsAhead side.tally.masks (MaskAt cut.now.points) []) }
+    ensures budget { IfOk result (λ side. side.tally.budget ≡ budget) }
+    ensures bits { IfOk result (λ side. side.tally.bits.bits ≡ []) }
+    ensures needed { IfOk result (λ side. side.tally.needed ≡ 0) }
+    ensures table { IfOk result (λ side. side.book.now.table ≡ book.now.table) }
+    ensures look { IfOk result (λ side. side.look ≡ None) }
+    ensures left { IfOk result (λ side. side.left ≡ None) }
+{
+    let shadow = no_masks(alloc, base)?;
+    let tally = Tallying::new(alloc, cut, budget)?;
+    Ok(Clearing {
+        shadow,
+        tally,
+        book,
+        held: Held::none(),
+        region: 0,
+        skipped: false,
+        look: None,
+        left: None,
+    })
+}

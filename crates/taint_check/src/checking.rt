@@ -1,0 +1,145 @@
+ghost use Rattle.std.specs.Prelude.{◌≡◌, ℕ, ◌<◌, ◌^◌, [], length, IfOk, List as Seq};
+ghost use Rattle.elf32_loader.specs.Images.{picture_of};
+ghost use Rattle.cut_file.specs.Pictures.{picture_of as cut_picture};
+ghost use Rattle.lockstep_replay.specs.Tasks.{Task, Limits, task_of};
+ghost use Rattle.taint_check.specs.Laws.{IsAcceptedIfClean};
+ghost use Rattle.taint_check.specs.Tainted.{IsClean, IsVerdict, exit_of, finding_of};
+ghost use Rattle.taint_check.specs.Tapes.{tape_of};
+ghost use Rattle.taint_check.specs.Turns.{Begins, IsReady};
+
+use crate::beginning::beginning;
+use crate::clearing::Clearing;
+use crate::turns::make_turn;
+use crate::verdicts::TaintVerdict;
+use crate::whys::TaintWhy;
+use covered_runs::{tell_cut, tell_inputs};
+use cut_file::Cut;
+use elf32_loader::Image;
+use enclosure_regions::{Regions, copy_regions};
+use flow_base::{Bytes, NoMemory, Output};
+use lockstep_replay::Tallying;
+use region_machine::MarkedRegions;
+use rv32im_machine::{Machine, Stepped};
+use std::alloc::Global;
+use transfer_rules::RuleBook;
+
+/// The output of a run has at most 1 MiB.
+const OUTPUT_LIMIT: u32 = 1_048_576;
+
+/// The status with which a run has exited, if it has.
+fn exit_status(mode: Stepped) -> Option<u8>
+    ensures { result ≡ exit_of mode }
+{
+    match mode {
+        Stepped::Ran => None,
+        Stepped::Exited(status) => Some(status),
+        Stepped::Stopped(_) => None,
+    }
+}
+
+/// The verdict of a run that has exited with this status.
+fn clean(machine: Machine, side: Clearing<'_>, status: u8) -> TaintVerdict
+    ensures { finding_of result ≡ IsClean side.entry.tally.bits.bits
+        (record { bytes = machine.control.output; status = status }) }
+{
+    let Clearing { tally, .. } = side;
+    let Tallying { bits, .. } = tally;
+    let output = Output {
+        bytes: machine.into_output(),
+        status,
+    };
+    TaintVerdict::Clean { bits, output }
+}
+
+/// The verdict of so many turns of the run.
+/// `NoMemory` where there is not enough.
+fn run_turns(
+    machine: Machine,
+    side: Clearing<'_>,
+    marked: &MarkedRegions,
+    skip: &[u16],
+    turns: u32,
+) -> Result<TaintVerdict, NoMemory>
+    requires { IsReady marked.now.regions.items machine (tape_of side.book.now.table side.shadow side.tally
+        side.look side.left) }
+    ensures { IfOk result (λ verdict. (task : Task) (limits : Limits) (secret : Seq ℕ) →
+        Begins task limits secret machine (tape_of side.entry.book.now.table side.entry.shadow side.entry.tally
+        side.entry.look side.entry.left) marked.now.regions.items skip.now → turns ≡ limits.turns →
+        length secret ≡ task.secret_length →
+        IsVerdict side.entry.book.now.table task limits secret (finding_of verdict)) }
+{
+    let mut machine = machine;
+    let mut side = side;
+    for _ in 0..turns {
+        if let Some(why) = make_turn(&mut machine, &mut side, marked, skip)? {
+            return Ok(TaintVerdict::Unclear(why));
+        }
+        if let Some(status) = exit_status(machine.mode()) {
+            return Ok(clean(machine, side, status));
+        }
+    }
+    Ok(TaintVerdict::Unclear(TaintWhy::TurnLimit { limit: turns }))
+}
+
+/// The verdict of a check of one secret. `NoMemory` where there is not enough.
+fn checked(
+    alloc: Global,
+    image: &Image,
+    public: &Bytes,
+    secret: &Bytes,
+    regions: &Regions,
+    cut: &Cut,
+    book: &RuleBook,
+    budget: u32,
+    turns: u32,
+) -> Result<TaintVerdict, NoMemory>
+    requires secret { length secret.now < 2 ^ 32 }
+    requires budget { budget < 4294967295 }
+    ensures { IfOk result (λ verdict. IsVerdict book.now.table
+        (task_of (picture_of image.now) public.now regions.now.items (cut_picture cut.now))
+        (record { budget = budget; turns = turns }) secret.now (finding_of verdict)) }
+{
+    let got = secret.len() as u32;
+    if got != cut.secret_len {
+        return Ok(TaintVerdict::Unclear(TaintWhy::SecretLength {
+            cut: cut.secret_len,
+            got,
+        }));
+    }
+    let machine = Machine::new(alloc, image, public, secret, OUTPUT_LIMIT)?;
+    let side = beginning(alloc, image.base, cut, book, budget)?;
+    let marked = MarkedRegions::new(alloc, copy_regions(alloc, regions)?)?;
+    run_turns(machine, side, &marked, cut.skip.as_slice(), turns)
+}
+
+/// Checks one secret of fewer than 2^32 bytes against a cut with one machine, for one program with its regions and one
+/// public input, by the mask rules of a book, within a budget of fewer than 4,294,967,295 bits and a limit of turns. It
+/// is clean where nothing in its run is decided by a bit that may depend on the secret and has not crossed, and else
+/// unclear, for the first reason. A secret of which it is clean is accepted by the check with two machines, with the same
+/// bits and the same output, whatever the book. `NoMemory` where there is not enough.
+pub fn taint(
+    alloc: Global,
+    image: &Image,
+    public: &Bytes,
+    secret: &Bytes,
+    regions: &Regions,
+    cut: &Cut,
+    book: &RuleBook,
+    budget: u32,
+    turns: u32,
+) -> Result<TaintVerdict, NoMemory>
+    requires secret { length secret.now < 2 ^ 32 }
+    requires budget { budget < 4294967295 }
+    ensures verdict { IfOk result (λ verdict. IsVerdict book.now.table
+        (task_of (picture_of image.now) public.now regions.now.items (cut_picture cut.now))
+        (record { budget = budget; turns = turns }) secret.now (finding_of verdict)) }
+    ensures accepted { IfOk result (λ verdict. IsAcceptedIfClean
+        (task_of (picture_of image.now) public.now regions.now.items (cut_picture cut.now))
+        (record { budget = budget; turns = turns }) secret.now (finding_of verdict)) }
+{
+    tell_inputs(image, public, secret, regions);
+    tell_cut(cut);
+    checked(
+        alloc, image, public, secret, regions, cut, book, budget, turns,
+    )
+}

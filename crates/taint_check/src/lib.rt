@@ -1,0 +1,17 @@
+//! A check with one machine: the real run of a secret with masks, which lose at each visit the bits that cross at a cut.
+//! Where nothing is decided by a bit that is left, the secret is accepted with the bits that crossed.
+#![tactic(auto)]
+
+mod beginning;
+mod checking;
+mod clearing;
+mod laws;
+mod reasons;
+mod turns;
+mod verdicts;
+mod whys;
+
+pub use checking::taint;
+pub use laws::clean_secrets_are_accepted;
+pub use verdicts::TaintVerdict;
+pub use whys::TaintWhy;
