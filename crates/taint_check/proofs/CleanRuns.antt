@@ -19,6 +19,7 @@ use Rattle.region_machine.specs.Enclosures.{is_enclosed, kind_of}
 use Rattle.region_machine.specs.Guests.{guest_walk}
 use Rattle.region_machine.specs.Runs.{Place, real_after, common_turns}
 use Rattle.replay_machine.specs.Runs.{ReplayPlace, Replay}
+use Rattle.lockstep_replay.proofs.Bounds.{accepted_where}
 use Rattle.lockstep_replay.specs.Acceptance.{HasExited, EndAlike, SameMark, Accept}
 use Rattle.lockstep_replay.specs.Crossing.{cross_after}
 use Rattle.lockstep_replay.specs.Tasks.{Task, Limits, Cross, enclosed_of, real_of, real_start, replay_start}
@@ -285,22 +286,19 @@ module _ (table : ℕ) (task : Task) (limits : Limits) (secret other : List ℕ)
   accepted last answers output long starts are fine exits =
       let turned = turns_on last answers (knows answers are.0 fine.0) are fine in
       let there = cleared-place task secret (last ∷ answers) in
-      record {
-        has_length = long;
-        unbroken = ap (λ (p : Place). p.broken) (sym there) ∙ turned.known.unbroken;
-        exits = subst (λ (p : Place). HasExited p.state output) there exits;
-        within = turned.within;
-        follows = λ turn below exposed.
-            let at = follows_at (last ∷ answers) are fine turn below exposed in record {
-              place = at.0;
-              uses = subst (λ z. Uses (Replay task.enclosures task.masks
-                  (common_turns task.enclosures (suc turn) the_start) z) (Cross task secret (suc turn)) at.0) starts at.1;
-              inside = at.2;
-              mark = at.3;
-            };
-        replay_exits = λ follows.
-            exits_alike (last ∷ answers) output follows.place turned.known exits
-            (subst (λ z. Uses (Replay task.enclosures task.masks
-            (common_turns task.enclosures (suc (length answers)) the_start) z) (Cross task secret (suc (length answers)))
-            follows.place) (sym starts) follows.uses);
-      }
+      accepted_where task (record { budget = limits.budget; turns = suc (length answers) }) secret output long
+      (ap (λ (p : Place). p.broken) (sym there) ∙ turned.known.unbroken)
+      (subst (λ (p : Place). HasExited p.state output) there exits) turned.within
+      (λ turn below exposed.
+          let at = follows_at (last ∷ answers) are fine turn below exposed in record {
+            place = at.0;
+            uses = subst (λ z. Uses (Replay task.enclosures task.masks
+                (common_turns task.enclosures (suc turn) the_start) z) (Cross task secret (suc turn)) at.0) starts at.1;
+            inside = at.2;
+            mark = at.3;
+          })
+      (λ follows.
+          exits_alike (last ∷ answers) output follows.place turned.known exits
+          (subst (λ z. Uses (Replay task.enclosures task.masks
+          (common_turns task.enclosures (suc (length answers)) the_start) z) (Cross task secret (suc (length answers)))
+          follows.place) (sym starts) follows.uses))
