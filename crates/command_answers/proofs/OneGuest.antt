@@ -4,22 +4,25 @@ use Rattle.std.proofs.lemmas.Bool.{false≢true}
 use Rattle.elf32_loader.specs.Pictures.{Picture}
 use Rattle.elf32_loader.specs.Programs.{IsImage}
 use Rattle.elf32_loader.proofs.Faults.{no-image}
+use Rattle.elf32_loader.proofs.OneFault.{one-first-fault}
 use Rattle.elf32_loader.proofs.Unique.{same-image}
 use Rattle.enclosure_regions.specs.declared.region_parts.Region.{Region}
-use Rattle.enclosure_regions.specs.FileLaws.{FilesAreOne, SpelledHaveNoFault}
+use Rattle.enclosure_regions.specs.FileLaws.{FaultsAreOne, FilesAreOne, SpelledHaveNoFault}
 use Rattle.cut_file.specs.Cuts.{CutPicture}
 use Rattle.cut_file.specs.Texts.{CutText}
-use Rattle.cut_file.proofs.FileTexts.{cut-no_fault, one-cut}
+use Rattle.cut_file.proofs.FileTexts.{cut-no_fault, one-cut, one-fault}
 use Rattle.command_words.specs.CommandLines.{GuestNames}
 use Rattle.command_answers.specs.declared.refusals.Refusal.{Refusal}
+use Rattle.command_answers.specs.declared.refusals.Refusal.TheVariants.{Program, Regions, Cut}
 use Rattle.command_answers.specs.Guests.{Guest, GuestFiles, AreGuestFiles, AreRegions, IsGuest, IsGuestRefusal, and_others}
 use Rattle.command_answers.specs.Refusals.{IsCutRefusal, IsProgramRefusal, IsRegionsRefusal}
-use Rattle.command_answers.proofs.Readings.{AreOne, IsReading, status_of}
+use Rattle.command_answers.proofs.Readings.{IsReading, status_of}
 
 -- a region file has one reading, and no fault beside it
 pub record RegionLaws : Type 0 where
   pub one : FilesAreOne
   pub none : SpelledHaveNoFault
+  pub faults : FaultsAreOne
 
 -- ---- texts
 
@@ -27,14 +30,16 @@ pub program_reading : (file : List ℕ) → IsReading Picture (IsImage file) (Is
 program_reading file = record {
   one = λ a b is also. same-image file a b is also;
   none = λ a refusal is (fault, first, e). no-image file fault first a is;
-  status = λ first second (fault, is, e) (other, also, f). ap (λ r. status_of (Err r)) e ∙ sym (ap (λ r. status_of (Err r)) f);
+  refused = λ first second (fault, is, e) (other, also, f).
+      e ∙ (ap (λ x. Program x) (one-first-fault file fault other is also) ∙ sym f);
 }
 
 pub cut_reading : (file : List ℕ) → IsReading CutPicture (CutText file) (IsCutRefusal file)
 cut_reading file = record {
   one = λ a b is also. one-cut file a b is also;
   none = λ a refusal is (fault, first, e). cut-no_fault file a fault is first.1 first.0;
-  status = λ first second (fault, is, e) (other, also, f). ap (λ r. status_of (Err r)) e ∙ sym (ap (λ r. status_of (Err r)) f);
+  refused = λ first second (fault, is, e) (other, also, f).
+      e ∙ (ap (λ x. Cut x) (one-fault file fault other is.1 also.1 is.0 also.0) ∙ sym f);
 }
 
 same-regions : RegionLaws → (file : Option (List ℕ)) (first second : List Region) → AreRegions file first →
@@ -46,6 +51,12 @@ no-regions-fault : RegionLaws → (file : Option (List ℕ)) (regions : List Reg
     AreRegions file regions → IsRegionsRefusal file refusal → ⊥
 no-regions-fault laws None regions refusal are is = is
 no-regions-fault laws (Some file) regions refusal are (fault, first, e) = laws.none file regions fault are first.0
+
+one-regions-fault : RegionLaws → (file : Option (List ℕ)) (first second : Refusal) → IsRegionsRefusal file first →
+    IsRegionsRefusal file second → first ≡ second
+one-regions-fault laws None first second is also = absurd is
+one-regions-fault laws (Some file) first second (fault, is, e) (other, also, f) =
+    e ∙ (ap (λ x. Regions x) (laws.faults file fault other is.0 also.0) ∙ sym f)
 
 regions-status : (file : Option (List ℕ)) (refusal : Refusal) → IsRegionsRefusal file refusal →
     status_of (Err refusal) ≡ 3
@@ -74,6 +85,16 @@ no-guest-fault laws files guest refusal is (inl (fault, first, e)) = no-image fi
 no-guest-fault laws files guest refusal is (inr (picture, image, first)) =
     no-regions-fault laws files.region_file guest.regions refusal is.regions first
 
+one-guest-fault : RegionLaws → (files : GuestFiles) (first second : Refusal) → IsGuestRefusal files first →
+    IsGuestRefusal files second → first ≡ second
+one-guest-fault laws files first second (inl is) (inl also) = (program_reading files.program).refused first second is also
+one-guest-fault laws files first second (inl is) (inr (picture, image, also)) =
+    absurd ((program_reading files.program).none picture first image is)
+one-guest-fault laws files first second (inr (picture, image, is)) (inl also) =
+    absurd ((program_reading files.program).none picture second image also)
+one-guest-fault laws files first second (inr (picture, image, is)) (inr (other, alike, also)) =
+    one-regions-fault laws files.region_file first second is also
+
 pub guest-status : (files : GuestFiles) (refusal : Refusal) → IsGuestRefusal files refusal →
     status_of (Err refusal) ≡ 3
 guest-status files refusal (inl (fault, first, e)) = ap (λ r. status_of (Err r)) e
@@ -83,7 +104,7 @@ pub guest_reading : RegionLaws → (files : GuestFiles) → IsReading Guest (IsG
 guest_reading laws files = record {
   one = same-guest laws files;
   none = no-guest-fault laws files;
-  status = λ first second is also. guest-status files first is ∙ sym (guest-status files second also);
+  refused = one-guest-fault laws files;
 }
 
 -- ---- the order of files

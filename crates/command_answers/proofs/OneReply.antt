@@ -1,7 +1,20 @@
 -- Words and what a source tells have one status: so each status comes exactly where the reply has it.
-use Rattle.std.proofs.Common.{◌≡◌, ◌≤◌, ◌<◌, ◌∙◌, inl, inr, ℕ, zero, suc, List, length, true, codes, Option, Some, None, is_some, Result, Ok, Err, refl, sym, ap, subst, arith, ⊎_elim}
+use Rattle.std.proofs.Common.{◌≡◌, ◌≤◌, ◌<◌, ◌∙◌, inl, inr, ℕ, List, length, Bool, true, false, codes, Option, Some, None, is_some, Result, Ok, Err, refl, sym, ap, subst, arith, ⊎_elim}
 use Rattle.std.proofs.lemmas.Bool.{cases_lt, false≢true}
+use Rattle.std.specs.Prelude.{◌==◌, ◌++◌, MatchBool}
+use Rattle.std.specs.Fmt.{decimal}
+use Rattle.flow_base.specs.declared.outputs.Output.{Output}
 use Rattle.flow_base.specs.Loads.{Told}
+use Rattle.cut_file.specs.Cuts.{CutPicture, is_valid}
+use Rattle.cut_file.specs.Folds.{IsFold}
+use Rattle.cut_file.specs.Pictures.{picture_of as cut_of}
+use Rattle.cut_file.specs.Texts.{cut_text}
+use Rattle.cut_file.proofs.OneFold.{one-fold}
+use Rattle.flow_certificate.proofs.OneVerdict.{one-verdict}
+use Rattle.leak_report.proofs.OneReport.{one-report_json, one-report_text}
+use Rattle.lockstep_replay.specs.Tasks.{Cross}
+use Rattle.max_flow.specs.declared.answers.Side.{Side}
+use Rattle.trial_guests.specs.Secrets.{secret_of}
 use Rattle.flow_certificate.specs.declared.verdicts.CertVerdict.{CertVerdict}
 use Rattle.flow_certificate.specs.declared.verdicts.CertVerdict.TheVariants.{Verified, Rejected as RejectedBy}
 use Rattle.flow_certificate.specs.Verdicts.{IsVerified}
@@ -9,23 +22,27 @@ use Rattle.flow_graph.specs.declared.graphs.Graph.{Graph}
 use Rattle.max_flow.specs.declared.answers.Solved.{Solved}
 use Rattle.measuring.specs.declared.measured.Measured.{Measured}
 use Rattle.measuring.specs.Deciding.{IsDeciding}
+use Rattle.measuring.proofs.OneCause.{one-cause}
+use Rattle.measuring.proofs.OneMeasure.{AreSameMeasures, one-measure, told-alike}
 use Rattle.measuring.proofs.MeasuredWithoutCause.{measured_have_no_cause}
 use Rattle.command_words.specs.declared.names.CommandName.{CommandName}
 use Rattle.command_words.specs.declared.names.CommandName.TheVariants as names
 use Rattle.command_words.specs.declared.tellings.Telling.{Telling}
-use Rattle.command_words.specs.declared.tellings.Telling.TheVariants.{CutText, Certificate}
+use Rattle.command_words.specs.declared.tellings.Telling.TheVariants.{CutText, Certificate, Report}
 use Rattle.command_words.specs.CommandLines.{Run, Command, Checks, Tells, Assembles, Lists, Verifies, Migrates, Tries, Fits, IsCommand, IsChoice}
 use Rattle.command_words.specs.Parts.{Parts, value_of}
 use Rattle.command_words.proofs.OneCommand.{one_command}
 use Rattle.command_answers.specs.declared.refusals.Refusal.{Refusal}
-use Rattle.command_answers.specs.Answers.{Answer}
+use Rattle.command_answers.specs.declared.refusals.Refusal.TheVariants.{Run as RunRefused}
+use Rattle.command_answers.specs.Answers.{Answer, done_by}
+use Rattle.command_answers.specs.Checks.{judged_by}
 use Rattle.command_answers.specs.Loading.{Loads, Want, loaded_from}
-use Rattle.command_answers.specs.Replies.{AnswersCommand, AnswersWords, IsUsage, Replies, Reply}
-use Rattle.command_answers.specs.Runs.{RunTask, AnswersRun, IsMeasured, IsRunRefusal, Tells as TellsOf, start_of}
+use Rattle.command_answers.specs.Replies.{AnswersCommand, AnswersWords, IsUsage, Replies, Reply, reply_of}
+use Rattle.command_answers.specs.Runs.{RunTask, AnswersRun, IsInVersion, IsMeasured, IsRunRefusal, Tells as TellsOf, report_of, start_of}
 use Rattle.command_answers.specs.Tasks.{Task, JudgeSecrets, TellRun, WriteProgram, ListProgram, VerifyCertificate, MigrateCut, TryNumber, AnswersTask, AnswersFiles, IsFormRefusal, IsTaskOf, wants_of}
-use Rattle.command_answers.specs.Trials.{TellsTrial, run_of_number}
+use Rattle.command_answers.specs.Trials.{TellsTrial, crossing_count, guest_of_number, run_of_number, trial_line, trial_turns}
 use Rattle.command_answers.specs.Verifications.{AnswersVerdict, IsExactVerdict, verdict_reply}
-use Rattle.command_answers.specs.ReplyLaws.{CompletesRun, CompletesVerdict}
+use Rattle.command_answers.specs.ReplyLaws.{CompletesRun, CompletesVerdict, IsNoGraph}
 use Rattle.command_answers.proofs.OneGuest.{RegionLaws}
 use Rattle.command_answers.proofs.OneTask.{task_reading}
 use Rattle.command_answers.proofs.Readings.{AreOne, IsReading, reads_one, status_of}
@@ -104,6 +121,27 @@ run-one run Answers done deciding first second (inr (measured, is, answers)) (in
 run-one run Answers done deciding first second (inr (measured, is, answers)) (inr (other, also, more)) =
     done measured first answers ∙ sym (done other second more)
 
+-- what is told of two measures that share all but the flow is the same
+abbrev IsAlike : (Measured → Answer → Type 0) → Type 0
+IsAlike Answers =
+    (one other : Measured) (first second : Answer) → AreSameMeasures one other → Answers one first →
+    Answers other second → first ≡ second
+
+run-same : (run : RunTask) (Answers : Measured → Answer → Type 0) → IsAlike Answers → IsDeciding run.table →
+    (first second : Answer) → AnswersRun run Answers first → AnswersRun run Answers second → first ≡ second
+run-same run Answers alike deciding first second (inl (refusal, (fault, (cause, room), e), f)) (inl (other, (also, (was, rooms), g), h)) =
+    let same = one-cause run.table run.guest.regions (start_of run) run.turns fault also deciding cause was room rooms in
+    f ∙ (ap (λ r. Err r) (e ∙ (ap (λ x. RunRefused x) same ∙ sym g)) ∙ sym h)
+run-same run Answers alike deciding first second (inl (refusal, is, e)) (inr (measured, also, answers)) =
+    absurd (no-cause run measured refusal deciding also is)
+run-same run Answers alike deciding first second (inr (measured, is, answers)) (inl (refusal, also, e)) =
+    absurd (no-cause run measured refusal deciding is also)
+run-same run Answers alike deciding first second (inr (measured, is, answers)) (inr (other, also, more)) =
+    alike measured other first second
+    (one-measure run.table run.guest.regions (start_of run) (length run.secret) run.turns measured other deciding
+    is.measures also.measures)
+    answers more
+
 pub run_completes : (run : RunTask) (Answers : Measured → Answer → Type 0) → IsDone Answers → IsDeciding run.table →
     (answer : Answer) → AnswersRun run Answers answer → CompletesRun run (status_of answer)
 run_completes run Answers done deciding answer (inl (refusal, (fault, (cause, room), e), f)) =
@@ -129,6 +167,48 @@ telling-done telling measured answer (text, is, e) = ap status_of e
 pub trial-done : (number : ℕ) → IsDone (TellsTrial number)
 trial-done number measured answer e = ap status_of e
 
+-- ---- what is told
+
+in-version : (is_fold : Bool) (cut one other : CutPicture) → is_valid one ≡ true → is_valid other ≡ true →
+    MatchBool is_fold (IsFold cut one) (one ≡ cut) → MatchBool is_fold (IsFold cut other) (other ≡ cut) → one ≡ other
+in-version true cut one other valid also is second = one-fold cut one other valid also is second
+in-version false cut one other valid also is second = is ∙ sym second
+
+cut-told : (version : ℕ) → IsAlike (TellsOf (CutText version))
+cut-told version one other first second same (text, is, e) (words, also, f) =
+    let here : IsInVersion version (cut_of one.cut) also.cut =
+    subst (λ cut. IsInVersion version cut also.cut) (sym same.cut) also.in_version in
+    let cut : is.cut ≡ also.cut = in-version (version == 2) (cut_of one.cut) is.cut also.cut is.is_text.valid
+    also.is_text.valid is.in_version here in
+    let texts : text ≡ words = is.is_text.text ∙ (ap cut_text cut ∙ sym also.is_text.text) in
+    e ∙ (ap done_by texts ∙ sym f)
+
+report-same : (json : Bool) (one other : Measured) → AreSameMeasures one other → report_of json one ≡ report_of json other
+report-same true one other same = one-report_json one other same
+report-same false one other same = one-report_text one other same
+
+report-told : (json : Bool) → IsAlike (TellsOf (Report json))
+report-told json one other first second same (text, is, e) (words, also, f) =
+    let texts : text ≡ words = is ∙ (report-same json one other same ∙ sym also) in
+    e ∙ (ap done_by texts ∙ sym f)
+
+-- the line of a trial, by what it tells
+trial_told : ℕ → ℕ → ℕ → Output → Graph → Side → CutPicture → List ℕ
+trial_told number value turns output graph side cut =
+    (codes "trial " ++ (decimal number ++ (codes " secret " ++ (decimal (length (secret_of number))
+    ++ (codes " bits " ++ (decimal value ++ (codes " points " ++ (decimal (length graph.points) ++ codes " "))))))))
+    ++ (codes "cut " ++ (decimal (length cut.points) ++ (codes " turns " ++ (decimal turns ++ (codes " crossing "
+    ++ (decimal (length (Cross (judged_by (guest_of_number number) cut) (secret_of number) trial_turns))
+    ++ (codes " output " ++ (decimal (length output.bytes) ++ codes "\n"))))))))
+
+trial-same : (number : ℕ) (one other : Measured) → AreSameMeasures one other →
+    trial_line number one (crossing_count number one) ≡ trial_line number other (crossing_count number other)
+unfolding trial_told
+trial-same number one other same = told-alike (trial_told number) one other same
+
+trial-told : (number : ℕ) → IsAlike (TellsTrial number)
+trial-told number one other first second same e f = e ∙ (ap done_by (trial-same number one other same) ∙ sym f)
+
 -- ---- a certificate
 
 verdict-completes : (graph : Graph) (solved : Solved) (verdict : CertVerdict) → IsExactVerdict graph solved verdict →
@@ -149,21 +229,55 @@ pub certificate_completes : (graph : Graph) (solved : Solved) (answer : Answer) 
 certificate_completes graph solved answer (verdict, is, e) =
     subst (λ s. CompletesVerdict graph solved s) (sym (ap status_of e)) (verdict-completes graph solved verdict is)
 
-low-one : (first second : ℕ) → first ≤ 1 → second ≤ 1 → (first ≡ 0 → second ≡ 0) → (second ≡ 0 → first ≡ 0) →
-    first ≡ second
-low-one zero second low below there back = sym (there refl)
-low-one (suc first) zero low below there back = back refl
-low-one (suc first) (suc second) low below there back = omega (arith, low, below)
-
-certificate-one : (graph : Graph) (solved : Solved) (first second : Answer) → AnswersVerdict graph solved first →
-    AnswersVerdict graph solved second → AreOne first second
-certificate-one graph solved first second one other =
-    let a = certificate_completes graph solved first one in
-    let b = certificate_completes graph solved second other in
-    low-one (status_of first) (status_of second) a.known b.known (λ zero. b.done (a.verified zero))
-    (λ zero. a.done (b.verified zero))
+certificate-same : (graph : Graph) (solved : Solved) (first second : Answer) → AnswersVerdict graph solved first →
+    AnswersVerdict graph solved second → first ≡ second
+certificate-same graph solved first second (verdict, is, e) (found, also, f) =
+    let verdicts : verdict ≡ found =
+    one-verdict graph solved verdict found is.shows also.shows is.verified also.verified in
+    let answer : CertVerdict → Answer = λ v. Ok (verdict_reply v) in
+    e ∙ (ap answer verdicts ∙ sym f)
 
 -- ---- every command
+
+-- no certificate of a run
+abbrev NoGraph : Task → Type 0
+NoGraph (JudgeSecrets task) = Unit {0}
+NoGraph (TellRun (CutText version) run) = Unit {0}
+NoGraph (TellRun Certificate run) = ⊥
+NoGraph (TellRun (Report json) run) = Unit {0}
+NoGraph (WriteProgram picture) = Unit {0}
+NoGraph (ListProgram picture) = Unit {0}
+NoGraph (VerifyCertificate graph solved) = Unit {0}
+NoGraph (MigrateCut cut) = Unit {0}
+NoGraph (TryNumber number) = Unit {0}
+
+no-graph : (words files : List (List ℕ)) (command : Command) (task : Task) → IsNoGraph words →
+    IsCommand words command → IsTaskOf command files task → NoGraph task
+no-graph words files (Checks check) task none named (x, is, e) = subst NoGraph (sym e) tt
+no-graph words files (Tells (CutText version) run) task none named (x, is, e) = subst NoGraph (sym e) tt
+no-graph words files (Tells Certificate run) task none named (x, is, e) = absurd (none run named)
+no-graph words files (Tells (Report json) run) task none named (x, is, e) = subst NoGraph (sym e) tt
+no-graph words files (Assembles source) task none named (file, x, are, is, e) = subst NoGraph (sym e) tt
+no-graph words files (Lists program) task none named (file, x, are, is, e) = subst NoGraph (sym e) tt
+no-graph words files (Verifies certificate) task none named (file, x, y, are, is, e) = subst NoGraph (sym e) tt
+no-graph words files (Migrates cut) task none named (file, x, are, is, e) = subst NoGraph (sym e) tt
+no-graph words files (Tries number) task none named e = subst NoGraph (sym e) tt
+
+task-same : (task : Task) (first second : Answer) → NoGraph task → Decides task → AnswersTask task first →
+    AnswersTask task second → first ≡ second
+task-same (JudgeSecrets task) first second none deciding one other = one ∙ sym other
+task-same (TellRun (CutText version) run) first second none deciding one other =
+    run-same run (TellsOf (CutText version)) (cut-told version) deciding first second one other
+task-same (TellRun Certificate run) first second none deciding one other = absurd none
+task-same (TellRun (Report json) run) first second none deciding one other =
+    run-same run (TellsOf (Report json)) (report-told json) deciding first second one other
+task-same (WriteProgram picture) first second none deciding one other = one ∙ sym other
+task-same (ListProgram picture) first second none deciding one other = one ∙ sym other
+task-same (VerifyCertificate graph solved) first second none deciding one other =
+    certificate-same graph solved first second one other
+task-same (MigrateCut cut) first second none deciding one other = one ∙ sym other
+task-same (TryNumber number) first second none deciding one other =
+    run-same (run_of_number number) (TellsTrial number) (trial-told number) (inl refl) first second one other
 
 task-one : (task : Task) (first second : Answer) → Decides task → AnswersTask task first → AnswersTask task second →
     AreOne first second
@@ -173,7 +287,7 @@ task-one (TellRun telling run) first second deciding one other =
 task-one (WriteProgram picture) first second deciding one other = ap status_of (one ∙ sym other)
 task-one (ListProgram picture) first second deciding one other = ap status_of (one ∙ sym other)
 task-one (VerifyCertificate graph solved) first second deciding one other =
-    certificate-one graph solved first second one other
+    ap status_of (certificate-same graph solved first second one other)
 task-one (MigrateCut cut) first second deciding one other = ap status_of (one ∙ sym other)
 task-one (TryNumber number) first second deciding one other =
     run-one (run_of_number number) (TellsTrial number) (trial-done number) (inl refl) first second one other
@@ -196,43 +310,49 @@ pub loads_reading : (told : Told) (wants : List Want) →
 loads_reading told wants = record {
   one = λ a b is also. same-ok (loaded_from told wants) a b is.1 also.1;
   none = λ a refusal is also. ok-err (loaded_from told wants) a refusal is.1 also.1;
-  status = λ first second is also.
-      ap (λ r. status_of (Err r)) (same-err (loaded_from told wants) first second is.1 also.1);
+  refused = λ first second is also. same-err (loaded_from told wants) first second is.1 also.1;
 }
 
 pub words_reading : (words : List (List ℕ)) → IsReading Command (IsCommand words) (IsUsage words)
 words_reading words = record {
   one = one_command words;
   none = λ command refusal is (none, e). none command is;
-  status = λ first second (none, e) (also, f). ap (λ r. status_of (Err r)) (e ∙ sym f);
+  refused = λ first second (none, e) (also, f). e ∙ sym f;
 }
 
-files-one : RegionLaws → (words files : List (List ℕ)) (command : Command) (first second : Answer) →
-    IsCommand words command → AnswersFiles command files first → AnswersFiles command files second →
-    AreOne first second
-files-one laws words files command first second named =
-    reads_one Task (IsTaskOf command files) (IsFormRefusal command files) AnswersTask (task_reading laws command files)
+words-alike : RegionLaws → (Alike : Answer → Answer → Type 0) → ((answer : Answer) → Alike answer answer) →
+    (told : Told) (words : List (List ℕ)) (first second : Answer) →
+    ((command : Command) (files : List (List ℕ)) (task : Task) → IsCommand words command →
+    IsTaskOf command files task → AnswersTask task first → AnswersTask task second → Alike first second) →
+    AnswersWords (Some told) words first → AnswersWords (Some told) words second → Alike first second
+words-alike laws Alike self told words first second step =
+    reads_one Command (IsCommand words) (IsUsage words) (AnswersCommand (Some told)) Alike self (words_reading words)
     first second
-    (λ task is one other. task-one task first second (task_decides words files command task named is) one other)
-
-command-one : RegionLaws → (told : Told) (words : List (List ℕ)) (command : Command) (first second : Answer) →
-    IsCommand words command → AnswersCommand (Some told) command first → AnswersCommand (Some told) command second →
-    AreOne first second
-command-one laws told words command first second named =
-    reads_one (List (List ℕ)) (λ files. Loads (Some told) (wants_of command) (Ok files))
-    (λ refusal. Loads (Some told) (wants_of command) (Err refusal)) (AnswersFiles command)
+    (λ command named. reads_one (List (List ℕ)) (λ files. Loads (Some told) (wants_of command) (Ok files))
+    (λ refusal. Loads (Some told) (wants_of command) (Err refusal)) (AnswersFiles command) Alike self
     (loads_reading told (wants_of command)) first second
-    (λ files is one other. files-one laws words files command first second named one other)
+    (λ files loaded. reads_one Task (IsTaskOf command files) (IsFormRefusal command files) AnswersTask Alike self
+    (task_reading laws command files) first second (λ task is. step command files task named is)))
 
 words-one : RegionLaws → (told : Told) (words : List (List ℕ)) (first second : Answer) →
     AnswersWords (Some told) words first → AnswersWords (Some told) words second → AreOne first second
 words-one laws told words first second =
-    reads_one Command (IsCommand words) (IsUsage words) (AnswersCommand (Some told)) (words_reading words) first second
-    (λ command named one other. command-one laws told words command first second named one other)
+    words-alike laws AreOne (λ answer. refl) told words first second
+    (λ command files task named is. task-one task first second (task_decides words files command task named is))
+
+words-same : RegionLaws → (told : Told) (words : List (List ℕ)) (first second : Answer) → IsNoGraph words →
+    AnswersWords (Some told) words first → AnswersWords (Some told) words second → first ≡ second
+words-same laws told words first second none =
+    words-alike laws (λ a b. a ≡ b) (λ answer. refl) told words first second
+    (λ command files task named is. task-same task first second (no-graph words files command task none named is)
+    (task_decides words files command task named is))
 
 -- where the source tells its meanings
 pub one_reply : RegionLaws → (source : Option Told) (words : List (List ℕ)) (first second : Reply) →
-    is_some source ≡ true → Replies source words first → Replies source words second → first.status ≡ second.status
+    is_some source ≡ true → Replies source words first → Replies source words second →
+    (first.status ≡ second.status) × (IsNoGraph words → first ≡ second)
 one_reply laws None words first second tells one other = absurd (false≢true tells)
-one_reply laws (Some told) words first second tells (a, answers, e) (b, also, f) =
-    ap (λ r. r.status) e ∙ (words-one laws told words a b answers also ∙ ap (λ r. r.status) (sym f))
+one_reply laws (Some told) words first second tells (a, answers, e) (b, also, f) = (
+  ap (λ r. r.status) e ∙ (words-one laws told words a b answers also ∙ ap (λ r. r.status) (sym f)),
+  (λ none. e ∙ (ap reply_of (words-same laws told words a b none answers also) ∙ sym f)),
+)

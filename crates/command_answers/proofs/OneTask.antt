@@ -5,6 +5,7 @@ use Rattle.flow_certificate.specs.declared.faults.FormFault.{FormFault}
 use Rattle.flow_certificate.specs.declared.faults.FormFault.TheVariants.{Line, Memory as NoRoomForCertificate}
 use Rattle.flow_certificate.specs.Certificates.{IsFormFault}
 use Rattle.flow_certificate.specs.Pictures.{picture_of as certificate_of}
+use Rattle.flow_certificate.proofs.OneFault.{one-form_fault}
 use Rattle.flow_graph.specs.declared.graphs.Graph.{Graph}
 use Rattle.max_flow.specs.declared.answers.Solved.{Solved}
 use Rattle.cut_file.specs.Cuts.{CutPicture}
@@ -17,6 +18,7 @@ use Rattle.rv32im_asm.specs.declared.fault.AsmFault.{AsmFault}
 use Rattle.rv32im_asm.specs.Assembling.{assembled}
 use Rattle.command_words.specs.CommandLines.{Check, Run, Command, Checks, Tells, Assembles, Lists, Verifies, Migrates, Tries}
 use Rattle.command_answers.specs.declared.refusals.Refusal.{Refusal}
+use Rattle.command_answers.specs.declared.refusals.Refusal.TheVariants.{Certificate, Source}
 use Rattle.command_answers.specs.Checks.{CheckTask}
 use Rattle.command_answers.specs.Guests.{Guest, GuestFiles, IsGuest, IsGuestRefusal}
 use Rattle.command_answers.specs.Refusals.{IsCutRefusal, IsProgramRefusal}
@@ -66,6 +68,35 @@ no-check-fault laws check files task refusal is refused =
     refusal) same.guests refused.first in
     no-first-fault laws is.guest_files is.cut_file task refusal is.guest is.cut
     (subst (λ c. FirstRefusal is.guest_files c refusal) same.cuts first)
+
+one-first : RegionLaws → (guest_files : GuestFiles) (cut_file : List ℕ) (first second : Refusal) →
+    FirstRefusal guest_files cut_file first → FirstRefusal guest_files cut_file second → first ≡ second
+one-first laws guest_files cut_file first second (inl is) (inl also) =
+    (guest_reading laws guest_files).refused first second is also
+one-first laws guest_files cut_file first second (inl is) (inr (guest, alike, also)) =
+    absurd ((guest_reading laws guest_files).none guest first alike is)
+one-first laws guest_files cut_file first second (inr (guest, alike, is)) (inl also) =
+    absurd ((guest_reading laws guest_files).none guest second alike also)
+one-first laws guest_files cut_file first second (inr (guest, alike, is)) (inr (other, same, also)) =
+    (cut_reading cut_file).refused first second is also
+
+one-check-fault : RegionLaws → (check : Check) (files : List (List ℕ)) (first second : Refusal) →
+    IsCheckRefusal check files first → IsCheckRefusal check files second → first ≡ second
+one-check-fault laws check files first second one other =
+    let same = same_check_files check.guest files one.guest_files other.guest_files one.cut_file other.cut_file one.secrets
+    other.secrets one.are other.are in
+    let here : FirstRefusal other.guest_files one.cut_file first = subst (λ f. FirstRefusal f one.cut_file first)
+    same.guests one.first in
+    one-first laws other.guest_files other.cut_file first second
+    (subst (λ c. FirstRefusal other.guest_files c first) same.cuts here) other.first
+
+one-run-fault : RegionLaws → (run : Run) (files : List (List ℕ)) (first second : Refusal) →
+    IsRunFilesRefusal run files first → IsRunFilesRefusal run files second → first ≡ second
+one-run-fault laws run files first second one other =
+    let same = same_run_files run.guest files one.guest_files other.guest_files (one.secret ∷ []) (other.secret ∷ [])
+    one.are other.are in
+    (guest_reading laws other.guest_files).refused first second
+    (subst (λ f. IsGuestRefusal f first) same.guests one.first) other.first
 
 first-status : (guest_files : GuestFiles) (cut_file : List ℕ) (refusal : Refusal) →
     FirstRefusal guest_files cut_file refusal → status_of (Err refusal) ≡ 3
@@ -159,6 +190,27 @@ no-task-fault laws (Migrates cut) files task refusal (file, x, are, is, e) (also
     (subst (λ v. IsCutRefusal v refusal) (one-file files also file alike are) first)
 no-task-fault laws (Tries number) files task refusal e refused = refused
 
+err-err : (a b : AsmFault) (result : Result Picture AsmFault) → result ≡ Err a → result ≡ Err b → a ≡ b
+err-err a b result e f = cc
+
+one-form-fault : RegionLaws → (command : Command) (files : List (List ℕ)) (first second : Refusal) →
+    IsFormRefusal command files first → IsFormRefusal command files second → first ≡ second
+one-form-fault laws (Checks check) files first second one other = one-check-fault laws check files first second one other
+one-form-fault laws (Tells telling run) files first second one other = one-run-fault laws run files first second one other
+one-form-fault laws (Assembles source) files first second (file, are, (fault, is, e)) (also, alike, (other, was, f)) =
+    let here : assembled also ≡ Err fault = ap assembled (one-file files also file alike are) ∙ is in
+    e ∙ (ap (λ x. Source x) (err-err fault other (assembled also) here was) ∙ sym f)
+one-form-fault laws (Lists program) files first second (file, are, is) (also, alike, was) =
+    (program_reading also).refused first second
+    (subst (λ v. IsProgramRefusal v first) (one-file files file also are alike) is) was
+one-form-fault laws (Verifies certificate) files first second (file, are, (fault, is, e)) (also, alike, (other, was, f)) =
+    let here : IsFormFault also fault = subst (λ v. IsFormFault v fault) (one-file files file also are alike) is.0 in
+    e ∙ (ap (λ x. Certificate x) (one-form_fault also fault other here was.0 is.1 was.1) ∙ sym f)
+one-form-fault laws (Migrates cut) files first second (file, are, is) (also, alike, was) =
+    (cut_reading also).refused first second
+    (subst (λ v. IsCutRefusal v first) (one-file files file also are alike) is) was
+one-form-fault laws (Tries number) files first second one other = absurd one
+
 pub form-status : (command : Command) (files : List (List ℕ)) (refusal : Refusal) →
     IsFormRefusal command files refusal → status_of (Err refusal) ≡ 3
 form-status (Checks check) files refusal is = first-status is.guest_files is.cut_file refusal is.first
@@ -174,5 +226,5 @@ pub task_reading : RegionLaws → (command : Command) (files : List (List ℕ)) 
 task_reading laws command files = record {
   one = same-task laws command files;
   none = no-task-fault laws command files;
-  status = λ first second is also. form-status command files first is ∙ sym (form-status command files second also);
+  refused = one-form-fault laws command files;
 }

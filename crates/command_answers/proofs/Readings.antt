@@ -16,7 +16,7 @@ AreOne first second = status_of first ≡ status_of second
 pub record IsReading (A : Type 0) (Is : A → Type 0) (IsRefused : Refusal → Type 0) : Type 0 where
   pub one : (a b : A) → Is a → Is b → a ≡ b
   pub none : (a : A) (refusal : Refusal) → Is a → IsRefused refusal → ⊥
-  pub status : (first second : Refusal) → IsRefused first → IsRefused second → AreOne (Err first) (Err second)
+  pub refused : (first second : Refusal) → IsRefused first → IsRefused second → first ≡ second
 
 -- what is known to be read is answered
 pub reads_it : (A : Type 0) (Is : A → Type 0) (IsRefused : Refusal → Type 0) (Answers : A → Answer → Type 0) →
@@ -26,16 +26,17 @@ reads_it A Is IsRefused Answers law it answer is (inl (refusal, refused, e)) = a
 reads_it A Is IsRefused Answers law it answer is (inr (other, also, answers)) =
     subst (λ x. Answers x answer) (law.one other it also is) answers
 
--- two answers are one where those to what is read are
-pub reads_one : (A : Type 0) (Is : A → Type 0) (IsRefused : Refusal → Type 0) (Answers : A → Answer → Type 0) →
-    IsReading A Is IsRefused → (first second : Answer) →
-    ((it : A) → Is it → Answers it first → Answers it second → AreOne first second) →
-    Reads Is IsRefused Answers first → Reads Is IsRefused Answers second → AreOne first second
-reads_one A Is IsRefused Answers law first second step (inl (refusal, refused, e)) (inl (other, also, f)) =
-    ap status_of e ∙ (law.status refusal other refused also ∙ sym (ap status_of f))
-reads_one A Is IsRefused Answers law first second step (inl (refusal, refused, e)) (inr (it, is, answers)) =
+-- two answers are alike, in whatever way, where those to what is read are
+pub reads_one : (A : Type 0) (Is : A → Type 0) (IsRefused : Refusal → Type 0) (Answers : A → Answer → Type 0)
+    (Alike : Answer → Answer → Type 0) → ((answer : Answer) → Alike answer answer) → IsReading A Is IsRefused →
+    (first second : Answer) → ((it : A) → Is it → Answers it first → Answers it second → Alike first second) →
+    Reads Is IsRefused Answers first → Reads Is IsRefused Answers second → Alike first second
+reads_one A Is IsRefused Answers Alike self law first second step (inl (refusal, refused, e)) (inl (other, also, f)) =
+    let same : first ≡ second = e ∙ (ap (λ r. Err r) (law.refused refusal other refused also) ∙ sym f) in
+    subst (λ answer. Alike first answer) same (self first)
+reads_one A Is IsRefused Answers Alike self law first second step (inl (refusal, refused, e)) (inr (it, is, answers)) =
     absurd (law.none it refusal is refused)
-reads_one A Is IsRefused Answers law first second step (inr (it, is, answers)) other =
+reads_one A Is IsRefused Answers Alike self law first second step (inr (it, is, answers)) other =
     step it is answers (reads_it A Is IsRefused Answers law it second is other)
 
 -- an answer with status 0 or 1 is none of a refusal of a greater status

@@ -10,7 +10,8 @@ use Rattle.lockstep_replay.specs.Tasks.{Task as JudgedTask, Limits}
 use Rattle.measuring.specs.Measures.{HasCause}
 use Rattle.run_labels.specs.declared.faults.MeasureFault.{MeasureFault}
 use Rattle.run_labels.specs.declared.faults.MeasureFault.TheVariants.{Memory as NoRoomForRun}
-use Rattle.command_words.specs.CommandLines.{Command, IsCommand}
+use Rattle.command_words.specs.declared.tellings.Telling.TheVariants.{Certificate}
+use Rattle.command_words.specs.CommandLines.{Run, Command, Tells, IsCommand}
 use Rattle.command_answers.specs.Checks.{judged_by}
 use Rattle.command_answers.specs.Loading.{loaded_from}
 use Rattle.command_answers.specs.MeasuredHeadline.{HasAccepted}
@@ -22,10 +23,16 @@ use Rattle.command_answers.specs.Trials.{run_of_number}
 
 -- ---- one reply
 
+-- the words ask for no certificate of a run: a graph may have more than one maximum flow
+abbrev pub IsNoGraph : List (List ℕ) → Type 0
+IsNoGraph words = (run : Run) → ¬ IsCommand words (Tells Certificate run)
+
+-- the status and the text are one, but for a certificate of a run, of which the status is
 abbrev pub OneReply : Type 0
 OneReply =
     (source : Option Told) (words : List (List ℕ)) (first second : Reply) → is_some source ≡ true
-    → Replies source words first → Replies source words second → first.status ≡ second.status
+    → Replies source words first → Replies source words second
+    → (first.status ≡ second.status) × (IsNoGraph words → first ≡ second)
 
 -- ---- the status of a command
 
