@@ -290,15 +290,15 @@ module _ (table : ℕ) (task : Task) (limits : Limits) (secret other : List ℕ)
       (ap (λ (p : Place). p.broken) (sym there) ∙ turned.known.unbroken)
       (subst (λ (p : Place). HasExited p.state output) there exits) turned.within
       (λ turn below exposed.
-          let at = follows_at (last ∷ answers) are fine turn below exposed in record {
-            place = at.0;
-            uses = subst (λ z. Uses (Replay task.enclosures task.masks
-                (common_turns task.enclosures (suc turn) the_start) z) (Cross task secret (suc turn)) at.0) starts at.1;
-            inside = at.2;
-            mark = at.3;
-          })
+      let at = follows_at (last ∷ answers) are fine turn below exposed in record {
+        place = at.0;
+        uses = subst (λ z. Uses (Replay task.enclosures task.masks
+            (common_turns task.enclosures (suc turn) the_start) z) (Cross task secret (suc turn)) at.0) starts at.1;
+        inside = at.2;
+        mark = at.3;
+      })
       (λ follows.
-          exits_alike (last ∷ answers) output follows.place turned.known exits
-          (subst (λ z. Uses (Replay task.enclosures task.masks
-          (common_turns task.enclosures (suc (length answers)) the_start) z) (Cross task secret (suc (length answers)))
-          follows.place) (sym starts) follows.uses))
+      exits_alike (last ∷ answers) output follows.place turned.known exits
+      (subst (λ z. Uses (Replay task.enclosures task.masks
+      (common_turns task.enclosures (suc (length answers)) the_start) z) (Cross task secret (suc (length answers)))
+      follows.place) (sym starts) follows.uses))
