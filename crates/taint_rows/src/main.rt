@@ -1,7 +1,6 @@
 //! Checks the secrets of a table with one machine, and prints each verdict. What must be printed was found by hand.
 #![tactic(auto)]
 
-mod books;
 mod rows;
 
 use flow_base::DiskFiles;

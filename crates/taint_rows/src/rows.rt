@@ -1,12 +1,12 @@
 ghost use Rattle.std.specs.Prelude.{◌<◌, ◌^◌, length, IfSome};
 
-use crate::books::book_1;
 use cut_file::read_cut;
 use elf32_loader::load_image;
 use enclosure_regions::{Regions, read_regions};
 use flow_base::{Bytes, Files};
 use std::alloc::Global;
 use taint_check::{TaintVerdict, taint};
+use transfer_rules::book_1;
 
 const FILE_LIMIT: u32 = 1_048_576;
 
@@ -60,7 +60,7 @@ pub fn verdict<F: Files>(alloc: Global, files: &mut F, row: &Row<'_>) -> Option<
     let regions = regions_of(alloc, files, row.regions)?;
     let public = Bytes::from_slice(alloc, b"").ok()?;
     let secret = files.load(alloc, row.secret, FILE_LIMIT).ok()?;
-    let book = book_1();
+    let book = book_1!();
     if row.budget > 1_048_576 {
         return None;
     }
