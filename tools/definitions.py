@@ -1,0 +1,161 @@
+#!/usr/bin/env python3
+"""definitions.py NAME .. [--list]
+
+Prints on how many definitions of specs/ a statement stands, in how many files, and how many lines these have, and the
+same of the types of src/: what is read to know what it says. A NAME is a definition, as
+`lockstep_replay.specs.Acceptance.Accept`, or the contract of a function, as `command_answers::flowcheck`: all of its
+`requires` and `ensures`. Of several names the last line says it of all together. `--list` names what is counted.
+
+It reads the crates of the folder in which it is called. A definition stands on what its signature and its body name,
+and on what that names in turn. A name is what the `use` lines of its file bring, or what its file defines; bound names
+are left out, and so is what std and the kit define. Each record, data type and function is one definition, of which a
+variant is a part; a type of src/ counts where specs.declared names it, or a field of a type that counts. A definition
+does not count itself. Lines are those of signature and body, comments inside with them and the one above left out."""
+import argparse
+import pathlib
+import re
+import sys
+
+WORD = r"[A-Za-z_][\w']*(?:-[A-Za-z]\w*)*"
+NAME = re.compile(rf"{WORD}(?:(?:\.|::){WORD})*|[^\s\w(){{}}\[\],;.\"'◌]+")
+HEAD = re.compile(r"(?:(?:abbrev|unfoldable|pub|record|data) )+(?!(?:use|mod) )([^\s:]+)|([\w'◌-]+) :")
+USE = re.compile(r"^\s*(?:pub |ghost )*use ([\w.:]+?)(?:(?:\.|::)\{([^}]*)\}| as (\w+))?;?$", re.M)
+TYPE = re.compile(r"(?:pub(?:\(crate\))? )?(?:struct|enum|trait|type) (\w+)")
+
+
+def bare(text):
+    """A text without what strings and comments say."""
+    return re.sub(r"(?m)(?:--|//).*$", "", re.sub(r'"(?:[^"\\\n]|\\.)*"', '""', text))
+
+
+class Source:
+    """A file: the first and last lines of the definitions in it, its variants, and what its `use` lines bring."""
+
+    def __init__(self, path):
+        self.crate, self.path, self.text = path.parts[1], path, path.read_text()
+        self.lines, self.brings, self.variants = self.text.split("\n"), {}, {}
+        for whole, listed, other in USE.findall(bare(self.text)):
+            module = whole.replace("::", ".").split(".")
+            if not listed:
+                self.brings[other or module[-1]] = module
+            for one in filter(None, map(str.strip, listed.split(","))):
+                name, _, other = one.partition(" as ")
+                self.brings[other or name] = module + [name]
+        self.heads = dict(self.definitions() if path.suffix == ".antt" else self.types())
+
+    def definitions(self):
+        edges = [n for n, line in enumerate(self.lines) if re.match(r"--|use |pub mod|infix", line) or HEAD.match(line)]
+        for first, end in zip(edges, edges[1:] + [len(self.lines)]):
+            if head := HEAD.match(self.lines[first]):
+                name, body = head[1] or head[2], "\n".join(self.lines[first:end]).rstrip()
+                if " data " in self.lines[first]:
+                    self.variants |= dict.fromkeys(re.findall(r"(?m)^  ([\w']+) :", body), name)
+                yield name, (first, first + body.count("\n") + 1)
+
+    def types(self):
+        for first, line in enumerate(self.lines):
+            if found := TYPE.match(line):
+                ends = (n for n in range(first, len(self.lines)) if re.search(r"^\}|;$", self.lines[n]))
+                yield found[1], (first, first + 1 if line.endswith("}") else next(ends) + 1)
+
+    def text_of(self, name):
+        return bare("\n".join(self.lines[slice(*self.heads[name])]))
+
+
+class Crates:
+    """The definitions and types of all crates. One of them is a pair of its file and its name."""
+
+    def __init__(self):
+        paths = [*pathlib.Path("crates").glob("*/specs/**/*.antt"), *pathlib.Path("crates").glob("*/src/**/*.rt")]
+        self.sources, self.stands = {path: Source(path) for path in paths}, {}
+
+    def at(self, folder, parts):
+        """What stands at a path: the longest part of it that is a file, and the name behind that."""
+        for size in range(len(parts) - 1, 0, -1):
+            for end in ".antt", ".rt":
+                source = self.sources.get(folder.joinpath(*parts[:size]).with_suffix(end))
+                name = re.sub(r"Ord$", "", parts[size]) if parts[-1] == "TheImpl" else parts[size]
+                if source and (name in source.heads or name in source.variants):
+                    return source, source.variants.get(name, name)
+                if source and end == ".rt" and name in source.brings:
+                    return self.brought(source.crate, source.brings[name])
+        return None
+
+    def brought(self, crate, parts):
+        """What a path names that stands in a file of a crate; None for std, the kit and whole modules."""
+        if parts[0] == "Rattle":
+            own = parts[3:4] in (["declared"], ["contracts"])
+            return self.at(pathlib.Path("crates", parts[1], "src" if own else "specs"), parts[4 if own else 3:])
+        if parts[0] == "crate":
+            return self.at(pathlib.Path("crates", crate, "src"), parts[1:])
+        return self.at(pathlib.Path("crates", parts[0], "src"), ["lib", *parts[1:]])
+
+    def named(self, source, text):
+        """The definitions and types that a text of a file names."""
+        binders = re.findall(r"[\w' -]+ :(?!:)|λ [\w' -]+\.|\w+ ←|\w+ = ", text)
+        if source.path.suffix == ".antt":
+            binders += re.findall(r"(?m)^(?!abbrev|pub|unfoldable)\S[^=]*(?==)", text)
+        bound = set(re.findall(r"[\w'-]+", " ".join(binders)))
+        for word in NAME.findall(text):
+            parts = re.split(r"\.|::", word)
+            name = parts[0] if re.match(r"\w", parts[0]) else f"◌{parts[0]}◌"
+            if name in bound and not name[0].isupper():
+                continue
+            if name in source.brings:
+                path = source.brings[name]
+                found = self.brought(source.crate, path) or self.brought(source.crate, path + parts[1:2])
+                yield from [found] if found else []
+            elif name in source.heads or name in source.variants:
+                yield source, source.variants.get(name, name)
+
+    def closure(self, found):
+        """All that these stand on, and these."""
+        whole, waiting = set(), set(found)
+        while waiting:
+            source, name = one = waiting.pop()
+            whole.add(one)
+            if one not in self.stands:
+                self.stands[one] = set(self.named(source, source.text_of(name)))
+            waiting |= self.stands[one] - whole
+        return whole
+
+    def below(self, name):
+        """What a definition or a contract stands on, without itself."""
+        crate, _, function = name.partition("::")
+        for source in self.sources.values() if function else []:
+            head = re.search(rf"(?ms)^pub (?:const )?fn {function}\b(.*?)^\{{", source.text)
+            if source.crate == crate and head:
+                clauses = re.search(r"(?ms)^    (requires|ensures).*", head[1])
+                return self.closure(self.named(source, bare(clauses[0]))) if clauses else set()
+        start = None if function else self.brought(None, ["Rattle", *name.split(".")])
+        return self.closure([start]) - {start} if start else sys.exit(f"nothing is named {name}")
+
+
+def lines_of(one):
+    first, last = one[0].heads[one[1]]
+    return last - first
+
+
+def told(some, kind):
+    return f"{len(some):,} {kind}, {len({one[0].path for one in some})} files, {sum(map(lines_of, some)):,} lines"
+
+
+def main():
+    parser = argparse.ArgumentParser(description=__doc__, formatter_class=argparse.RawDescriptionHelpFormatter)
+    parser.add_argument("names", nargs="+", metavar="NAME")
+    parser.add_argument("--list", action="store_true")
+    words = parser.parse_args()
+    crates = Crates()
+    rows = [(name, crates.below(name)) for name in words.names]
+    if len(rows) > 1:
+        rows.append(("together", set().union(*(below for _, below in rows))))
+    for name, below in rows:
+        types = {one for one in below if one[0].path.suffix == ".rt"}
+        print(f"{name}: {told(below - types, 'definitions')}; of src/ {told(types, 'types')}")
+        for one in sorted(below, key=lambda one: (one[0].path, one[0].heads[one[1]])) if words.list else []:
+            print(f"{lines_of(one):6}  {one[0].path}  {one[1]}")
+    return 0
+
+
+if __name__ == "__main__":
+    sys.exit(main())
