@@ -51,6 +51,16 @@ fn regions_of<F: Files>(alloc: Global, files: &mut F, name: &str) -> Option<Regi
     read_regions(alloc, file.as_slice()).ok()
 }
 
+/// The secret of a file.
+fn secret_of<F: Files>(alloc: Global, files: &mut F, name: &str) -> Option<Bytes>
+    ensures { IfSome result (λ secret. length secret < 2 ^ 32) }
+{
+    match files.load(alloc, name, FILE_LIMIT) {
+        Ok(secret) => Some(secret),
+        Err(_) => None,
+    }
+}
+
 /// The verdict on a row.
 pub fn verdict<F: Files>(alloc: Global, files: &mut F, row: &Row<'_>) -> Option<TaintVerdict> {
     let program = files.load(alloc, row.program, FILE_LIMIT).ok()?;
@@ -59,7 +69,7 @@ pub fn verdict<F: Files>(alloc: Global, files: &mut F, row: &Row<'_>) -> Option<
     let cut = read_cut(alloc, text.as_slice()).ok()?;
     let regions = regions_of(alloc, files, row.regions)?;
     let public = Bytes::from_slice(alloc, b"").ok()?;
-    let secret = files.load(alloc, row.secret, FILE_LIMIT).ok()?;
+    let secret = secret_of(alloc, files, row.secret)?;
     let book = book_1!();
     if row.budget > 1_048_576 {
         return None;
