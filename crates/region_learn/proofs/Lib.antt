@@ -25,3 +25,4 @@ pub mod LostBytes
 pub mod BrokenRuns
 pub mod KeptOutputs
 pub mod OneDeclaration
+pub mod PlaceTexts
