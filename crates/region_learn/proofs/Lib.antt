@@ -26,3 +26,4 @@ pub mod BrokenRuns
 pub mod KeptOutputs
 pub mod OneDeclaration
 pub mod PlaceTexts
+pub mod RegisterTexts
