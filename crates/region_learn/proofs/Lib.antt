@@ -27,3 +27,4 @@ pub mod KeptOutputs
 pub mod OneDeclaration
 pub mod PlaceTexts
 pub mod RegisterTexts
+pub mod RegisterLists
