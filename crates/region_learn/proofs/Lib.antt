@@ -28,3 +28,4 @@ pub mod OneDeclaration
 pub mod PlaceTexts
 pub mod RegisterTexts
 pub mod RegisterLists
+pub mod RangeTexts
