@@ -29,3 +29,4 @@ pub mod PlaceTexts
 pub mod RegisterTexts
 pub mod RegisterLists
 pub mod RangeTexts
+pub mod ReadBack
