@@ -25,3 +25,5 @@ pub mod LostBytes
 pub mod BrokenRuns
 pub mod KeptOutputs
 pub mod OneDeclaration
+pub mod LineFeed
+pub mod WrittenData
