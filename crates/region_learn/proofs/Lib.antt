@@ -30,3 +30,5 @@ pub mod RegisterTexts
 pub mod RegisterLists
 pub mod RangeTexts
 pub mod ReadBack
+pub mod LineFeed
+pub mod WrittenData
