@@ -25,3 +25,10 @@ pub mod LostBytes
 pub mod BrokenRuns
 pub mod KeptOutputs
 pub mod OneDeclaration
+pub mod PlaceTexts
+pub mod RegisterTexts
+pub mod RegisterLists
+pub mod RangeTexts
+pub mod ReadBack
+pub mod LineFeed
+pub mod WrittenData

@@ -1,6 +1,7 @@
 ghost use Rattle.std.specs.Prelude.{◌≡◌, IfOk, OnOk, map};
 ghost use Rattle.serde_json.specs.Data.{put as with_member};
 ghost use Rattle.serde_json.specs.View.{members_view, view};
+ghost use Rattle.enclosure_regions.specs.Reading.{Spells};
 ghost use Rattle.region_learn.specs.RegionTexts.{address_data, register_data, range_data, region_data};
 ghost use Rattle.region_learn.specs.RegionTexts.{regions_data, regions_text};
 ghost use Rattle.region_learn.specs.Members.{with_first, with_last};
@@ -147,7 +148,8 @@ fn regions_value(alloc: Global, regions: &[Region]) -> Result<Value, NoMemory>
 /// Regions as the text of a region file: the compact text of one object of JSON (RFC 8259), whose keys ascend, and a line
 /// feed. Its error is want of memory.
 pub fn write_regions(alloc: Global, regions: &Regions) -> Result<Bytes, NoMemory>
-    ensures { IfOk result (λ text. text ≡ regions_text regions.now.items) }
+    ensures text { IfOk result (λ text. text ≡ regions_text regions.now.items) }
+    ensures reads { IfOk result (λ text. Spells text regions.now.items) }
 {
     let value = regions_value(alloc, regions.items.as_slice())?;
     let compact = value.to_string(alloc)?;
