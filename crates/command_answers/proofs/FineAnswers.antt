@@ -125,6 +125,34 @@ task-fine (MigrateCut cut) answer e = made answer (low-as answer _ e (omega arit
 task-fine (TryNumber number) answer h =
     run-fine (run_of_number number) (TellsTrial number) answer (λ measured e. ap status_of e) h
 
+-- a task that is made blames no load
+
+run-status : (run : RunTask) (Answers : Measured → Answer → Type 0) (answer : Answer) →
+    ((measured : Measured) → Answers measured answer → status_of answer ≡ 0) → AnswersRun run Answers answer →
+    status_of answer ≤ 4
+run-status run Answers answer done (inl (refusal, (fault, first, is), e)) =
+    subst (λ a. status_of a ≤ 4) (sym (e ∙ ap Err is)) (omega arith)
+run-status run Answers answer done (inr (measured, is, answers)) =
+    let zero = done measured answers in omega (arith, zero)
+
+task-status : (task : Task) (answer : Answer) → AnswersTask task answer → status_of answer ≤ 4
+task-status (JudgeSecrets task) answer e = let low = low-as answer _ e (low-either _) in omega (arith, low)
+task-status (TellRun telling run) answer h =
+    run-status run (Tells telling) answer (λ measured (text, is, e). ap status_of e) h
+task-status (WriteProgram picture) answer e = let low = low-as answer _ e (omega arith) in omega (arith, low)
+task-status (ListProgram picture) answer e = let low = low-as answer _ e (omega arith) in omega (arith, low)
+task-status (VerifyCertificate graph solved) answer (verdict, is, e) =
+    let low = low-as answer _ e (verdict-low verdict) in omega (arith, low)
+task-status (MigrateCut cut) answer e = let low = low-as answer _ e (omega arith) in omega (arith, low)
+task-status (TryNumber number) answer h =
+    run-status (run_of_number number) (TellsTrial number) answer (λ measured e. ap status_of e) h
+
+pub task_blames_no_load : (task : Task) (answer : Answer) (name : List ℕ) → AnswersTask task answer →
+    answer ≡ Err (Load name) → ⊥
+task_blames_no_load task answer name answers e =
+    let low : status_of (Err (Load name)) ≤ 4 = subst (λ a. status_of a ≤ 4) e (task-status task answer answers) in
+    omega (arith, low)
+
 files-fine : (command : Command) (files : List (List ℕ)) (answer : Answer) → AnswersFiles command files answer →
     IsFine answer
 files-fine command files answer (inl (refusal, is, e)) =

@@ -2,6 +2,7 @@ use Rattle.std.proofs.Common.{◌≡◌, ◌≢◌, ◌∙◌, Ok, Err, None, in
 use Rattle.std.proofs.lemmas.Grind.{common_steps}
 use Rattle.command_words.specs.Words.{command_of}
 use Rattle.command_answers.specs.ReadTasks.{task_in}
+use Rattle.command_answers.proofs.FineAnswers.{task_blames_no_load}
 use Rattle.command_answers.proofs.Refusing.{err_apart, known_refusal}
 use Rattle.command_answers.proofs.answering.answer.Goals as goal
 
@@ -71,3 +72,7 @@ returns-clause-answers g c = λ known.
         ),
       ),
     )
+
+pub returns-clause-cause : goal.returns-clause-cause
+returns-clause-cause g c = λ name e.
+    absurd (task_blames_no_load (task_in c.in_ok-task.task) c.answer_task.result name (c.answer_task.ensures (λ same. cc)) e)
