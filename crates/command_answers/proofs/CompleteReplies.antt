@@ -1,5 +1,5 @@
 -- Which status a command has where its files are loaded and well formed.
-use Rattle.std.proofs.Common.{◌≡◌, ◌≤◌, ◌∙◌, ◌==◌, inl, inr, ℕ, List, [], ◌∷◌, length, Bool, true, false, Option, Some, None, Result, Ok, Err, refl, sym, ap, subst, arith, if◌then◌else◌}
+use Rattle.std.proofs.Common.{◌≡◌, ◌≤◌, ◌==◌, inl, inr, ℕ, List, [], ◌∷◌, length, Bool, true, false, Option, Some, None, Result, Ok, Err, refl, sym, ap, subst, arith, if◌then◌else◌}
 use Rattle.std.proofs.lemmas.Bool.Decides.{nat_tests}
 use Rattle.std.specs.List.{AllByRecursion}
 use Rattle.flow_base.specs.Loads.{Told}
@@ -22,7 +22,7 @@ use Rattle.command_answers.specs.Tasks.{Task, JudgeSecrets, TellRun, WriteProgra
 use Rattle.command_answers.specs.Texts.{accepted_count}
 use Rattle.command_answers.specs.Trials.{TellsTrial, run_of_number}
 use Rattle.command_answers.proofs.OneGuest.{RegionLaws}
-use Rattle.command_answers.proofs.OneReply.{Decides, certificate_completes, loads_reading, run_completes, task_decides, telling-done, trial-done, words_reading}
+use Rattle.command_answers.proofs.OneReply.{Decides, certificate_completes, run_completes, task_decides, telling-done, trial-done, words_reading}
 use Rattle.command_answers.proofs.OneTask.{task_reading}
 use Rattle.command_answers.proofs.Readings.{reads_it, status_of}
 

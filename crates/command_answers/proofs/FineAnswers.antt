@@ -1,5 +1,5 @@
 -- The statuses of answers: 0 or 1 of what a command makes, and of refusals those of their kinds, told by one line.
-use Rattle.std.proofs.Common.{◌≡◌, ◌≢◌, ◌≤◌, ◌<◌, ◌∙◌, ◌+◌, Option, codes, inl, inr, ℕ, List, [], ◌∷◌, Bool, true, false, Ok, Err, refl, sym, ap, subst, arith, if◌then◌else◌}
+use Rattle.std.proofs.Common.{◌≡◌, ◌≢◌, ◌≤◌, ◌∙◌, ◌+◌, Option, codes, inl, inr, ℕ, List, [], ◌∷◌, Bool, true, false, Ok, Err, refl, sym, ap, subst, arith, if◌then◌else◌}
 use Rattle.flow_base.specs.Loads.{Told}
 use Rattle.flow_certificate.specs.declared.verdicts.CertVerdict.{CertVerdict}
 use Rattle.flow_certificate.specs.declared.verdicts.CertVerdict.TheVariants.{Verified, Rejected as RejectedBy}
@@ -8,7 +8,7 @@ use Rattle.command_words.specs.CommandLines.{Command}
 use Rattle.command_answers.specs.declared.refusals.Refusal.{Refusal}
 use Rattle.command_answers.specs.declared.refusals.Refusal.TheVariants.{Usage, Load, Program, Regions, Cut, Source, Certificate, Run, TooLarge, Memory}
 use Rattle.command_answers.specs.declared.statuses.Status.TheVariants.{Done, Rejected}
-use Rattle.command_answers.specs.Answers.{Answer, done_by, told}
+use Rattle.command_answers.specs.Answers.{Answer, told}
 use Rattle.command_answers.specs.FileLimits.{limit_of}
 use Rattle.command_answers.specs.Lines.{IsOneLine}
 use Rattle.command_answers.specs.Loading.{Want, IsLoadRefusal}

@@ -1,9 +1,9 @@
 -- The headlines follow from the reply.
-use Rattle.std.proofs.Common.{◌≡◌, ◌≤◌, ◌<◌, ◌∙◌, ◌*◌, ◌==◌, ◌++◌, inl, inr, ℕ, List, [], ◌∷◌, length, Bool, true, false, Option, Some, None, Ok, Err, refl, sym, ap, subst, arith, if◌then◌else◌}
+use Rattle.std.proofs.Common.{◌≡◌, ◌≤◌, ◌<◌, ◌∙◌, ◌*◌, ◌==◌, inl, inr, ℕ, List, [], ◌∷◌, length, Bool, true, false, Option, Ok, Err, refl, sym, ap, subst, arith, if◌then◌else◌}
 use Rattle.std.specs.List.{AllByRecursion}
 use Rattle.flow_base.specs.declared.outputs.Output.{Output}
 use Rattle.flow_base.specs.Loads.{Told}
-use Rattle.cut_file.specs.Cuts.{CutPicture, is_valid}
+use Rattle.cut_file.specs.Cuts.{CutPicture}
 use Rattle.cut_file.specs.Folds.{IsFold}
 use Rattle.cut_file.specs.Pictures.{picture_of as cut_of}
 use Rattle.cut_file.specs.Texts.{CutText as IsTextOfCut, cut_text}
@@ -26,11 +26,10 @@ use Rattle.command_answers.specs.declared.statuses.Status.TheVariants.{Done, Rej
 use Rattle.command_answers.specs.Answers.{Answer, done_by, told}
 use Rattle.command_answers.specs.Checks.{CheckTask, judged_by, judgements_of}
 use Rattle.command_answers.specs.Clauses.{Carries, TellingCarries}
-use Rattle.command_answers.specs.Guests.{Guest}
 use Rattle.command_answers.specs.Headline.{Says, AllSay, IsAmong, AreFewOfAll, AreFew, Headline, limits_of}
 use Rattle.command_answers.specs.Loading.{Want, IsLoadRefusal, Loads, want}
 use Rattle.command_answers.specs.MeasuredHeadline.{HasAccepted, MeasuredHeadline}
-use Rattle.command_answers.specs.Replies.{AnswersCommand, AnswersWords, IsUsage, Replies, Reply, reply_of}
+use Rattle.command_answers.specs.Replies.{AnswersCommand, AnswersWords, IsUsage, reply_of}
 use Rattle.command_answers.specs.Runs.{RunTask, IsCutText, IsInVersion, IsMeasured, IsRunRefusal, Tells as TellsOf, start_of}
 use Rattle.command_answers.specs.Statuses.{number_of}
 use Rattle.command_answers.specs.Tasks.{Task, JudgeSecrets, TellRun, AnswersFiles, AnswersTask, IsCheckTask, IsFormRefusal, IsRunTask, IsTaskOf, wants_of}

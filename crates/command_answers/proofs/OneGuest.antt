@@ -1,5 +1,5 @@
 -- The files of a guest are of one guest, and those of a command are in one order.
-use Rattle.std.proofs.Common.{◌≡◌, ◌∙◌, inl, inr, ℕ, List, [], ◌∷◌, Option, Some, None, is_some, Err, refl, sym, ap, subst}
+use Rattle.std.proofs.Common.{◌≡◌, ◌∙◌, inl, inr, ℕ, List, [], ◌∷◌, Option, Some, None, is_some, Err, refl, sym, ap}
 use Rattle.std.proofs.lemmas.Bool.{false≢true}
 use Rattle.elf32_loader.specs.Pictures.{Picture}
 use Rattle.elf32_loader.specs.Programs.{IsImage}

@@ -23,7 +23,7 @@ use Rattle.command_answers.specs.Checks.{CheckTask}
 use Rattle.command_answers.specs.Guests.{Guest, GuestFiles, IsGuest, IsGuestRefusal}
 use Rattle.command_answers.specs.Refusals.{IsCutRefusal, IsProgramRefusal}
 use Rattle.command_answers.specs.Runs.{RunTask}
-use Rattle.command_answers.specs.Tasks.{Task, JudgeSecrets, TellRun, WriteProgram, ListProgram, VerifyCertificate, MigrateCut, TryNumber, IsCheckRefusal, IsCheckTask, IsFormRefusal, IsRunFilesRefusal, IsRunTask, IsTaskOf}
+use Rattle.command_answers.specs.Tasks.{Task, JudgeSecrets, TellRun, WriteProgram, ListProgram, VerifyCertificate, MigrateCut, IsCheckRefusal, IsCheckTask, IsFormRefusal, IsRunFilesRefusal, IsRunTask, IsTaskOf}
 use Rattle.command_answers.specs.Verifications.{IsCertificate}
 use Rattle.command_answers.proofs.OneCertificate.{one_certificate}
 use Rattle.command_answers.proofs.OneGuest.{RegionLaws, cut_reading, guest-status, guest_reading, program_reading, same_check_files, same_run_files}

@@ -1,6 +1,6 @@
 -- What is read is one thing, and where it is, nothing is wrong with it: so the answers to it are one, and are those to
 -- what it is known to be.
-use Rattle.std.proofs.Common.{◌≡◌, ◌≤◌, ◌<◌, ◌∙◌, inl, inr, ℕ, Ok, Err, sym, ap, subst, arith}
+use Rattle.std.proofs.Common.{◌≡◌, ◌≤◌, ◌<◌, ◌∙◌, inl, inr, ℕ, Err, sym, ap, subst, arith}
 use Rattle.command_answers.specs.declared.refusals.Refusal.{Refusal}
 use Rattle.command_answers.specs.Answers.{Answer, Reads, told}
 use Rattle.command_answers.specs.Statuses.{number_of}

@@ -1,9 +1,9 @@
 -- What the contract of the top call says of a reply, of what is put of it, and of the counts of faults.
-use Rattle.std.proofs.Common.{◌≡◌, ◌≢◌, ◌≤◌, ◌∙◌, ◌↔◌, inl, inr, ℕ, List, length, take, Option, option_map, Err, codes, refl, sym, ap, subst, arith}
+use Rattle.std.proofs.Common.{◌≡◌, ◌≢◌, ◌≤◌, ◌∙◌, inl, inr, ℕ, List, length, take, Option, option_map, Err, codes, refl, sym, ap, subst, arith}
 use Rattle.flow_base.specs.Counts.{Rose}
 use Rattle.flow_base.specs.Loads.{Told}
 use Rattle.flow_base.specs.Puts.{Taken, after_put}
-use Rattle.command_words.specs.CommandLines.{Command, IsCommand, IsNoCommand}
+use Rattle.command_words.specs.CommandLines.{IsNoCommand}
 use Rattle.command_answers.specs.declared.refusals.Refusal.{Refusal}
 use Rattle.command_answers.specs.declared.refusals.Refusal.TheVariants.{Load, Memory, Usage}
 use Rattle.command_answers.specs.declared.replies.Reply.{Reply as MadeReply}

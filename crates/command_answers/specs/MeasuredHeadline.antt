@@ -19,7 +19,7 @@ use Rattle.command_answers.specs.Checks.{judged_by}
 use Rattle.command_answers.specs.Guests.{Guest, GuestFiles, IsGuest}
 use Rattle.command_answers.specs.Headline.{AreGuestHeld}
 use Rattle.command_answers.specs.Replies.{Reply}
-use Rattle.command_answers.specs.Runs.{RunTask, start_of}
+use Rattle.command_answers.specs.Runs.{start_of}
 
 -- a secret is accepted, with some output
 abbrev pub HasAccepted : Task → Limits → List ℕ → Type 0

@@ -1,5 +1,5 @@
 -- What is read of the files of a command line, and the limits of that.
-use Rattle.std.specs.Prelude.{◌≡◌, ◌≤◌, ℕ, List, length, All, option_map}
+use Rattle.std.specs.Prelude.{◌≤◌, ℕ, List, length, All, option_map}
 use Rattle.cut_file.specs.Pictures.{picture_of as cut_of}
 use Rattle.elf32_loader.specs.Images.{picture_of}
 use Rattle.lockstep_replay.specs.Tasks.{Limits as CheckLimits}

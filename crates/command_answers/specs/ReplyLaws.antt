@@ -1,6 +1,6 @@
 -- What holds of all replies: where the file source tells its meanings, words have one; and which status a command has
 -- where its files are loaded and well formed.
-use Rattle.std.specs.Prelude.{◌≡◌, ◌⊎◌, ℕ, ◌≤◌, true, List, [], ◌∷◌, Option, None, Some, is_some, Ok}
+use Rattle.std.specs.Prelude.{◌≡◌, ◌⊎◌, ℕ, ◌≤◌, true, List, Option, None, Some, is_some, Ok}
 use Rattle.std.specs.List.{AllByRecursion}
 use Rattle.flow_base.specs.Loads.{Told}
 use Rattle.flow_certificate.specs.Verdicts.{IsVerified}

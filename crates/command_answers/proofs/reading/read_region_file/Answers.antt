@@ -1,4 +1,4 @@
-use Rattle.std.proofs.Common.{◌≢◌, ◌∙◌, Some, option_map, ap, sym, subst, IfErr}
+use Rattle.std.proofs.Common.{◌≢◌, option_map, sym, subst, IfErr}
 use Rattle.std.proofs.lemmas.Result.{err_from_is_err_and}
 use Rattle.enclosure_regions.specs.Reading.{FirstRegionFault}
 use Rattle.enclosure_regions.specs.declared.region_faults.RegionFault.TheVariants.{Memory as NoRoomForRegions}

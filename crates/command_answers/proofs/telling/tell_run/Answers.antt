@@ -1,6 +1,4 @@
-use Rattle.std.proofs.Common.{◌≡◌, Ok, Err, inl, inr, ap, arith}
-use Rattle.std.proofs.lemmas.Grind.{common_steps}
-use Rattle.command_answers.proofs.Refusing.{known_refusal}
+use Rattle.std.proofs.Common.{Ok, inr, ap}
 use Rattle.command_answers.proofs.telling.tell_run.Goals as goal
 
 pub returns : goal.returns

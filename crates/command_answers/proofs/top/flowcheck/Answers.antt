@@ -1,6 +1,6 @@
-use Rattle.std.proofs.Common.{◌≡◌, ◌∙◌, map, string_bytes, subst, sym}
+use Rattle.std.proofs.Common.{map, string_bytes}
 use Rattle.command_answers.specs.Replies.{reply_of}
-use Rattle.command_answers.proofs.WholeReplies.{faults_put, faults_unanswered, faults_unput, is_reply, put_part, put_whole}
+use Rattle.command_answers.proofs.WholeReplies.{faults_put, is_reply, put_part, put_whole}
 use Rattle.command_answers.proofs.top.flowcheck.Goals as goal
 
 pub returns-in-Ok-put-clause-reply : goal.returns-in-Ok-put-clause-reply

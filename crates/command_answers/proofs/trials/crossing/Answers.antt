@@ -1,8 +1,8 @@
-use Rattle.std.proofs.Common.{◌≡◌, ◌∙◌, List, ℕ, length, subst, sym, ap}
+use Rattle.std.proofs.Common.{◌∙◌, List, ℕ, subst, sym, ap}
 use Rattle.cut_file.specs.Pictures.{picture_of as cut_of}
 use Rattle.lockstep_replay.specs.Acceptance.{Accept}
 use Rattle.lockstep_replay.specs.Tasks.{Cross, Limits}
-use Rattle.lockstep_replay.specs.Verdicts.{Accepts, First}
+use Rattle.lockstep_replay.specs.Verdicts.{First}
 use Rattle.lockstep_replay.proofs.Judging.{accepts_law}
 use Rattle.trial_guests.specs.Secrets.{secret_of}
 use Rattle.command_answers.specs.Checks.{judged_by}
