@@ -26,5 +26,5 @@ returns-clause-reads c =
     written_reads (string_bytes c.in_ok-compact.compact) (view c.in_ok-value.value) c.args.regions.now.items same
     (IsUtf8-string_bytes c.in_ok-compact.compact) written.compact written.order written.reads_back in
     let spells : Spells (string_bytes c.in_ok-compact.compact ++ codes "\n") c.args.regions.now.items =
-    (regions_data c.args.regions.now.items , reads , regions_read_back c.args.regions.now.items c.args.regions.now.keeps_rules) in
+    (regions_data c.args.regions.now.items, reads, regions_read_back c.args.regions.now.items c.args.regions.now.keeps_rules) in
     search (rules, spells)
