@@ -125,13 +125,9 @@ def measure_alone(executable, folder, guest):
     return measured_run([executable, "measure", paths["program"], paths["public"], paths["secret"]] + options, folder)
 
 
-def main():
-    if len(sys.argv) not in (2, 3):
-        print(__doc__, file=sys.stderr)
-        return 2
-    executable = os.path.abspath(sys.argv[1])
-    turns = int(sys.argv[2]) if len(sys.argv) == 3 else 2_000_000
-    rows = [
+def rows(turns):
+    """The guests to be measured, by name, with about so many turns."""
+    return [
         ("tight loop", tight_loop(turns // 2)),
         ("the same, ten times", tight_loop(5 * turns)),
         ("beside 256 regions", beside_regions(turns // 2)),
@@ -144,9 +140,17 @@ def main():
         ("4,000,000 in a row", straight(4_000_000)),
         ("clean, then secret", turning_secret(1_000_000)),
     ]
+
+
+def main():
+    if len(sys.argv) not in (2, 3):
+        print(__doc__, file=sys.stderr)
+        return 2
+    executable = os.path.abspath(sys.argv[1])
+    turns = int(sys.argv[2]) if len(sys.argv) == 3 else 2_000_000
     print(f"{'guest':24}{'turns':>12}{'bits':>6}{'measure':>10}{'check':>9}{'times':>7}{'memory of both':>22}")
     with tempfile.TemporaryDirectory() as folder:
-        for name, guest in rows:
+        for name, guest in rows(turns):
             measured, most, checked, other, bits, cut = measure_and_check(executable, folder, guest)
             if name == "clean, then secret" and b" 1000000*0x00000000 " not in cut:
                 raise SystemExit(f"the clean visits are missing:\n{cut.decode()[:300]}")
