@@ -1,5 +1,5 @@
-//! Learns the declarations of the runs of a table, and prints each as the text of a region file, or why there is none. What
-//! must be printed was found by hand.
+//! Learns the declarations of the runs of a table, and prints each as the text of a region file, or why there is none. Each
+//! line that must be printed was compared with one that was found by hand.
 #![tactic(auto)]
 
 mod rows;
