@@ -15,3 +15,5 @@ pub mod RunsAgree
 pub mod CleanRuns
 pub mod CleanSecrets
 pub mod FoundRuns
+pub mod DecidedMasks
+pub mod OneVerdict

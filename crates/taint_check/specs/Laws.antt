@@ -1,5 +1,6 @@
--- The law that a secret of which a check with one machine is clean is accepted.
-use Rattle.std.specs.Prelude.{◌≡◌, ℕ, Bool, true, List}
+-- The laws of a check with one machine: a secret of which it is clean is accepted, and by table 1 or 2 it has one
+-- verdict.
+use Rattle.std.specs.Prelude.{◌≡◌, ◌⊎◌, ℕ, Bool, true, List}
 use Rattle.cut_file.specs.Cuts.{CutPicture, is_valid as is_valid_cut}
 use Rattle.elf32_loader.specs.Pictures.{Picture}
 use Rattle.enclosure_regions.specs.declared.region_parts.Region.{Region}
@@ -23,3 +24,14 @@ CleanLaw =
 abbrev pub IsAcceptedIfClean : Task → Limits → List ℕ → Finding → Type 0
 IsAcceptedIfClean task limits secret (IsClean bits output) = First task limits secret ≡ Accepts bits output
 IsAcceptedIfClean task limits secret (IsUnclear why) = Unit {0}
+
+-- tables 1 and 2 say what each answer of a mask rule is; of the answers of other books nothing but their soundness is
+-- known
+abbrev pub IsDeciding : ℕ → Type 0
+IsDeciding table = (table ≡ 1) ⊎ (table ≡ 2)
+
+-- by such a table two verdicts on a secret are one, whatever the lists of answers
+abbrev pub OneVerdict : Type 0
+OneVerdict =
+    (table : ℕ) (task : Task) (limits : Limits) (secret : List ℕ) (first second : Finding) → IsDeciding table →
+    IsVerdict table task limits secret first → IsVerdict table task limits secret second → first ≡ second

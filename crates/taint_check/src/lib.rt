@@ -12,6 +12,6 @@ mod verdicts;
 mod whys;
 
 pub use checking::taint;
-pub use laws::clean_secrets_are_accepted;
+pub use laws::{clean_secrets_are_accepted, verdicts_are_one};
 pub use verdicts::TaintVerdict;
 pub use whys::TaintWhy;
