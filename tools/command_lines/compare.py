@@ -17,8 +17,11 @@ from concurrent.futures import ThreadPoolExecutor
 
 RUN = ("--turns", "--regions")
 MEASURED = RUN + ("--rules",)
-OPTIONS = {"check": RUN, "measure": MEASURED + ("--cut",), "graph": MEASURED, "report": MEASURED, "asm": (), "list": (),
-           "verify": (), "migrate": (), "trial": ()}
+OPTIONS = {"check": RUN, "taint": MEASURED, "measure": MEASURED + ("--cut",),
+           "graph": MEASURED, "report": MEASURED, "learn": ("--turns",), "asm": (), "list": (), "verify": (),
+           "migrate": (), "trial": ()}
+COUNTS = {"check": (5, 68), "taint": (5, 68), "measure": (3, 3), "graph": (3, 3), "report": (3, 3),
+          "learn": (4, 4)}
 FLAGS = {"report": ("--json",)}
 
 
@@ -58,16 +61,16 @@ def first_file(words):
         return None
     if words[0] == "trial":
         return "" if len(plain) == 1 and number(plain[0], 0, 4_294_967_295) else None
-    if words[0] == "check":
-        return plain[0] if 5 <= len(plain) <= 68 and number(plain[3], 0, 1_048_576) else None
-    count = 3 if words[0] in ("measure", "graph", "report") else 1
-    return plain[0] if len(plain) == count else None
+    least, most = COUNTS.get(words[0], (1, 1))
+    if not least <= len(plain) <= most:
+        return None
+    return None if words[0] in ("check", "taint") and not number(plain[3], 0, 1_048_576) else plain[0]
 
 
 ODD = ["", "-", "--", "-x", "--help", "--version", "--json", "--json=", "--json=v", "--turns", "--turns=", "--turns=5",
        "--regions", "--regions=", "--regions=r", "--regions=-r", "--regions=a=b", "--rules", "--rules=2", "--rules=3",
        "--cut=2", "--cut=02", "--turns=05", "--turns=0", "--turns=20000001", "--turn=5", "a=b", "=", "=5", "-t=5", "05",
-       "1048577", "+5", " 5", "check", "report"]
+       "1048577", "+5", " 5", "check", "report", "taint", "learn"]
 
 
 def option(rng):
@@ -84,14 +87,15 @@ def option(rng):
 
 def trial(rng):
     """Words that are nearly a command line."""
-    command = rng.choice(["check"] * 6 + ["measure", "graph", "report"] * 2
+    command = rng.choice(["check"] * 4 + ["taint", "measure", "graph", "report", "learn"] * 2
                          + ["asm", "list", "verify", "migrate", "help", "trial"])
-    if command == "check":
+    if command in ("check", "taint"):
         budget = rng.choice(["0", "8", "1048576"] * 4 + ["1048577", "08", "-8", "", "x", "4294967296"])
         count = rng.choice([1, 1, 2, 3, 64] * 3 + [0, 65])
         parts = [["prog"], ["public"], ["cut"], [budget]] + [["s%d" % i] for i in range(count)]
-    elif command in ("measure", "graph", "report"):
-        parts = [["prog"], ["public"], ["secret"], ["more"]][:rng.choice([3, 3, 3, 2, 4])]
+    elif command in ("measure", "graph", "report", "learn"):
+        count = rng.choice([3, 3, 3, 2, 4]) + (command == "learn")
+        parts = [["prog"], ["public"], ["secret"], ["more"], ["most"]][:count]
     elif command == "trial":
         parts = [[rng.choice(["0", "6", "99", "06", "4294967296", "-1", "x"])]] * rng.choice([1, 1, 1, 0, 2])
     else:

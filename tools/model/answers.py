@@ -4,8 +4,10 @@ import re
 from certificates import verify
 from cuts import read_cut, read_regions
 from guest import Image
+from learns import NotLearnt, learn, regions_text
 from measures import Measured, Refused
 from refusals import cut_fault, is_number, program_fault, regions_fault
+from taints import find, taint_answer
 from verdicts import MOST_BUDGET, USUAL_TURNS, Command, answer
 from worked_trial import trial_line
 
@@ -17,11 +19,14 @@ OPTIONS = {
     "graph": {"--regions", "--turns", "--rules"},
     "report": {"--regions", "--turns", "--rules"},
     "check": {"--regions", "--turns"},
+    "taint": {"--regions", "--turns", "--rules"},
+    "learn": {"--turns"},
     "verify": set(),
     "migrate": set(),
     "trial": set(),
 }
-PLAIN = {"measure": (3, 3), "graph": (3, 3), "report": (3, 3), "check": (5, 4 + MOST_SECRETS)}
+CHECKED = 5, 4 + MOST_SECRETS
+PLAIN = {"measure": (3, 3), "graph": (3, 3), "report": (3, 3), "check": CHECKED, "taint": CHECKED, "learn": (4, 4)}
 
 
 class Ended(Exception):
@@ -64,7 +69,7 @@ def are_in_range(command, plain, options):
     if not least <= len(plain) <= most:
         return False
     numbers = [(options[name], *bounds) for name, bounds in NUMBERS.items() if name in options]
-    numbers += [(plain[3], 0, MOST_BUDGET)] if command == "check" else []
+    numbers += [(plain[3], 0, MOST_BUDGET)] if command in ("check", "taint") else []
     numbers += [(plain[0], 0, MOST_WORD)] if command == "trial" else []
     return all(is_number(*number) for number in numbers)
 
@@ -115,8 +120,8 @@ def run_text(measured, command, options):
     return (cut.folded() if options.get("--cut") == "2" else cut).text()
 
 
-def check_answer(files, words, plain, options):
-    """The answer of `check`."""
+def checked_of(files, words, plain, options):
+    """What `check` and `taint` look at."""
     program, public, cut, _, *secrets = plain
     regions = options.get("--regions")
     loads = [(program, PROGRAM), (public, PUBLIC), (cut, TEXT), *([(regions, REGIONS)] if regions else [])]
@@ -124,8 +129,33 @@ def check_answer(files, words, plain, options):
     require("program", program_fault(files[program]))
     require("regions", regions and regions_fault(files[regions]))
     require("cut", cut_fault(files[cut]))
-    command = Command(files, words[1:])
+    return Command(files, words[1:])
+
+
+def check_answer(files, words, plain, options):
+    """The answer of `check`."""
+    command = checked_of(files, words, plain, options)
     return answer(command.judgements(), command.budget)
+
+
+def findings_of(files, words, plain, options):
+    """What `taint` finds of each secret, and its budget."""
+    command, table = checked_of(files, words, plain, options), int(options.get("--rules", 1))
+    rest = command.regions, command.cut, table, command.budget, command.limit
+    return [find(command.image, command.public, secret, *rest) for secret in command.secrets], command.budget
+
+
+def learn_answer(files, plain, options):
+    """The answer of `learn`."""
+    program, public, secret, regions = plain
+    load(files, [(program, PROGRAM), (public, PUBLIC), (regions, REGIONS), (secret, SECRET)])
+    require("program", program_fault(files[program]))
+    require("regions", regions_fault(files[regions]))
+    listed, limit = read_regions(files[regions]), int(options.get("--turns", USUAL_TURNS))
+    try:
+        return 0, regions_text(learn(Image(files[program]), files[public], files[secret], listed, limit))
+    except NotLearnt as fault:
+        raise Ended(4, f"refused 4 {fault}\n") from None
 
 
 def migrate_answer(files, name):
@@ -141,6 +171,10 @@ def answer_to(files, words):
         command, plain, options = read_words(words)
         if command == "check":
             return check_answer(files, words, plain, options)
+        if command == "taint":
+            return taint_answer(*findings_of(files, words, plain, options))
+        if command == "learn":
+            return learn_answer(files, plain, options)
         if command == "trial":
             return 0, trial_line(int(plain[0]))
         if command == "migrate":

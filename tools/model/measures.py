@@ -18,48 +18,70 @@ class Refused(Exception):
 class MeasuredRun:
     """A real run with labels: its passings, the number of its turns and its status. It is refused where it stops."""
 
+    refusal = Refused
+
     def __init__(self, guest, table, limit):
         self.guest, self.passings = guest, Passings()
-        self.labels = Labels(table, self.passings)
+        self.labels = self.labelled(table)
         self.turns, self.status = 0, None
         while self.status is None:
             if self.turns == limit:
-                raise Refused(f"turns {limit}")
+                raise self.refusal(f"turns {limit}")
             self.make_turn()
             self.turns += 1
 
+    def labelled(self, table):
+        """The labels at the start."""
+        return Labels(table, self.passings)
+
     def make_turn(self):
         """Makes one turn, and then follows it with labels."""
-        guest, kind, region, instruction, visits = self.guest, self.guest.kind(), self.guest.entered, None, []
+        self.make_labelled_turn()
+
+    def make_labelled_turn(self):
+        """Makes one turn, and then follows it with labels; its visits."""
+        guest, kind, region, instruction = self.guest, self.guest.kind(), self.guest.entered, None
         if kind == "enter":
             self.look_at_bases(guest.by_enter[guest.pc])
         elif kind == "step" and guest.is_inside(guest.pc, 4):
             self.look_at_code()
             instruction = decode(guest.word(guest.pc, 4))
-        try:
-            walk(guest.turn(), lambda visit: visits.append(visit) or visit[3])
-        except GuestExit as exited:
-            self.status = exited.status
-        except (GuestFault, RegionBreak) as stop:
-            raise Refused(str(stop)) from None
+        visits = self.make_walk()
         if kind == "enter":
             self.labels.enter()
         elif kind == "leave":
             self.labels.leave(region, guest.starts, visits)
         else:
             self.labels.step(instruction, visits, guest.registers[10])
+        return visits
+
+    def make_walk(self):
+        """Lets the guest make its turn; its visits."""
+        visits = []
+        try:
+            self.walk(visits)
+        except (GuestFault, RegionBreak) as stop:
+            raise Refused(str(stop)) from None
+        return visits
+
+    def walk(self, visits):
+        """Lets the guest make its turn, and adds its visits."""
+        try:
+            walk(self.guest.turn(), lambda visit: visits.append(visit) or visit[3])
+        except GuestExit as exited:
+            self.status = exited.status
 
     def look_at_bases(self, region):
         """A range must not begin where a secret says."""
         for base, _, _ in region.ranges:
             if base and self.labels.registers[base][0]:
-                raise Refused(f"region {region.number} base x{base} secret")
+                raise self.refusal(f"region {region.number} base x{base} secret")
 
     def look_at_code(self):
         """An instruction must not be made of secrets."""
         pc = self.guest.pc
         if any(self.labels.byte(address)[0] for address in range(pc, pc + 4)):
-            raise Refused(f"secret-code {shown(pc)}")
+            raise self.refusal(f"secret-code {shown(pc)}")
 
 
 class Measured:

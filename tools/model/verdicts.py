@@ -184,14 +184,19 @@ def difference_of(real, turn, replay, bits):
     return None
 
 
-def accepted(judged, bits, real):
-    """The judgement of an accepted secret."""
+def packed_text(bits):
+    """Bits as verdicts show them: the first is the lowest of the first byte."""
     packed = bytearray((len(bits) + 7) // 8)
     for index, bit in enumerate(bits):
         packed[index // 8] |= bit << index % 8
+    return packed.hex() or "-"
+
+
+def accepted(judged, bits, real):
+    """The judgement of an accepted secret."""
     judged.word = "accepted"
     ending = f"output {len(real.guest.output)} status {real.ending[1]}"
-    judged.text = f"bits {len(bits)} crossing {packed.hex() or '-'} {ending}"
+    judged.text = f"bits {len(bits)} crossing {packed_text(bits)} {ending}"
     return judged
 
 

@@ -1,0 +1,211 @@
+#!/usr/bin/env python3
+"""compare_learns.py [EXECUTABLE] [--first SEED] [--count N] [--minimal-each N]
+
+Learns the regions of N random guests (400 without the option) from this seed (1 without it) on, by the model. Of every
+fifth trial, or of as many as --minimal-each says, nothing can be left out: with what is learnt the run breaks no region,
+and without any one register, range or byte, or with an output kept, it breaks as it must. With an executable, its
+`learn` must answer as the model does, and its `check` must say the same of what is left out.
+
+Prints what the trials had, and last how many agree and differ. The files and words of those that differ are kept in a
+folder that is named; then the status is 1."""
+import argparse
+import collections
+import pathlib
+import random
+import re
+import sys
+import tempfile
+
+from answers import answer_to
+from compare_measures import Folder, keep
+from cuts import Cut, read_regions
+from guest import Image, Region
+from learns import regions_text
+from refusals import MOST_RANGES
+from trial_regions import region_file
+from trials import random_guest, spelled, usual_options
+from verdicts import MOST_BUDGET, USUAL_TURNS, real_run
+
+MOST_LEFT_OUT = 400
+
+
+def learn_trial(seed):
+    """The files of a trial by name, and the words behind `learn`."""
+    dice = random.Random(f"learn {seed}")
+    _, file, (_, public, secrets), regions, limit, _ = random_guest(dice, dice.random() < 0.5)
+    _, options = usual_options(dice, [], limit)
+    files = {"program": file, "public": public, "secret": secrets[0], "regions": region_file(dice, regions)}
+    turns = [option for option in options if option[0] == "--turns"]
+    return files, ["program", "public", "secret", "regions", *spelled(dice, turns)]
+
+
+def limit_of(words):
+    """The limit of turns of a trial."""
+    return next((int(re.split("[= ]", " ".join(words[place:]))[1]) for place, word in enumerate(words)
+                 if word.startswith("--turns")), USUAL_TURNS)
+
+
+def whole_cut(files, regions, limit):
+    """A cut at which all of the secret crosses that the run reads: with it both runs are the same."""
+    run = real_run(Image(files["program"]), files["public"], files["secret"], regions, limit)
+    points = {visit[:3] for turn in run.turns for visit in turn.visits if visit[2] == "in"}
+    return Cut(len(files["secret"]), points={point: ([], [(1, 255)]) for point in points})
+
+
+def changed(region, **parts):
+    """A region with other parts."""
+    kept = {"outs": region.outs, "keep": region.keep, "ranges": region.ranges} | parts
+    return Region(region.number, region.enter, region.leave, **kept)
+
+
+def without(items, place):
+    """Items without the one at a place."""
+    return items[:place] + items[place + 1 :]
+
+
+def without_byte(ranges, place, index):
+    """Ranges without a byte of one of them."""
+    _, begin, length = ranges[place]
+    pieces = [(None, begin, index), (None, begin + index + 1, length - index - 1)]
+    return ranges[:place] + [piece for piece in pieces if piece[2]] + ranges[place + 1 :]
+
+
+def shortened(region):
+    """Each way to leave one thing of a region out, with the form of the break that must come."""
+    number = region.number
+    for key in ("outs", "keep"):
+        for place, register in enumerate(getattr(region, key)):
+            form = rf"region {number} undeclared x{register} at 0x[0-9a-f]{{8}}"
+            yield changed(region, **{key: without(getattr(region, key), place)}), form
+    for place, register in enumerate(region.outs):
+        kept = changed(region, outs=without(region.outs, place), keep=[*region.keep, register])
+        yield kept, rf"region {number} keep x{register} before 0x[0-9a-f]{{8}} after 0x[0-9a-f]{{8}}"
+    for place, (_, begin, length) in enumerate(region.ranges):
+        for index in range(length) if len(region.ranges) < MOST_RANGES or length == 1 else (0, length - 1):
+            left = changed(region, ranges=without_byte(region.ranges, place, index))
+            yield left, rf"region {number} undeclared 0x{begin + index:08x} at 0x[0-9a-f]{{8}}"
+        yield changed(region, ranges=without(region.ranges, place)), rf"region {number} undeclared 0x[0-9a-f]{{8}} at .*"
+
+
+def left_out(regions):
+    """Each way to leave one thing out, as regions."""
+    for place, region in enumerate(regions):
+        for other, form in shortened(region):
+            yield regions[:place] + [other] + regions[place + 1 :], form
+
+
+class Minimal:
+    """What is left out of what was learnt, and how a check judges that."""
+
+    def __init__(self, files, words, text):
+        limit = limit_of(words)
+        self.files, self.learnt = dict(files), read_regions(text.encode())
+        self.files["cut"] = whole_cut(files, self.learnt, limit).text().encode()
+        turns = ["--turns", str(limit)]
+        self.words = ["check", "program", "public", "cut", str(MOST_BUDGET), "secret", "--regions", "part", *turns]
+
+    def wrongs(self, judge, dice):
+        """What is wrong with what was learnt, and how many entries were left out."""
+        text = judge(self.with_part(self.learnt))
+        if not text.startswith("accepted 1 "):
+            yield f"what is learnt is judged {text}"
+        parts = list(left_out(self.learnt))
+        for regions, form in dice.sample(parts, min(len(parts), MOST_LEFT_OUT)):
+            line = judge(self.with_part(regions)).split("\n")[0]
+            if not re.fullmatch(f"rejected 1 {form}", line):
+                yield f"{form} is {line}"
+
+    def with_part(self, regions):
+        """The files with these regions."""
+        return self.files | {"part": regions_text(regions).encode()}
+
+
+def judged_by_model(minimal):
+    """How the model judges files."""
+    return lambda files: answer_to(files, minimal.words)[1]
+
+
+def judged_by_program(minimal, executable):
+    """How the program judges files."""
+
+    def judge(files):
+        """The text of `check`."""
+        with tempfile.TemporaryDirectory() as path:
+            return Folder(executable.resolve(), path, files).run(*minimal.words)[1]
+
+    return judge
+
+
+class Comparison:
+    """A comparison of trials."""
+
+    def __init__(self, words):
+        self.words, self.counts, self.differing, self.folder = words, collections.Counter(), 0, None
+
+    def wrongs(self, files, words, expected):
+        """What is wrong with the answers of the program to a trial."""
+        with tempfile.TemporaryDirectory() as path:
+            given = Folder(self.words.executable.resolve(), path, files).run("learn", *words)
+        if given != expected:
+            yield f"learn: {given} for {expected}"
+
+    def minimal_wrongs(self, seed, files, words, text):
+        """What is wrong with what is left out."""
+        minimal, executable = Minimal(files, words, text), self.words.executable
+        judge = judged_by_program(minimal, executable) if executable else judged_by_model(minimal)
+        self.counts["entries left out in turn"] += len(list(left_out(minimal.learnt)))
+        self.counts["guests of which entries are left out"] += bool(list(left_out(minimal.learnt)))
+        yield from minimal.wrongs(judge, random.Random(f"left out {seed}"))
+
+    def try_seed(self, seed):
+        """Makes one trial."""
+        files, words = learn_trial(seed)
+        expected, texts = answer_to(files, ["learn", *words]), []
+        self.count(*expected)
+        if self.words.executable:
+            texts += self.wrongs(files, words, expected)
+        if expected[0] == 0 and seed % self.words.minimal_each == 0:
+            texts += self.minimal_wrongs(seed, files, words, expected[1])
+        if texts:
+            self.differing += 1
+            self.folder = self.folder or pathlib.Path(tempfile.mkdtemp(prefix="flowcheck-learns-"))
+            keep(self.folder, seed, files, ["learn", *words], texts)
+            print(f"trial {seed} differs: {texts[0][:300]}", flush=True)
+
+    def count(self, status, text):
+        """Counts an answer."""
+        if status:
+            words = text.split()[2:]
+            self.counts[f"refused {words[2] if words[0] == 'region' else words[0]}"] += 1
+            return
+        regions = read_regions(text.encode())
+        self.counts["learnt"] += 1
+        self.counts["with regions"] += bool(regions)
+        for key in ("outs", "keep", "ranges"):
+            self.counts[f"with {key}"] += any(getattr(region, key) for region in regions)
+        self.counts["with several ranges"] += any(len(region.ranges) > 1 for region in regions)
+
+    def make(self):
+        """Makes all trials; how many differ."""
+        for seed in range(self.words.first, self.words.first + self.words.count):
+            self.try_seed(seed)
+        for name in sorted(self.counts):
+            print(f"{self.counts[name]:8} {name}")
+        if self.folder:
+            print(f"the trials that differ are in {self.folder}")
+        print(f"{self.words.count - self.differing} agree, {self.differing} differ")
+        return self.differing
+
+
+def main():
+    """Reads the words of the command."""
+    parser = argparse.ArgumentParser(description=__doc__, formatter_class=argparse.RawDescriptionHelpFormatter)
+    parser.add_argument("executable", type=pathlib.Path, nargs="?")
+    parser.add_argument("--first", type=int, default=1, metavar="SEED")
+    parser.add_argument("--count", type=int, default=400, metavar="N")
+    parser.add_argument("--minimal-each", type=int, default=5, metavar="N")
+    return int(Comparison(parser.parse_args()).make() > 0)
+
+
+if __name__ == "__main__":
+    sys.exit(main())

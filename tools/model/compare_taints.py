@@ -1,0 +1,152 @@
+#!/usr/bin/env python3
+"""compare_taints.py [EXECUTABLE] [--first SEED] [--count N]
+
+Looks at the secrets of N random trials (400 without the option) from this seed (1 without it) on with one machine, by
+the model. Half of the cuts are those of the trials of `check`, half are measured of the first secret. Each clean secret
+must be accepted by the model of `check` with the same bits and output. With an executable, its `taint` must answer as
+the model does, and its `check` must accept each clean secret with the same bits and output.
+
+Prints how many secrets had each finding and reason and how many let bits cross at each slot, and last how many trials
+agree and differ. The files and words of those that differ are kept in a folder that is named; then the status is 1."""
+import argparse
+import collections
+import pathlib
+import random
+import sys
+import tempfile
+
+from answers import findings_of, read_words
+from compare_measures import Folder, family, keep
+from cuts import slot_order
+from measures import Measured, Refused
+from taints import taint_answer
+from trials import random_guest, random_trial, spelled, usual_options
+from verdicts import MOST_BUDGET, Command
+
+
+def measured_trial(dice, table):
+    """The files of a trial by name, and the words behind the command: the cut is that of the run on the first secret."""
+    while True:
+        _, file, (image, public, secrets), regions, limit, _ = random_guest(dice, dice.random() < 0.75)
+        try:
+            measured = Measured(image, public, secrets[0], regions, table, limit)
+        except Refused:
+            continue
+        cut = measured.cut() if dice.random() < 0.8 else measured.cut().folded()
+        budget = dice.choice([measured.bits] * 3 + [max(measured.bits - 1, 0), measured.bits + 8, MOST_BUDGET])
+        files = {"program": file, "public": public, "cut": cut.text().encode()}
+        files |= {f"secret{number}": secret for number, secret in enumerate(secrets, 1)}
+        given, options = usual_options(dice, regions, limit)
+        words = ["program", "public", "cut", str(budget), *list(files)[3:], *spelled(dice, options)]
+        return files | given, words
+
+
+def taint_trial(seed):
+    """The files of a trial, the words behind `check`, and those of `taint` beside them."""
+    dice = random.Random(f"taint {seed}")
+    rules = dice.choice([[], ["--rules", "1"], ["--rules=2"], ["--rules", "2"]])
+    is_measured = dice.random() < 0.5
+    made = measured_trial(dice, dice.choice([1, 2])) if is_measured else random_trial(dice.randrange(1 << 40), seed % 2)
+    return *made, rules
+
+
+def reason(finding):
+    """A finding and its reason, without numbers."""
+    words = finding.text.split()
+    if finding.word == "clean":
+        return "clean"
+    if words[0] == "region":
+        return f"unclear region {words[2]}"
+    return f"unclear {words[0]} {words[1] if words[0] == 'guest' else words[3] if words[0] == 'left' else ''}".rstrip()
+
+
+class Counts:
+    """What the trials had."""
+
+    def __init__(self):
+        self.reasons, self.slots, self.others = (collections.Counter() for _ in range(3))
+
+    def add(self, findings, judgements, rules, regions):
+        """Counts the findings of a trial."""
+        for finding, judged in zip(findings, judgements):
+            self.reasons[reason(finding)] += 1
+            self.slots.update({family(slot) for slot in finding.slots})
+            self.others["secrets"] += 1
+            self.others["accepted and not clean"] += judged.word == "accepted" and finding.word == "unclear"
+            if finding.word == "clean":
+                self.others["clean with crossing bits"] += bool(finding.bits)
+                self.others[f"clean by table {rules}"] += 1
+                self.others["clean with regions"] += bool(regions)
+                self.others["clean past a skipped region"] += "skip" in judged.kinds
+                self.others["clean past the leave of a region"] += "leave" in judged.kinds
+
+    def show(self):
+        """Prints the counts."""
+        for name in sorted(self.reasons):
+            print(f"{self.reasons[name]:8} {name}")
+        for slot in sorted(self.slots, key=lambda slot: slot_order(slot.replace("N", "0"))):
+            print(f"{self.slots[slot]:8} clean with bits at {slot}")
+        for name in sorted(self.others):
+            print(f"{self.others[name]:8} {name}")
+
+
+def model_wrongs(findings, judgements):
+    """What is wrong with the findings of the model: a clean secret must be accepted with the same bits and output."""
+    for number, (finding, judged) in enumerate(zip(findings, judgements), 1):
+        if finding.word == "clean" and (judged.word, judged.text) != ("accepted", finding.text):
+            yield f"secret {number} is clean {finding.text}, and {judged.word} {judged.text}"
+
+
+def program_wrongs(folder, findings, budget, words, rules):
+    """What is wrong with the answers of the program."""
+    expected, given = taint_answer(findings, budget), folder.run("taint", *words, *rules)
+    if given != expected:
+        yield f"taint: {given} for {expected}"
+    lines = folder.run("check", *words)[1].split("\n")
+    for number, finding in enumerate(findings, 1):
+        if finding.word == "clean" and f"accepted {number} {finding.text}" not in lines:
+            yield f"check of clean secret {number}: {lines}"
+
+
+def trial_wrongs(seed, executable, counts):
+    """The files and words of a trial, and what is wrong with it."""
+    files, words, rules = taint_trial(seed)
+    parsed = read_words(["taint", *words, *rules])[1:]
+    findings, budget = findings_of(files, ["taint", *words, *rules], *parsed)
+    judgements = Command(files, words).judgements()
+    counts.add(findings, judgements, int(parsed[1].get("--rules", 1)), "--regions" in parsed[1])
+    wrongs = list(model_wrongs(findings, judgements))
+    if executable:
+        with tempfile.TemporaryDirectory() as path:
+            wrongs += program_wrongs(Folder(executable.resolve(), path, files), findings, budget, words, rules)
+    return files, ["taint", *words, *rules], wrongs
+
+
+def compare(words):
+    """Compares the trials; how many differ."""
+    counts, differing, folder = Counts(), 0, None
+    for seed in range(words.first, words.first + words.count):
+        files, command, wrongs = trial_wrongs(seed, words.executable, counts)
+        if wrongs:
+            differing += 1
+            folder = folder or pathlib.Path(tempfile.mkdtemp(prefix="flowcheck-taints-"))
+            keep(folder, seed, files, command, wrongs)
+            print(f"trial {seed} differs: {wrongs[0][:300]}", flush=True)
+    counts.show()
+    if folder:
+        print(f"the trials that differ are in {folder}")
+    print(f"{words.count - differing} agree, {differing} differ")
+    return differing
+
+
+def main():
+    """Reads the words of the command."""
+    parser = argparse.ArgumentParser(description=__doc__, formatter_class=argparse.RawDescriptionHelpFormatter)
+    parser.add_argument("executable", type=pathlib.Path, nargs="?")
+    parser.add_argument("--first", type=int, default=1, metavar="SEED")
+    parser.add_argument("--count", type=int, default=400, metavar="N")
+    return int(compare(parser.parse_args()) > 0)
+
+
+if __name__ == "__main__":
+    sys.exit(main())
