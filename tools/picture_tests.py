@@ -71,6 +71,21 @@ __attribute__((noinline)) static int middle(int x) { sink = x; return leaf(x + 1
 __attribute__((noinline)) static int down(int x) { return x <= 0 ? sink : down(x - 1) + down(x - 2); }
 int main(void) { unsigned char s; read_secret(&s, 1); return (middle(s & 3) + down(s & 3)) & 3; }
 """
+SPREAD = """
+#include "flowcheck.h"
+static volatile unsigned char places[256]; static volatile int seen;
+__attribute__((noinline)) static int spread(int x) { for (int i = 0; i < 85; i++) places[3 * i] = x; return places[9]; }
+__attribute__((noinline)) static int choose(int x) { if (x > 99) { seen = x; places[2] = x; } return x & 1; }
+int main(void) {
+    unsigned char s[2]; read_secret(s, 2);
+    int longest = 0;
+    for (int i = 0; i < s[0]; i++)
+        if (places[i & 7] < s[1])
+            longest = i;
+    return (spread(s[0]) + choose(s[0]) + longest) & 3;
+}
+"""
+LINES = "spread.c:9-11"
 
 
 class Tests:
@@ -291,12 +306,28 @@ class Tests:
                 self.pages.append((f"{function} region by {compiler}", page))
             self.suggestion(compiler, elf, secrets)
             for function in ("main", "missing"):
-                self.expect(f"no region: {function}", output("regions.py", elf, function)[0] == 1)
+                status, _ = self.regions_of(elf, function, "--secret", secrets[0])
+                self.expect(f"no region: {function}", status == 1)
             self.write({"tail.c": TAIL.encode()})
             elf = self.built(compiler, self.path("tail.c"))
             for function, is_region in (("middle", True), ("down", True), ("leaf", False)):
                 status, text = self.regions_of(elf, function, "--secret", secrets[0])
                 self.expect(f"regions: {function} by {compiler}", (status == 0) == is_region, text)
+
+    def test_joined_regions(self):
+        """Regions around lines, what each of several secrets adds, and ranges that are too many, which are joined."""
+        self.write({"spread.c": SPREAD.encode(), "nothing": b"", "low": bytes([3, 1]), "high": bytes([250, 0])})
+        for compiler in compilers():
+            elf = self.built(compiler, self.path("spread.c"))
+            both = ["--secret", self.path("low"), "--secret", self.path("high")]
+            for what, expected in (("spread", "more than 64 ranges"), ("choose", "high: region 1: "), (LINES, "lines ")):
+                status, text = self.regions_of(elf, what, *both)
+                self.expect(f"joined: {what} by {compiler}", status == 0 and expected in text, text)
+                self.write({"regions": text[text.find("{") :].encode()})
+                for name in ("low", "high"):
+                    words = ["report", elf, self.path("nothing"), self.path(name), "--regions", self.path("regions")]
+                    status, report = Program(self.program).answer(words)
+                    self.expect(f"joined: {what} by {compiler} on {name}", status == 0, report)
 
     def regions_of(self, *words):
         """The status and the text of regions.py."""

@@ -1,84 +1,76 @@
-"""Writes a region file around the calls of functions, on standard output.
+"""Writes a region file around calls of functions and lines of sources, on standard output.
 
-Call: regions.py PROG FUNCTION... [--public FILE] [--secret FILE]... [--turns N] [--flowcheck COMMAND]
+Call: regions.py PROG NAME... --secret FILE... [--public FILE] [--turns N] [--code] [--flowcheck COMMAND]
 
-Each call of a named function from elsewhere becomes a region: entered at the call, left at the instruction behind it.
-Registers are declared from the code of the function and of those that it calls: `ra`, `t` and `a` registers as outputs,
-`sp` and `s` registers as kept. Memory is declared from runs, one for each secret: what they write on the stack and
-elsewhere, all at once. At last `measure` is asked for each secret; what it still finds undeclared is added, until it
-finds nothing. Give secrets that take different ways; a run on another way may break the region."""
+  NAME                 a function, each call of which from elsewhere becomes a region: entered at the call, left at the
+                       instruction behind it; or FILE:LINE or FILE:FIRST-LAST, lines of a source whose code becomes one
+  --secret FILE        a secret; may be given more than once
+  --public FILE        the public input; without it, none
+  --turns N            the limit of turns of a run
+  --code               declare also the registers that the code inside may write, though no run did: behind a call
+                       those that the calling convention does not keep are outputs
+  --flowcheck COMMAND  the program; without it crates/flowcheck/out/flowcheck, else `flowcheck`, else the model
+
+What is declared is the least that the runs on these secrets need together, as `learn` says of each: registers that they
+write and give back are kept, others are outputs, and bytes that they write are ranges. Where that makes more than 64
+ranges, the nearest are joined. Standard error says what each secret adds. Give secrets that take different ways: of a
+run on another way nothing is known, and it may break the region."""
 import argparse
 import os
-import re
 import sys
-import tempfile
 
 HERE = os.path.dirname(os.path.abspath(__file__))
 sys.path[:0] = [os.path.join(HERE, "explain"), os.path.join(HERE, "model")]
 
 from answering import Program
 from elf_symbols import ProgramFile
-from guest import shown
 from refusals import program_fault
-from region_finding import NoRegion, enclosures_of, note_run, regions_text
+from region_finding import Calls, NoRegion, enclosures_of
+from region_joining import Declaration, Learner, pretty_text
 from run_facts import read
 from source_lines import Places
 from verdicts import USUAL_TURNS
 
-MOST_ROUNDS = 1000
-REGISTER = re.compile(r"region (\d+) undeclared x(\d+) at 0x[0-9a-f]+")
-BYTE = re.compile(r"region (\d+) undeclared 0x([0-9a-f]+) at 0x[0-9a-f]+")
-KEEP = re.compile(r"region (\d+) keep x(\d+) before .*")
-
 
 def arguments():
     """The words of the command line."""
-    parser = argparse.ArgumentParser(description=__doc__.split("\n")[0])
+    parser = argparse.ArgumentParser(
+        description=__doc__, usage=argparse.SUPPRESS, formatter_class=argparse.RawDescriptionHelpFormatter
+    )
     parser.add_argument("program")
-    parser.add_argument("functions", nargs="+")
+    parser.add_argument("names", nargs="+")
     parser.add_argument("--public", default=os.devnull)
-    parser.add_argument("--secret", action="append", default=[])
+    parser.add_argument("--secret", action="append", required=True)
     parser.add_argument("--turns", type=int, default=USUAL_TURNS)
+    parser.add_argument("--code", action="store_true")
     parser.add_argument("--flowcheck")
     return parser.parse_intermixed_args()
 
 
-def widen(enclosures, text):
-    """Adds what a break says to a declaration; whether it was a break of which that can be done."""
-    for form, names in ((REGISTER, "outs"), (BYTE, "elsewhere"), (KEEP, "keep")):
-        match = form.search(text)
-        if match:
-            enclosure = enclosures[int(match[1]) - 1]
-            value = int(match[2], 16 if form is BYTE else 10)
-            if form is KEEP:
-                enclosure.keep.discard(value)
-                enclosure.outs.add(value)
-            else:
-                getattr(enclosure, names).add(value)
-            return True
-    return False
+def note(text):
+    """Says something on standard error."""
+    print(text, file=sys.stderr)
 
 
-def settle(asked, words, enclosures, secret):
-    """Asks `measure` until the run on a secret keeps its regions; a text where that cannot be had."""
-    for _ in range(MOST_ROUNDS):
-        with tempfile.NamedTemporaryFile("w", suffix=".json") as file:
-            file.write(regions_text(enclosures))
-            file.flush()
-            options = ["--regions", file.name, "--turns", str(words.turns)]
-            status, text = asked.answer(["measure", words.program, words.public, secret, *options])
-        if not status or not widen(enclosures, text):
-            return text.strip() if status else None
-    return "there is no end of breaks"
+def learn_all(learner, declarations, secrets):
+    """Learns what the runs on all secrets need, and says what each adds."""
+    for secret in secrets:
+        learnt = learner.learnt([one.region for one in declarations], secret)
+        for declaration, region in zip(declarations, learnt):
+            added = declaration.add(region)
+            if added:
+                note(f"{os.path.basename(secret)}: region {region.number}: {added}")
 
 
-def tell(enclosure, places):
-    """Says on standard error what a region is."""
-    spans = sum(length for _, _, length in enclosure.ranges())
-    times = f"entered {enclosure.entries} times" if enclosure.entries else "entered by no run: its memory is not known"
-    where = f"the call of {enclosure.function.name} at {shown(enclosure.site)}, {places.at(enclosure.site).text()}"
-    counts = f"{len(enclosure.outs)} registers out, {len(enclosure.keep)} kept, {spans} bytes"
-    print(f"region {enclosure.number}: {where}; {counts}; {times}", file=sys.stderr)
+def tell(number, enclosure, declaration, places):
+    """Says what a region is."""
+    where = f"{enclosure.words}, {places.at(enclosure.enter).text()}"
+    if declaration.is_empty():
+        note(f"region {number}: {where}; no run writes anything in it")
+        return
+    counts = f"{len(declaration.outs)} registers out, {len(declaration.keep)} kept, {len(declaration.bytes)} bytes"
+    joined = f"; more than 64 ranges, the nearest are joined over {declaration.filled} bytes that no run writes"
+    note(f"region {number}: {where}; {counts}{joined if declaration.filled else ''}")
 
 
 def main():
@@ -89,24 +81,23 @@ def main():
         if program_fault(file):
             raise NoRegion(f"refused 3 program {program_fault(file)}")
         program = ProgramFile(file)
-        enclosures = enclosures_of(program, words.functions)
-        for secret in words.secret:
-            fault = note_run(program, read(words.public), read(secret), enclosures, words.turns)
-            if fault:
-                raise NoRegion(f"the run on {secret} does not exit: {fault}")
-        asked = Program(words.flowcheck)
-        faults = [(secret, settle(asked, words, enclosures, secret)) for secret in words.secret]
+        places = Places(words.program, program)
+        enclosures = enclosures_of(program, places, words.names)
+        declarations = [Declaration(one.bare(number)) for number, one in enumerate(enclosures, 1)]
+        calls = Calls(program)
+        learner = Learner(Program(words.flowcheck), program, (words.program, words.public), words.turns)
+        learn_all(learner, declarations, words.secret)
+        for enclosure, declaration in zip(enclosures, declarations):
+            if words.code and not declaration.is_empty():
+                declaration.add_code(*enclosure.may_write(calls), enclosure.is_call)
+        text = pretty_text([declaration.whole() for declaration in declarations])
     except NoRegion as fault:
         raise SystemExit(str(fault)) from None
     except OSError as fault:
         raise SystemExit(f"{fault.filename}: {fault.strerror}") from None
-    places = Places(words.program, program)
-    for enclosure in enclosures:
-        tell(enclosure, places)
-    sys.stdout.write(regions_text(enclosures))
-    refused = [f"{secret}: {fault}" for secret, fault in faults if fault]
-    if refused:
-        raise SystemExit("\n".join(refused))
+    for number, (enclosure, declaration) in enumerate(zip(enclosures, declarations), 1):
+        tell(number, enclosure, declaration, places)
+    sys.stdout.write(text)
 
 
 if __name__ == "__main__":

@@ -1,32 +1,31 @@
-"""Regions around the calls of functions: found in the code, and declared from what runs write inside them."""
-from cuts import NAMES
-from guest import GuestExit, GuestFault, RealGuest, Region, RegionBreak, shown
-from instruction_text import NAMES as REGISTERS
+"""Regions around the calls of functions, around lines of sources and around loops, as they are found in the code."""
+from code_graph import CodeGraph
+from guest import Region, shown
 from instructions import ALL
-from verdicts import walk
 
-RETURN, STACK = 1, 2
-CALLEE_SAVED = {NAMES[name] for name in ["sp", "gp", "tp", *(f"s{index}" for index in range(12))]}
+RETURN = 1
+CALLEE_SAVED = {2, 3, 4, 8, 9, *range(18, 28)}
 CALLER_SAVED = set(range(1, 32)) - CALLEE_SAVED
-MOST_RANGES, MOST_DEPTH = 64, 64
+MOST_MOVED = 6
 
 
 class NoRegion(Exception):
-    """A function cannot be a region; the text says why."""
+    """What is named cannot be a region; the text says why."""
 
 
 class Calls:
     """The calls in a program file: who calls or jumps to whom, and where."""
 
     def __init__(self, program):
-        self.program, self.sites, self.jumps, self.indirect = program, {}, {}, set()
-        before = None
+        self.program, self.sites, self.jumps, self.indirect, self.targets = program, {}, {}, set(), {}
+        self.askers, before = {}, None
         for address in program.addresses():
             instruction = program.instruction(address)
             target = self.target_of(address, instruction, before)
             if target is not None:
                 kept = self.sites if instruction.destination == RETURN else self.jumps
                 kept.setdefault(target, []).append(address)
+                self.targets[address] = target
             elif instruction and instruction.form == "jump_register" and instruction.destination == RETURN:
                 self.indirect.add(address)
             before = instruction
@@ -43,176 +42,148 @@ class Calls:
             return (address - 4 + before.immediate + instruction.immediate) & ALL
         return None
 
-    def callees(self, function):
-        """The functions that a function calls or jumps to."""
-        found = {}
-        for target, sites in [*self.sites.items(), *self.jumps.items()]:
-            if not function.holds(target) and any(function.holds(site) for site in sites):
-                found[target] = self.program.function_at(target)
-        return [callee for callee in found.values() if callee]
-
     def jumps_to(self, function):
         """The jumps from elsewhere to the begin of a function, which are calls without a return."""
         return [site for site in self.jumps.get(function.address, []) if not function.holds(site)]
 
-    def written(self, function, seen=()):
-        """The registers that a function and those that it calls may write, and how much of the stack they take."""
-        if function.address in seen or len(seen) > MOST_DEPTH:
-            return set(), 0
-        registers, frame = set(), 0
-        for address in range(function.address, function.address + function.size, 4):
-            instruction = self.program.instruction(address)
-            if instruction is None:
-                continue
-            if instruction.form == "call":
-                raise NoRegion(f"{function.name} makes a guest call at {shown(address)}")
-            if instruction.form not in ("store", "branch", "fence"):
+    def reached(self, places):
+        """The places with those of all functions that are called or jumped to from there."""
+        found, stack = set(places), sorted(places)
+        while stack:
+            target = self.targets.get(stack.pop())
+            function = None if target is None or target in found else self.program.function_at(target)
+            if function:
+                more = set(range(function.address, function.address + function.size, 4)) - found
+                found |= more
+                stack += sorted(more)
+        return found
+
+    def asks(self, places):
+        """The first guest call in these places and in what is called from there, or None."""
+        asked = [place for place in self.reached(places) if is_form(self.program.instruction(place), "call")]
+        return min(asked, default=None)
+
+    def written(self, places):
+        """The registers that these places, and what is called from there, may write."""
+        registers = set()
+        for place in self.reached(places):
+            instruction = self.program.instruction(place)
+            if instruction and instruction.form not in ("store", "branch", "fence", "call", "breakpoint"):
                 registers.add(instruction.destination)
-            is_frame = instruction.name == "add" and instruction.destination == instruction.first == STACK
-            if is_frame and instruction.form == "immediate":
-                frame += max(0, -instruction.immediate)
-            if address in self.indirect:
-                registers |= CALLER_SAVED
-        deepest = 0
-        for callee in self.callees(function):
-            more, depth = self.written(callee, (*seen, function.address))
-            registers, deepest = registers | more, max(deepest, depth)
-        return registers - {0}, frame + deepest
+            registers |= CALLER_SAVED if place in self.indirect else set()
+        return registers - {0}
+
+
+def is_form(instruction, form):
+    """Whether an instruction is of a form."""
+    return instruction is not None and instruction.form == form
 
 
 class Enclosure:
-    """A region around one call: what is declared so far. Bytes are offsets from sp at the entry, or addresses."""
+    """A region that is found: where it is entered and left, the places inside, what it is about in words, and whether
+    it is a call, which gives back what the calling convention says."""
 
-    def __init__(self, number, site, function, registers, depth):
-        self.number, self.site, self.function, self.depth = number, site, function, depth
-        self.outs = registers & CALLER_SAVED | {RETURN}
-        self.keep = registers & CALLEE_SAVED
-        self.on_stack, self.elsewhere, self.entries = set(), set(), 0
+    def __init__(self, enter, leave, inside, words, is_call):
+        self.enter, self.leave, self.inside, self.words, self.is_call = enter, leave, inside, words, is_call
 
-    def ranges(self):
-        """The memory that is declared, as (base, offset, length)."""
-        below = {offset for offset in self.on_stack if offset < 0}
-        depth = max([self.depth] + [-offset for offset in below])
-        spans = [("sp", -depth, depth)] if depth else []
-        spans += [("sp", begin, length) for begin, length in stretches(self.on_stack - below)]
-        return spans + [(None, begin, length) for begin, length in stretches(self.elsewhere)]
+    def bare(self, number):
+        """The region with no declaration."""
+        return Region(number, self.enter, self.leave)
 
-    def fit(self):
-        """Joins what is nearest to each other, until there are no more ranges than a region may have."""
-        while len(self.ranges()) > MOST_RANGES:
-            gaps = [gap for bytes_of in (self.on_stack, self.elsewhere) for gap in gaps_of(bytes_of)]
-            _, begin, end, bytes_of = min(gaps, key=lambda gap: gap[0])
-            bytes_of.update(range(begin, end))
-
-    def json(self):
-        """The region as it stands in a region file."""
-        self.fit()
-        spans = ", ".join(
-            "{" + (f'"base": "{base}", ' if base else "") + f'"offset": {offset}, "length": {length}' + "}"
-            for base, offset, length in self.ranges()
-        )
-        outs, keep = (", ".join(f'"{REGISTERS[one]}"' for one in sorted(names)) for names in (self.outs, self.keep))
-        return (
-            f'{{"id": {self.number}, "enter": "0x{self.site:x}", "leave": "0x{self.site + 4:x}",\n'
-            f'  "outs": [{outs}],\n  "keep": [{keep}],\n  "ranges": [{spans}]}}'
-        )
+    def may_write(self, calls):
+        """The registers that the code inside may write, as those that it gives back and the others."""
+        written = calls.written(self.inside)
+        kept = written & CALLEE_SAVED if self.is_call else set()
+        return kept, written - kept
 
 
-def stretches(numbers):
-    """Numbers as stretches (first, how many), ascending."""
+def call_enclosure(site, function):
+    """The region around a call of a function."""
+    return Enclosure(site, site + 4, {site}, f"the call of {function.name} at {shown(site)}", True)
+
+
+def around_calls(calls, functions):
+    """A region for each call of these functions from elsewhere."""
     found = []
-    for number in sorted(numbers):
-        if found and number == sum(found[-1]):
-            found[-1][1] += 1
-        else:
-            found.append([number, 1])
-    return found
-
-
-def gaps_of(numbers):
-    """The gaps between the stretches of some numbers: (length, first, behind the last, the numbers)."""
-    spans = stretches(numbers)
-    pairs = zip(spans, spans[1:])
-    return [(later[0] - sum(earlier), sum(earlier), later[0], numbers) for earlier, later in pairs]
-
-
-def enclosures_of(program, names):
-    """An enclosure for each call of the named functions from elsewhere, in the order of their addresses."""
-    calls, found, inside = Calls(program), [], []
-    for name in names:
-        functions = program.functions_named(name)
-        if not functions:
-            raise NoRegion(f"{name} is no function of the program; a compiler may have put its body where it is called")
-        inside += functions
-    for function in inside:
+    for function in functions:
         jumps = ", ".join(map(shown, calls.jumps_to(function)))
         if jumps:
             hint = "no region can be around that; build with -fno-optimize-sibling-calls"
             raise NoRegion(f"{function.name} is called by a jump at {jumps}, and {hint}")
+        asked = calls.asks(range(function.address, function.address + function.size, 4))
+        if asked is not None:
+            raise NoRegion(f"{function.name} makes a guest call at {shown(asked)}")
         sites = calls.sites.get(function.address, [])
-        outer = [site for site in sites if not any(other.holds(site) for other in inside)]
+        outer = [site for site in sites if not any(other.holds(site) for other in functions)]
         if not outer:
             raise NoRegion(f"{function.name} is called nowhere; is it made with __attribute__((noinline))?")
-        found += [(site, function, *calls.written(function)) for site in outer]
-    ordered = sorted(found, key=lambda item: item[0])
-    return [Enclosure(number, *item) for number, item in enumerate(ordered, 1)]
+        found += [call_enclosure(site, function) for site in outer]
+    return found
 
 
-class WritingGuest(RealGuest):
-    """A real run that notes what is written inside regions, and breaks none but by a call."""
-
-    def __init__(self, image, public, secret, enclosures):
-        self.enclosures = {enclosure.number: enclosure for enclosure in enclosures}
-        regions = [Region(enclosure.number, enclosure.site, enclosure.site + 4) for enclosure in enclosures]
-        super().__init__(image, public, secret, regions)
-        self.lowest = 0
-
-    def enter(self):
-        """Enters a region."""
-        super().enter()
-        self.lowest = self.registers[STACK]
-        self.enclosures[self.entered.number].entries += 1
-
-    def declare_register(self, number):
-        """Notes a register."""
-        if self.entered:
-            enclosure = self.enclosures[self.entered.number]
-            if number not in enclosure.outs:
-                (enclosure.keep if number in CALLEE_SAVED else enclosure.outs).add(number)
-
-    def declare_bytes(self, address, width):
-        """Notes bytes: on the stack by their offset, others by their address."""
-        if self.entered is None:
-            return
-        enclosure, pointer = self.enclosures[self.entered.number], self.at_entry[STACK]
-        self.lowest = min(self.lowest, self.registers[STACK])
-        for byte in range(address, address + width):
-            if byte >= self.lowest:
-                enclosure.on_stack.add(byte - pointer)
-            else:
-                enclosure.elsewhere.add(byte)
-
-    def settle_kept(self, region):
-        """A register that is not given back is an output."""
-        enclosure = self.enclosures[region.number]
-        changed = {number for number in enclosure.keep if self.registers[number] != self.at_entry[number]}
-        enclosure.outs |= changed
-        enclosure.keep -= changed
+def around_places(calls, graph, places, words):
+    """The region around some places of a function."""
+    bounds = graph.bounds(places)
+    if bounds is None:
+        raise NoRegion(f"{words} have no one place to enter, or none behind them that every way passes")
+    inside = graph.inside(*bounds)
+    asked = calls.asks(inside)
+    if None in {place for inner in inside for place in graph.followers[inner]}:
+        raise NoRegion(f"{words}: {graph.function.name} may return before {shown(bounds[1])}")
+    if asked is not None:
+        raise NoRegion(f"{words}: there is a guest call at {shown(asked)} before {shown(bounds[1])}")
+    return Enclosure(*bounds, inside, words, False)
 
 
-def note_run(program, public, secret, enclosures, limit):
-    """Makes a run and notes what it writes inside the regions. How it ended, where it did not exit."""
-    guest = WritingGuest(program.image, public, secret, enclosures)
-    for _ in range(limit):
-        try:
-            walk(guest.turn(), lambda visit: visit[3])
-        except GuestExit:
-            return None
-        except (GuestFault, RegionBreak) as stop:
-            return str(stop)
-    return f"turns {limit}"
+def around_most(calls, graph, places, words):
+    """The region around some places of a function, or around all but a few of the first and of the last: compilers move
+    single instructions of a line away from it."""
+    first_fault = None
+    for left_out in range(min(len(places), 2 * MOST_MOVED)):
+        for before in range(max(0, left_out - MOST_MOVED), min(left_out, MOST_MOVED) + 1):
+            kept = set(places[before : len(places) - (left_out - before)])
+            moved = f", without {left_out} of {len(places)} instructions, which stand apart" if left_out else ""
+            try:
+                return around_places(calls, graph, kept, words + moved)
+            except NoRegion as fault:
+                first_fault = first_fault or fault
+    raise first_fault
 
 
-def regions_text(enclosures):
-    """The region file."""
-    return '{"regions": [\n' + ",\n".join(enclosure.json() for enclosure in enclosures) + "\n]}\n"
+def around_lines(calls, places, name, first, last):
+    """The regions around the code of some lines of a source, one in each function that has some."""
+    program, by_function, found = calls.program, {}, []
+    for address in program.addresses():
+        place, function = places.at(address), program.function_at(address)
+        if function and place.file and place.file.endswith(name) and first <= place.line <= last:
+            by_function.setdefault(function.address, set()).add(address)
+    for address, inside in sorted(by_function.items()):
+        function = program.function_at(address)
+        words = f"lines {first} to {last} of {name} in {function.name}"
+        found.append(around_most(calls, CodeGraph(program, function), sorted(inside), words))
+    if not found:
+        raise NoRegion(f"the program has no code of lines {first} to {last} of {name}; is it made with -g?")
+    return found
+
+
+def read_name(calls, places, name):
+    """The regions of a name: of a function, or of FILE:LINE or FILE:LINE-LINE."""
+    file, colon, lines = name.rpartition(":")
+    first, _, last = lines.partition("-")
+    if colon and first.isdigit() and (last or first).isdigit():
+        return around_lines(calls, places, file, int(first), int(last or first))
+    functions = calls.program.functions_named(name)
+    if not functions:
+        raise NoRegion(f"{name} is no function of the program; a compiler may have put its body where it is called")
+    return around_calls(calls, functions)
+
+
+def enclosures_of(program, places, names):
+    """The regions of all names, by the addresses at which they are entered."""
+    calls, by_enter = Calls(program), {}
+    for name in names:
+        for enclosure in read_name(calls, places, name):
+            if enclosure.enter in by_enter:
+                raise NoRegion(f"{enclosure.words} and {by_enter[enclosure.enter].words} are entered at one place")
+            by_enter[enclosure.enter] = enclosure
+    return [enclosure for _, enclosure in sorted(by_enter.items())]

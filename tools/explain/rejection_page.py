@@ -2,15 +2,15 @@
 import shlex
 from os.path import basename as base
 
-from cuts import read_regions
 from document import Commands, Section, Table, Words
 from flow_picture import bits_text
 from guest import shown
 from instruction_text import instruction_text, slot_words
+from learns import NotLearnt, learn
 from measured_page import REFUSALS, outputs_text
 from measures import Measured, Refused
 from pieces_of_code import Marks, listing_blocks, source_blocks
-from region_finding import Calls, Enclosure, NoRegion, note_run, regions_text
+from region_finding import Calls, NoRegion, around_calls
 
 MOST_ROWS = 20
 KINDS = {"enter": "the entry of a region", "leave": "the leave of a region", "skip": "the skip of a region"}
@@ -159,20 +159,15 @@ def mask_of(measured, point):
 
 def region_words(rejection, places):
     """A region around the function in which the two runs part, tried by the model."""
-    program, number = rejection.program, max([region.number for region in rejection.regions], default=0) + 1
-    function = program.function_at(rejection.lockstep.begin)
+    program, function = rejection.program, rejection.program.function_at(rejection.lockstep.begin)
     if not rejection.covers or function is None or function.name in ("main", "_start") or rejection.regions:
         return []
-    calls = Calls(program)
-    sites = [site for site in calls.sites.get(function.address, []) if not function.holds(site)]
+    image, public, secret, *_ = rejection.runs(rejection.cut, 0)
     try:
-        writes = calls.written(function)
-        enclosures = [Enclosure(index, site, function, *writes) for index, site in enumerate(sorted(sites), number)]
-        if not enclosures or note_run(program, rejection.public, rejection.secret, enclosures, rejection.limit):
-            return []
-        regions = read_regions(regions_text(enclosures).encode())
-        measured = Measured(*rejection.runs(rejection.cut, 0)[:3], regions, 1, rejection.limit)
-    except (NoRegion, Refused):
+        bare = [one.bare(number) for number, one in enumerate(around_calls(Calls(program), [function]), 1)]
+        regions = learn(image, public, secret, bare, rejection.limit)
+        measured = Measured(image, public, secret, regions, 1, rejection.limit)
+    except (NoRegion, NotLearnt, Refused):
         return []
     inputs = rejection.inputs
     command = ["python3", "tools/regions.py", inputs.program, function.name, "--public", inputs.public]
