@@ -1,0 +1,115 @@
+"""Tries regions around calls and loops, and writes a region file of those that lower the number of a run most.
+
+Call: enclose.py PROG PUBLIC SECRET... [--most N] [-j N] [--output FILE] [--turns N] [--rules N] [--flowcheck COMMAND]
+
+Candidates are the calls of each function and each loop inside which secret bits pass, but those with a guest call
+inside. What all secrets need of a region is learnt and joined, and the run on the first secret is measured with it. The
+candidate that lowers the number most is kept; then each of the others is tried beside it, and so on, until none lowers
+it. Of several that lower it alike the one is kept with which `check` accepts most of the other secrets.
+
+  --most N             at most so many measurements; 200 without it
+  -j N                 so many at once; as many as there are processors without it
+  --output FILE        the region file; `enclosed.regions` without it
+  --turns N, --rules N as of `measure`
+  --flowcheck COMMAND  the program; without it crates/flowcheck/out/flowcheck, else `flowcheck`, else the model
+
+Prints a table of what was kept, and the commands that measure and check with it."""
+import argparse
+import os
+import shlex
+import sys
+import time
+
+HERE = os.path.dirname(os.path.abspath(__file__))
+sys.path[:0] = [os.path.join(HERE, "explain"), os.path.join(HERE, "model")]
+
+from answering import Program
+from document import Table
+from elf_symbols import ProgramFile
+from enclosing import Search, candidates_of
+from refusals import program_fault
+from region_finding import NoRegion
+from region_joining import Learner, pretty_text
+from run_facts import read
+from source_lines import Places
+from verdicts import USUAL_TURNS
+
+NONE = (
+    "No call and no loop inside which secret bits pass can be a region: a guest call stands inside, or not every way\n"
+    "passes one place behind it. __attribute__((noinline)) keeps a function from being put where it is called."
+)
+MODEL = [sys.executable, os.path.join(HERE, "model", "flowcheck.py")]
+
+
+def arguments():
+    """The words of the command line."""
+    parser = argparse.ArgumentParser(
+        description=__doc__, usage=argparse.SUPPRESS, formatter_class=argparse.RawDescriptionHelpFormatter
+    )
+    parser.add_argument("program")
+    parser.add_argument("public")
+    parser.add_argument("secrets", nargs="+")
+    parser.add_argument("--most", type=int, default=200)
+    parser.add_argument("-j", dest="jobs", type=int, default=os.cpu_count())
+    parser.add_argument("--output", default="enclosed.regions")
+    parser.add_argument("--turns", type=int, default=USUAL_TURNS)
+    parser.add_argument("--rules", choices=["1", "2"])
+    parser.add_argument("--flowcheck")
+    return parser.parse_args()
+
+
+def find(words):
+    """The trials that were kept, how many candidates there were, and how many measurements were made."""
+    file = read(words.program)
+    if program_fault(file):
+        raise NoRegion(f"refused 3 program {program_fault(file)}")
+    program, asked = ProgramFile(file), Program(words.flowcheck)
+    asked.words = asked.words or MODEL
+    learner = Learner(asked, program, (words.program, words.public), words.turns)
+    rules = ["--rules", words.rules] if words.rules else []
+    search = Search(learner, words.secrets, rules, words.most, words.jobs)
+    candidates = candidates_of(program, Places(words.program, program), search.passed())
+    return search.search(candidates), len(candidates), search.measured
+
+
+def table_of(kept, others):
+    """The regions that were kept, with the numbers before and after each."""
+    rows = [["none", "", "", str(kept[0].bits), f"{kept[0].accepted} of {others}"]]
+    for before, after in zip(kept, kept[1:]):
+        added = after.chosen[-1]
+        rows.append([added.words, added.place, str(before.bits), str(after.bits), f"{after.accepted} of {others}"])
+    return Table(["Region", "Entered at", "Bits before", "Bits after", "Other secrets accepted"], rows)
+
+
+def commands(words, bits):
+    """The commands that measure and check with the region file."""
+    options = ["--regions", words.output] + (["--turns", str(words.turns)] if words.turns != USUAL_TURNS else [])
+    rules = ["--rules", words.rules] if words.rules else []
+    run, first = [words.program, words.public], words.secrets[0]
+    measure = shlex.join(["flowcheck", "measure", *run, first, *options, *rules])
+    return [measure + " >cut", shlex.join(["flowcheck", "check", *run, "cut", str(bits), first, *options])]
+
+
+def main():
+    """Searches, writes the region file, and prints what was kept."""
+    words, begin = arguments(), time.monotonic()
+    try:
+        kept, candidates, measured = find(words)
+    except NoRegion as fault:
+        raise SystemExit(str(fault)) from None
+    except OSError as fault:
+        raise SystemExit(f"{fault.filename}: {fault.strerror}") from None
+    seconds = time.monotonic() - begin
+    print("\n".join(table_of(kept, len(words.secrets) - 1).text()))
+    print(f"{candidates} candidates, {measured} measurements, {seconds:.1f} seconds")
+    if len(kept) == 1:
+        print("No region lowers the number." if candidates else NONE)
+        return 0
+    with open(words.output, "w", encoding="utf-8") as out:
+        out.write(pretty_text(kept[-1].regions))
+    print("\n".join([f"The regions are in {words.output}:", *("    " + line for line in commands(words, kept[-1].bits))]))
+    return 0
+
+
+if __name__ == "__main__":
+    sys.exit(main())
