@@ -2,9 +2,11 @@
 
 Call: explain.py PROG PUBLIC SECRET [--turns N] [--regions FILE] [--rules N]
       explain.py PROG PUBLIC --check CUT BUDGET SECRET [--turns N] [--regions FILE]
+      explain.py PROG PUBLIC --taint CUT BUDGET SECRET [--turns N] [--regions FILE] [--rules N]
 
-The first form measures a run. The second says of a secret that `check` rejects where and why. Both write one HTML file,
-which needs nothing beside it, or with --text a text for the terminal.
+The first form measures a run. The second says of a secret that `check` rejects where and why, and the third of one that
+is unclear to `taint`, with the lines of a cut that would clear it. Each writes one HTML file, which needs nothing beside
+it, or with --text a text for the terminal.
 
   --output FILE        the file of the page; without it `explain.html`, and `-` is standard output
   --text               a text on standard output
@@ -29,6 +31,8 @@ from rejection import Rejection
 from rejection_page import rejection_page
 from run_facts import Inputs, NoMeasure, RunFacts, read
 from source_lines import Places
+from taint_page import taint_page
+from tainting import Tainting
 
 
 def arguments():
@@ -39,7 +43,8 @@ def arguments():
     parser.add_argument("program")
     parser.add_argument("public")
     parser.add_argument("secret", nargs="?")
-    parser.add_argument("--check", nargs=3, metavar=("CUT", "BUDGET", "SECRET"))
+    for name in ("--check", "--taint"):
+        parser.add_argument(name, nargs=3, metavar=("CUT", "BUDGET", "SECRET"))
     for name in ("--turns", "--regions", "--rules"):
         parser.add_argument(name)
     parser.add_argument("--output", default="explain.html")
@@ -47,8 +52,8 @@ def arguments():
     parser.add_argument("--source", action="append", default=[])
     parser.add_argument("--flowcheck")
     words = parser.parse_args()
-    if (words.secret is None) == (words.check is None):
-        parser.error("name one secret, or --check CUT BUDGET SECRET")
+    if sum(given is not None for given in (words.secret, words.check, words.taint)) != 1:
+        parser.error("name one secret, or --check CUT BUDGET SECRET, or --taint CUT BUDGET SECRET")
     if words.check and words.rules:
         parser.error("--rules is no option of a check")
     return words
@@ -63,10 +68,12 @@ def page(words):
     places = Places(words.program, program, words.source)
     options = [(name, getattr(words, name)) for name in ("turns", "regions", "rules")]
     flat = [word for name, value in options if value for word in (f"--{name}", value)]
-    if words.check:
-        cut, budget, secret = words.check
-        inputs = Inputs(words.program, words.public, secret, flat)
-        return rejection_page(Rejection(asked, inputs, cut, budget, program), program, places)
+    if words.check or words.taint:
+        cut, budget, secret = words.check or words.taint
+        named = asked, Inputs(words.program, words.public, secret, flat), cut, budget, program
+        if words.taint:
+            return taint_page(Tainting(*named), program, places)
+        return rejection_page(Rejection(*named), program, places)
     inputs = Inputs(words.program, words.public, words.secret, flat)
     try:
         return measured_page(RunFacts(asked, inputs), program, places)

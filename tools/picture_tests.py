@@ -21,6 +21,7 @@ sys.path.insert(0, HERE)
 
 import explain
 from answering import Program
+from compare_taints import taint_trial
 from cuts import read_cut
 from document import html_page, text_page
 from elf_symbols import ProgramFile
@@ -32,6 +33,8 @@ from rejection import Rejection
 from rejection_page import rejection_page
 from run_facts import Inputs
 from source_lines import ADDR2LINE, LLVM, Places
+from taint_page import taint_page
+from tainting import Tainting
 from trials import random_trial
 
 TOP = os.path.dirname(HERE)
@@ -190,6 +193,41 @@ class Tests:
         if self.done.get(f"shown {kind}", 0) < 2:
             self.done[f"shown {kind}"] = self.done.get(f"shown {kind}", 0) + 1
             self.pages.append((what, page))
+
+    def test_taints(self):
+        """Pages of random checks with one machine: the finding must be that of `taint`, and what is left must be shown
+        and be cleared by the lines that are named."""
+        for seed in range(1, self.count + 1):
+            files, words, rules = taint_trial(seed)
+            self.write(files)
+            budget = next(word for word in words[3:] if word.isdigit())
+            options = dict(re.findall(r"--(turns|regions|rules)[= ](\S+)", " ".join(words + rules)))
+            options = {name: self.path(value) if name == "regions" else value for name, value in options.items()}
+            for name in [word for word in words if word.startswith("secret")]:
+                self.finding(f"seed {seed} {name}", budget, self.path(name), options)
+
+    def finding(self, what, budget, secret, options):
+        """Makes the page of one check with one machine."""
+        flat = [word for name, value in options.items() for word in (f"--{name}", value)]
+        program = ProgramFile(explain.read(self.path("program")))
+        inputs = Inputs(self.path("program"), self.path("public"), secret, flat)
+        seen = Tainting(Program(self.program), inputs, self.path("cut"), budget, program)
+        title, sections = taint_page(seen, program, Places(self.path("program"), program))
+        text, page = text_page(title, sections), html_page(title, sections)
+        is_told = seen.line == seen.model_line and "".join(seen.line.split()) in "".join(text.split())
+        self.expect(f"taints: {what}", is_told, f"{seen.line} | {seen.model_line}")
+        kind = "clean" if seen.is_clean else seen.reason.split(" ")[0]
+        self.done[f"taints told: {kind}"] = self.done.get(f"taints told: {kind}", 0) + 1
+        if kind == "left":
+            (point, mask), = seen.lines
+            line = f"point {point[0]} 0x{point[1]:08x} {point[2]} rest 0x{mask:08x}"
+            self.expect(f"lines that clear: {what}", line in text and "(decides)" in text, text)
+        if kind in ("left", "secret-code") or " base " in seen.reason:
+            is_cleared = not seen.whole.text.startswith(("left", "secret-code")) and " base " not in seen.whole.text
+            self.expect(f"lines that clear: {what} whole", is_cleared, seen.whole.text)
+        if self.done.get(f"shown taint {kind}", 0) < 2:
+            self.done[f"shown taint {kind}"] = self.done.get(f"shown taint {kind}", 0) + 1
+            self.pages.append((f"taint {what}", page))
 
     def test_lint(self):
         """Texts that are spoilt at random are refused as the model refuses them, with a line and a caret."""

@@ -158,7 +158,7 @@ class Rejection:
         self.cut, self.regions = read_cut(read(cut_name)), inputs.regions()
         self.public, self.secret = read(inputs.public), read(inputs.secret)
         self.program = program
-        self.limit = int(inputs.option("--turns") or USUAL_TURNS)
+        self.table, self.limit = 1, int(inputs.option("--turns") or USUAL_TURNS)
         judged = self.judged(self.cut, self.budget)
         self.is_accepted = judged.word == "accepted"
         self.reason, self.model_line = judged.text, f"{judged.word} 1 {judged.text}"

@@ -139,9 +139,9 @@ def cover_section(rejection, places):
 
 def own_measure(rejection, places):
     """What a measurement of this secret says, and the points of its cut that the given cut lacks."""
-    parts = rejection.runs(rejection.cut, 0)
     try:
-        measured = Measured(*parts[:4], 1, rejection.limit)
+        run = rejection.program.image, rejection.public, rejection.secret, rejection.regions
+        measured = Measured(*run, rejection.table, rejection.limit)
     except Refused:
         return []
     words = f"A measurement of this secret finds {bits_text(measured.bits)}; its own cut accepts it with that budget."

@@ -46,10 +46,14 @@ class TaintedRun(MeasuredRun):
     refusal = Unclear
 
     def __init__(self, guest, cut, table, budget, limit):
-        self.skipped, self.budget = set(cut.skip), budget
+        self.cut, self.skipped, self.budget = cut, set(cut.skip), budget
         self.crossing_masks, self.bits, self.slots = VisitMasks(cut), [], set()
-        self.clearing = Clearing(cut)
+        self.clearing = self.made_clearing()
         super().__init__(guest, table, limit)
+
+    def made_clearing(self):
+        """What takes the passings."""
+        return Clearing(self.cut)
 
     def labelled(self, table):
         """The masks, all clear."""
@@ -64,14 +68,18 @@ class TaintedRun(MeasuredRun):
         is_hidden = self.is_hidden(self.guest.kind())
         visits = self.make_walk() if is_hidden else self.make_labelled_turn()
         for visit in [] if is_hidden else visits:
-            crossed = crossing(visit, self.crossing_masks.mask_of(visit))
-            self.bits += crossed
-            self.slots.update([visit[2]] if crossed else [])
+            self.cross(visit)
         if len(self.bits) > self.budget:
             raise Unclear(f"budget {self.budget} needed {len(self.bits)}")
         if self.clearing.left:
             (region, address, slot), mask = self.clearing.left
             raise Unclear(f"left {region} {shown(address)} {slot} mask {shown(mask)}")
+
+    def cross(self, visit):
+        """Lets the bits of a visit cross."""
+        crossed = crossing(visit, self.crossing_masks.mask_of(visit))
+        self.bits += crossed
+        self.slots.update([visit[2]] if crossed else [])
 
     def make_walk(self):
         """Lets the guest make its turn; its visits."""
