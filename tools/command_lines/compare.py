@@ -17,11 +17,11 @@ from concurrent.futures import ThreadPoolExecutor
 
 RUN = ("--turns", "--regions")
 MEASURED = RUN + ("--rules",)
-OPTIONS = {"check": RUN, "taint": MEASURED, "measure": MEASURED + ("--cut",),
+OPTIONS = {"check": RUN, "taint": MEASURED, "measure": MEASURED + ("--cut",), "measure-all": MEASURED + ("--cut",),
            "graph": MEASURED, "report": MEASURED, "learn": ("--turns",), "asm": (), "list": (), "verify": (),
            "migrate": (), "trial": ()}
-COUNTS = {"check": (5, 68), "taint": (5, 68), "measure": (3, 3), "graph": (3, 3), "report": (3, 3),
-          "learn": (4, 4)}
+COUNTS = {"check": (5, 68), "taint": (5, 68), "measure": (3, 3), "measure-all": (3, 66), "graph": (3, 3),
+          "report": (3, 3), "learn": (4, 4)}
 FLAGS = {"report": ("--json",)}
 
 
@@ -70,7 +70,7 @@ def first_file(words):
 ODD = ["", "-", "--", "-x", "--help", "--version", "--json", "--json=", "--json=v", "--turns", "--turns=", "--turns=5",
        "--regions", "--regions=", "--regions=r", "--regions=-r", "--regions=a=b", "--rules", "--rules=2", "--rules=3",
        "--cut=2", "--cut=02", "--turns=05", "--turns=0", "--turns=20000001", "--turn=5", "a=b", "=", "=5", "-t=5", "05",
-       "1048577", "+5", " 5", "check", "report", "taint", "learn"]
+       "1048577", "+5", " 5", "check", "report", "taint", "learn", "measure-all"]
 
 
 def option(rng):
@@ -87,12 +87,14 @@ def option(rng):
 
 def trial(rng):
     """Words that are nearly a command line."""
-    command = rng.choice(["check"] * 4 + ["taint", "measure", "graph", "report", "learn"] * 2
+    command = rng.choice(["check"] * 4 + ["taint", "measure", "graph", "report", "learn", "measure-all"] * 2
                          + ["asm", "list", "verify", "migrate", "help", "trial"])
     if command in ("check", "taint"):
         budget = rng.choice(["0", "8", "1048576"] * 4 + ["1048577", "08", "-8", "", "x", "4294967296"])
         count = rng.choice([1, 1, 2, 3, 64] * 3 + [0, 65])
         parts = [["prog"], ["public"], ["cut"], [budget]] + [["s%d" % i] for i in range(count)]
+    elif command == "measure-all":
+        parts = [["prog"], ["public"]] + [["s%d" % i] for i in range(rng.choice([1, 1, 2, 64] * 3 + [0, 65]))]
     elif command in ("measure", "graph", "report", "learn"):
         count = rng.choice([3, 3, 3, 2, 4]) + (command == "learn")
         parts = [["prog"], ["public"], ["secret"], ["more"], ["most"]][:count]

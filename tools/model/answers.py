@@ -5,6 +5,7 @@ from certificates import verify
 from cuts import read_cut, read_regions
 from guest import Image
 from learns import NotLearnt, learn, regions_text
+from manys import Many
 from measures import Measured, Refused
 from refusals import cut_fault, is_number, program_fault, regions_fault
 from taints import find, taint_answer
@@ -16,6 +17,7 @@ PROGRAM, PUBLIC, SECRET, TEXT, REGIONS = 1 << 24, 1 << 20, 1 << 16, 1 << 26, 1 <
 NUMBERS = {"--turns": (1, MOST_TURNS), "--rules": (1, 2), "--cut": (1, 2)}
 OPTIONS = {
     "measure": {"--regions", "--turns", "--rules", "--cut"},
+    "measure-all": {"--regions", "--turns", "--rules", "--cut"},
     "graph": {"--regions", "--turns", "--rules"},
     "report": {"--regions", "--turns", "--rules"},
     "check": {"--regions", "--turns"},
@@ -26,7 +28,8 @@ OPTIONS = {
     "trial": set(),
 }
 CHECKED = 5, 4 + MOST_SECRETS
-PLAIN = {"measure": (3, 3), "graph": (3, 3), "report": (3, 3), "check": CHECKED, "taint": CHECKED, "learn": (4, 4)}
+PLAIN = {"measure": (3, 3), "graph": (3, 3), "report": (3, 3), "check": CHECKED, "taint": CHECKED, "learn": (4, 4),
+         "measure-all": (3, 2 + MOST_SECRETS)}
 
 
 class Ended(Exception):
@@ -94,18 +97,32 @@ def require(form, fault):
         raise Ended(3, f"refused 3 {form} {fault}\n")
 
 
-def measured_of(files, plain, options):
-    """What `measure`, `graph` and `report` measure; ends where they are refused."""
-    program, public, secret = plain
+def run_parts(files, plain, options):
+    """What the runs of `measure` and the like are made of: image, public input, secrets, regions, table and limit."""
+    program, public, *secrets = plain
     regions = options.get("--regions")
-    loads = [(program, PROGRAM), (public, PUBLIC), *([(regions, REGIONS)] if regions else []), (secret, SECRET)]
-    load(files, loads)
+    loads = [(program, PROGRAM), (public, PUBLIC), *([(regions, REGIONS)] if regions else [])]
+    load(files, loads + [(secret, SECRET) for secret in secrets])
     require("program", program_fault(files[program]))
     require("regions", regions and regions_fault(files[regions]))
     listed = read_regions(files[regions]) if regions else []
     table, limit = int(options.get("--rules", 1)), int(options.get("--turns", USUAL_TURNS))
+    return Image(files[program]), files[public], [files[secret] for secret in secrets], listed, table, limit
+
+
+def measured_of(files, plain, options):
+    """What `measure`, `graph` and `report` measure; ends where they are refused."""
+    image, public, secrets, *rest = run_parts(files, plain, options)
     try:
-        return Measured(Image(files[program]), files[public], files[secret], listed, table, limit)
+        return Measured(image, public, secrets[0], *rest)
+    except Refused as refusal:
+        raise Ended(4, f"refused 4 {refusal}\n") from None
+
+
+def many_of(files, plain, options):
+    """What `measure-all` measures; ends where it is refused."""
+    try:
+        return Many(*run_parts(files, plain, options))
     except Refused as refusal:
         raise Ended(4, f"refused 4 {refusal}\n") from None
 
@@ -116,6 +133,11 @@ def run_text(measured, command, options):
         return measured.json_report() if "--json" in options else measured.report()
     if command == "graph":
         return measured.certificate()
+    return cut_text(measured, options)
+
+
+def cut_text(measured, options):
+    """The text of the cut of what is measured."""
     cut = measured.cut()
     return (cut.folded() if options.get("--cut") == "2" else cut).text()
 
@@ -173,6 +195,8 @@ def answer_to(files, words):
             return check_answer(files, words, plain, options)
         if command == "taint":
             return taint_answer(*findings_of(files, words, plain, options))
+        if command == "measure-all":
+            return 0, cut_text(many_of(files, plain, options), options)
         if command == "learn":
             return learn_answer(files, plain, options)
         if command == "trial":

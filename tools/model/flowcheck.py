@@ -1,7 +1,7 @@
 """The model as a command: answers a command line as `flowcheck` would, from files on the disk.
 
-Call: flowcheck.py WORDS, as of the program. It knows `check`, `taint`, `measure`, `graph`, `report`, `learn`,
-`trial`, `verify` and `migrate`, and takes some seconds for what the program does in milliseconds."""
+Call: flowcheck.py WORDS, as of the program. It knows `check`, `taint`, `measure`, `measure-all`, `graph`, `report`,
+`learn`, `trial`, `verify` and `migrate`, and takes some seconds for what the program does in milliseconds."""
 import os
 import sys
 

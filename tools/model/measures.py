@@ -84,6 +84,11 @@ class MeasuredRun:
             raise self.refusal(f"secret-code {shown(pc)}")
 
 
+def leaves_region(point):
+    """Whether a point is one of an output of a region."""
+    return point[2] != "rs" and point[2][0] in "xr"
+
+
 class Measured:
     """A run that is measured, with its maximum flow and its least minimum side; or `Refused`."""
 
@@ -101,8 +106,7 @@ class Measured:
         """The cut of the run: the points that the side splits, but those inside a skipped region."""
         points = {}
         for point in (self.graph.points[index] for index in self.solved.split):
-            is_output = point[2] != "rs" and point[2][0] in "xr"
-            if is_output or point[0] not in self.skip:
+            if leaves_region(point) or point[0] not in self.skip:
                 runs, union = self.run.passings.runs[point], 0
                 for _, mask in runs:
                     union |= mask
