@@ -1,12 +1,12 @@
 """Explains a run on one page: how many bits of its secret the output can have given away, and where they pass.
 
-Call: explain.py PROG PUBLIC SECRET [--turns N] [--regions FILE] [--rules N]
+Call: explain.py PROG PUBLIC SECRET... [--turns N] [--regions FILE] [--rules N]
       explain.py PROG PUBLIC --check CUT BUDGET SECRET [--turns N] [--regions FILE]
       explain.py PROG PUBLIC --taint CUT BUDGET SECRET [--turns N] [--regions FILE] [--rules N]
 
-The first form measures a run. The second says of a secret that `check` rejects where and why, and the third of one that
-is unclear to `taint`, with the lines of a cut that would clear it. Each writes one HTML file, which needs nothing beside
-it, or with --text a text for the terminal.
+The first form measures a run, or several together, with one cut, and what crosses at it in each. The second says of a
+secret that `check` rejects where and why, and the third of one that is unclear to `taint`, with the lines of a cut that
+would clear it. Each writes one HTML file, which needs nothing beside it, or with --text a text for the terminal.
 
   --output FILE        the file of the page; without it `explain.html`, and `-` is standard output
   --text               a text on standard output
@@ -25,6 +25,8 @@ sys.path[:0] = [os.path.join(HERE, "explain"), os.path.join(HERE, "model")]
 from answering import Program
 from document import html_page, text_page
 from elf_symbols import ProgramFile
+from many_page import many_page
+from many_runs import ManyRuns
 from measured_page import measured_page, refused_page
 from refusals import program_fault
 from rejection import Rejection
@@ -42,7 +44,7 @@ def arguments():
     )
     parser.add_argument("program")
     parser.add_argument("public")
-    parser.add_argument("secret", nargs="?")
+    parser.add_argument("secret", nargs="*")
     for name in ("--check", "--taint"):
         parser.add_argument(name, nargs=3, metavar=("CUT", "BUDGET", "SECRET"))
     for name in ("--turns", "--regions", "--rules"):
@@ -52,8 +54,8 @@ def arguments():
     parser.add_argument("--source", action="append", default=[])
     parser.add_argument("--flowcheck")
     words = parser.parse_args()
-    if sum(given is not None for given in (words.secret, words.check, words.taint)) != 1:
-        parser.error("name one secret, or --check CUT BUDGET SECRET, or --taint CUT BUDGET SECRET")
+    if sum(bool(given) for given in (words.secret, words.check, words.taint)) != 1:
+        parser.error("name secrets, or --check CUT BUDGET SECRET, or --taint CUT BUDGET SECRET")
     if words.check and words.rules:
         parser.error("--rules is no option of a check")
     return words
@@ -74,8 +76,10 @@ def page(words):
         if words.taint:
             return taint_page(Tainting(*named), program, places)
         return rejection_page(Rejection(*named), program, places)
-    inputs = Inputs(words.program, words.public, words.secret, flat)
+    inputs = Inputs(words.program, words.public, words.secret[0], flat)
     try:
+        if len(words.secret) > 1:
+            return many_page(ManyRuns(asked, inputs, words.secret, program), program, places)
         return measured_page(RunFacts(asked, inputs), program, places)
     except NoMeasure as refusal:
         return refused_page(str(refusal), inputs, program, places)

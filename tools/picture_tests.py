@@ -21,17 +21,20 @@ sys.path.insert(0, HERE)
 
 import explain
 from answering import Program
+from compare_manys import many_trial
 from compare_taints import taint_trial
 from cuts import read_cut
 from document import html_page, text_page
 from elf_symbols import ProgramFile
 from faults_of_text import cut_text_fault, regions_text_fault
+from many_page import many_page
+from many_runs import ManyRuns
 from measure_trials import measure_trial
 from picture_checks import Chromium, PageNumbers, page_wrongs
 from refusals import cut_fault, regions_fault
 from rejection import Rejection
 from rejection_page import rejection_page
-from run_facts import Inputs
+from run_facts import Inputs, NoMeasure
 from source_lines import ADDR2LINE, LLVM, Places
 from taint_page import taint_page
 from tainting import Tainting
@@ -116,9 +119,9 @@ class Tests:
 
     def words(self, *plain, **options):
         """The words of explain.py."""
-        usual = {"turns": None, "regions": None, "rules": None, "check": None, "source": [], "flowcheck": self.program}
+        usual = {"turns": None, "regions": None, "rules": None, "check": None, "taint": None, "source": []}
         program, public, *secret = plain
-        given = {"program": program, "public": public, "secret": secret[0] if secret else None}
+        given = {"program": program, "public": public, "secret": secret, "flowcheck": self.program}
         return argparse.Namespace(**(usual | given | options))
 
     def page(self, what, *plain, **options):
@@ -228,6 +231,29 @@ class Tests:
         if self.done.get(f"shown taint {kind}", 0) < 2:
             self.done[f"shown taint {kind}"] = self.done.get(f"shown taint {kind}", 0) + 1
             self.pages.append((f"taint {what}", page))
+
+    def test_manys(self):
+        """Pages of several random runs under one cut: what crosses in each must be what `check` says."""
+        for seed in range(1, self.count + 1):
+            files, words = many_trial(seed)
+            self.write(files)
+            options = dict(re.findall(r"--(turns|regions|rules)[= ](\S+)", " ".join(words)))
+            flat = [word for name, value in options.items() for word in (f"--{name}", value)]
+            flat = [self.path("regions") if word == "regions" else word for word in flat]
+            secrets = [self.path(word) for word in words if word.startswith("secret")]
+            inputs = Inputs(self.path("program"), self.path("public"), secrets[0], flat)
+            program = ProgramFile(explain.read(self.path("program")))
+            try:
+                many = ManyRuns(Program(self.program), inputs, secrets, program)
+            except NoMeasure:
+                continue
+            title, sections = many_page(many, program, Places(self.path("program"), program))
+            text, page = text_page(title, sections), html_page(title, sections)
+            said = [run.line.startswith(f"accepted {number} bits {run.total()} ")
+                    for number, run in enumerate(many.runs, 1)]
+            self.expect(f"several runs: seed {seed}", all(said) and f"at most {many.cut.bits} bit" in text, text)
+            if seed % 20 == 0:
+                self.pages.append((f"several runs {seed}", page))
 
     def test_lint(self):
         """Texts that are spoilt at random are refused as the model refuses them, with a line and a caret."""
