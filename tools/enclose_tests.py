@@ -1,4 +1,4 @@
-"""Tests of enclose.py: on an auction, a median and a password it must reach the number of the region that people write.
+"""Tests of enclose.py: on three guests it must reach the number of the region that people write.
 
 Call: enclose_tests.py [--flowcheck COMMAND]
 

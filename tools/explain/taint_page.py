@@ -12,8 +12,8 @@ from rejection_page import KINDS, lines_table, own_measure, point_text, reason_w
 
 MOST_ROWS = 20
 REASONS = {
-    "left": "By the value of this slot the run decides, and some of its bits may differ in another run that crosses with "
-    "the same bits: they have not crossed.",
+    "left": "The run decides by the value of this slot, or shows it, and some of its bits may differ in another run that "
+    "crosses with the same bits: they have not crossed.",
     "secret-code": "This instruction is made of bits that may differ in another run, and have not crossed.",
     "base": "A range of the region begins where this register says, and some of its bits may differ in another run and "
     "have not crossed.",
@@ -91,7 +91,7 @@ def whole_words(tainting, begin):
     """What is found with all lines and no budget."""
     whole = tainting.whole
     if whole.word == "clean":
-        return f"{begin} the secret is clean, and {bits_text(len(whole.bits))} cross."
+        return f"{begin} the secret is clean, and {bits_text(len(whole.bits))} cross{'es' * (len(whole.bits) == 1)}."
     return f"{begin} the secret is still unclear: {whole.text}."
 
 

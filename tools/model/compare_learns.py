@@ -25,6 +25,7 @@ from refusals import MOST_RANGES
 from trial_regions import region_file
 from trials import random_guest, spelled, usual_options
 from verdicts import MOST_BUDGET, USUAL_TURNS, real_run
+from ways import ways_program
 
 MOST_LEFT_OUT = 400
 
@@ -32,7 +33,8 @@ MOST_LEFT_OUT = 400
 def learn_trial(seed):
     """The files of a trial by name, and the words behind `learn`."""
     dice = random.Random(f"learn {seed}")
-    _, file, (_, public, secrets), regions, limit, _ = random_guest(dice, dice.random() < 0.5)
+    make = ways_program if dice.random() < 0.3 else None
+    _, file, (_, public, secrets), regions, limit, _ = random_guest(dice, dice.random() < 0.5, make)
     _, options = usual_options(dice, [], limit)
     files = {"program": file, "public": public, "secret": secrets[0], "regions": region_file(dice, regions)}
     turns = [option for option in options if option[0] == "--turns"]

@@ -17,17 +17,20 @@ import tempfile
 
 from answers import findings_of, read_words
 from compare_measures import Folder, family, keep
-from cuts import slot_order
+from cuts import places_of, point_order, read_cut, read_regions, slot_order, slot_width
 from measures import Measured, Refused
 from taints import taint_answer
+from trial_cuts import joined
 from trials import random_guest, random_trial, spelled, usual_options
 from verdicts import MOST_BUDGET, Command
+from ways import ways_program
 
 
 def measured_trial(dice, table):
     """The files of a trial by name, and the words behind the command: the cut is that of the run on the first secret."""
     while True:
-        _, file, (image, public, secrets), regions, limit, _ = random_guest(dice, dice.random() < 0.75)
+        make = ways_program if dice.random() < 0.4 else None
+        _, file, (image, public, secrets), regions, limit, _ = random_guest(dice, dice.random() < 0.75, make)
         try:
             measured = Measured(image, public, secrets[0], regions, table, limit)
         except Refused:
@@ -41,13 +44,54 @@ def measured_trial(dice, table):
         return files | given, words
 
 
+def without_bit(dice, runs, width):
+    """Runs of masks, of which one lacks a bit."""
+    masks, place = [list(run) for run in runs], dice.randrange(len(runs))
+    bits = places_of(masks[place][1] & width)
+    masks[place][1] &= ~dice.choice(bits) if bits else 0
+    return joined([tuple(run) for run in masks])
+
+
+def spoilt(dice, cut, regions):
+    """A cut that lacks a point or a bit of one, or that has points inside a skipped region."""
+    kind = dice.random()
+    inner = [region for region in regions if region.number in cut.skip]
+    if inner and kind < 0.4:
+        region = dice.choice(inner)
+        for address in range(region.enter, region.enter + 40, 4):
+            point = region.number, address, dice.choice(["u1", "u2", "rs", "de"])
+            cut.points[point] = [], [(1, slot_width(point[2]))]
+    elif cut.points and kind < 0.7:
+        del cut.points[dice.choice(sorted(cut.points, key=point_order))]
+    elif cut.points:
+        point = dice.choice(sorted(cut.points, key=point_order))
+        runs, rest = cut.points[point]
+        rest = without_bit(dice, rest, slot_width(point[2]))
+        cut.points[point] = without_bit(dice, runs, slot_width(point[2])) if runs else runs, rest
+    return cut
+
+
 def taint_trial(seed):
     """The files of a trial, the words behind `check`, and those of `taint` beside them."""
     dice = random.Random(f"taint {seed}")
     rules = dice.choice([[], ["--rules", "1"], ["--rules=2"], ["--rules", "2"]])
     is_measured = dice.random() < 0.5
     made = measured_trial(dice, dice.choice([1, 2])) if is_measured else random_trial(dice.randrange(1 << 40), seed % 2)
-    return *made, rules
+    files, words = made
+    if dice.random() < 0.4:
+        regions = read_regions(files["regions"]) if "regions" in files else []
+        files["cut"] = spoilt(dice, read_cut(files["cut"]), regions).text().encode()
+        words[3] = str(MOST_BUDGET) if dice.random() < 0.6 else words[3]
+        needed = [finding.needed for finding in findings(files, words, rules)[0] if finding.text.startswith("left")]
+        if any(needed) and dice.random() < 0.5:
+            words[3] = str(max(needed) - dice.choice([0, 1, 1]))
+    return files, words, rules
+
+
+def findings(files, words, rules):
+    """What the model finds of each secret, and the budget."""
+    command = ["taint", *words, *rules]
+    return findings_of(files, command, *read_words(command)[1:])
 
 
 def reason(finding):
@@ -66,9 +110,9 @@ class Counts:
     def __init__(self):
         self.reasons, self.slots, self.others = (collections.Counter() for _ in range(3))
 
-    def add(self, findings, judgements, rules, regions):
+    def add(self, found, judgements, rules, regions):
         """Counts the findings of a trial."""
-        for finding, judged in zip(findings, judgements):
+        for finding, judged in zip(found, judgements):
             self.reasons[reason(finding)] += 1
             self.slots.update({family(slot) for slot in finding.slots})
             self.others["secrets"] += 1
@@ -90,20 +134,20 @@ class Counts:
             print(f"{self.others[name]:8} {name}")
 
 
-def model_wrongs(findings, judgements):
+def model_wrongs(found, judgements):
     """What is wrong with the findings of the model: a clean secret must be accepted with the same bits and output."""
-    for number, (finding, judged) in enumerate(zip(findings, judgements), 1):
+    for number, (finding, judged) in enumerate(zip(found, judgements), 1):
         if finding.word == "clean" and (judged.word, judged.text) != ("accepted", finding.text):
             yield f"secret {number} is clean {finding.text}, and {judged.word} {judged.text}"
 
 
-def program_wrongs(folder, findings, budget, words, rules):
+def program_wrongs(folder, found, budget, words, rules):
     """What is wrong with the answers of the program."""
-    expected, given = taint_answer(findings, budget), folder.run("taint", *words, *rules)
+    expected, given = taint_answer(found, budget), folder.run("taint", *words, *rules)
     if given != expected:
         yield f"taint: {given} for {expected}"
     lines = folder.run("check", *words)[1].split("\n")
-    for number, finding in enumerate(findings, 1):
+    for number, finding in enumerate(found, 1):
         if finding.word == "clean" and f"accepted {number} {finding.text}" not in lines:
             yield f"check of clean secret {number}: {lines}"
 
@@ -111,14 +155,13 @@ def program_wrongs(folder, findings, budget, words, rules):
 def trial_wrongs(seed, executable, counts):
     """The files and words of a trial, and what is wrong with it."""
     files, words, rules = taint_trial(seed)
-    parsed = read_words(["taint", *words, *rules])[1:]
-    findings, budget = findings_of(files, ["taint", *words, *rules], *parsed)
+    found, budget = findings(files, words, rules)
     judgements = Command(files, words).judgements()
-    counts.add(findings, judgements, int(parsed[1].get("--rules", 1)), "--regions" in parsed[1])
-    wrongs = list(model_wrongs(findings, judgements))
+    counts.add(found, judgements, 2 if rules and rules[-1].endswith("2") else 1, "regions" in files)
+    wrongs = list(model_wrongs(found, judgements))
     if executable:
         with tempfile.TemporaryDirectory() as path:
-            wrongs += program_wrongs(Folder(executable.resolve(), path, files), findings, budget, words, rules)
+            wrongs += program_wrongs(Folder(executable.resolve(), path, files), found, budget, words, rules)
     return files, ["taint", *words, *rules], wrongs
 
 

@@ -9,7 +9,11 @@ from verdicts import crossing, packed_text
 
 
 class Unclear(Exception):
-    """A secret is not clean; the text says why."""
+    """A secret is not clean; the text says why. `needed` bits had crossed by then."""
+
+    def __init__(self, text, needed=0):
+        super().__init__(text)
+        self.needed = needed
 
 
 class Clearing:
@@ -70,10 +74,10 @@ class TaintedRun(MeasuredRun):
         for visit in [] if is_hidden else visits:
             self.cross(visit)
         if len(self.bits) > self.budget:
-            raise Unclear(f"budget {self.budget} needed {len(self.bits)}")
+            raise Unclear(f"budget {self.budget} needed {len(self.bits)}", len(self.bits))
         if self.clearing.left:
             (region, address, slot), mask = self.clearing.left
-            raise Unclear(f"left {region} {shown(address)} {slot} mask {shown(mask)}")
+            raise Unclear(f"left {region} {shown(address)} {slot} mask {shown(mask)}", len(self.bits))
 
     def cross(self, visit):
         """Lets the bits of a visit cross."""
@@ -94,10 +98,12 @@ class TaintedRun(MeasuredRun):
 
 
 class Finding:
-    """The line of a secret without its number, whether it is clean, and the slots and the bits that crossed."""
+    """The line of a secret without its number, whether it is clean, the slots and the bits that crossed, and how many had
+    by a reason that counts them."""
 
-    def __init__(self, is_clean, text, slots=(), bits=()):
+    def __init__(self, is_clean, text, slots=(), bits=(), needed=0):
         self.word, self.text, self.slots, self.bits = "clean" if is_clean else "unclear", text, slots, bits
+        self.needed = needed
 
 
 def find(image, public, secret, regions, cut, table, budget, limit):
@@ -107,7 +113,7 @@ def find(image, public, secret, regions, cut, table, budget, limit):
     try:
         run = TaintedRun(RealGuest(image, public, secret, regions), cut, table, budget, limit)
     except Unclear as why:
-        return Finding(False, str(why))
+        return Finding(False, str(why), needed=why.needed)
     ending = f"output {len(run.guest.output)} status {run.status}"
     return Finding(True, f"bits {len(run.bits)} crossing {packed_text(run.bits)} {ending}", run.slots, run.bits)
 

@@ -4,7 +4,7 @@ from forks import BIT
 from instructions import ALL
 from pieces import DATA, WRITE
 from programs import begin_program
-from words import LOAD, immediate_word
+from words import ADD, LOAD, XOR, immediate_word, register_word
 
 
 class Ways(Carriers):
@@ -43,6 +43,23 @@ class Ways(Carriers):
         self.place(behind)
         self.end_stretch(begin)
 
+    def there_and_back(self):
+        """A register takes up a byte and gives it back, in a stretch that is often a region: its value is the one before,
+        and for the rules it has secret bits. Behind it the register is used."""
+        kept, taken = self.dice.sample([register for register in self.pool if register], 2)
+        if self.happens(0.6):
+            self.put_number(kept, self.dice.randrange(8))
+        begin = self.here
+        self.put(immediate_word(4, taken, DATA, self.dice.randrange(3), LOAD))
+        there, back = self.dice.choice([(XOR, XOR), (ADD, (0x20, 0))])
+        self.put(register_word(there, kept, kept, taken), register_word(back, kept, kept, taken))
+        if self.happens(0.5):
+            self.put(immediate_word(0, taken, 0, 0))
+        self.end_stretch(begin)
+        label = self.put_branch(self.dice.choice([0, 1]), kept, 0)
+        self.some()
+        self.place(label)
+
     def rounds(self):
         """A piece as often as some bits of the secret say."""
         self.put(immediate_word(4, LEFT, DATA, self.dice.randrange(3), LOAD))
@@ -60,7 +77,8 @@ def ways_program(dice):
     program = begin_program(dice, Ways)
     program.read(3, 0, ALL)
     for _ in range(dice.randint(1, 4)):
-        dice.choice([program.fork_ways, program.fork_ways, program.rounds, program.count_bits, program.walk_bytes])()
+        dice.choice([program.fork_ways, program.fork_ways, program.there_and_back, program.rounds, program.count_bits,
+                     program.walk_bytes])()
     if program.happens(0.7):
         dice.choice([program.write, program.show_all])()
     program.exit()
