@@ -224,7 +224,8 @@ def with_turns(dice, words, turns):
 
 def call_of(dice, corpus, seed, turns):
     """The files of a call and its words."""
-    kind = dice.choice(["check"] * 4 + ["measure", "measure", "graph", "report", "verify", "migrate", "asm", "list"])
+    kind = dice.choice(["check"] * 4 + ["taint"] * 2 + ["measure", "measure", "graph", "report", "learn", "verify"]
+                       + ["migrate", "asm", "list"])
     if kind == "asm":
         files = {"source": corpus.source(dice)}
         words = ["asm", "source"]
@@ -232,10 +233,15 @@ def call_of(dice, corpus, seed, turns):
         files, words = {"certificate": dice.choice(corpus.certificates)}, ["verify", "certificate"]
     else:
         files, words = corpus.trial(dice, seed)
-        if kind == "check":
+        if kind in ("check", "taint"):
             if words[0:3] == ["program", "public", "secret"]:
                 words = ["program", "public", "cut", str(dice.choice([0, 8, 32])), *words[2:]]
-            words = with_turns(dice, ["check", *words], turns)
+            rules = ["--rules", "2"] if kind == "taint" and dice.happens(0.4) else []
+            words = with_turns(dice, [kind, *words, *rules], turns)
+        elif kind == "learn":
+            files.setdefault("regions", b'{"regions":[]}')
+            secret = "secret" if "secret" in files else "secret1"
+            words = with_turns(dice, ["learn", "program", "public", secret, "regions"], turns)
         elif kind in ("migrate", "list"):
             words = [kind, "cut" if kind == "migrate" else "program"]
         else:

@@ -1,12 +1,13 @@
 #!/usr/bin/env python3
-"""compare.py [--trials N] [--seed N] COMMAND [WORD...]
+"""compare.py [--trials N] [--seed N] [--without NAME]... COMMAND [WORD...]
 
 Runs random lists of words through an executable in an empty folder, and judges each as the definition of command lines
 does: its reading is written here once more, apart from the program. Words that are no command line must be answered by
 status 2 and `refused 2 usage`, and on standard error by what is wrong and a form; a command line by status 5 and the
 name of its first file, since the folder holds none, and by nothing on standard error; `trial`, which has no file, by
 status 0 and its line.
-COMMAND may be several words; they stand before a trial's words. Prints each list that differs, and last `N passed, M
+COMMAND may be several words; they stand before a trial's words. A command that the program does not have yet is named by
+--without. Prints each list that differs, and last `N passed, M
 failed`; the status is 1 where one failed."""
 import argparse
 import random
@@ -138,8 +139,11 @@ def main():
     parser = argparse.ArgumentParser()
     parser.add_argument("--trials", type=int, default=10_000)
     parser.add_argument("--seed", type=int, default=1)
+    parser.add_argument("--without", action="append", default=[], choices=OPTIONS)
     parser.add_argument("command", nargs=argparse.REMAINDER)
     args = parser.parse_args()
+    for name in args.without:
+        del OPTIONS[name]
     rng = random.Random(args.seed)
     lists = [trial(rng) for _ in range(args.trials)]
     with tempfile.TemporaryDirectory() as folder, ThreadPoolExecutor(2) as pool:
