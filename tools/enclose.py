@@ -64,6 +64,8 @@ def find(words):
     if program_fault(file):
         raise NoRegion(f"refused 3 program {program_fault(file)}")
     program, asked = ProgramFile(file), Program(words.flowcheck)
+    if not program.functions:
+        raise NoRegion("the program has no symbols, which say where its functions are: link it without -s")
     asked.words = asked.words or MODEL
     learner = Learner(asked, program, (words.program, words.public), words.turns)
     rules = ["--rules", words.rules] if words.rules else []
@@ -74,10 +76,11 @@ def find(words):
 
 def table_of(kept, others):
     """The regions that were kept, with the numbers before and after each."""
-    rows = [["none", "", "", str(kept[0].bits), f"{kept[0].accepted} of {others}"]]
-    for before, after in zip(kept, kept[1:]):
+    counts = [f"{trial.accepted} of {others}" if others else "-" for trial in kept]
+    rows = [["none", "", "", str(kept[0].bits), counts[0]]]
+    for before, after, count in zip(kept, kept[1:], counts[1:]):
         added = after.chosen[-1]
-        rows.append([added.words, added.place, str(before.bits), str(after.bits), f"{after.accepted} of {others}"])
+        rows.append([added.words, added.place, str(before.bits), str(after.bits), count])
     return Table(["Region", "Entered at", "Bits before", "Bits after", "Other secrets accepted"], rows)
 
 

@@ -1,4 +1,4 @@
-"""Tests of enclose.py: on three guests it must reach the number of the region that people write.
+"""Tests of enclose.py: on four guests it must reach the number of the region that people write.
 
 Call: enclose_tests.py [--flowcheck COMMAND]
 
@@ -35,15 +35,21 @@ def values(dice):
     return dice.randbytes(15)
 
 
+def halves(dice):
+    """Sixteen bytes."""
+    return dice.randbytes(16)
+
+
 def password(dice):
     """A password, which often begins as what is typed."""
     return dice.choice(GUESSES).encode()
 
 
 GUESTS = [
-    ("auction", "examples/auction/sealed.c", b"100", b"120310275090", auctions, "settle", 12),
-    ("median", "tools/guests/median.c", b"", bytes(range(15, 0, -1)), values, "median.c:10-15", 8),
-    ("password", "tools/guests/password.c", b"tortilla", b"tortoise", password, "right_letters", 2),
+    ("auction", "examples/auction/sealed.c", b"100", b"120310275090", auctions, ["settle"], 12),
+    ("median", "tools/guests/median.c", b"", bytes(range(15, 0, -1)), values, ["median.c:10-15"], 8),
+    ("password", "tools/guests/password.c", b"tortilla", b"tortoise", password, ["right_letters"], 2),
+    ("places", "tools/guests/places.c", b"", bytes(range(16)), halves, ["greatest", "longest"], 6),
 ]
 
 
@@ -86,7 +92,7 @@ class Tests:
         run = [elf, self.write("public", public), self.write("secret", secret)]
         others = [self.write(f"other{number}", other(dice)) for number in range(OTHERS)]
         secrets = [word for file in [run[2], *others] for word in ("--secret", file)]
-        _, text = output("regions.py", elf, named, "--public", run[1], *secrets, *self.flowcheck)
+        _, text = output("regions.py", elf, *named, "--public", run[1], *secrets, *self.flowcheck)
         self.write("written", text[text.find("{") :].encode())
         written = self.bits(*run, "--regions", self.path("written"))
         found = self.path("found")
