@@ -26,13 +26,36 @@ from trial_regions import region_file
 from trials import random_guest, spelled, usual_options
 from verdicts import MOST_BUDGET, USUAL_TURNS, real_run
 from ways import ways_program
+from words import ECALL, Writer, immediate_word, store_word
+from worked_trial import CODE, plain_file
 
-MOST_LEFT_OUT = 400
+MOST_LEFT_OUT, FEW_LEFT_OUT = 400, 20
+DATA, POINTER, LEFT = 0x80000, 6, 5
+
+
+def wide_trial(dice):
+    """A guest with loops that write about as many ranges or bytes, or make as long a text, as there may be."""
+    program, regions = Writer(dice, CODE, DATA), []
+    count, stride, minor, loops = dice.choice([(63, 2, 0, 1), (64, 2, 0, 1), (65, 2, 0, 1), (16_384, 4, 2, 1), (64, 2, 0, 3),
+                                               (16_385, 4, 2, 1), (64, 2, 0, 34), (64, 2, 0, 33), (64, 2, 0, 35), (65, 3, 0, 2)])
+    for number in range(1, loops + 1):
+        program.put_number(POINTER, DATA + 256 * number)
+        program.put_number(LEFT, count)
+        begin = program.here
+        program.put(store_word(minor, POINTER, 0, 0), immediate_word(0, POINTER, POINTER, stride))
+        program.put(immediate_word(0, LEFT, LEFT, -1))
+        program.place(program.put_branch(1, LEFT, 0), begin)
+        regions.append(Region(number, begin, program.here))
+    program.put(immediate_word(0, 17, 0, 93), ECALL)
+    files = {"program": plain_file(program.body()), "public": b"", "secret": b"", "regions": region_file(dice, regions)}
+    return files, ["program", "public", "secret", "regions"]
 
 
 def learn_trial(seed):
     """The files of a trial by name, and the words behind `learn`."""
     dice = random.Random(f"learn {seed}")
+    if dice.random() < 0.03:
+        return wide_trial(dice)
     make = ways_program if dice.random() < 0.3 else None
     _, file, (_, public, secrets), regions, limit, _ = random_guest(dice, dice.random() < 0.5, make)
     _, options = usual_options(dice, [], limit)
@@ -105,14 +128,18 @@ class Minimal:
         self.files["cut"] = whole_cut(files, self.learnt, limit).text().encode()
         turns = ["--turns", str(limit)]
         self.words = ["check", "program", "public", "cut", str(MOST_BUDGET), "secret", "--regions", "part", *turns]
+        self.parts = list(left_out(self.learnt))
+
+    def sample(self, dice):
+        """Of what can be left out everything, or, where that is much, a few."""
+        return self.parts if len(self.parts) <= MOST_LEFT_OUT else dice.sample(self.parts, FEW_LEFT_OUT)
 
     def wrongs(self, judge, dice):
-        """What is wrong with what was learnt, and how many entries were left out."""
+        """What is wrong with what was learnt."""
         text = judge(self.with_part(self.learnt))
         if not text.startswith("accepted 1 "):
             yield f"what is learnt is judged {text}"
-        parts = list(left_out(self.learnt))
-        for regions, form in dice.sample(parts, min(len(parts), MOST_LEFT_OUT)):
+        for regions, form in self.sample(dice):
             line = judge(self.with_part(regions)).split("\n")[0]
             if not re.fullmatch(f"rejected 1 {form}", line):
                 yield f"{form} is {line}"
@@ -155,8 +182,8 @@ class Comparison:
         """What is wrong with what is left out."""
         minimal, executable = Minimal(files, words, text), self.words.executable
         judge = judged_by_program(minimal, executable) if executable else judged_by_model(minimal)
-        self.counts["entries left out in turn"] += len(list(left_out(minimal.learnt)))
-        self.counts["guests of which entries are left out"] += bool(list(left_out(minimal.learnt)))
+        self.counts["entries left out in turn"] += len(minimal.sample(random.Random(0)))
+        self.counts["guests of which entries are left out"] += bool(minimal.parts)
         yield from minimal.wrongs(judge, random.Random(f"left out {seed}"))
 
     def try_seed(self, seed):
