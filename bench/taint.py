@@ -2,8 +2,8 @@
 """taint.py EXECUTABLE [TIMES]
 
 Times `taint` of the built program beside `check` of the same guest with the same cut: the guests of run.py, and a loop
-that carries a secret byte through a thousand instructions and stores it in 2,000 places, of which every bit crosses at the
-exit alone, so that masks are at work all the way. Each is run so many times (3 without the word), in turns, and the
+that carries a secret byte through a thousand instructions and stores it in 2,000 places, of which every bit crosses at
+the exit alone, so that masks are at work all the way. Each is run so many times (3 without the word), in turns, and the
 best is taken. Prints for each the turns of the run, the seconds of both commands, how many times as long `taint` took,
 and the most memory that each had. Every secret must be accepted and clean. Linux with Python 3."""
 import os

@@ -110,7 +110,9 @@ def main():
         return 0
     with open(words.output, "w", encoding="utf-8") as out:
         out.write(pretty_text(kept[-1].regions))
-    print("\n".join([f"The regions are in {words.output}:", *("    " + line for line in commands(words, kept[-1].bits))]))
+    print(f"The regions are in {words.output}:")
+    for line in commands(words, kept[-1].bits):
+        print("    " + line)
     return 0
 
 

@@ -384,7 +384,8 @@ class Tests:
         for compiler in compilers():
             elf = self.built(compiler, self.path("spread.c"))
             both = ["--secret", self.path("low"), "--secret", self.path("high")]
-            for what, expected in (("spread", "more than 64 ranges"), ("choose", "high: region 1: "), (LINES, "lines ")):
+            told = ("spread", "more than 64 ranges"), ("choose", "high: region 1: "), (LINES, "lines ")
+            for what, expected in told:
                 status, text = self.regions_of(elf, what, *both)
                 self.expect(f"joined: {what} by {compiler}", status == 0 and expected in text, text)
                 self.write({"regions": text[text.find("{") :].encode()})

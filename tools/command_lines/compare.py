@@ -6,8 +6,8 @@ does: its reading is written here once more, apart from the program. Words that 
 status 2 and `refused 2 usage`, and on standard error by what is wrong and a form; a command line by status 5 and the
 name of its first file, since the folder holds none, and by nothing on standard error; `trial`, which has no file, by
 status 0 and its line.
-COMMAND may be several words; they stand before a trial's words. A command that the program does not have yet is named by
---without. Prints each list that differs, and last `N passed, M
+COMMAND may be several words; they stand before a trial's words. A command that the program does not have yet is named
+by --without. Prints each list that differs, and last `N passed, M
 failed`; the status is 1 where one failed."""
 import argparse
 import random

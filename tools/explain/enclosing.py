@@ -15,7 +15,8 @@ MOST_TIES, MOST_CHECKED = 8, 64
 
 
 class Candidate:
-    """Regions that are tried together: the calls of a function, or a loop. `bits` is the number when it was tried last."""
+    """Regions that are tried together: the calls of a function, or a loop. `bits` is the number with it, when it was
+    tried last."""
 
     def __init__(self, words, place, enclosures, inside):
         self.words, self.place, self.enclosures, self.inside, self.bits = words, place, enclosures, inside, None

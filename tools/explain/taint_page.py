@@ -1,4 +1,4 @@
-"""The page of a secret that `taint` is asked about: what decides by bits that did not cross, and what would clear it."""
+"""The page of a secret that `taint` is asked about: what decides by bits that did not cross, and what clears it."""
 import shlex
 from os.path import basename as base
 
@@ -12,8 +12,8 @@ from rejection_page import KINDS, lines_table, own_measure, point_text, reason_w
 
 MOST_ROWS = 20
 REASONS = {
-    "left": "The run decides by the value of this slot, or shows it, and some of its bits may differ in another run that "
-    "crosses with the same bits: they have not crossed.",
+    "left": "The run decides by the value of this slot, or shows it, and some of its bits may differ in another run "
+    "that crosses with the same bits: they have not crossed.",
     "secret-code": "This instruction is made of bits that may differ in another run, and have not crossed.",
     "base": "A range of the region begins where this register says, and some of its bits may differ in another run and "
     "have not crossed.",
@@ -33,8 +33,9 @@ def verdict_section(tainting):
         blocks.append(Words(f"The model in tools/model says another thing, which is a fault: {tainting.model_line}"))
     if tainting.is_clean:
         blocks.append(Words(
-            "Nothing decides by bits that have not crossed. So check accepts this secret with the same bits and the same "
-            f"output, and of any secrets that are accepted with this budget at most {outputs_text(tainting.budget)} arise."
+            "Nothing decides by bits that have not crossed. So check accepts this secret with the same bits and the "
+            "same output, and of any secrets that it accepts with this budget at most "
+            f"{outputs_text(tainting.budget)} arise."
         ))
         return Section("", *blocks)
     blocks.append(Words(taint_words(tainting.reason)))
@@ -56,13 +57,15 @@ def where_section(tainting, program, places):
     text = instruction_text(program.instruction(address), address) if kind == "step" else KINDS[kind]
     parts = [f"It is turn {run.made:,} of the run, at {shown(address)}", text]
     parts += [place.text()] if place.function else []
-    blocks = [Words(", ".join(parts) + "."), Words(places.line_of(place).strip() or "No line of a source is known.", "dim")]
+    line = places.line_of(place).strip() or "No line of a source is known."
+    blocks = [Words(", ".join(parts) + "."), Words(line, "dim")]
     found = run.clearing.left[0] if run.clearing.left else None
     rows, attributes = [], []
     for point, value, mask, left in shown_of(run.values()):
         sign = " (decides)" if point == found else ""
         crossing = shown(mask & ~left) if mask & ~left else "-"
-        rows.append([point[2] + sign, slot_words(point[2]), value_text(value, point), shown(mask), crossing, shown(left)])
+        row = [point[2] + sign, slot_words(point[2]), value_text(value, point)]
+        rows.append([*row, shown(mask), crossing, shown(left)])
         attributes.append({"data-slot": rows[-1][0], "class": "cut" if sign else ""})
     heads = ["Slot", "What passes", "Value", "May differ", "Crosses", "Left"]
     return Section("Where", *blocks, Table(heads, rows, attributes, "slots") if rows else None)

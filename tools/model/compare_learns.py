@@ -2,9 +2,9 @@
 """compare_learns.py [EXECUTABLE] [--first SEED] [--count N] [--minimal-each N]
 
 Learns the regions of N random guests (400 without the option) from this seed (1 without it) on, by the model. Of every
-fifth trial, or of as many as --minimal-each says, nothing can be left out: with what is learnt the run breaks no region,
-and without any one register, range or byte, or with an output kept, it breaks as it must. With an executable, its
-`learn` must answer as the model does, and its `check` must say the same of what is left out.
+fifth trial, or as --minimal-each says, nothing can be left out: with what is learnt the run breaks no region, and
+without any one register, range or byte, or with an output kept, it breaks as it must. With an executable, its `learn`
+must answer as the model does, and its `check` must say the same of what is left out.
 
 Prints what the trials had, and last how many agree and differ. The files and words of those that differ are kept in a
 folder that is named; then the status is 1."""
@@ -31,13 +31,15 @@ from worked_trial import CODE, plain_file
 
 MOST_LEFT_OUT, FEW_LEFT_OUT = 400, 20
 DATA, POINTER, LEFT = 0x80000, 6, 5
+WIDE = [(63, 2, 0, 1), (64, 2, 0, 1), (65, 2, 0, 1), (16_384, 4, 2, 1), (64, 2, 0, 3), (16_385, 4, 2, 1), (64, 2, 0, 34),
+        (64, 2, 0, 33), (64, 2, 0, 35), (65, 3, 0, 2)]
+"""How often a loop stores, how far apart and how wide, and how many loops there are."""
 
 
 def wide_trial(dice):
     """A guest with loops that write about as many ranges or bytes, or make as long a text, as there may be."""
     program, regions = Writer(dice, CODE, DATA), []
-    count, stride, minor, loops = dice.choice([(63, 2, 0, 1), (64, 2, 0, 1), (65, 2, 0, 1), (16_384, 4, 2, 1), (64, 2, 0, 3),
-                                               (16_385, 4, 2, 1), (64, 2, 0, 34), (64, 2, 0, 33), (64, 2, 0, 35), (65, 3, 0, 2)])
+    count, stride, minor, loops = dice.choice(WIDE)
     for number in range(1, loops + 1):
         program.put_number(POINTER, DATA + 256 * number)
         program.put_number(LEFT, count)
@@ -109,7 +111,8 @@ def shortened(region):
         for index in range(length) if len(region.ranges) < MOST_RANGES or length == 1 else (0, length - 1):
             left = changed(region, ranges=without_byte(region.ranges, place, index))
             yield left, rf"region {number} undeclared 0x{begin + index:08x} at 0x[0-9a-f]{{8}}"
-        yield changed(region, ranges=without(region.ranges, place)), rf"region {number} undeclared 0x[0-9a-f]{{8}} at .*"
+        left = changed(region, ranges=without(region.ranges, place))
+        yield left, rf"region {number} undeclared 0x[0-9a-f]{{8}} at .*"
 
 
 def left_out(regions):

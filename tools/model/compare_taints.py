@@ -27,7 +27,7 @@ from ways import ways_program
 
 
 def measured_trial(dice, table):
-    """The files of a trial by name, and the words behind the command: the cut is that of the run on the first secret."""
+    """The files of a trial by name, and the words behind the command; the cut is measured of the first secret."""
     while True:
         make = ways_program if dice.random() < 0.4 else None
         _, file, (image, public, secrets), regions, limit, _ = random_guest(dice, dice.random() < 0.75, make)

@@ -17,8 +17,8 @@ class Unclear(Exception):
 
 
 class Clearing:
-    """What takes passings in the place of a graph: of each mask the bits that cross are cleared. It keeps the first that
-    decides and is not 0 then."""
+    """What takes passings in the place of a graph: of each mask the bits that cross are cleared. It keeps the first
+    that decides and is not 0 then."""
 
     def __init__(self, cut):
         self.masks, self.left = VisitMasks(cut), None
@@ -45,7 +45,7 @@ class ClearedLabels(Labels):
 
 
 class TaintedRun(MeasuredRun):
-    """A real run by its masks, up to its exit, or `Unclear`; it keeps the bits that cross and the slots that gave some."""
+    """A real run by its masks, up to its exit, or `Unclear`; it keeps the bits that cross and where they did."""
 
     refusal = Unclear
 
@@ -98,8 +98,8 @@ class TaintedRun(MeasuredRun):
 
 
 class Finding:
-    """The line of a secret without its number, whether it is clean, the slots and the bits that crossed, and how many had
-    by a reason that counts them."""
+    """The line of a secret without its number, whether it is clean, the slots and the bits that crossed, and how many
+    had by a reason that counts them."""
 
     def __init__(self, is_clean, text, slots=(), bits=(), needed=0):
         self.word, self.text, self.slots, self.bits = "clean" if is_clean else "unclear", text, slots, bits

@@ -44,8 +44,8 @@ class Ways(Carriers):
         self.end_stretch(begin)
 
     def there_and_back(self):
-        """A register takes up a byte and gives it back, in a stretch that is often a region: its value is the one before,
-        and for the rules it has secret bits. Behind it the register is used."""
+        """A register takes up a byte and gives it back, in a stretch that is often a region: its value is the one
+        before, and for the rules it has secret bits. Behind it the register is used."""
         kept, taken = self.dice.sample([register for register in self.pool if register], 2)
         if self.happens(0.6):
             self.put_number(kept, self.dice.randrange(8))

@@ -224,7 +224,8 @@ TAINT = [
     ("what is left is told before the budget", lambda: patch.object(TaintedRun, "make_turn", turn_left_first)),
     ("what is left is told in every other turn", lambda: patch.object(TaintedRun, "make_turn", turn_forgetting)),
     ("bits cross inside a skipped region", several(
-        patch.object(TaintedRun, "make_turn", turn_counting_hidden), patch.object(TaintedRun, "make_walk", walk_keeping))),
+        patch.object(TaintedRun, "make_turn", turn_counting_hidden),
+        patch.object(TaintedRun, "make_walk", walk_keeping))),
     ("masks change inside a skipped region", lambda: patch.object(TaintedRun, "is_hidden", lambda self, kind: False)),
     ("code is not looked at", lambda: patch.object(TaintedRun, "look_at_code", lambda self: None)),
     ("bases are not looked at", lambda: patch.object(TaintedRun, "look_at_bases", lambda self, region: None)),
