@@ -31,8 +31,8 @@ from worked_trial import CODE, plain_file
 
 MOST_LEFT_OUT, FEW_LEFT_OUT = 400, 20
 DATA, POINTER, LEFT = 0x80000, 6, 5
-WIDE = [(63, 2, 0, 1), (64, 2, 0, 1), (65, 2, 0, 1), (16_384, 4, 2, 1), (64, 2, 0, 3), (16_385, 4, 2, 1), (64, 2, 0, 34),
-        (64, 2, 0, 33), (64, 2, 0, 35), (65, 3, 0, 2)]
+WIDE = [(63, 2, 0, 1), (64, 2, 0, 1), (65, 2, 0, 1), (16_384, 4, 2, 1), (64, 2, 0, 3), (16_385, 4, 2, 1),
+        (64, 2, 0, 34), (64, 2, 0, 33), (64, 2, 0, 35), (65, 3, 0, 2)]
 """How often a loop stores, how far apart and how wide, and how many loops there are."""
 
 
