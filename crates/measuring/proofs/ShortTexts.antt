@@ -42,7 +42,7 @@ regions-few (region ∷ skip) known =
     let whole = regions-from region skip both.0 both.1 in
     omega (arith, some, whole)
 
-skip-few : (cut : CutPicture) → is_valid cut ≡ true → length cut.skip ≤ 65535
+pub skip-few : (cut : CutPicture) → is_valid cut ≡ true → length cut.skip ≤ 65535
 skip-few cut valid =
     let known = and_parts (is_version cut.version) _ valid in
     let short = and_parts (nat_le cut.secret_len 65536) _ known.1 in

@@ -16,7 +16,7 @@ use std::alloc::Global;
 /// `NoMemory` where there is not enough. It is answered too where the capacity, or the number of visits of a split
 /// point with one mask, is 2^32 or more, or a split point has a slot that no turn passes: in no run within the limits
 /// of the tool is it so, by laws of `covered_runs`.
-pub(crate) fn cut_of(
+pub fn cut_of(
     alloc: Global,
     secret_len: u32,
     graph: &Graph,

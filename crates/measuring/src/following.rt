@@ -35,7 +35,7 @@ pub enum RunEnd {
 
 /// The end of a measured run, with the graph and the visits of its events.
 /// `NoMemory` where there is not enough.
-pub(crate) fn follow(
+pub fn follow(
     alloc: Global,
     image: &Image,
     public: &Bytes,

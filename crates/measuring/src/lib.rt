@@ -22,7 +22,9 @@ pub use accepting::measure;
 #[doc(hidden)]
 pub use counter_rows::Row;
 #[doc(hidden)]
-pub use following::{Exit, RunEnd};
+pub use cutting::cut_of;
+#[doc(hidden)]
+pub use following::{Exit, RunEnd, follow};
 #[doc(hidden)]
 pub use kept_visits::KeptVisits;
 pub use laws::measured_runs_have_no_cause;

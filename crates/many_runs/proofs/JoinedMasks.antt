@@ -1,0 +1,57 @@
+-- The masks of two runs, visit by visit.
+use Rattle.std.proofs.Common.{◌≡◌, ℕ, zero, suc, ◌+◌, ◌++◌, ◌∷◌, [], List, refl, sym, ap, ◌∙◌, append_assoc, replicate}
+use Rattle.std.specs.Prelude.{bit_or}
+use Rattle.std.proofs.lemmas.List.{replicate-append-replicate}
+use Rattle.measuring.specs.declared.point_visits.VisitRun.{VisitRun}
+use Rattle.measuring.specs.VisitRuns.{run_masks}
+use Rattle.many_runs.specs.Uniting.{joined}
+
+-- where the second run has no visit
+pub joined-none : (masks : List ℕ) → joined masks [] ≡ masks
+unfolding joined
+joined-none [] = refl
+joined-none (mask ∷ masks) = refl
+
+pub none-joined : (masks : List ℕ) → joined [] masks ≡ masks
+unfolding joined
+none-joined masks = refl
+
+-- so many visits of both, each with one mask
+pub joined-replicate : (n x y : ℕ) (xs ys : List ℕ) →
+    joined (replicate n x ++ xs) (replicate n y ++ ys) ≡ replicate n (bit_or x y) ++ joined xs ys
+unfolding joined
+joined-replicate zero x y xs ys = refl
+joined-replicate (suc n) x y xs ys = ap (λ masks. bit_or x y ∷ masks) (joined-replicate n x y xs ys)
+
+-- ---- runs
+
+pub masks-cons : (run : VisitRun) (runs : List VisitRun) →
+    run_masks (run ∷ runs) ≡ replicate run.count run.mask ++ run_masks runs
+unfolding run_masks
+masks-cons run runs = refl
+
+-- a run without a visit
+pub masks-empty : (run : VisitRun) (runs : List VisitRun) → run.count ≡ 0 → run_masks (run ∷ runs) ≡ run_masks runs
+masks-empty run runs none = masks-cons run runs ∙ ap (λ n. replicate n run.mask ++ run_masks runs) none
+
+-- a run of which so many visits are behind
+pub masks-parted : (run left : VisitRun) (n : ℕ) (runs : List VisitRun) → run.count ≡ n + left.count →
+    left.mask ≡ run.mask → run_masks (run ∷ runs) ≡ replicate n run.mask ++ run_masks (left ∷ runs)
+masks-parted run left n runs count mask =
+    masks-cons run runs
+    ∙ (ap (λ k. replicate k run.mask ++ run_masks runs) count
+    ∙ (ap (λ masks. masks ++ run_masks runs) (sym (replicate-append-replicate n left.count run.mask))
+    ∙ (append_assoc (replicate n run.mask) (replicate left.count run.mask) (run_masks runs)
+    ∙ (ap (λ m. replicate n run.mask ++ (replicate left.count m ++ run_masks runs)) (sym mask)
+    ∙ ap (λ masks. replicate n run.mask ++ masks) (sym (masks-cons left runs))))))
+
+-- so many visits of both runs
+pub joined-parted : (one left other right : VisitRun) (n : ℕ) (ones others : List VisitRun) →
+    one.count ≡ n + left.count → left.mask ≡ one.mask → other.count ≡ n + right.count → right.mask ≡ other.mask →
+    joined (run_masks (one ∷ ones)) (run_masks (other ∷ others))
+    ≡ replicate n (bit_or one.mask other.mask) ++ joined (run_masks (left ∷ ones)) (run_masks (right ∷ others))
+joined-parted one left other right n ones others count mask count_too mask_too =
+    ap (λ masks. joined masks (run_masks (other ∷ others))) (masks-parted one left n ones count mask)
+    ∙ (ap (λ masks. joined (replicate n one.mask ++ run_masks (left ∷ ones)) masks)
+    (masks-parted other right n others count_too mask_too)
+    ∙ joined-replicate n one.mask other.mask (run_masks (left ∷ ones)) (run_masks (right ∷ others)))

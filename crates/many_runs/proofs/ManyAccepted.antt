@@ -1,0 +1,146 @@
+-- Runs that are measured together are accepted with the one cut and with its fold, and its text is short.
+use Rattle.std.proofs.Common.{◌≡◌, ◌∙◌, ℕ, ◌&&◌, ◌||◌, List, [], ◌∷◌, true, ap, inl, inr, refl, subst, sym, arith}
+use Rattle.std.specs.List.{AllByRecursion, list_all}
+use Rattle.cut_file.proofs.Following.{cut-valid}
+use Rattle.cut_file.proofs.Periods.{fold-mask}
+use Rattle.cut_file.specs.declared.points.CutPoint.{CutPoint}
+use Rattle.cut_file.specs.Cuts.{CutPicture, has_slot}
+use Rattle.cut_file.specs.Folds.{AreFolded, IsFold, IsFolded}
+use Rattle.cut_file.specs.Pictures.{picture_of}
+use Rattle.flow_base.specs.declared.points.Point.{Point}
+use Rattle.flow_base.specs.PointOrders.{is_same}
+use Rattle.flow_base.specs.Points.{is_slot}
+use Rattle.flow_graph.specs.declared.events.Event.{Event}
+use Rattle.lockstep_replay.specs.Acceptance.{Accept}
+use Rattle.lockstep_replay.specs.Tasks.{task_of}
+use Rattle.region_machine.specs.Starts.{guest}
+use Rattle.covered_runs.specs.ClosedEvents.{AreProperEvents}
+use Rattle.covered_runs.specs.MeasuredLaws.{AreInputs, IsWholeRun}
+use Rattle.covered_runs.specs.RunCuts.{IsCutOf, names_point}
+use Rattle.covered_runs.specs.Sides.{named_side}
+use Rattle.covered_runs.proofs.CutMeasured.{valid-slots}
+use Rattle.covered_runs.proofs.CutVisits.{like-itself, mask-missing}
+use Rattle.covered_runs.proofs.ProperRuns.{proper_events_law}
+use Rattle.covered_runs.proofs.ProperStarts.{guest_start_law}
+use Rattle.many_runs.specs.declared.many.Many.{Many}
+use Rattle.many_runs.specs.Accepting.{AreAcceptedByFolds, AreAcceptedByTheCut, IsAcceptedBy}
+use Rattle.many_runs.specs.Measures.{AreRunsOn, HaveLength, MeasuresAll, Setup, first_length}
+use Rattle.many_runs.proofs.ManyCovered.{CutsAll, IsUsed, run-accepted}
+use Rattle.many_runs.proofs.MasksOfRuns.{IsPartOf, parts-of}
+
+-- ---- the fold of a cut may be used in its place
+
+same-point : (cut_point folded : CutPoint) → IsFolded cut_point folded → folded.point ≡ cut_point.point
+same-point cut_point folded (inl (count, least, same, none, rest)) = same
+same-point cut_point folded (inr (none, same)) = ap (λ (p : CutPoint). p.point) same
+
+folded-names : (points folded : List CutPoint) (point : Point) → AreFolded points folded →
+    names_point folded point ≡ names_point points point
+folded-names [] [] point are = refl
+folded-names [] (first ∷ folded) point are = absurd are
+folded-names (cut_point ∷ points) [] point are = absurd are
+folded-names (cut_point ∷ points) (first ∷ folded) point are =
+    ap (λ (p : Point). is_same p point || names_point folded point) (same-point cut_point first are.0)
+    ∙ ap (λ b. is_same cut_point.point point || b) (folded-names points folded point are.1)
+
+folded-slots : (points folded : List CutPoint) → AreFolded points folded →
+    list_all has_slot folded ≡ list_all has_slot points
+folded-slots [] [] are = refl
+folded-slots [] (first ∷ folded) are = absurd are
+folded-slots (cut_point ∷ points) [] are = absurd are
+folded-slots (cut_point ∷ points) (first ∷ folded) are =
+    ap (λ (p : Point). is_slot p.slot && list_all has_slot folded) (same-point cut_point first are.0)
+    ∙ ap (λ b. is_slot cut_point.point.slot && b) (folded-slots points folded are.1)
+
+fold-used : (cut folded : CutPicture) → IsFold cut folded → list_all has_slot cut.points ≡ true → IsUsed cut folded
+fold-used cut folded fold slots = record {
+  skip = fold.skip;
+  length_is = fold.secret_len;
+  like = record {
+    within = λ point visit one few. fold-mask cut folded point visit fold one few;
+    missing = λ point visit slot none.
+        mask-missing folded.points point visit (folded-slots cut.points folded.points fold.points ∙ slots) slot
+        (folded-names cut.points folded.points point fold.points ∙ none);
+  };
+}
+
+-- ---- all runs
+
+all-proper : (setup : Setup) (secrets : List (List ℕ)) (runs : List (List Event)) →
+    AllByRecursion (AreInputs setup.program setup.public_input setup.regions) secrets →
+    AreRunsOn setup secrets runs → AllByRecursion AreProperEvents runs
+unfolding AreRunsOn
+all-proper setup [] [] inputs are = tt
+all-proper setup [] (events ∷ runs) inputs are = absurd are
+all-proper setup (secret ∷ secrets) [] inputs are = absurd are
+all-proper setup (secret ∷ secrets) (events ∷ runs) inputs are = (
+  subst AreProperEvents (sym are.0.all)
+      (proper_events_law setup.regions (are.0.exits.last ∷ are.0.exits.earlier)
+      (guest setup.program setup.public_input secret) inputs.0.regions_valid
+      (guest_start_law setup.program setup.public_input secret inputs.0.program_valid inputs.0.program_bytes
+      inputs.0.public_bytes inputs.0.secret_bytes) are.0.exits.is_run.sound),
+  all-proper setup secrets runs inputs.1 are.1,
+)
+
+module _ (setup : Setup) (all_secrets : List (List ℕ)) (many : Many) (m : MeasuresAll setup all_secrets many)
+    (inputs : AllByRecursion (AreInputs setup.program setup.public_input setup.regions) all_secrets) where
+  cuts-all : CutsAll m.runs m.events many.graph many.side.points many.side.relays (first_length all_secrets)
+      (picture_of many.cut)
+  cuts-all = record {
+    united = m.united;
+    graph_of = m.measure.graph;
+    side_of = m.measure.side.side;
+    cut_of = subst (λ bits. IsCutOf (first_length all_secrets) m.events (named_side many.graph many.side.points
+        many.side.relays) bits (picture_of many.cut)) (sym m.measure.capacity) m.measure.cut;
+    slots = valid-slots (picture_of many.cut) (cut-valid many.cut);
+    proper = all-proper setup all_secrets m.runs inputs m.are_runs;
+  }
+
+  each-accepted : (used : CutPicture) → IsUsed (picture_of many.cut) used → (secrets : List (List ℕ))
+      (runs : List (List Event)) →
+      AllByRecursion (AreInputs setup.program setup.public_input setup.regions) secrets →
+      HaveLength (first_length all_secrets) secrets → AreRunsOn setup secrets runs →
+      AllByRecursion (IsPartOf m.runs) runs →
+      AllByRecursion (IsAcceptedBy setup.program setup.public_input setup.regions used many.value setup.limit) secrets
+  unfolding AreRunsOn
+  each-accepted used is_used [] [] known alike are parts = tt
+  each-accepted used is_used [] (events ∷ runs) known alike are parts = absurd are
+  each-accepted used is_used (secret ∷ secrets) [] known alike are parts = absurd are
+  each-accepted used is_used (secret ∷ secrets) (events ∷ runs) known alike are parts =
+      let run = are.0 in
+      let answers : List (List ℕ) = run.exits.last ∷ run.exits.earlier in
+      let whole : IsWholeRun setup.program setup.public_input setup.regions secret
+      (run.exits.last ∷ run.exits.earlier) run.output =
+      record {
+        sound = run.exits.is_run.sound;
+        unrefused = run.exits.is_run.unrefused;
+        exits = record { bytes = run.exits.written; status = run.exits.exited };
+      } in
+      let here = run-accepted m.runs m.events many.graph many.side.points many.side.relays (first_length all_secrets)
+      (picture_of many.cut) cuts-all used is_used setup.program setup.public_input setup.regions secret
+      (run.exits.last ∷ run.exits.earlier) run.output setup.limit known.0 whole
+      (omega (arith, run.exits.is_run.counted, run.exits.within)) alike.0
+      (subst (IsPartOf m.runs) run.all parts.0) in (
+        (
+          run.output,
+          subst (λ budget. Accept (task_of setup.program setup.public_input setup.regions used)
+              (record { budget = budget; turns = setup.limit }) secret run.output) m.measure.capacity here,
+        ),
+        each-accepted used is_used secrets runs known.1 alike.1 are.1 parts.1,
+      )
+
+  pub accepted : AreAcceptedByTheCut setup.program setup.public_input setup.regions all_secrets setup.limit many
+  accepted =
+      each-accepted (picture_of many.cut)
+      (record {
+        skip = refl;
+        length_is = refl;
+        like = like-itself many.cut.points (valid-slots (picture_of many.cut) (cut-valid many.cut));
+      })
+      all_secrets m.runs inputs m.alike m.are_runs (parts-of m.runs)
+
+  pub folds : AreAcceptedByFolds setup.program setup.public_input setup.regions all_secrets setup.limit many
+  folds folded fold =
+      each-accepted folded
+      (fold-used (picture_of many.cut) folded fold (valid-slots (picture_of many.cut) (cut-valid many.cut)))
+      all_secrets m.runs inputs m.alike m.are_runs (parts-of m.runs)

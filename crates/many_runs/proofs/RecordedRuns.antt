@@ -1,0 +1,133 @@
+-- The recordings of runs that exit, one by one.
+use Rattle.std.proofs.Common.{◌≡◌, ℕ, suc, ◌+◌, ◌<◌, ◌++◌, ◌∷◌, [], true, false, List, length, get_or, drop, take, refl, sym, ap, ◌∙◌}
+use Rattle.std.proofs.Common.{arith, length-take, ◌≢◌}
+use Rattle.std.proofs.lemmas.List.{take-append-drop, take_more}
+use Rattle.std.proofs.Math.Seq.{drop-cons}
+use Rattle.elf32_loader.specs.Pictures.{Picture}
+use Rattle.enclosure_regions.specs.declared.region_parts.Region.{Region}
+use Rattle.flow_graph.specs.declared.events.Event.{Event}
+use Rattle.region_machine.specs.Starts.{guest}
+use Rattle.run_labels.specs.Runs.{LabelledRun, run_after, unlabelled}
+use Rattle.measuring.specs.declared.following.Exit.{Exit}
+use Rattle.measuring.specs.declared.recordings.Recording.{Recording}
+use Rattle.measuring.specs.Following.{HasEnded}
+use Rattle.measuring.specs.Measures.{HasCause, IsTooLarge}
+use Rattle.run_labels.specs.declared.faults.MeasureFault.{MeasureFault}
+use Rattle.run_labels.specs.declared.faults.MeasureFault.TheVariants.{TurnLimit, Guest, Region as RegionFault}
+use Rattle.run_labels.specs.declared.faults.MeasureFault.TheVariants.{SecretCode, BaseSecret, GraphLimit}
+use Rattle.run_labels.specs.declared.faults.MeasureFault.TheVariants.{Memory as RunMemory}
+use Rattle.measuring.proofs.GraphWithinLimits.{recorded_exceeds_none}
+use Rattle.many_runs.specs.Causes.{IsFirstRefused}
+use Rattle.many_runs.specs.Following.{AreFollowed, IsFollowed, IsRunFault, many_fault_of}
+use Rattle.many_runs.specs.Measures.{AreRunsOn, IsRunOn, Setup, setup_of, start_on}
+use Rattle.many_runs.specs.Recordings.{AllKeep, Keeps}
+
+pub exit-exceeds : (table : ℕ) (regions : List Region) (start : LabelledRun) (limit : ℕ) (exit : Exit) →
+    HasEnded table regions start limit exit → exit.recording.collapse.is_full ≡ true →
+    IsTooLarge table regions start limit
+exit-exceeds table regions start limit exit ended full = record {
+  turns = exit.turns;
+  output = exit.output;
+  exits = ended.exits;
+  exceeds = ended.records.exceeds full;
+}
+
+pub exit-followed : (table : ℕ) (program : Picture) (public_input : List ℕ) (regions : List Region) (limit : ℕ)
+    (secret : List ℕ) (exit : Exit) →
+    HasEnded table regions (unlabelled (guest program public_input secret)) limit exit →
+    exit.recording.collapse.is_full ≡ false →
+    IsFollowed (setup_of table program public_input regions limit) secret exit.recording
+exit-followed table program public_input regions limit secret exit ended within = record {
+  events = (run_after regions (ended.exits.last ∷ ended.exits.earlier)
+      (unlabelled (guest program public_input secret))).events;
+  run = record {
+    turns = exit.turns;
+    output = exit.output;
+    exits = ended.exits;
+    all = refl;
+    within = recorded_exceeds_none exit.recording within _ (ended.records.graph within);
+  };
+  keeps = record { within = within; records = ended.records };
+}
+
+-- ---- one run more
+
+runs-more : (setup : Setup) (secrets : List (List ℕ)) (runs : List (List Event)) (secret : List ℕ)
+    (events : List Event) → AreRunsOn setup secrets runs → IsRunOn setup secret events →
+    AreRunsOn setup (secrets ++ secret ∷ []) (runs ++ events ∷ [])
+unfolding AreRunsOn
+runs-more setup [] [] secret events are run = (run, tt)
+runs-more setup [] (first ∷ runs) secret events are run = absurd are
+runs-more setup (first ∷ secrets) [] secret events are run = absurd are
+runs-more setup (first ∷ secrets) (other ∷ runs) secret events are run =
+    (are.0, runs-more setup secrets runs secret events are.1 run)
+
+keep-more : (recordings : List Recording) (runs : List (List Event)) (recording : Recording) (events : List Event) →
+    AllKeep recordings runs → Keeps recording events → AllKeep (recordings ++ recording ∷ []) (runs ++ events ∷ [])
+unfolding AllKeep
+keep-more [] [] recording events keep also = (also, tt)
+keep-more [] (first ∷ runs) recording events keep also = absurd keep
+keep-more (first ∷ recordings) [] recording events keep also = absurd keep
+keep-more (first ∷ recordings) (other ∷ runs) recording events keep also =
+    (keep.0, keep-more recordings runs recording events keep.1 also)
+
+pub none-followed : (setup : Setup) → AreFollowed setup [] []
+unfolding AreRunsOn AllKeep
+none-followed setup = record { runs = []; are_runs = tt; keep = tt }
+
+pub followed-more : (setup : Setup) (secrets : List (List ℕ)) (recordings : List Recording) (secret : List ℕ)
+    (recording : Recording) → AreFollowed setup secrets recordings → IsFollowed setup secret recording →
+    AreFollowed setup (secrets ++ secret ∷ []) (recordings ++ recording ∷ [])
+followed-more setup secrets recordings secret recording are is = record {
+  runs = are.runs ++ is.events ∷ [];
+  are_runs = runs-more setup secrets are.runs secret is.events are.are_runs is.run;
+  keep = keep-more recordings are.runs recording is.events are.keep is.keeps;
+}
+
+-- ---- the place in a list
+
+-- an item with those before it and behind it
+pub parted : {X : Type 0} (xs : List X) (i : ℕ) (x : X) → i < length xs → x ≡ get_or xs i x →
+    xs ≡ take i xs ++ x ∷ drop (i + 1) xs
+parted xs i x below is =
+    sym (take-append-drop i xs)
+    ∙ ap (λ rest. take i xs ++ rest)
+    (drop-cons xs i x below ∙ ap (λ y. y ∷ drop (suc i) xs) (sym is) ∙ ap (λ k. x ∷ drop k xs) (sym (plus-one i)))
+  where
+    plus-one : (n : ℕ) → n + 1 ≡ suc n
+    plus-one n = omega arith
+
+pub next-taken : {X : Type 0} (xs : List X) (i : ℕ) (x : X) → i < length xs → x ≡ get_or xs i x →
+    take (i + 1) xs ≡ take i xs ++ x ∷ []
+next-taken xs i x below is = take_more xs i x below ∙ ap (λ y. take i xs ++ y ∷ []) (sym is)
+
+-- ---- a run that is refused
+
+named : (fault : MeasureFault) (setup : Setup) (secrets : List (List ℕ)) (index : ℕ) →
+    ((fault ≢ RunMemory) → IsFirstRefused setup secrets index fault) → IsRunFault setup secrets (many_fault_of index fault)
+named (TurnLimit limit) setup secrets index refused = refused (λ e. cc)
+named (Guest fault) setup secrets index refused = refused (λ e. cc)
+named (RegionFault broken) setup secrets index refused = refused (λ e. cc)
+named (SecretCode pc) setup secrets index refused = refused (λ e. cc)
+named (BaseSecret region register) setup secrets index refused = refused (λ e. cc)
+named GraphLimit setup secrets index refused = refused (λ e. cc)
+named RunMemory setup secrets index refused = tt
+
+-- the next run is the first that is refused
+pub first-refused : (setup : Setup) (secrets : List (List ℕ)) (recordings : List Recording) (index : ℕ)
+    (secret : List ℕ) (fault : MeasureFault) → index < length secrets → secret ≡ get_or secrets index secret →
+    AreFollowed setup (take index secrets) recordings →
+    HasCause setup.table setup.regions (start_on setup secret) setup.limit fault →
+    IsRunFault setup secrets (many_fault_of (index + 1) fault)
+first-refused setup secrets recordings index secret fault below is are cause =
+    named fault setup secrets (index + 1) (λ other. record {
+      earlier = take index secrets;
+      secret = secret;
+      later = drop (index + 1) secrets;
+      secrets_are = parted secrets index secret below is;
+      counted = omega (arith, length-take index secrets, below);
+      runs = are.runs;
+      are_runs = are.are_runs;
+      cause = cause;
+      named = other;
+    })

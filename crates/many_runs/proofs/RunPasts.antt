@@ -1,0 +1,151 @@
+-- The points that the real run passes where regions are skipped, beside those of the events of the run with labels.
+use Rattle.std.proofs.Common.{◌≡◌, ℕ, suc, ◌+◌, ◌≤◌, ◌++◌, ◌∷◌, [], Bool, true, false, cond, List, length, refl, sym, ap, ◌∙◌}
+use Rattle.std.proofs.Common.{length-append, Option, Some, None, arith, subst}
+use Rattle.std.specs.Prelude.{if◌then◌else◌}
+use Rattle.std.specs.List.{AllByRecursion}
+use Rattle.flow_base.specs.declared.points.Point.{Point}
+use Rattle.flow_base.specs.PointOrders.{is_same}
+use Rattle.flow_base.specs.Points.{is_slot}
+use Rattle.enclosure_regions.specs.declared.break_kinds.Break.{Break}
+use Rattle.enclosure_regions.specs.declared.region_parts.Region.{Region}
+use Rattle.flow_graph.specs.declared.events.Event.{Event}
+use Rattle.flow_graph.specs.declared.events.Event.TheVariants.{Pass, Link, FromSecret, Implicit, Out}
+use Rattle.region_machine.specs.Breaking.{Breaks}
+use Rattle.region_machine.specs.Enclosures.{Enclosures, is_enclosed}
+use Rattle.region_machine.specs.Guests.{guest_walk}
+use Rattle.region_machine.specs.Runs.{Place, passed, real_after, real_turn, turn_unless, unbroken_turn, visited}
+use Rattle.replay_machine.specs.Runs.{times_passed}
+use Rattle.run_labels.specs.Flowing.{events_in}
+use Rattle.run_labels.specs.Runs.{IsUnrefused, broken_fault, enclosing, next_walk, run_after, turn_events, unlabelled}
+use Rattle.run_labels.specs.TurnLabels.{TurnLabels, at_start}
+use Rattle.rv32im_machine.specs.Folds.{real_end}
+use Rattle.rv32im_machine.specs.Language.{Walk}
+use Rattle.covered_runs.specs.ClosedEvents.{AreProperEvents, IsProperEvent}
+use Rattle.covered_runs.specs.RunCuts.{visit_masks}
+use Rattle.covered_runs.proofs.CutVisits.{visit_masks-append}
+use Rattle.covered_runs.proofs.GraphEvents.{all-parts}
+use Rattle.covered_runs.proofs.PastsOfEvents.{events_past, pasts}
+use Rattle.covered_runs.proofs.Turns.{first-none}
+
+-- ---- the visits of events
+
+abbrev pub HaveSlots : List Point → Type 0
+HaveSlots past = AllByRecursion (λ (point : Point). is_slot point.slot ≡ true) past
+
+times-event : (point : Point) (b : Bool) (mask count : ℕ) (masks : List ℕ) →
+    (if b then suc count else count) + length masks ≡ count + length (cond b (mask ∷ []) [] ++ masks)
+times-event point true mask count masks = omega arith
+times-event point false mask count masks = refl
+
+-- passings of a point are its visits
+pub times-pasts : (point : Point) (events : List Event) (past : List Point) →
+    times_passed point (pasts events past) ≡ times_passed point past + length (visit_masks point events)
+unfolding pasts visit_masks
+times-pasts point [] past = omega arith
+times-pasts point (Pass other mask ∷ events) past =
+    times-pasts point events (other ∷ past)
+    ∙ times-event point (is_same point other) mask (times_passed point past) (visit_masks point events)
+times-pasts point (Link source target ∷ events) past = times-pasts point events past
+times-pasts point (FromSecret other ∷ events) past = times-pasts point events past
+times-pasts point (Implicit other region ∷ events) past = times-pasts point events past
+times-pasts point (Out region other ∷ events) past = times-pasts point events past
+
+slots-pasts : (events : List Event) (past : List Point) → AreProperEvents events → HaveSlots past →
+    HaveSlots (pasts events past)
+unfolding pasts
+slots-pasts [] past proper slots = slots
+slots-pasts (Pass other mask ∷ events) past proper slots =
+    slots-pasts events (other ∷ past) proper.1 (proper.0.1, slots)
+slots-pasts (Link source target ∷ events) past proper slots = slots-pasts events past proper.1 slots
+slots-pasts (FromSecret other ∷ events) past proper slots = slots-pasts events past proper.1 slots
+slots-pasts (Implicit other region ∷ events) past proper slots = slots-pasts events past proper.1 slots
+slots-pasts (Out region other ∷ events) past proper slots = slots-pasts events past proper.1 slots
+
+-- ---- one turn
+
+-- so often at most, and at slots alone
+pub record Within (past : List Point) (events : List Event) : Type 0 where
+  pub few : (point : Point) → times_passed point past ≤ length (visit_masks point events)
+  pub slots : HaveSlots past
+
+start-within : Within [] []
+unfolding visit_masks
+start-within = record { few = λ point. omega arith; slots = tt }
+
+turn-within : (enclosed : Bool) (past : List Point) (events : List Event) (labels : TurnLabels) (answers : List ℕ)
+    (walk : Walk) → Within past events → AreProperEvents (events_in labels answers walk) →
+    Within (visited enclosed past walk) (events ++ events_in labels answers walk)
+turn-within true past events labels answers walk within proper = record {
+  few = λ point.
+      let all : length (visit_masks point (events ++ events_in labels answers walk))
+      ≡ length (visit_masks point events) + length (visit_masks point (events_in labels answers walk)) =
+      ap length (visit_masks-append point events (events_in labels answers walk))
+      ∙ length-append (visit_masks point events) (visit_masks point (events_in labels answers walk)) in
+      let few = within.few point in omega (arith, all, few);
+  slots = within.slots;
+}
+turn-within false past events labels answers walk within proper = record {
+  few = λ point.
+      let all : length (visit_masks point (events ++ events_in labels answers walk))
+      ≡ length (visit_masks point events) + length (visit_masks point (events_in labels answers walk)) =
+      ap length (visit_masks-append point events (events_in labels answers walk))
+      ∙ length-append (visit_masks point events) (visit_masks point (events_in labels answers walk)) in
+      let turn : times_passed point (passed past walk)
+      ≡ times_passed point past + length (visit_masks point (events_in labels answers walk)) =
+      ap (λ p. times_passed point p) (sym (events_past walk labels answers past))
+      ∙ times-pasts point (events_in labels answers walk) past in
+      let few = within.few point in omega (arith, all, turn, few);
+  slots = subst HaveSlots (events_past walk labels answers past)
+      (slots-pasts (events_in labels answers walk) past proper within.slots);
+}
+
+-- ---- so many turns
+
+-- the real run where these regions are skipped beside the run with labels
+pub record Beside (regions : List Region) (skip : List ℕ) (answers : List (List ℕ)) (start : Place) : Type 0 where
+  pub state : (real_after (record { regions = regions; skip = skip }) (length answers) start).state
+      ≡ (run_after regions answers (unlabelled start)).place.state
+  pub unbroken : (real_after (record { regions = regions; skip = skip }) (length answers) start).broken ≡ None
+  pub run_unbroken : (run_after regions answers (unlabelled start)).place.broken ≡ None
+  pub within : Within (real_after (record { regions = regions; skip = skip }) (length answers) start).past
+      (run_after regions answers (unlabelled start)).events
+
+fault-none : (broken : Option Break) → broken_fault broken ≡ None → broken ≡ None
+fault-none None e = refl
+fault-none (Some broken) e = absurd (cc)
+
+pub runs-beside : (regions : List Region) (skip : List ℕ) (answers : List (List ℕ)) (start : Place) →
+    start.past ≡ [] → start.broken ≡ None → IsUnrefused regions answers (unlabelled start) →
+    AreProperEvents (run_after regions answers (unlabelled start)).events → Beside regions skip answers start
+unfolding run_after real_after IsUnrefused
+runs-beside regions skip [] start none unbroken unrefused proper = record {
+  state = refl;
+  unbroken = unbroken;
+  run_unbroken = unbroken;
+  within = subst (λ past. Within past []) (sym none) start-within;
+}
+runs-beside regions skip (last ∷ earlier) start none unbroken unrefused proper =
+    let enclosures : Enclosures = record { regions = regions; skip = skip } in
+    let run = run_after regions earlier (unlabelled start) in
+    let place = real_after enclosures (length earlier) start in
+    let walk = next_walk regions run in
+    let turn = turn_events regions last run in
+    let parts = all-parts IsProperEvent run.events turn proper in
+    let before = runs-beside regions skip earlier start none unbroken unrefused.0 parts.0 in
+    let faults = first-none _ _ (first-none _ _ unrefused.1).1 in
+    let whole : Breaks regions run.place.state ≡ None = fault-none (Breaks regions run.place.state) faults.0 in
+    let goes : real_turn enclosures place ≡ unbroken_turn enclosures place =
+    ap (λ b. turn_unless b enclosures place) before.unbroken in
+    let run_goes : real_turn (enclosing regions) run.place ≡ unbroken_turn (enclosing regions) run.place =
+    ap (λ b. turn_unless b (enclosing regions) run.place) before.run_unbroken in
+    record {
+      state = ap (λ (p : Place). p.state) goes ∙ ap (λ s. real_end (guest_walk regions s)) before.state
+          ∙ sym (ap (λ (p : Place). p.state) run_goes);
+      unbroken = ap (λ (p : Place). p.broken) goes ∙ ap (λ s. Breaks regions s) before.state ∙ whole;
+      run_unbroken = ap (λ (p : Place). p.broken) run_goes ∙ whole;
+      within = subst (λ past. Within past (run.events ++ turn))
+          (sym (ap (λ (p : Place). p.past) goes
+          ∙ ap (λ s. visited (is_enclosed enclosures s.control) place.past (guest_walk regions s)) before.state))
+          (turn-within (is_enclosed enclosures run.place.state.control) place.past run.events (at_start run.labels) last
+          walk before.within parts.1);
+    }

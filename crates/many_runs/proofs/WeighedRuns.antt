@@ -1,0 +1,51 @@
+-- What is measured of the recording of several runs, and why it is not.
+use Rattle.std.proofs.Common.{ℕ, ◌≤◌, List}
+use Rattle.flow_graph.specs.declared.events.Event.{Event}
+use Rattle.measuring.specs.declared.recordings.Recording.{Recording}
+use Rattle.many_runs.specs.declared.faults.ManyFault.{ManyFault}
+use Rattle.many_runs.specs.declared.faults.ManyFault.TheVariants.{Length, Run, UnitedLimit, BudgetLimit, Memory}
+use Rattle.many_runs.specs.declared.many.Many.{Many}
+use Rattle.many_runs.specs.Causes.{HasManyCause}
+use Rattle.many_runs.specs.Following.{AreFollowed}
+use Rattle.many_runs.specs.Measures.{HaveLength, MeasuresAll, Setup, first_length}
+use Rattle.many_runs.specs.Recordings.{AllKeep, RecordsUnion}
+use Rattle.many_runs.specs.Weighing.{IsWeighFault, WeighsAll}
+
+module _ (setup : Setup) (secrets : List (List ℕ)) (recordings : List Recording) (union : Recording)
+    (alike : HaveLength (first_length secrets) secrets) (are : AreFollowed setup secrets recordings)
+    (unites : (runs : List (List Event)) → AllKeep recordings runs → RecordsUnion runs union) where
+  pub weighed : (many : Many) → WeighsAll union (first_length secrets) many → many.value ≤ 1048576 →
+      MeasuresAll setup secrets many
+  weighed many weighs budget =
+      let all = unites are.runs are.keep in
+      record {
+        alike = alike;
+        runs = are.runs;
+        are_runs = are.are_runs;
+        events = all.events;
+        united = all.united;
+        measure = weighs all.events all.records;
+        budget = budget;
+      }
+
+  pub unweighed : (fault : ManyFault) → IsWeighFault union fault → HasManyCause setup secrets fault
+  unweighed UnitedLimit full =
+      let all = unites are.runs are.keep in
+      record {
+        events = all.events;
+        union = record { alike = alike; runs = are.runs; are_runs = are.are_runs; united = all.united };
+        exceeds = all.records.exceeds full;
+      }
+  unweighed (BudgetLimit value) over =
+      let all = unites are.runs are.keep in
+      let much = over all.events all.records in
+      record {
+        events = all.events;
+        union = record { alike = alike; runs = are.runs; are_runs = are.are_runs; united = all.united };
+        within = much.within;
+        maximum = much.maximum;
+        over = much.over;
+      }
+  unweighed Memory none = tt
+  unweighed (Length index first got) none = absurd none
+  unweighed (Run index fault) none = absurd none

@@ -1,0 +1,53 @@
+use Rattle.std.proofs.Common.{arith}
+use Rattle.cut_file.proofs.Following.{is_true}
+use Rattle.measuring.proofs.RunCut.{cut_is}
+use Rattle.measuring.proofs.CutNames.{cut_is_in}
+use Rattle.measuring.proofs.GraphWithinLimits.{recorded_within, recorded_exceeds_none}
+use Rattle.many_runs.proofs.FewCutPoints.{few-points}
+use Rattle.many_runs.proofs.weighing_all.weigh_all.Goals as goal
+
+pub solve-requires : goal.solve-requires
+solve-requires c = recorded_within c.args.union c.if-collapse.false c.requires.known c.in_ok-graph.graph
+    c.in_ok-graph.ensures
+
+pub returns-then-value-gt-MAX_BUDGET-clause-err : goal.returns-then-value-gt-MAX_BUDGET-clause-err
+returns-then-value-gt-MAX_BUDGET-clause-err c = λ events records. record {
+  within = recorded_exceeds_none c.args.union c.if-collapse.false events (records.graph c.if-collapse.false);
+  maximum = record {
+    graph = c.in_ok-graph.graph;
+    graph_of = c.in_ok-graph.ensures events (records.graph c.if-collapse.false);
+    points = _;
+    links = _;
+    flow = c.in_ok-value.ensures.flow;
+    value_is = c.in_ok-value.ensures.value;
+    greatest = c.in_ok-value.ensures.greatest;
+  };
+  over = omega arith;
+}
+
+pub invariant_of-result : goal.invariant_of-result
+invariant_of-result c =
+    let within = recorded_within c.args.union c.if-collapse.false c.requires.known c.in_ok-graph.graph
+    c.in_ok-graph.ensures in
+    record {
+      few_points = within.points;
+      few_links = within.links;
+      small = within.capacities;
+      few_cut_points = few-points c.in_ok-cut.cut.points _ _ _ c.in_ok-cut.ensures.points within.points;
+      known = is_true _ (cut_is_in _ c.in_ok-graph.graph.points _ c.in_ok-cut.cut.points c.in_ok-cut.ensures.points);
+    }
+
+pub returns-clause-ok : goal.returns-clause-ok
+returns-clause-ok c = λ events records. record {
+  graph = c.in_ok-graph.ensures events (records.graph c.if-collapse.false);
+  within = recorded_exceeds_none c.args.union c.if-collapse.false events (records.graph c.if-collapse.false);
+  flow = c.in_ok-value.ensures.flow;
+  value = c.in_ok-value.ensures.value;
+  greatest = c.in_ok-value.ensures.greatest;
+  points_most = c.in_ok-value.ensures.points;
+  links_most = c.in_ok-value.ensures.links;
+  side = c.in_ok-value.ensures.side;
+  capacity = c.in_ok-value.ensures.capacity;
+  cut = cut_is _ _ _ _ _ _ c.in_ok-cut.cut c.in_ok-cut.ensures events (records.visits c.if-collapse.false)
+      (c.in_ok-graph.ensures events (records.graph c.if-collapse.false));
+}

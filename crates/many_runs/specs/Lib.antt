@@ -1,0 +1,10 @@
+pub mod FaultTexts
+pub mod Uniting
+pub mod Measures
+pub mod Causes
+pub mod Accepting
+pub mod Deciding
+pub mod Recordings
+pub mod Joining
+pub mod Following
+pub mod Weighing

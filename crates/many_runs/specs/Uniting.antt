@@ -1,0 +1,36 @@
+-- United: what several runs have together.
+use Rattle.std.specs.Prelude.{◌≡◌, ℕ, ◌||◌, ◌++◌, Bool, false, cond, List, [], ◌∷◌, bit_or}
+use Rattle.flow_base.specs.declared.points.Point.{Point}
+use Rattle.flow_graph.specs.declared.events.Event.{Event}
+use Rattle.flow_graph.specs.declared.named_links.NamedLink.{NamedLink}
+use Rattle.flow_graph.specs.EventGraphs.{has_passed, is_among, named_links}
+use Rattle.covered_runs.specs.RunCuts.{visit_masks}
+
+-- the masks of a point in two runs, visit by visit: the bits that either has, and where the one has no visit any more,
+-- those of the other
+unfoldable pub joined : List ℕ → List ℕ → List ℕ
+joined [] others = others
+joined (mask ∷ masks) [] = mask ∷ masks
+joined (mask ∷ masks) (other ∷ others) = bit_or mask other ∷ joined masks others
+
+-- the masks of a point in all runs, visit by visit
+unfoldable pub joined_masks : Point → List (List Event) → List ℕ
+joined_masks point [] = []
+joined_masks point (events ∷ runs) = joined (visit_masks point events) (joined_masks point runs)
+
+-- in some run a mask other than 0 has passed the point
+unfoldable pub is_passed : Point → List (List Event) → Bool
+is_passed point [] = false
+is_passed point (events ∷ runs) = has_passed events point || is_passed point runs
+
+-- the links of the graphs of all runs
+unfoldable pub all_links : List (List Event) → List NamedLink
+all_links [] = []
+all_links (events ∷ runs) = named_links events ++ all_links runs
+
+-- Events that have of each point that some run has passed the masks of all runs, visit by visit, and that have the links
+-- of all runs. So the graph of such events has the points of all runs, as capacities the sums of the bits of these
+-- masks, and all their links and relays; and the cut of such events has these masks.
+pub record IsUnited (runs : List (List Event)) (events : List Event) : Type 0 where
+  pub masks : (point : Point) → visit_masks point events ≡ cond (is_passed point runs) (joined_masks point runs) []
+  pub links : (link : NamedLink) → is_among (named_links events) link ≡ is_among (all_links runs) link

@@ -1,0 +1,108 @@
+ghost use Rattle.std.specs.Prelude.{◌≡◌, ◌≤◌, IfErr, IfOk, length, true};
+ghost use Rattle.std.specs.List.{list_all};
+ghost use Rattle.elf32_loader.specs.Images.{picture_of};
+ghost use Rattle.measuring.specs.Measures.{HasCause};
+ghost use Rattle.many_runs.specs.Following.{AreFollowed, IsFollowed, IsLengthFault, IsRunFault, is_short, many_fault_of};
+ghost use Rattle.many_runs.specs.Measures.{HaveLength, first_length, setup_of, start_on};
+
+use crate::faults::ManyFault;
+use elf32_loader::Image;
+use enclosure_regions::Regions;
+use flow_base::{Bytes, List};
+use measuring::{Recording, RunEnd, follow};
+use run_labels::MeasureFault;
+use std::alloc::Global;
+use transfer_rules::RuleBook;
+
+/// The length of all secrets, in bytes, 0 where there is none.
+/// `Length` where they have more than one.
+pub(crate) fn common_length(secrets: &[Bytes]) -> Result<u32, ManyFault>
+    requires few { length secrets.now ≤ 64 }
+    requires short { list_all is_short secrets.now ≡ true }
+    ensures ok { IfOk result (λ secret_len. secret_len ≡ first_length secrets.now) }
+    ensures alike { IfOk result (λ secret_len. HaveLength (first_length secrets.now) secrets.now) }
+    ensures err { IfErr result (λ fault. IsLengthFault secrets.now fault) }
+{
+    let [secret, ..] = secrets else {
+        return Ok(0);
+    };
+    let first = secret.len() as u32;
+    for index in 0..secrets.len() {
+        let got = secrets[index].len() as u32;
+        if got != first {
+            return Err(ManyFault::Length {
+                index: index as u32 + 1,
+                first,
+                got,
+            });
+        }
+    }
+    Ok(first)
+}
+
+/// The recording of the run on a secret.
+fn record_run(
+    alloc: Global,
+    image: &Image,
+    public: &Bytes,
+    secret: &Bytes,
+    regions: &Regions,
+    book: &RuleBook,
+    turns: u32,
+) -> Result<Recording, MeasureFault>
+    requires { length secret.now ≤ 65536 }
+    ensures ok { IfOk result (λ recording. IsFollowed
+        (setup_of book.now.table (picture_of image.now) public.now regions.now.items turns) secret.now recording) }
+    ensures err { IfErr result (λ fault. HasCause book.now.table regions.now.items (start_on
+        (setup_of book.now.table (picture_of image.now) public.now regions.now.items turns) secret.now) turns fault) }
+{
+    match follow(alloc, image, public, secret, regions, book, turns) {
+        Ok(RunEnd::Exited(exit)) => {
+            if exit.recording.collapse.is_full {
+                Err(MeasureFault::GraphLimit)
+            } else {
+                Ok(exit.recording)
+            }
+        }
+        Ok(RunEnd::Refused(fault)) => Err(fault),
+        Err(_) => Err(MeasureFault::Memory),
+    }
+}
+
+/// What is answered where the run with this index is not measured.
+fn many_fault(index: u32, fault: MeasureFault) -> ManyFault
+    ensures { result ≡ many_fault_of index fault }
+{
+    match fault {
+        MeasureFault::Memory => ManyFault::Memory,
+        _ => ManyFault::Run { index, fault },
+    }
+}
+
+/// The recordings of the runs on all secrets.
+/// `Run` where one is not measured, for another reason than want of memory.
+pub(crate) fn record_runs(
+    alloc: Global,
+    image: &Image,
+    public: &Bytes,
+    secrets: &[Bytes],
+    regions: &Regions,
+    book: &RuleBook,
+    turns: u32,
+) -> Result<List<Recording>, ManyFault>
+    requires few { length secrets.now ≤ 64 }
+    requires short { list_all is_short secrets.now ≡ true }
+    ensures ok { IfOk result (λ recordings. AreFollowed
+        (setup_of book.now.table (picture_of image.now) public.now regions.now.items turns) secrets.now recordings) }
+    ensures err { IfErr result (λ fault. IsRunFault
+        (setup_of book.now.table (picture_of image.now) public.now regions.now.items turns) secrets.now fault) }
+{
+    let mut recordings = List::new(alloc);
+    for index in 0..secrets.len() {
+        match record_run(alloc, image, public, &secrets[index], regions, book, turns) {
+            Ok(recording) => recordings.push(recording)?,
+            Err(fault) => return Err(many_fault(index as u32 + 1, fault)),
+        }
+    }
+    Ok(recordings)
+}

@@ -1,0 +1,91 @@
+ghost use Rattle.std.specs.Prelude.{◌≡◌, ◌<◌, ◌≤◌, IfErr, IfOk, length, true};
+ghost use Rattle.std.specs.List.{AllByRecursion, list_all};
+ghost use Rattle.covered_runs.specs.MeasuredLaws.{AreInputs};
+ghost use Rattle.elf32_loader.specs.Images.{picture_of};
+ghost use Rattle.many_runs.specs.Accepting.{AreAcceptedByFolds, AreAcceptedByTheCut, HasShortText};
+ghost use Rattle.many_runs.specs.Causes.{HasManyCause};
+ghost use Rattle.many_runs.specs.Following.{is_short};
+ghost use Rattle.many_runs.specs.Measures.{MeasuresAll, setup_of};
+
+use crate::faults::ManyFault;
+use crate::following_all::{common_length, record_runs};
+use crate::many::Many;
+use crate::uniting::unite;
+use crate::weighing_all::weigh_all;
+use covered_runs::tell_inputs;
+use elf32_loader::Image;
+use enclosure_regions::Regions;
+use flow_base::Bytes;
+use std::alloc::Global;
+use transfer_rules::RuleBook;
+
+/// Tells that a program, its public input, secrets and regions are as files have them. It does nothing.
+fn tell_all_inputs(image: &Image, public: &Bytes, secrets: &[Bytes], regions: &Regions)
+    ensures { AllByRecursion (AreInputs (picture_of image.now) public.now regions.now.items) secrets.now }
+{
+    let mut rest = secrets;
+    while let [secret, more @ ..] = rest {
+        tell_inputs(image, public, secret, regions);
+        rest = more;
+    }
+}
+
+/// The measure of several runs together, or why they have none; see [`measure_all`].
+fn measure_runs(
+    alloc: Global,
+    image: &Image,
+    public: &Bytes,
+    secrets: &[Bytes],
+    regions: &Regions,
+    book: &RuleBook,
+    turns: u32,
+) -> Result<Many, ManyFault>
+    requires few { length secrets.now ≤ 64 }
+    requires short { list_all is_short secrets.now ≡ true }
+    ensures ok { IfOk result (λ many. MeasuresAll
+        (setup_of book.now.table (picture_of image.now) public.now regions.now.items turns) secrets.now many) }
+    ensures err { IfErr result (λ fault. HasManyCause
+        (setup_of book.now.table (picture_of image.now) public.now regions.now.items turns) secrets.now fault) }
+{
+    let secret_len = common_length(secrets)?;
+    let recordings = record_runs(alloc, image, public, secrets, regions, book, turns)?;
+    let union = unite(alloc, recordings.as_slice())?;
+    weigh_all(alloc, secret_len, union)
+}
+
+/// Measures the runs of a program on a public input and several secrets together, with these regions, by the mask rules
+/// of a book, each through at most `turns` turns: how many bits of the secret can have flowed to what is seen of any of
+/// them, and one cut of all of them (McCamant and Ernst, PLDI 2008). At the v-th visit of a point the graph and the cut
+/// have the bits that the masks of any of the runs have at their v-th visit there. Each of the secrets is accepted with
+/// that cut, and with its fold, within that number of bits and the same limit of turns. The text of the cut has at most
+/// 64 MiB, and that of its fold too.
+///
+/// The secrets are 1 to 64, and each has at most 65,536 bytes. Of the errors the first in the order of [`ManyFault`]
+/// comes: `Length` where not all have one length, `Run` where a run is not measured, `UnitedLimit` where the graph of all
+/// runs exceeds a limit, and `BudgetLimit` where its maximum flow is more than 1,048,576; `Memory` where there is not
+/// enough, and where [`measure`](measuring::measure) would answer it for a point of the cut.
+pub fn measure_all(
+    alloc: Global,
+    image: &Image,
+    public: &Bytes,
+    secrets: &[Bytes],
+    regions: &Regions,
+    book: &RuleBook,
+    turns: u32,
+) -> Result<Many, ManyFault>
+    requires some { 0 < length secrets.now }
+    requires few { length secrets.now ≤ 64 }
+    requires short { list_all is_short secrets.now ≡ true }
+    ensures ok { IfOk result (λ many. MeasuresAll
+        (setup_of book.now.table (picture_of image.now) public.now regions.now.items turns) secrets.now many) }
+    ensures err { IfErr result (λ fault. HasManyCause
+        (setup_of book.now.table (picture_of image.now) public.now regions.now.items turns) secrets.now fault) }
+    ensures accepted { IfOk result (λ many.
+        AreAcceptedByTheCut (picture_of image.now) public.now regions.now.items secrets.now turns many) }
+    ensures folds { IfOk result (λ many.
+        AreAcceptedByFolds (picture_of image.now) public.now regions.now.items secrets.now turns many) }
+    ensures short { IfOk result (λ many. HasShortText many) }
+{
+    tell_all_inputs(image, public, secrets, regions);
+    measure_runs(alloc, image, public, secrets, regions, book, turns)
+}
