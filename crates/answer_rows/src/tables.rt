@@ -4,14 +4,17 @@ mod break_rows;
 mod broken_region_rows;
 mod check_rows;
 mod cuts;
+mod finding_rows;
 mod guests;
 mod hostile_rows;
+mod learnt_rows;
 mod measure_rows;
 mod region_rows;
 mod region_verdict_rows;
 mod region_word_rows;
 mod report_rows;
 mod source_rows;
+mod together_rows;
 mod trial_rows;
 mod verdict_guests;
 mod verdict_rows;
@@ -59,10 +62,13 @@ pub struct Row {
 }
 
 /// The tables.
-pub const TABLES: [&[Row]; 25] = [
+pub const TABLES: [&[Row]; 32] = [
     &check_rows::JUDGED,
     &check_rows::REJECTED,
     &check_rows::REFUSED,
+    &finding_rows::CLEAN,
+    &finding_rows::UNCLEAR,
+    &finding_rows::REGIONS,
     &source_rows::ROWS,
     &break_rows::CROSSINGS,
     &break_rows::BREAKS,
@@ -72,9 +78,13 @@ pub const TABLES: [&[Row]; 25] = [
     &region_word_rows::REFUSED,
     &measure_rows::MEASURED,
     &measure_rows::REFUSED,
+    &together_rows::MEASURED,
+    &together_rows::REFUSED,
     &report_rows::REPORTS,
     &report_rows::TABLES,
     &report_rows::FOLDS,
+    &learnt_rows::LEARNT,
+    &learnt_rows::REFUSED,
     &trial_rows::ROWS,
     &hostile_rows::FAILING,
     &hostile_rows::FILES,

@@ -7,23 +7,32 @@ use Rattle.lockstep_replay.specs.Tasks.{Task as JudgedTask, Limits as CheckLimit
 use Rattle.lockstep_replay.specs.Verdicts.{Judgement, Accepts, Rejects, First}
 use Rattle.lockstep_replay.proofs.Accepting.{accepted_law}
 use Rattle.lockstep_replay.proofs.Judging.{rejected_law}
+use Rattle.measuring.specs.Deciding.{IsDeciding}
+use Rattle.command_words.specs.declared.judgings.Judging.{Judging}
+use Rattle.command_words.specs.declared.judgings.Judging.TheVariants.{Replay, Masks}
+use Rattle.command_words.specs.declared.tellings.Telling.{Telling}
+use Rattle.command_words.specs.declared.tellings.Telling.TheVariants.{CutText, Certificate, Report, Declaration}
 use Rattle.command_words.specs.CommandLines.{Command, IsCommand}
 use Rattle.command_answers.specs.declared.refusals.Refusal.{Refusal}
 use Rattle.command_answers.specs.declared.statuses.Status.TheVariants.{Done, Rejected}
 use Rattle.command_answers.specs.Answers.{Answer}
-use Rattle.command_answers.specs.Checks.{CheckTask, judged_by, judgements_of}
+use Rattle.command_answers.specs.Checks.{CheckTask, AnswersBy, judged_by, judgements_of}
 use Rattle.command_answers.specs.Loading.{loaded_from}
 use Rattle.command_answers.specs.MeasuredHeadline.{HasAccepted}
 use Rattle.command_answers.specs.Replies.{AnswersCommand, AnswersWords, IsUsage, Replies, Reply}
-use Rattle.command_answers.specs.ReplyLaws.{AreLoaded, Completes, CompletesCheck}
-use Rattle.command_answers.specs.Runs.{Tells}
+use Rattle.command_answers.specs.ReplyLaws.{AreLoaded, Completes, CompletesBy, CompletesCheck, CompletesTelling}
+use Rattle.command_answers.specs.Runs.{RunTask}
+use Rattle.command_answers.specs.Tellings.{AnswersTelling, IsCertificateText, IsCutOfRun, IsReport, Tells}
 use Rattle.command_answers.specs.Statuses.{number_of}
-use Rattle.command_answers.specs.Tasks.{Task, JudgeSecrets, TellRun, WriteProgram, ListProgram, VerifyCertificate, MigrateCut, TryNumber, AnswersFiles, AnswersTask, IsFormRefusal, IsTaskOf, wants_of}
+use Rattle.command_answers.specs.Tasks.{Task, JudgeSecrets, TellRun, MeasureAll, WriteProgram, ListProgram, VerifyCertificate, MigrateCut, TryNumber, AnswersFiles, AnswersTask, IsFormRefusal, IsTaskOf, wants_of}
 use Rattle.command_answers.specs.Texts.{accepted_count}
 use Rattle.command_answers.specs.Trials.{TellsTrial, run_of_number}
 use Rattle.command_answers.proofs.OneGuest.{RegionLaws}
-use Rattle.command_answers.proofs.OneReply.{Decides, certificate_completes, run_completes, task_decides, telling-done, trial-done, words_reading}
+use Rattle.command_answers.proofs.OneFinding.{taint_completes}
+use Rattle.command_answers.proofs.OneLearning.{learning_completes}
+use Rattle.command_answers.proofs.OneReply.{Decides, DecidesBy, certificate_completes, run_completes, task_decides, telling-done, trial-done, words_reading}
 use Rattle.command_answers.proofs.OneTask.{task_reading}
+use Rattle.command_answers.proofs.OneUnion.{many_completes}
 use Rattle.command_answers.proofs.Readings.{reads_it, status_of}
 
 -- ---- a check
@@ -86,20 +95,37 @@ check-by task limits secrets false e = record {
 
 -- ---- every command
 
-judged : (task : CheckTask) (answer : Answer) → AnswersTask (JudgeSecrets task) answer →
+replayed : (task : CheckTask) (answer : Answer) → AnswersBy Replay task answer →
     CompletesCheck (judged_by task.guest task.cut) task.limits task.secrets (status_of answer)
-judged task answer e =
+replayed task answer e =
     let judgements = judgements_of (judged_by task.guest task.cut) task.limits task.secrets in
     let counts : Bool = accepted_count judgements == length judgements in
     let status : number_of (if counts then Done else Rejected) ≡ status_of answer = ap status_of (sym e) in
     subst (λ s. CompletesCheck (judged_by task.guest task.cut) task.limits task.secrets s) status
     (check-by (judged_by task.guest task.cut) task.limits task.secrets counts refl)
 
+check-completes : (judging : Judging) (task : CheckTask) (answer : Answer) → DecidesBy judging →
+    AnswersBy judging task answer →
+    CompletesBy judging (judged_by task.guest task.cut) task.limits task.secrets (status_of answer)
+check-completes Replay task answer deciding h = replayed task answer h
+check-completes (Masks table) task answer deciding h =
+    taint_completes table (judged_by task.guest task.cut) task.limits task.secrets answer deciding h
+
+telling-completes : (telling : Telling) (run : RunTask) (answer : Answer) → IsDeciding run.table →
+    AnswersTelling telling run answer → CompletesTelling telling run (status_of answer)
+telling-completes (CutText version) run answer deciding h =
+    run_completes run (Tells (IsCutOfRun version)) (telling-done (IsCutOfRun version)) deciding answer h
+telling-completes Certificate run answer deciding h =
+    run_completes run (Tells IsCertificateText) (telling-done IsCertificateText) deciding answer h
+telling-completes (Report json) run answer deciding h =
+    run_completes run (Tells (IsReport json)) (telling-done (IsReport json)) deciding answer h
+telling-completes Declaration run answer deciding h = learning_completes run answer h
+
 task-completes : (task : Task) (answer : Answer) → Decides task → AnswersTask task answer →
     Completes task (status_of answer)
-task-completes (JudgeSecrets task) answer deciding h = judged task answer h
-task-completes (TellRun telling run) answer deciding h =
-    run_completes run (Tells telling) (telling-done telling) deciding answer h
+task-completes (JudgeSecrets task) answer deciding h = check-completes task.judging task answer deciding h
+task-completes (TellRun telling run) answer deciding h = telling-completes telling run answer deciding h
+task-completes (MeasureAll version runs) answer deciding h = many_completes version runs answer deciding h
 task-completes (WriteProgram picture) answer deciding e = ap status_of e
 task-completes (ListProgram picture) answer deciding e = ap status_of e
 task-completes (VerifyCertificate graph solved) answer deciding h = certificate_completes graph solved answer h

@@ -1,12 +1,17 @@
 -- The statuses of answers: 0 or 1 of what a command makes, and of refusals those of their kinds, told by one line.
-use Rattle.std.proofs.Common.{◌≡◌, ◌≢◌, ◌≤◌, ◌∙◌, ◌+◌, Option, codes, inl, inr, ℕ, List, [], ◌∷◌, Bool, true, false, Ok, Err, refl, sym, ap, subst, arith, if◌then◌else◌}
+use Rattle.std.proofs.Common.{◌≡◌, ◌≢◌, ◌⊎◌, ◌≤◌, ◌∙◌, ◌+◌, Option, codes, inl, inr, ℕ, List, [], ◌∷◌, Bool, true, false, Ok, Err, refl, sym, ap, subst, arith, if◌then◌else◌}
 use Rattle.flow_base.specs.Loads.{Told}
 use Rattle.flow_certificate.specs.declared.verdicts.CertVerdict.{CertVerdict}
 use Rattle.flow_certificate.specs.declared.verdicts.CertVerdict.TheVariants.{Verified, Rejected as RejectedBy}
 use Rattle.measuring.specs.declared.measured.Measured.{Measured}
+use Rattle.command_words.specs.declared.judgings.Judging.{Judging}
+use Rattle.command_words.specs.declared.judgings.Judging.TheVariants.{Replay, Masks}
+use Rattle.command_words.specs.declared.tellings.Telling.{Telling}
+use Rattle.command_words.specs.declared.tellings.Telling.TheVariants.{CutText, Report, Declaration}
+use Rattle.command_words.specs.declared.tellings.Telling.TheVariants as telling
 use Rattle.command_words.specs.CommandLines.{Command}
 use Rattle.command_answers.specs.declared.refusals.Refusal.{Refusal}
-use Rattle.command_answers.specs.declared.refusals.Refusal.TheVariants.{Usage, Load, Program, Regions, Cut, Source, Certificate, Run, TooLarge, Memory}
+use Rattle.command_answers.specs.declared.refusals.Refusal.TheVariants.{Usage, Load, Program, Regions, Cut, Source, Certificate, Run, Runs, Learn, TooLarge, Memory}
 use Rattle.command_answers.specs.declared.statuses.Status.TheVariants.{Done, Rejected}
 use Rattle.command_answers.specs.Answers.{Answer, told}
 use Rattle.command_answers.specs.FileLimits.{limit_of}
@@ -15,11 +20,14 @@ use Rattle.command_answers.specs.Loading.{Want, IsLoadRefusal}
 use Rattle.command_answers.specs.Names.{shown}
 use Rattle.command_answers.specs.Refusals.{refusal_text}
 use Rattle.command_answers.specs.Replies.{AnswersCommand}
-use Rattle.command_answers.specs.Runs.{RunTask, AnswersRun, Tells}
+use Rattle.command_answers.specs.Checks.{CheckTask, AnswersBy}
+use Rattle.command_answers.specs.ManyRuns.{ManyRunsTask, AnswersMany}
+use Rattle.command_answers.specs.Runs.{RunTask, AnswersRun}
+use Rattle.command_answers.specs.Tellings.{AnswersTelling, IsCertificateText, IsCutOfRun, IsReport, Tells}
 use Rattle.command_answers.specs.Trials.{TellsTrial, run_of_number}
-use Rattle.command_answers.specs.Tasks.{Task, JudgeSecrets, TellRun, WriteProgram, ListProgram, VerifyCertificate, MigrateCut, TryNumber, AnswersTask, AnswersFiles, wants_of}
+use Rattle.command_answers.specs.Tasks.{Task, JudgeSecrets, TellRun, MeasureAll, WriteProgram, ListProgram, VerifyCertificate, MigrateCut, TryNumber, AnswersTask, AnswersFiles, wants_of}
 use Rattle.command_answers.specs.Verifications.{verdict_reply}
-use Rattle.command_answers.proofs.OneLine.{Clean, literal, joined, cut_fault, region, program, run_fault, source_fault, form_fault, name, number}
+use Rattle.command_answers.proofs.OneLine.{Clean, literal, joined, cut_fault, region, program, run_fault, many_fault, learn_fault, source_fault, form_fault, name, number}
 use Rattle.command_answers.proofs.OneTask.{form-status}
 use Rattle.command_answers.proofs.Readings.{status_of}
 
@@ -35,6 +43,8 @@ clean-text (Source fault) above below = joined (codes "refused 3 source ") _ (li
 clean-text (Certificate fault) above below =
     joined (codes "refused 3 certificate ") _ (literal (codes "refused 3 certificate ") refl) (form_fault fault)
 clean-text (Run fault) above below = joined (codes "refused 4 ") _ (literal (codes "refused 4 ") refl) (run_fault fault)
+clean-text (Runs fault) above below = joined (codes "refused 4 ") _ (literal (codes "refused 4 ") refl) (many_fault fault)
+clean-text (Learn fault) above below = joined (codes "refused 4 ") _ (literal (codes "refused 4 ") refl) (learn_fault fault)
 clean-text (Load name) above below = absurd (omega (arith, below))
 clean-text (TooLarge name number) above below = absurd (omega (arith, below))
 clean-text Memory above below = absurd (omega (arith, below))
@@ -106,51 +116,64 @@ verdict-low (RejectedBy fault) = omega arith
 low-as : (answer same : Answer) → answer ≡ same → status_of same ≤ 1 → status_of answer ≤ 1
 low-as answer same e low = subst (λ a. status_of a ≤ 1) (sym e) low
 
-run-fine : (run : RunTask) (Answers : Measured → Answer → Type 0) (answer : Answer) →
-    ((measured : Measured) → Answers measured answer → status_of answer ≡ 0) → AnswersRun run Answers answer →
-    IsFine answer
-run-fine run Answers answer done (inl (refusal, (fault, first, is), e)) =
-    by answer (Err refusal) e (subst (λ r. IsFine (Err r)) (sym is) (refused (Run fault) (omega arith) (omega arith)))
-run-fine run Answers answer done (inr (measured, is, answers)) =
-    let zero = done measured answers in made answer (omega (arith, zero))
+-- what a task is answered by: a reply of status 0 or 1, or a refusal of status 4
+abbrev IsMade : Answer → Type 0
+IsMade answer =
+    (status_of answer ≤ 1)
+    ⊎ ((refusal : Refusal) × (answer ≡ Err refusal) × (status_of (Err refusal) ≡ 4))
 
-task-fine : (task : Task) (answer : Answer) → AnswersTask task answer → IsFine answer
-task-fine (JudgeSecrets task) answer e = made answer (low-as answer _ e (low-either _))
-task-fine (TellRun telling run) answer h =
-    run-fine run (Tells telling) answer (λ measured (text, is, e). ap status_of e) h
-task-fine (WriteProgram picture) answer e = made answer (low-as answer _ e (omega arith))
-task-fine (ListProgram picture) answer e = made answer (low-as answer _ e (omega arith))
-task-fine (VerifyCertificate graph solved) answer (verdict, is, e) = made answer (low-as answer _ e (verdict-low verdict))
-task-fine (MigrateCut cut) answer e = made answer (low-as answer _ e (omega arith))
-task-fine (TryNumber number) answer h =
-    run-fine (run_of_number number) (TellsTrial number) answer (λ measured e. ap status_of e) h
+run-made : (run : RunTask) (IsText : Measured → List ℕ → Type 0) (answer : Answer) →
+    AnswersRun run (Tells IsText) answer → IsMade answer
+run-made run IsText answer (inl (refusal, (fault, first, is), e)) =
+    inr (refusal, e, ap (λ r. status_of (Err r)) is)
+run-made run IsText answer (inr (measured, is, (text, told, e))) = inl (low-as answer _ e (omega arith))
+
+telling-made : (telling : Telling) (run : RunTask) (answer : Answer) → AnswersTelling telling run answer → IsMade answer
+telling-made (CutText version) run answer h = run-made run (IsCutOfRun version) answer h
+telling-made telling.Certificate run answer h = run-made run IsCertificateText answer h
+telling-made (Report json) run answer h = run-made run (IsReport json) answer h
+telling-made Declaration run answer (inl (refusal, (fault, first, is), e)) =
+    inr (refusal, e, ap (λ r. status_of (Err r)) is)
+telling-made Declaration run answer (inr (regions, is, (text, texts, spells, e))) =
+    inl (low-as answer _ e (omega arith))
+
+trial-made : (number : ℕ) (answer : Answer) → AnswersRun (run_of_number number) (TellsTrial number) answer →
+    IsMade answer
+trial-made number answer (inl (refusal, (fault, first, is), e)) = inr (refusal, e, ap (λ r. status_of (Err r)) is)
+trial-made number answer (inr (measured, is, e)) = inl (low-as answer _ e (omega arith))
+
+many-made : (version : ℕ) (runs : ManyRunsTask) (answer : Answer) → AnswersMany version runs answer → IsMade answer
+many-made version runs answer (inl (refusal, (fault, first, is), e)) = inr (refusal, e, ap (λ r. status_of (Err r)) is)
+many-made version runs answer (inr (many, is, (text, told, e))) = inl (low-as answer _ e (omega arith))
+
+check-made : (judging : Judging) (task : CheckTask) (answer : Answer) → AnswersBy judging task answer → IsMade answer
+check-made Replay task answer e = inl (low-as answer _ e (low-either _))
+check-made (Masks table) task answer (findings, are, e) = inl (low-as answer _ e (low-either _))
+
+task-made : (task : Task) (answer : Answer) → AnswersTask task answer → IsMade answer
+task-made (JudgeSecrets task) answer h = check-made task.judging task answer h
+task-made (TellRun telling run) answer h = telling-made telling run answer h
+task-made (MeasureAll version runs) answer h = many-made version runs answer h
+task-made (WriteProgram picture) answer e = inl (low-as answer _ e (omega arith))
+task-made (ListProgram picture) answer e = inl (low-as answer _ e (omega arith))
+task-made (VerifyCertificate graph solved) answer (verdict, is, e) = inl (low-as answer _ e (verdict-low verdict))
+task-made (MigrateCut cut) answer e = inl (low-as answer _ e (omega arith))
+task-made (TryNumber number) answer h = trial-made number answer h
+
+fine-made : (answer : Answer) → IsMade answer → IsFine answer
+fine-made answer (inl low) = made answer low
+fine-made answer (inr (refusal, e, four)) =
+    by answer (Err refusal) e (refused refusal (omega (arith, four)) (omega (arith, four)))
+
+low-made : (answer : Answer) → IsMade answer → status_of answer ≤ 4
+low-made answer (inl low) = omega (arith, low)
+low-made answer (inr (refusal, e, four)) = let same : status_of answer ≡ 4 = ap status_of e ∙ four in omega (arith, same)
 
 -- a task that is made blames no load
-
-run-status : (run : RunTask) (Answers : Measured → Answer → Type 0) (answer : Answer) →
-    ((measured : Measured) → Answers measured answer → status_of answer ≡ 0) → AnswersRun run Answers answer →
-    status_of answer ≤ 4
-run-status run Answers answer done (inl (refusal, (fault, first, is), e)) =
-    subst (λ a. status_of a ≤ 4) (sym (e ∙ ap Err is)) (omega arith)
-run-status run Answers answer done (inr (measured, is, answers)) =
-    let zero = done measured answers in omega (arith, zero)
-
-task-status : (task : Task) (answer : Answer) → AnswersTask task answer → status_of answer ≤ 4
-task-status (JudgeSecrets task) answer e = let low = low-as answer _ e (low-either _) in omega (arith, low)
-task-status (TellRun telling run) answer h =
-    run-status run (Tells telling) answer (λ measured (text, is, e). ap status_of e) h
-task-status (WriteProgram picture) answer e = let low = low-as answer _ e (omega arith) in omega (arith, low)
-task-status (ListProgram picture) answer e = let low = low-as answer _ e (omega arith) in omega (arith, low)
-task-status (VerifyCertificate graph solved) answer (verdict, is, e) =
-    let low = low-as answer _ e (verdict-low verdict) in omega (arith, low)
-task-status (MigrateCut cut) answer e = let low = low-as answer _ e (omega arith) in omega (arith, low)
-task-status (TryNumber number) answer h =
-    run-status (run_of_number number) (TellsTrial number) answer (λ measured e. ap status_of e) h
-
 pub task_blames_no_load : (task : Task) (answer : Answer) (name : List ℕ) → AnswersTask task answer →
     answer ≡ Err (Load name) → ⊥
 task_blames_no_load task answer name answers e =
-    let low : status_of (Err (Load name)) ≤ 4 = subst (λ a. status_of a ≤ 4) e (task-status task answer answers) in
+    let low : status_of (Err (Load name)) ≤ 4 = subst (λ a. status_of a ≤ 4) e (low-made answer (task-made task answer answers)) in
     omega (arith, low)
 
 files-fine : (command : Command) (files : List (List ℕ)) (answer : Answer) → AnswersFiles command files answer →
@@ -158,7 +181,7 @@ files-fine : (command : Command) (files : List (List ℕ)) (answer : Answer) →
 files-fine command files answer (inl (refusal, is, e)) =
     let three = form-status command files refusal is in
     by answer (Err refusal) e (refused refusal (omega (arith, three)) (omega (arith, three)))
-files-fine command files answer (inr (task, is, h)) = task-fine task answer h
+files-fine command files answer (inr (task, is, h)) = fine-made answer (task-made task answer h)
 
 pub command_fine : (source : Option Told) (command : Command) (answer : Answer) → AnswersCommand source command answer →
     IsFine answer

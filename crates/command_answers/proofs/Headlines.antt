@@ -14,26 +14,41 @@ use Rattle.lockstep_replay.proofs.Bounds.{done_law, bound_law}
 use Rattle.lockstep_replay.proofs.Accepting.{accepted_law}
 use Rattle.lockstep_replay.proofs.Judging.{rejected_law}
 use Rattle.lockstep_replay.proofs.Causes.{causes_law}
+use Rattle.many_runs.specs.declared.many.Many.{Many}
+use Rattle.many_runs.specs.Measures.{MeasuresAll as MeasuresTogether}
 use Rattle.measuring.specs.declared.measured.Measured.{Measured}
 use Rattle.max_flow.specs.Flows.{HasNoGreater}
 use Rattle.measuring.specs.Measures.{Measures}
+use Rattle.enclosure_regions.specs.declared.region_parts.Region.{Region}
+use Rattle.enclosure_regions.specs.Reading.{Spells}
+use Rattle.taint_check.specs.Laws.{IsAcceptedIfClean}
+use Rattle.taint_check.specs.Tainted.{Finding, IsClean, IsUnclear}
+use Rattle.command_words.specs.declared.judgings.Judging.{Judging}
+use Rattle.command_words.specs.declared.judgings.Judging.TheVariants.{Replay, Masks}
 use Rattle.command_words.specs.declared.tellings.Telling.{Telling}
-use Rattle.command_words.specs.declared.tellings.Telling.TheVariants.{CutText, Certificate, Report}
-use Rattle.command_words.specs.CommandLines.{Check, Run, Command, Checks, Tells, Assembles, Lists, Verifies, Migrates, Tries, IsCommand}
+use Rattle.command_words.specs.declared.tellings.Telling.TheVariants.{CutText, Certificate, Report, Declaration}
+use Rattle.command_words.specs.CommandLines.{Check, ManyRuns, Run, Command, Checks, Tells, MeasuresAll, Assembles, Lists, Verifies, Migrates, Tries, IsCommand}
 use Rattle.command_answers.specs.declared.kinds.FileKind.TheVariants as kinds
 use Rattle.command_answers.specs.declared.refusals.Refusal.{Refusal}
 use Rattle.command_answers.specs.declared.statuses.Status.TheVariants.{Done, Rejected}
 use Rattle.command_answers.specs.Answers.{Answer, done_by, told}
-use Rattle.command_answers.specs.Checks.{CheckTask, judged_by, judgements_of}
-use Rattle.command_answers.specs.Clauses.{Carries, TellingCarries}
+use Rattle.command_answers.specs.Checks.{CheckTask, AnswersBy, judged_by, judgements_of}
+use Rattle.command_answers.specs.Clauses.{Carries, JudgingCarries, TellingCarries}
+use Rattle.command_answers.specs.CleanHeadline.{AllFound, CleanHeadline, IsAcceptedThen}
+use Rattle.command_answers.specs.Declarations.{IsDeclaration, IsLearnRefusal, TellsRegions}
+use Rattle.command_answers.specs.Findings.{AreFindings, findings_reply}
+use Rattle.command_answers.specs.LearntHeadline.{LearntHeadline}
 use Rattle.command_answers.specs.Headline.{Says, AllSay, IsAmong, AreFewOfAll, AreFew, Headline, limits_of}
 use Rattle.command_answers.specs.Loading.{Want, IsLoadRefusal, Loads, want}
-use Rattle.command_answers.specs.MeasuredHeadline.{HasAccepted, MeasuredHeadline}
+use Rattle.command_answers.specs.MeasuredHeadline.{HasAccepted, IsGraphOfRun, IsGraphOfRuns, MeasuredHeadline}
 use Rattle.command_answers.specs.Replies.{AnswersCommand, AnswersWords, IsUsage, reply_of}
-use Rattle.command_answers.specs.Runs.{RunTask, IsCutText, IsInVersion, IsMeasured, IsRunRefusal, Tells as TellsOf, start_of}
+use Rattle.command_answers.specs.Runs.{RunTask, IsMeasured, IsRunRefusal, start_of}
+use Rattle.command_answers.specs.CutTexts.{IsCutText, IsInVersion}
+use Rattle.command_answers.specs.ManyRuns.{ManyRunsTask, AreMeasured, IsRunsRefusal, TellsAll, setup_in}
+use Rattle.command_answers.specs.Tellings.{IsCutOfRun, Tells as TellsOf}
 use Rattle.command_answers.specs.Statuses.{number_of}
-use Rattle.command_answers.specs.Tasks.{Task, JudgeSecrets, TellRun, AnswersFiles, AnswersTask, IsCheckTask, IsFormRefusal, IsRunTask, IsTaskOf, wants_of}
-use Rattle.command_answers.specs.Texts.{accepted_count, check_text}
+use Rattle.command_answers.specs.Tasks.{Task, TellRun, MeasureAll, AnswersFiles, AnswersTask, IsCheckTask, IsFormRefusal, IsManyRunsTask, IsRunTask, IsTaskOf, wants_of}
+use Rattle.command_answers.specs.Texts.{accepted_count, check_text, clean_count, findings_text}
 use Rattle.command_answers.proofs.HeldFiles.{all-held, guest_held, secret_short}
 use Rattle.command_answers.proofs.OneReply.{words_reading}
 use Rattle.command_answers.proofs.OneTask.{form-status}
@@ -105,7 +120,7 @@ status-number false = refl
 
 check-headline : (source : Option Told) (check : Check) (files : List (List ℕ)) (task : CheckTask) (answer : Answer) →
     Loads source (wants_of (Checks check)) (Ok files) → IsCheckTask check files task →
-    AnswersTask (JudgeSecrets task) answer → Headline source check (reply_of answer)
+    AnswersBy Replay task answer → Headline source check (reply_of answer)
 check-headline source check files task answer loads is e =
     let judged = judged_by task.guest task.cut in
     let judgements : List Judgement = judgements_of judged task.limits task.secrets in
@@ -129,6 +144,59 @@ check-headline source check files task answer loads is e =
       lines_bound = subst (λ b. AreFew judgements b) budget (are-few judged task.limits task.secrets judgements say);
       status_is = ap status_of e ∙ status-number (accepted_count judgements == length judgements);
     }
+
+-- ---- a check with one machine
+
+accepted-then : (task : JudgedTask) (limits : Limits) (secret : List ℕ) (finding : Finding) →
+    IsAcceptedIfClean task limits secret finding → IsAcceptedThen task limits secret finding
+accepted-then task limits secret (IsClean bits output) e = says task limits secret (Accepts bits output) e
+accepted-then task limits secret (IsUnclear why) e = tt
+
+all-found : (table : ℕ) (task : JudgedTask) (limits : Limits) (secrets : List (List ℕ)) (findings : List Finding) →
+    AreFindings table task limits secrets findings → AllFound table task limits secrets findings
+all-found table task limits [] [] are = tt
+all-found table task limits [] (finding ∷ findings) are = absurd are
+all-found table task limits (secret ∷ secrets) [] are = absurd are
+all-found table task limits (secret ∷ secrets) (finding ∷ findings) are = (
+  are.0.verdict,
+  accepted-then task limits secret finding are.0.accepted,
+  all-found table task limits secrets findings are.1,
+)
+
+clean-headline : (source : Option Told) (table : ℕ) (check : Check) (files : List (List ℕ)) (task : CheckTask)
+    (findings : List Finding) (answer : Answer) → Loads source (wants_of (Checks check)) (Ok files) →
+    IsCheckTask check files task →
+    AreFindings table (judged_by task.guest task.cut) task.limits task.secrets findings →
+    answer ≡ Ok (findings_reply findings task.limits.budget) → CleanHeadline source table check (reply_of answer)
+clean-headline source table check files task findings answer loads is are e =
+    let judged = judged_by task.guest task.cut in
+    let budget : task.limits.budget ≡ check.budget = ap (λ (l : Limits). l.budget) is.limits in
+    record {
+      guest_files = is.guest_files;
+      cut_file = is.cut_file;
+      secrets = task.secrets;
+      held =
+          guest_held source check.guest (want check.cut kinds.Cut ∷ []) check.secrets files is.guest_files
+          (is.cut_file ∷ []) task.secrets refl is.are (all-held source (wants_of (Checks check)) files loads);
+      guest = task.guest;
+      is_guest = is.guest;
+      cut = task.cut;
+      is_cut = is.cut;
+      findings = findings;
+      lines = ap (λ a. (told a).text) e ∙ ap (λ b. findings_text findings b) budget;
+      found =
+          subst (λ l. AllFound table judged l task.secrets findings) is.limits
+          (all-found table judged task.limits task.secrets findings are);
+      bound = are-few-of-all judged (limits_of check);
+      status_is = ap status_of e ∙ status-number (clean_count findings == length findings);
+    }
+
+judged-headline : (source : Option Told) (judging : Judging) (check : Check) (files : List (List ℕ)) (task : CheckTask)
+    (answer : Answer) → Loads source (wants_of (Checks check)) (Ok files) → IsCheckTask check files task →
+    AnswersBy judging task answer → JudgingCarries source judging check (reply_of answer)
+judged-headline source Replay check files task answer loads is e = check-headline source check files task answer loads is e
+judged-headline source (Masks table) check files task answer loads is (findings, are, e) =
+    clean-headline source table check files task findings answer loads is are e
 
 -- ---- a measured run
 
@@ -165,8 +233,8 @@ low-bits bits value secret e few short = omega arith
 
 cut-headline : (source : Option Told) (version : ℕ) (run : Run) (files : List (List ℕ)) (task : RunTask)
     (measured : Measured) (text : List ℕ) (answer : Answer) → Loads source (wants_of (Tells (CutText version) run)) (Ok files) →
-    IsRunTask run files task → IsMeasured task measured → IsCutText version measured text → answer ≡ done_by text →
-    MeasuredHeadline source run.guest (run.secret ∷ []) (record { turns = run.turns; table = run.table })
+    IsRunTask run files task → IsMeasured task measured → IsCutText version (cut_of measured.cut) text → answer ≡ done_by text →
+    MeasuredHeadline IsGraphOfRun source run.guest (run.secret ∷ []) (record { turns = run.turns; table = run.table })
     (reply_of answer)
 cut-headline source version run files task measured text answer loads is measure told e =
     let bits = bits-in task measured version told.cut measure told.in_version (version == 2) refl in
@@ -200,6 +268,8 @@ cut-headline source version run files task measured text answer loads is measure
       flow = measured.flow;
       side = measured.side;
       of_runs = (
+        task.secret,
+        refl,
         measured,
         subst (λ n. Measures run.table task.guest.regions (start_of task) (length task.secret) n measured) is.turns
             (subst (λ t. Measures t task.guest.regions (start_of task) (length task.secret) task.turns measured) is.table
@@ -215,6 +285,128 @@ cut-headline source version run files task measured text answer loads is measure
       };
     }
 
+-- ---- several runs
+
+accepted-all-in : (runs : ManyRunsTask) (many : Many) (version : ℕ) (cut : CutPicture) → AreMeasured runs many →
+    IsInVersion version (cut_of many.cut) cut → (b : Bool) → (version == 2) ≡ b →
+    AllByRecursion (HasAccepted (judged_by runs.guest cut) (record { budget = many.value; turns = runs.turns })) runs.secrets
+accepted-all-in runs many version cut are in_version true e = are.folds cut (rw e at in_version)
+accepted-all-in runs many version cut are in_version false e =
+    let same : cut ≡ cut_of many.cut = rw e at in_version in
+    subst (λ c. AllByRecursion (HasAccepted (judged_by runs.guest c) (record { budget = many.value; turns = runs.turns }))
+    runs.secrets) (sym same) are.accepted
+
+bits-all-in : (runs : ManyRunsTask) (many : Many) (version : ℕ) (cut : CutPicture) → AreMeasured runs many →
+    IsInVersion version (cut_of many.cut) cut → (b : Bool) → (version == 2) ≡ b → cut.bits ≡ many.value
+bits-all-in runs many version cut are in_version true e =
+    let fold : IsFold (cut_of many.cut) cut = rw e at in_version in fold.bits ∙ are.measures.measure.cut.bits
+bits-all-in runs many version cut are in_version false e =
+    let same : cut ≡ cut_of many.cut = rw e at in_version in
+    ap (λ (c : CutPicture). c.bits) same ∙ are.measures.measure.cut.bits
+
+short-all-in : (runs : ManyRunsTask) (many : Many) (version : ℕ) (text : List ℕ) (cut : CutPicture) →
+    AreMeasured runs many → IsInVersion version (cut_of many.cut) cut → IsTextOfCut text cut → (b : Bool) →
+    (version == 2) ≡ b → length text ≤ 67108864
+short-all-in runs many version text cut are in_version spells true e =
+    let fold : IsFold (cut_of many.cut) cut = rw e at in_version in
+    rw spells.text (are.short.fold cut spells.valid fold)
+short-all-in runs many version text cut are in_version spells false e =
+    let same : cut ≡ cut_of many.cut = rw e at in_version in
+    rw spells.text (subst (λ c. length (cut_text c) ≤ 67108864) (sym same) are.short.text)
+
+low-as-budget : (bits value : ℕ) → bits ≡ value → value ≤ 1048576 → bits ≤ 1048576
+low-as-budget bits value e low = omega arith
+
+many-headline : (source : Option Told) (version : ℕ) (runs : ManyRuns) (files : List (List ℕ)) (task : ManyRunsTask)
+    (many : Many) (text : List ℕ) (answer : Answer) → Loads source (wants_of (MeasuresAll version runs)) (Ok files) →
+    IsManyRunsTask runs files task → AreMeasured task many → IsCutText version (cut_of many.cut) text →
+    answer ≡ done_by text →
+    MeasuredHeadline IsGraphOfRuns source runs.guest runs.secrets (record { turns = runs.turns; table = runs.table })
+    (reply_of answer)
+many-headline source version runs files task many text answer loads is are told e =
+    let bits = bits-all-in task many version told.cut are told.in_version (version == 2) refl in
+    let same : text ≡ (reply_of answer).text = sym (ap (λ a. (reply_of a).text) e) in
+    let by_measure = are.measures.measure in
+    record {
+      done = ap status_of e;
+      guest_files = is.guest_files;
+      secrets = task.secrets;
+      held =
+          guest_held source runs.guest [] runs.secrets files is.guest_files [] task.secrets refl is.are
+          (all-held source (wants_of (MeasuresAll version runs)) files loads);
+      guest = task.guest;
+      is_guest = is.guest;
+      cut = told.cut;
+      is_cut = subst (λ t. IsTextOfCut t told.cut) same told.is_text;
+      budget = low-as-budget told.cut.bits many.value bits are.measures.budget;
+      short =
+          subst (λ t. length t ≤ 67108864) same
+          (short-all-in task many version text told.cut are told.in_version told.is_text (version == 2) refl);
+      accepted =
+          subst (λ n. AllByRecursion (HasAccepted (judged_by task.guest told.cut)
+          (record { budget = told.cut.bits; turns = n })) task.secrets) is.turns
+          (subst (λ v. AllByRecursion (HasAccepted (judged_by task.guest told.cut)
+          (record { budget = v; turns = task.turns })) task.secrets) (sym bits)
+          (accepted-all-in task many version told.cut are told.in_version (version == 2) refl));
+      graph = many.graph;
+      flow = many.flow;
+      side = many.side;
+      of_runs = (
+        many,
+        subst (λ n. MeasuresTogether (setup_in (record { guest = task.guest; secrets = task.secrets; turns = n; table = runs.table }))
+            task.secrets many) is.turns
+            (subst (λ t. MeasuresTogether
+            (setup_in (record { guest = task.guest; secrets = task.secrets; turns = task.turns; table = t })) task.secrets
+            many) is.table are.measures),
+        refl,
+      );
+      greatest = record {
+        flow = by_measure.flow;
+        value = by_measure.value ∙ sym bits;
+        greatest = subst (λ v. HasNoGreater many.graph v) (sym bits) by_measure.greatest;
+        least = by_measure.side;
+        capacity = by_measure.capacity ∙ sym bits;
+      };
+    }
+
+runs-high : (task : ManyRunsTask) (refusal : Refusal) → IsRunsRefusal task refusal → 1 < status_of (Err refusal)
+runs-high task refusal (fault, cause, e) = let four = ap (λ r. status_of (Err r)) e in omega (arith, four)
+
+runs-headline : (source : Option Told) (version : ℕ) (runs : ManyRuns) (files : List (List ℕ)) (task : ManyRunsTask)
+    (answer : Answer) → Loads source (wants_of (MeasuresAll version runs)) (Ok files) → IsManyRunsTask runs files task →
+    status_of answer ≤ 1 → AnswersTask (MeasureAll version task) answer →
+    Carries source (MeasuresAll version runs) (reply_of answer)
+runs-headline source version runs files task answer loads is low h =
+    let (many, are, (text, told, e)) =
+    reads_low Many (AreMeasured task) (IsRunsRefusal task) (TellsAll version) (runs-high task) answer low h in
+    many-headline source version runs files task many text answer loads is are told e
+
+-- ---- a learnt declaration
+
+learnt-headline : (source : Option Told) (run : Run) (files : List (List ℕ)) (task : RunTask) (regions : List Region)
+    (text : List ℕ) (answer : Answer) → Loads source (wants_of (Tells Declaration run)) (Ok files) →
+    IsRunTask run files task → IsDeclaration task.guest task.secret task.turns regions → Spells text regions →
+    answer ≡ done_by text → LearntHeadline source run (reply_of answer)
+learnt-headline source run files task regions text answer loads is declaration spells e =
+    let same : text ≡ (reply_of answer).text = sym (ap (λ a. (reply_of a).text) e) in
+    record {
+      done = ap status_of e;
+      guest_files = is.guest_files;
+      secret = task.secret;
+      held =
+          guest_held source run.guest [] (run.secret ∷ []) files is.guest_files [] (task.secret ∷ []) refl is.are
+          (all-held source (wants_of (Tells Declaration run)) files loads);
+      guest = task.guest;
+      is_guest = is.guest;
+      regions = regions;
+      spells = subst (λ t. Spells t regions) same spells;
+      declaration = subst (λ n. IsDeclaration task.guest task.secret n regions) is.turns declaration;
+    }
+
+learn-high : (task : RunTask) (refusal : Refusal) → IsLearnRefusal task.guest task.secret task.turns refusal →
+    1 < status_of (Err refusal)
+learn-high task refusal (fault, cause, e) = let four = ap (λ r. status_of (Err r)) e in omega (arith, four)
+
 -- ---- every command
 
 run-high : (run : RunTask) (refusal : Refusal) → IsRunRefusal run refusal → 1 < status_of (Err refusal)
@@ -225,18 +417,26 @@ told-headline : (source : Option Told) (telling : Telling) (run : Run) (files : 
     status_of answer ≤ 1 → AnswersTask (TellRun telling task) answer → TellingCarries source telling run (reply_of answer)
 told-headline source (CutText version) run files task answer loads is low h =
     let (measured, measure, (text, told, e)) =
-    reads_low Measured (IsMeasured task) (IsRunRefusal task) (TellsOf (CutText version)) (run-high task) answer low h in
+    reads_low Measured (IsMeasured task) (IsRunRefusal task) (TellsOf (IsCutOfRun version)) (run-high task) answer low h in
     cut-headline source version run files task measured text answer loads is measure told e
 told-headline source Certificate run files task answer loads is low h = tt
 told-headline source (Report json) run files task answer loads is low h = tt
+told-headline source Declaration run files task answer loads is low h =
+    let (regions, declaration, (text, texts, spells, e)) =
+    reads_low (List Region) (IsDeclaration task.guest task.secret task.turns)
+    (IsLearnRefusal task.guest task.secret task.turns) TellsRegions (learn-high task) answer low h in
+    learnt-headline source run files task regions text answer loads is declaration spells e
 
 task-headline : (source : Option Told) (command : Command) (files : List (List ℕ)) (task : Task) (answer : Answer) →
     Loads source (wants_of command) (Ok files) → IsTaskOf command files task → status_of answer ≤ 1 →
     AnswersTask task answer → Carries source command (reply_of answer)
 task-headline source (Checks check) files task answer loads (x, is, e) low h =
-    check-headline source check files x answer loads is (subst (λ t. AnswersTask t answer) e h)
+    judged-headline source check.judging check files x answer loads is
+    (subst (λ j. AnswersBy j x answer) is.judging (subst (λ t. AnswersTask t answer) e h))
 task-headline source (Tells telling run) files task answer loads (x, is, e) low h =
     told-headline source telling run files x answer loads is low (subst (λ t. AnswersTask t answer) e h)
+task-headline source (MeasuresAll version runs) files task answer loads (x, is, e) low h =
+    runs-headline source version runs files x answer loads is low (subst (λ t. AnswersTask t answer) e h)
 task-headline source (Assembles file) files task answer loads is low h = tt
 task-headline source (Lists file) files task answer loads is low h = tt
 task-headline source (Verifies file) files task answer loads is low h = tt

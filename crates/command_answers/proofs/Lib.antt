@@ -12,6 +12,10 @@ pub mod TrialRuns
 pub mod OneGuest
 pub mod OneTask
 pub mod FineAnswers
+pub mod OneFinding
+pub mod OneLearning
+pub mod CutTexts
+pub mod OneUnion
 pub mod OneReply
 pub mod CompleteReplies
 pub mod HeldFiles

@@ -28,6 +28,12 @@ use Rattle.rv32im_machine.specs.declared.stepping.Fault.{Fault}
 use Rattle.rv32im_machine.specs.declared.stepping.Fault.TheVariants as stops
 use Rattle.run_labels.specs.declared.faults.MeasureFault.{MeasureFault}
 use Rattle.run_labels.specs.declared.faults.MeasureFault.TheVariants as run
+use Rattle.many_runs.specs.declared.faults.ManyFault.{ManyFault}
+use Rattle.many_runs.specs.declared.faults.ManyFault.TheVariants as many
+use Rattle.many_runs.specs.FaultTexts.{many_fault_text}
+use Rattle.region_learn.specs.declared.faults.LearnFault.{LearnFault}
+use Rattle.region_learn.specs.declared.faults.LearnFault.TheVariants as learn
+use Rattle.region_learn.specs.FaultTexts.{learn_fault_text}
 use Rattle.rv32im_machine.specs.FaultTexts.{stop_text}
 use Rattle.run_labels.specs.FaultTexts.{run_fault_text}
 use Rattle.command_answers.specs.Lines.{has_line_feed}
@@ -170,3 +176,22 @@ run_fault (run.SecretCode pc) = joined (codes "secret-code ") _ (is refl) (word 
 run_fault (run.BaseSecret region register) = more (codes "region ") _ region (is refl) (more (codes " base x") _ register (is refl) (is refl))
 run_fault run.GraphLimit = is refl
 run_fault run.Memory = is refl
+
+pub many_fault : (fault : ManyFault) → Clean (many_fault_text fault)
+many_fault (many.Length index first got) =
+    more (codes "length ") _ index (is refl) (more (codes " first ") _ first (is refl) (two (codes " got ") got (is refl)))
+many_fault (many.Run index fault) =
+    more (codes "run ") _ index (is refl) (joined (codes " ") _ (is refl) (run_fault fault))
+many_fault many.UnitedLimit = is refl
+many_fault (many.BudgetLimit value) = two (codes "budget-limit ") value (is refl)
+many_fault many.Memory = is refl
+
+pub learn_fault : (fault : LearnFault) → Clean (learn_fault_text fault)
+learn_fault (learn.Guest fault) = stop fault
+learn_fault (learn.Call region pc) =
+    more (codes "region ") _ region (is refl) (joined (codes " call at ") _ (is refl) (word pc))
+learn_fault (learn.TurnLimit limit) = two (codes "turns ") limit (is refl)
+learn_fault (learn.Ranges region count) = more (codes "region ") _ region (is refl) (two (codes " ranges ") count (is refl))
+learn_fault (learn.Bytes region count) = more (codes "region ") _ region (is refl) (two (codes " bytes ") count (is refl))
+learn_fault (learn.TextSize size) = two (codes "text-size ") size (is refl)
+learn_fault learn.Memory = is refl

@@ -1,15 +1,12 @@
 -- Words and what a source tells have one status: so each status comes exactly where the reply has it.
 use Rattle.std.proofs.Common.{◌≡◌, ◌≤◌, ◌<◌, ◌∙◌, inl, inr, ℕ, List, length, Bool, true, false, codes, Option, Some, None, is_some, Result, Ok, Err, refl, sym, ap, subst, arith, ⊎_elim}
 use Rattle.std.proofs.lemmas.Bool.{cases_lt, false≢true}
-use Rattle.std.specs.Prelude.{◌==◌, ◌++◌, MatchBool}
+use Rattle.std.specs.Prelude.{◌++◌}
 use Rattle.std.specs.Fmt.{decimal}
 use Rattle.flow_base.specs.declared.outputs.Output.{Output}
 use Rattle.flow_base.specs.Loads.{Told}
-use Rattle.cut_file.specs.Cuts.{CutPicture, is_valid}
-use Rattle.cut_file.specs.Folds.{IsFold}
+use Rattle.cut_file.specs.Cuts.{CutPicture}
 use Rattle.cut_file.specs.Pictures.{picture_of as cut_of}
-use Rattle.cut_file.specs.Texts.{cut_text}
-use Rattle.cut_file.proofs.OneFold.{one-fold}
 use Rattle.flow_certificate.proofs.OneVerdict.{one-verdict}
 use Rattle.leak_report.proofs.OneReport.{one-report_json, one-report_text}
 use Rattle.lockstep_replay.specs.Tasks.{Cross}
@@ -27,24 +24,32 @@ use Rattle.measuring.proofs.OneMeasure.{AreSameMeasures, one-measure, told-alike
 use Rattle.measuring.proofs.MeasuredWithoutCause.{measured_have_no_cause}
 use Rattle.command_words.specs.declared.names.CommandName.{CommandName}
 use Rattle.command_words.specs.declared.names.CommandName.TheVariants as names
+use Rattle.command_words.specs.declared.judgings.Judging.{Judging}
+use Rattle.command_words.specs.declared.judgings.Judging.TheVariants.{Replay, Masks}
 use Rattle.command_words.specs.declared.tellings.Telling.{Telling}
-use Rattle.command_words.specs.declared.tellings.Telling.TheVariants.{CutText, Certificate, Report}
-use Rattle.command_words.specs.CommandLines.{Run, Command, Checks, Tells, Assembles, Lists, Verifies, Migrates, Tries, Fits, IsCommand, IsChoice}
-use Rattle.command_words.specs.Parts.{Parts, value_of}
+use Rattle.command_words.specs.declared.tellings.Telling.TheVariants.{CutText, Certificate, Report, Declaration}
+use Rattle.command_words.specs.CommandLines.{Run, Command, Checks, Tells, MeasuresAll, Assembles, Lists, Verifies, Migrates, Tries, Fits, IsCommand, IsChoice}
+use Rattle.command_words.specs.Parts.{Parts}
 use Rattle.command_words.proofs.OneCommand.{one_command}
 use Rattle.command_answers.specs.declared.refusals.Refusal.{Refusal}
 use Rattle.command_answers.specs.declared.refusals.Refusal.TheVariants.{Run as RunRefused}
 use Rattle.command_answers.specs.Answers.{Answer, done_by}
-use Rattle.command_answers.specs.Checks.{judged_by}
+use Rattle.command_answers.specs.Checks.{CheckTask, AnswersBy, judged_by}
 use Rattle.command_answers.specs.Loading.{Loads, Want, loaded_from}
 use Rattle.command_answers.specs.Replies.{AnswersCommand, AnswersWords, IsUsage, Replies, Reply, reply_of}
-use Rattle.command_answers.specs.Runs.{RunTask, AnswersRun, IsInVersion, IsMeasured, IsRunRefusal, Tells as TellsOf, report_of, start_of}
-use Rattle.command_answers.specs.Tasks.{Task, JudgeSecrets, TellRun, WriteProgram, ListProgram, VerifyCertificate, MigrateCut, TryNumber, AnswersTask, AnswersFiles, IsFormRefusal, IsTaskOf, wants_of}
+use Rattle.command_answers.specs.Runs.{RunTask, AnswersRun, IsMeasured, IsRunRefusal, start_of}
+use Rattle.command_answers.specs.CutTexts.{IsCutText}
+use Rattle.command_answers.specs.Tellings.{AnswersTelling, IsCertificateText, IsCutOfRun, IsReport, Tells as TellsOf, report_of}
+use Rattle.command_answers.specs.Tasks.{Task, JudgeSecrets, TellRun, MeasureAll, WriteProgram, ListProgram, VerifyCertificate, MigrateCut, TryNumber, AnswersTask, AnswersFiles, IsFormRefusal, IsTaskOf, wants_of}
 use Rattle.command_answers.specs.Trials.{TellsTrial, crossing_count, guest_of_number, run_of_number, trial_line, trial_turns}
 use Rattle.command_answers.specs.Verifications.{AnswersVerdict, IsExactVerdict, verdict_reply}
 use Rattle.command_answers.specs.ReplyLaws.{CompletesRun, CompletesVerdict, IsNoGraph}
+use Rattle.command_answers.proofs.CutTexts.{one_cut_text}
+use Rattle.command_answers.proofs.OneFinding.{taint_same}
 use Rattle.command_answers.proofs.OneGuest.{RegionLaws}
+use Rattle.command_answers.proofs.OneLearning.{learning_same}
 use Rattle.command_answers.proofs.OneTask.{task_reading}
+use Rattle.command_answers.proofs.OneUnion.{many_same}
 use Rattle.command_answers.proofs.Readings.{AreOne, IsReading, reads_one, status_of}
 
 -- ---- tables that decide
@@ -55,47 +60,70 @@ decides (Some word) table is =
     ⊎_elim (λ (more : 1 < table). inr (omega (arith, more, is.below)))
     (λ (few : table ≤ 1). inl (omega (arith, few, is.above))) (cases_lt 1 table)
 
-run-of : (telling other : Telling) (run also : Run) → Tells telling run ≡ Tells other also → also ≡ run
-run-of telling other run also e = cc
+-- a table of mask rules by which secrets are judged decides
+abbrev pub DecidesBy : Judging → Type 0
+DecidesBy Replay = Unit {0}
+DecidesBy (Masks table) = IsDeciding table
 
-fit-decides : (name : CommandName) (parts : Parts) (telling : Telling) (run : Run) →
-    Fits name parts (Tells telling run) → IsDeciding run.table
-fit-decides names.Check parts telling run (check, is, e) = absurd cc
-fit-decides names.Measure parts telling run (version, also, is, choice, e) =
-    subst (λ (r : Run). IsDeciding r.table) (run-of telling (CutText version) run also e)
-    (decides (value_of (codes "--rules") parts.options) also.table is.rules)
-fit-decides names.Graph parts telling run (also, is, e) =
-    subst (λ (r : Run). IsDeciding r.table) (run-of telling Certificate run also e)
-    (decides (value_of (codes "--rules") parts.options) also.table is.rules)
-fit-decides names.Report parts telling run (also, is, e) =
-    subst (λ (r : Run). IsDeciding r.table) (run-of telling _ run also e)
-    (decides (value_of (codes "--rules") parts.options) also.table is.rules)
-fit-decides names.Assemble parts telling run (file, is, e) = absurd cc
-fit-decides names.List parts telling run (file, is, e) = absurd cc
-fit-decides names.Verify parts telling run (file, is, e) = absurd cc
-fit-decides names.Migrate parts telling run (file, is, e) = absurd cc
-fit-decides names.Trial parts telling run (number, is, e) = absurd cc
+-- the table of a command that asks mask rules decides
+abbrev DecidesCommand : Command → Type 0
+DecidesCommand (Checks check) = DecidesBy check.judging
+DecidesCommand (Tells telling run) = IsDeciding run.table
+DecidesCommand (MeasuresAll version runs) = IsDeciding runs.table
+DecidesCommand (Assembles source) = Unit {0}
+DecidesCommand (Lists program) = Unit {0}
+DecidesCommand (Verifies certificate) = Unit {0}
+DecidesCommand (Migrates cut) = Unit {0}
+DecidesCommand (Tries number) = Unit {0}
 
--- the table of a run that is told of decides
+fit-decides : (name : CommandName) (parts : Parts) (command : Command) → Fits name parts command →
+    DecidesCommand command
+fit-decides names.Check parts command (check, is, e) =
+    subst DecidesCommand (sym e) (subst DecidesBy (sym is.judged) tt)
+fit-decides names.Taint parts command (table, check, is, choice, e) =
+    subst DecidesCommand (sym e) (subst DecidesBy (sym is.judged) (decides _ table choice))
+fit-decides names.Measure parts command (version, run, is, choice, e) =
+    subst DecidesCommand (sym e) (decides _ run.table is.rules)
+fit-decides names.MeasureAll parts command (version, runs, is, choice, e) =
+    subst DecidesCommand (sym e) (decides _ runs.table is.rules)
+fit-decides names.Graph parts command (run, is, e) = subst DecidesCommand (sym e) (decides _ run.table is.rules)
+fit-decides names.Report parts command (run, is, e) = subst DecidesCommand (sym e) (decides _ run.table is.rules)
+fit-decides names.Learn parts command (run, is, e) = subst DecidesCommand (sym e) (inl is.rules)
+fit-decides names.Assemble parts command (file, is, e) = subst DecidesCommand (sym e) tt
+fit-decides names.List parts command (file, is, e) = subst DecidesCommand (sym e) tt
+fit-decides names.Verify parts command (file, is, e) = subst DecidesCommand (sym e) tt
+fit-decides names.Migrate parts command (file, is, e) = subst DecidesCommand (sym e) tt
+fit-decides names.Trial parts command (number, is, e) = subst DecidesCommand (sym e) tt
+
+-- the table of a task that asks mask rules decides
 abbrev pub Decides : Task → Type 0
-Decides (JudgeSecrets task) = Unit {0}
+Decides (JudgeSecrets task) = DecidesBy task.judging
 Decides (TellRun telling run) = IsDeciding run.table
+Decides (MeasureAll version runs) = IsDeciding runs.table
 Decides (WriteProgram picture) = Unit {0}
 Decides (ListProgram picture) = Unit {0}
 Decides (VerifyCertificate graph solved) = Unit {0}
 Decides (MigrateCut cut) = Unit {0}
 Decides (TryNumber number) = Unit {0}
 
+decides-task : (files : List (List ℕ)) (command : Command) (task : Task) → DecidesCommand command →
+    IsTaskOf command files task → Decides task
+decides-task files (Checks check) task known (x, is, e) =
+    subst Decides (sym e) (subst DecidesBy (sym is.judging) known)
+decides-task files (Tells telling run) task known (x, is, e) =
+    subst Decides (sym e) (subst IsDeciding (sym is.table) known)
+decides-task files (MeasuresAll version runs) task known (x, is, e) =
+    subst Decides (sym e) (subst IsDeciding (sym is.table) known)
+decides-task files (Assembles source) task known (file, x, are, is, e) = subst Decides (sym e) tt
+decides-task files (Lists program) task known (file, x, are, is, e) = subst Decides (sym e) tt
+decides-task files (Verifies certificate) task known (file, x, y, are, is, e) = subst Decides (sym e) tt
+decides-task files (Migrates cut) task known (file, x, are, is, e) = subst Decides (sym e) tt
+decides-task files (Tries number) task known e = subst Decides (sym e) tt
+
 pub task_decides : (words files : List (List ℕ)) (command : Command) (task : Task) → IsCommand words command →
     IsTaskOf command files task → Decides task
-task_decides words files (Checks check) task named (x, is, e) = subst Decides (sym e) tt
-task_decides words files (Tells telling run) task named (x, is, e) =
-    subst Decides (sym e) (subst IsDeciding (sym is.table) (fit-decides named.name named.parts telling run named.row))
-task_decides words files (Assembles source) task named (file, x, are, is, e) = subst Decides (sym e) tt
-task_decides words files (Lists program) task named (file, x, are, is, e) = subst Decides (sym e) tt
-task_decides words files (Verifies certificate) task named (file, x, y, are, is, e) = subst Decides (sym e) tt
-task_decides words files (Migrates cut) task named (file, x, are, is, e) = subst Decides (sym e) tt
-task_decides words files (Tries number) task named e = subst Decides (sym e) tt
+task_decides words files command task named is =
+    decides-task files command task (fit-decides named.name named.parts command named.row) is
 
 -- ---- a measured run
 
@@ -161,33 +189,24 @@ run_completes run Answers done deciding answer (inr (measured, is, answers)) =
       done = λ none. zero;
     }
 
-pub telling-done : (telling : Telling) → IsDone (TellsOf telling)
-telling-done telling measured answer (text, is, e) = ap status_of e
+pub telling-done : (IsText : Measured → List ℕ → Type 0) → IsDone (TellsOf IsText)
+telling-done IsText measured answer (text, is, e) = ap status_of e
 
 pub trial-done : (number : ℕ) → IsDone (TellsTrial number)
 trial-done number measured answer e = ap status_of e
 
 -- ---- what is told
 
-in-version : (is_fold : Bool) (cut one other : CutPicture) → is_valid one ≡ true → is_valid other ≡ true →
-    MatchBool is_fold (IsFold cut one) (one ≡ cut) → MatchBool is_fold (IsFold cut other) (other ≡ cut) → one ≡ other
-in-version true cut one other valid also is second = one-fold cut one other valid also is second
-in-version false cut one other valid also is second = is ∙ sym second
-
-cut-told : (version : ℕ) → IsAlike (TellsOf (CutText version))
+cut-told : (version : ℕ) → IsAlike (TellsOf (IsCutOfRun version))
 cut-told version one other first second same (text, is, e) (words, also, f) =
-    let here : IsInVersion version (cut_of one.cut) also.cut =
-    subst (λ cut. IsInVersion version cut also.cut) (sym same.cut) also.in_version in
-    let cut : is.cut ≡ also.cut = in-version (version == 2) (cut_of one.cut) is.cut also.cut is.is_text.valid
-    also.is_text.valid is.in_version here in
-    let texts : text ≡ words = is.is_text.text ∙ (ap cut_text cut ∙ sym also.is_text.text) in
-    e ∙ (ap done_by texts ∙ sym f)
+    let here : IsCutText version (cut_of other.cut) text = subst (λ cut. IsCutText version cut text) same.cut is in
+    e ∙ (ap done_by (one_cut_text version (cut_of other.cut) text words here also) ∙ sym f)
 
 report-same : (json : Bool) (one other : Measured) → AreSameMeasures one other → report_of json one ≡ report_of json other
 report-same true one other same = one-report_json one other same
 report-same false one other same = one-report_text one other same
 
-report-told : (json : Bool) → IsAlike (TellsOf (Report json))
+report-told : (json : Bool) → IsAlike (TellsOf (IsReport json))
 report-told json one other first second same (text, is, e) (words, also, f) =
     let texts : text ≡ words = is ∙ (report-same json one other same ∙ sym also) in
     e ∙ (ap done_by texts ∙ sym f)
@@ -240,37 +259,65 @@ certificate-same graph solved first second (verdict, is, e) (found, also, f) =
 -- ---- every command
 
 -- no certificate of a run
+abbrev IsNoCertificate : Telling → Type 0
+IsNoCertificate (CutText version) = Unit {0}
+IsNoCertificate Certificate = ⊥
+IsNoCertificate (Report json) = Unit {0}
+IsNoCertificate Declaration = Unit {0}
+
 abbrev NoGraph : Task → Type 0
 NoGraph (JudgeSecrets task) = Unit {0}
-NoGraph (TellRun (CutText version) run) = Unit {0}
-NoGraph (TellRun Certificate run) = ⊥
-NoGraph (TellRun (Report json) run) = Unit {0}
+NoGraph (TellRun telling run) = IsNoCertificate telling
+NoGraph (MeasureAll version runs) = Unit {0}
 NoGraph (WriteProgram picture) = Unit {0}
 NoGraph (ListProgram picture) = Unit {0}
 NoGraph (VerifyCertificate graph solved) = Unit {0}
 NoGraph (MigrateCut cut) = Unit {0}
 NoGraph (TryNumber number) = Unit {0}
 
+no-certificate : (words : List (List ℕ)) (telling : Telling) (run : Run) → IsNoGraph words →
+    IsCommand words (Tells telling run) → IsNoCertificate telling
+no-certificate words (CutText version) run none named = tt
+no-certificate words Certificate run none named = absurd (none run named)
+no-certificate words (Report json) run none named = tt
+no-certificate words Declaration run none named = tt
+
 no-graph : (words files : List (List ℕ)) (command : Command) (task : Task) → IsNoGraph words →
     IsCommand words command → IsTaskOf command files task → NoGraph task
 no-graph words files (Checks check) task none named (x, is, e) = subst NoGraph (sym e) tt
-no-graph words files (Tells (CutText version) run) task none named (x, is, e) = subst NoGraph (sym e) tt
-no-graph words files (Tells Certificate run) task none named (x, is, e) = absurd (none run named)
-no-graph words files (Tells (Report json) run) task none named (x, is, e) = subst NoGraph (sym e) tt
+no-graph words files (Tells telling run) task none named (x, is, e) =
+    subst NoGraph (sym e) (no-certificate words telling run none named)
+no-graph words files (MeasuresAll version runs) task none named (x, is, e) = subst NoGraph (sym e) tt
 no-graph words files (Assembles source) task none named (file, x, are, is, e) = subst NoGraph (sym e) tt
 no-graph words files (Lists program) task none named (file, x, are, is, e) = subst NoGraph (sym e) tt
 no-graph words files (Verifies certificate) task none named (file, x, y, are, is, e) = subst NoGraph (sym e) tt
 no-graph words files (Migrates cut) task none named (file, x, are, is, e) = subst NoGraph (sym e) tt
 no-graph words files (Tries number) task none named e = subst NoGraph (sym e) tt
 
+check-same : (judging : Judging) (task : CheckTask) (first second : Answer) → DecidesBy judging →
+    AnswersBy judging task first → AnswersBy judging task second → first ≡ second
+check-same Replay task first second deciding one other = one ∙ sym other
+check-same (Masks table) task first second deciding one other =
+    taint_same table (judged_by task.guest task.cut) task.limits task.secrets first second deciding one other
+
+telling-same : (telling : Telling) (run : RunTask) (first second : Answer) → IsNoCertificate telling →
+    IsDeciding run.table → AnswersTelling telling run first → AnswersTelling telling run second → first ≡ second
+telling-same (CutText version) run first second none deciding one other =
+    run-same run (TellsOf (IsCutOfRun version)) (cut-told version) deciding first second one other
+telling-same Certificate run first second none deciding one other = absurd none
+telling-same (Report json) run first second none deciding one other =
+    run-same run (TellsOf (IsReport json)) (report-told json) deciding first second one other
+telling-same Declaration run first second none deciding one other =
+    learning_same run.guest run.secret run.turns first second one other
+
 task-same : (task : Task) (first second : Answer) → NoGraph task → Decides task → AnswersTask task first →
     AnswersTask task second → first ≡ second
-task-same (JudgeSecrets task) first second none deciding one other = one ∙ sym other
-task-same (TellRun (CutText version) run) first second none deciding one other =
-    run-same run (TellsOf (CutText version)) (cut-told version) deciding first second one other
-task-same (TellRun Certificate run) first second none deciding one other = absurd none
-task-same (TellRun (Report json) run) first second none deciding one other =
-    run-same run (TellsOf (Report json)) (report-told json) deciding first second one other
+task-same (JudgeSecrets task) first second none deciding one other =
+    check-same task.judging task first second deciding one other
+task-same (TellRun telling run) first second none deciding one other =
+    telling-same telling run first second none deciding one other
+task-same (MeasureAll version runs) first second none deciding one other =
+    many_same version runs first second deciding one other
 task-same (WriteProgram picture) first second none deciding one other = one ∙ sym other
 task-same (ListProgram picture) first second none deciding one other = one ∙ sym other
 task-same (VerifyCertificate graph solved) first second none deciding one other =
@@ -279,18 +326,31 @@ task-same (MigrateCut cut) first second none deciding one other = one ∙ sym ot
 task-same (TryNumber number) first second none deciding one other =
     run-same (run_of_number number) (TellsTrial number) (trial-told number) (inl refl) first second one other
 
+telling-one : (telling : Telling) (run : RunTask) (first second : Answer) → IsDeciding run.table →
+    AnswersTelling telling run first → AnswersTelling telling run second → AreOne first second
+telling-one Certificate run first second deciding one other =
+    run-one run (TellsOf IsCertificateText) (telling-done IsCertificateText) deciding first second one other
+telling-one (CutText version) run first second deciding one other =
+    ap status_of (telling-same (CutText version) run first second tt deciding one other)
+telling-one (Report json) run first second deciding one other =
+    ap status_of (telling-same (Report json) run first second tt deciding one other)
+telling-one Declaration run first second deciding one other =
+    ap status_of (telling-same Declaration run first second tt deciding one other)
+
 task-one : (task : Task) (first second : Answer) → Decides task → AnswersTask task first → AnswersTask task second →
     AreOne first second
-task-one (JudgeSecrets task) first second deciding one other = ap status_of (one ∙ sym other)
-task-one (TellRun telling run) first second deciding one other =
-    run-one run (TellsOf telling) (telling-done telling) deciding first second one other
+task-one (JudgeSecrets task) first second deciding one other =
+    ap status_of (task-same (JudgeSecrets task) first second tt deciding one other)
+task-one (TellRun telling run) first second deciding one other = telling-one telling run first second deciding one other
+task-one (MeasureAll version runs) first second deciding one other =
+    ap status_of (many_same version runs first second deciding one other)
 task-one (WriteProgram picture) first second deciding one other = ap status_of (one ∙ sym other)
 task-one (ListProgram picture) first second deciding one other = ap status_of (one ∙ sym other)
 task-one (VerifyCertificate graph solved) first second deciding one other =
     ap status_of (certificate-same graph solved first second one other)
 task-one (MigrateCut cut) first second deciding one other = ap status_of (one ∙ sym other)
 task-one (TryNumber number) first second deciding one other =
-    run-one (run_of_number number) (TellsTrial number) (trial-done number) (inl refl) first second one other
+    ap status_of (task-same (TryNumber number) first second tt tt one other)
 
 -- ---- loads and words
 

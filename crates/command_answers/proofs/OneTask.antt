@@ -16,14 +16,16 @@ use Rattle.elf32_loader.proofs.Unique.{same-image}
 use Rattle.lockstep_replay.specs.Tasks.{Limits}
 use Rattle.rv32im_asm.specs.declared.fault.AsmFault.{AsmFault}
 use Rattle.rv32im_asm.specs.Assembling.{assembled}
-use Rattle.command_words.specs.CommandLines.{Check, Run, Command, Checks, Tells, Assembles, Lists, Verifies, Migrates, Tries}
+use Rattle.command_words.specs.CommandLines.{Check, ManyRuns, Run, Command, Checks, Tells, MeasuresAll, Assembles, Lists, Verifies, Migrates, Tries}
+use Rattle.command_words.specs.declared.judgings.Judging.{Judging}
 use Rattle.command_answers.specs.declared.refusals.Refusal.{Refusal}
 use Rattle.command_answers.specs.declared.refusals.Refusal.TheVariants.{Certificate, Source}
 use Rattle.command_answers.specs.Checks.{CheckTask}
 use Rattle.command_answers.specs.Guests.{Guest, GuestFiles, IsGuest, IsGuestRefusal}
 use Rattle.command_answers.specs.Refusals.{IsCutRefusal, IsProgramRefusal}
+use Rattle.command_answers.specs.ManyRuns.{ManyRunsTask}
 use Rattle.command_answers.specs.Runs.{RunTask}
-use Rattle.command_answers.specs.Tasks.{Task, JudgeSecrets, TellRun, WriteProgram, ListProgram, VerifyCertificate, MigrateCut, IsCheckRefusal, IsCheckTask, IsFormRefusal, IsRunFilesRefusal, IsRunTask, IsTaskOf}
+use Rattle.command_answers.specs.Tasks.{Task, JudgeSecrets, TellRun, MeasureAll, WriteProgram, ListProgram, VerifyCertificate, MigrateCut, IsCheckRefusal, IsCheckTask, IsFormRefusal, IsManyRunsRefusal, IsManyRunsTask, IsRunFilesRefusal, IsRunTask, IsTaskOf}
 use Rattle.command_answers.specs.Verifications.{IsCertificate}
 use Rattle.command_answers.proofs.OneCertificate.{one_certificate}
 use Rattle.command_answers.proofs.OneGuest.{RegionLaws, cut_reading, guest-status, guest_reading, program_reading, same_check_files, same_run_files}
@@ -31,8 +33,14 @@ use Rattle.command_answers.proofs.Readings.{IsReading, status_of}
 
 -- ---- a check
 
-abbrev made-check : Guest → CutPicture → List (List ℕ) → Limits → CheckTask
-made-check guest cut secrets limits = record { guest = guest; cut = cut; secrets = secrets; limits = limits }
+abbrev made-check : Guest → CutPicture → List (List ℕ) → Limits → Judging → CheckTask
+made-check guest cut secrets limits judging = record {
+  guest = guest;
+  cut = cut;
+  secrets = secrets;
+  limits = limits;
+  judging = judging;
+}
 
 same-check : RegionLaws → (check : Check) (files : List (List ℕ)) (a b : CheckTask) → IsCheckTask check files a →
     IsCheckTask check files b → a ≡ b
@@ -42,10 +50,11 @@ same-check laws check files a b one other =
     let guest : a.guest ≡ b.guest = (guest_reading laws other.guest_files).one a.guest b.guest
     (subst (λ f. IsGuest f a.guest) same.guests one.guest) other.guest in
     let cut : a.cut ≡ b.cut = one-cut other.cut_file a.cut b.cut (rw same.cuts at one.cut) other.cut in
-    ap (λ v. made-check v a.cut a.secrets a.limits) guest
-    ∙ (ap (λ v. made-check b.guest v a.secrets a.limits) cut
-    ∙ (ap (λ v. made-check b.guest b.cut v a.limits) same.secrets
-    ∙ ap (λ v. made-check b.guest b.cut b.secrets v) (one.limits ∙ sym other.limits)))
+    ap (λ v. made-check v a.cut a.secrets a.limits a.judging) guest
+    ∙ (ap (λ v. made-check b.guest v a.secrets a.limits a.judging) cut
+    ∙ (ap (λ v. made-check b.guest b.cut v a.limits a.judging) same.secrets
+    ∙ (ap (λ v. made-check b.guest b.cut b.secrets v a.judging) (one.limits ∙ sym other.limits)
+    ∙ ap (λ v. made-check b.guest b.cut b.secrets b.limits v) (one.judging ∙ sym other.judging))))
 
 -- what is wrong with the files of a check
 abbrev FirstRefusal : GuestFiles → List ℕ → Refusal → Type 0
@@ -131,6 +140,38 @@ no-run-fault laws run files task refusal is refused =
     (guest_reading laws is.guest_files).none task.guest refusal is.guest
     (subst (λ f. IsGuestRefusal f refusal) same.guests refused.first)
 
+-- ---- several runs
+
+abbrev made-runs : Guest → List (List ℕ) → ℕ → ℕ → ManyRunsTask
+made-runs guest secrets turns table = record { guest = guest; secrets = secrets; turns = turns; table = table }
+
+same-runs : RegionLaws → (runs : ManyRuns) (files : List (List ℕ)) (a b : ManyRunsTask) → IsManyRunsTask runs files a →
+    IsManyRunsTask runs files b → a ≡ b
+same-runs laws runs files a b one other =
+    let same = same_run_files runs.guest files one.guest_files other.guest_files a.secrets b.secrets one.are other.are in
+    let guest : a.guest ≡ b.guest = (guest_reading laws other.guest_files).one a.guest b.guest
+    (subst (λ f. IsGuest f a.guest) same.guests one.guest) other.guest in
+    ap (λ v. made-runs v a.secrets a.turns a.table) guest
+    ∙ (ap (λ v. made-runs b.guest v a.turns a.table) same.secrets
+    ∙ (ap (λ v. made-runs b.guest b.secrets v a.table) (one.turns ∙ sym other.turns)
+    ∙ ap (λ v. made-runs b.guest b.secrets b.turns v) (one.table ∙ sym other.table)))
+
+no-runs-fault : RegionLaws → (runs : ManyRuns) (files : List (List ℕ)) (task : ManyRunsTask) (refusal : Refusal) →
+    IsManyRunsTask runs files task → IsManyRunsRefusal runs files refusal → ⊥
+no-runs-fault laws runs files task refusal is refused =
+    let same = same_run_files runs.guest files refused.guest_files is.guest_files refused.secrets task.secrets refused.are
+    is.are in
+    (guest_reading laws is.guest_files).none task.guest refusal is.guest
+    (subst (λ f. IsGuestRefusal f refusal) same.guests refused.first)
+
+one-runs-fault : RegionLaws → (runs : ManyRuns) (files : List (List ℕ)) (first second : Refusal) →
+    IsManyRunsRefusal runs files first → IsManyRunsRefusal runs files second → first ≡ second
+one-runs-fault laws runs files first second one other =
+    let same = same_run_files runs.guest files one.guest_files other.guest_files one.secrets other.secrets one.are
+    other.are in
+    (guest_reading laws other.guest_files).refused first second
+    (subst (λ f. IsGuestRefusal f first) same.guests one.first) other.first
+
 -- ---- a certificate
 
 no-form-fault : (file : List ℕ) (graph : Graph) (solved : Solved) (fault : FormFault) →
@@ -155,6 +196,8 @@ same-task laws (Checks check) files a b (x, one, e) (y, other, f) =
     e ∙ (ap (λ v. JudgeSecrets v) (same-check laws check files x y one other) ∙ sym f)
 same-task laws (Tells telling run) files a b (x, one, e) (y, other, f) =
     e ∙ (ap (λ v. TellRun telling v) (same-run laws run files x y one other) ∙ sym f)
+same-task laws (MeasuresAll version runs) files a b (x, one, e) (y, other, f) =
+    e ∙ (ap (λ v. MeasureAll version v) (same-runs laws runs files x y one other) ∙ sym f)
 same-task laws (Assembles source) files a b (file, x, are, one, e) (also, y, alike, other, f) =
     let here : assembled also ≡ Ok x = ap assembled (one-file files also file alike are) ∙ one in
     e ∙ (ap (λ v. WriteProgram v) (same-ok x y (assembled also) here other) ∙ sym f)
@@ -177,6 +220,8 @@ no-task-fault laws (Checks check) files task refusal (x, is, e) refused =
     no-check-fault laws check files x refusal is refused
 no-task-fault laws (Tells telling run) files task refusal (x, is, e) refused =
     no-run-fault laws run files x refusal is refused
+no-task-fault laws (MeasuresAll version runs) files task refusal (x, is, e) refused =
+    no-runs-fault laws runs files x refusal is refused
 no-task-fault laws (Assembles source) files task refusal (file, x, are, is, e) (also, alike, (fault, first, f)) =
     ok-err x fault (assembled also) (ap assembled (one-file files also file alike are) ∙ is) first
 no-task-fault laws (Lists program) files task refusal (file, x, are, is, e) (also, alike, first) =
@@ -197,6 +242,8 @@ one-form-fault : RegionLaws → (command : Command) (files : List (List ℕ)) (f
     IsFormRefusal command files first → IsFormRefusal command files second → first ≡ second
 one-form-fault laws (Checks check) files first second one other = one-check-fault laws check files first second one other
 one-form-fault laws (Tells telling run) files first second one other = one-run-fault laws run files first second one other
+one-form-fault laws (MeasuresAll version runs) files first second one other =
+    one-runs-fault laws runs files first second one other
 one-form-fault laws (Assembles source) files first second (file, are, (fault, is, e)) (also, alike, (other, was, f)) =
     let here : assembled also ≡ Err fault = ap assembled (one-file files also file alike are) ∙ is in
     e ∙ (ap (λ x. Source x) (err-err fault other (assembled also) here was) ∙ sym f)
@@ -215,6 +262,7 @@ pub form-status : (command : Command) (files : List (List ℕ)) (refusal : Refus
     IsFormRefusal command files refusal → status_of (Err refusal) ≡ 3
 form-status (Checks check) files refusal is = first-status is.guest_files is.cut_file refusal is.first
 form-status (Tells telling run) files refusal is = guest-status is.guest_files refusal is.first
+form-status (MeasuresAll version runs) files refusal is = guest-status is.guest_files refusal is.first
 form-status (Assembles source) files refusal (file, are, (fault, first, e)) = ap (λ r. status_of (Err r)) e
 form-status (Lists program) files refusal (file, are, (fault, first, e)) = ap (λ r. status_of (Err r)) e
 form-status (Verifies certificate) files refusal (file, are, (fault, first, e)) = ap (λ r. status_of (Err r)) e

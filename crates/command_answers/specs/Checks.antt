@@ -1,19 +1,24 @@
--- A check of secrets of a guest against a cut.
-use Rattle.std.specs.Prelude.{◌==◌, ℕ, List, [], ◌∷◌, length, if◌then◌else◌}
+-- Secrets of a guest that are judged by a cut.
+use Rattle.std.specs.Prelude.{◌≡◌, Ok, ◌==◌, ℕ, List, [], ◌∷◌, length, if◌then◌else◌}
 use Rattle.cut_file.specs.Cuts.{CutPicture}
 use Rattle.lockstep_replay.specs.Tasks.{Task as JudgedTask, Limits, task_of}
 use Rattle.lockstep_replay.specs.Verdicts.{Judgement, First}
+use Rattle.command_words.specs.declared.judgings.Judging.{Judging}
+use Rattle.command_words.specs.declared.judgings.Judging.TheVariants.{Replay, Masks}
 use Rattle.command_answers.specs.declared.replies.Reply.{Reply}
 use Rattle.command_answers.specs.declared.statuses.Status.TheVariants.{Done, Rejected}
+use Rattle.command_answers.specs.Answers.{Answer}
+use Rattle.command_answers.specs.Findings.{AnswersTaint}
 use Rattle.command_answers.specs.Guests.{Guest}
 use Rattle.command_answers.specs.Texts.{check_text, accepted_count}
 
--- the guest, the cut, the secrets, and the limits of bits and of turns
+-- the guest, the cut, the secrets, the limits of bits and of turns, and by what the secrets are judged
 pub record CheckTask : Type 0 where
   pub guest : Guest
   pub cut : CutPicture
   pub secrets : List (List ℕ)
   pub limits : Limits
+  pub judging : Judging
 
 -- what secrets of a guest are judged by
 abbrev pub judged_by : Guest → CutPicture → JudgedTask
@@ -30,3 +35,13 @@ check_reply judgements budget = record {
   status = if accepted_count judgements == length judgements then Done else Rejected;
   text = check_text judgements budget;
 }
+
+abbrev pub AnswersBy : Judging → CheckTask → Answer → Type 0
+AnswersBy Replay task answer =
+    answer
+    ≡ Ok (check_reply (judgements_of (judged_by task.guest task.cut) task.limits task.secrets) task.limits.budget)
+AnswersBy (Masks table) task answer =
+    AnswersTaint table (judged_by task.guest task.cut) task.limits task.secrets answer
+
+abbrev pub AnswersCheck : CheckTask → Answer → Type 0
+AnswersCheck task answer = AnswersBy task.judging task answer

@@ -3,26 +3,39 @@ use Rattle.std.specs.Prelude.{◌≡◌, ◌≢◌, ◌⊎◌, ◌↔◌, ℕ, �
 use Rattle.flow_base.specs.Counts.{Rose}
 use Rattle.flow_base.specs.Loads.{Told}
 use Rattle.flow_base.specs.Puts.{Taken, after_put}
+use Rattle.command_words.specs.declared.judgings.Judging.{Judging}
+use Rattle.command_words.specs.declared.judgings.Judging.TheVariants.{Replay, Masks}
 use Rattle.command_words.specs.declared.tellings.Telling.{Telling}
-use Rattle.command_words.specs.declared.tellings.Telling.TheVariants.{CutText, Certificate, Report}
-use Rattle.command_words.specs.CommandLines.{Run, Command, Checks, Tells, Assembles, Lists, Verifies, Migrates, Tries}
+use Rattle.command_words.specs.declared.tellings.Telling.TheVariants.{CutText, Certificate, Report, Declaration}
+use Rattle.command_words.specs.CommandLines.{Check, Run, Command, Checks, Tells, MeasuresAll, Assembles, Lists, Verifies, Migrates, Tries}
 use Rattle.command_words.specs.CommandLines.{IsCommand, IsNoCommand}
+use Rattle.command_answers.specs.CleanHeadline.{CleanHeadline}
 use Rattle.command_answers.specs.Headline.{Headline}
+use Rattle.command_answers.specs.LearntHeadline.{LearntHeadline}
 use Rattle.command_answers.specs.Lines.{IsOneLine}
-use Rattle.command_answers.specs.MeasuredHeadline.{MeasuredHeadline}
+use Rattle.command_answers.specs.MeasuredHeadline.{IsGraphOfRun, IsGraphOfRuns, MeasuredHeadline}
 use Rattle.command_answers.specs.Replies.{Reply, Replies}
 
--- what is told of a run carries the headline of measured runs where it is a cut
+-- a judgement of secrets carries the headline of the machines that judge
+abbrev pub JudgingCarries : Option Told → Judging → Check → Reply → Type 0
+JudgingCarries source Replay check reply = Headline source check reply
+JudgingCarries source (Masks table) check reply = CleanHeadline source table check reply
+
+-- what is told of a run carries the headline of measured runs where it is a cut, and that of a learnt declaration
 abbrev pub TellingCarries : Option Told → Telling → Run → Reply → Type 0
 TellingCarries source (CutText version) run reply =
-    MeasuredHeadline source run.guest (run.secret ∷ []) (record { turns = run.turns; table = run.table }) reply
+    MeasuredHeadline IsGraphOfRun source run.guest (run.secret ∷ []) (record { turns = run.turns; table = run.table }) reply
 TellingCarries source Certificate run reply = Unit {0}
 TellingCarries source (Report json) run reply = Unit {0}
+TellingCarries source Declaration run reply = LearntHeadline source run reply
 
 -- the headline that a command carries
 abbrev pub Carries : Option Told → Command → Reply → Type 0
-Carries source (Checks check) reply = Headline source check reply
+Carries source (Checks check) reply = JudgingCarries source check.judging check reply
 Carries source (Tells telling run) reply = TellingCarries source telling run reply
+Carries source (MeasuresAll version runs) reply =
+    MeasuredHeadline IsGraphOfRuns source runs.guest runs.secrets
+    (record { turns = runs.turns; table = runs.table }) reply
 Carries source (Assembles file) reply = Unit {0}
 Carries source (Lists file) reply = Unit {0}
 Carries source (Verifies file) reply = Unit {0}
@@ -30,7 +43,7 @@ Carries source (Migrates file) reply = Unit {0}
 Carries source (Tries number) reply = Unit {0}
 
 -- The reply to words, by what the file source tells: its status is 2 exactly where they are no command line, its text is
--- one line where it tells a refusal, and it carries the headline where the command is done, and is a check or measures.
+-- one line where it tells a refusal, and it carries the headline of its command where the command is done.
 pub record IsReply (source : Option Told) (words : List (List ℕ)) (reply : Reply) : Type 0 where
   pub replies : Replies source words reply
   pub usage : (reply.status ≡ 2) ↔ IsNoCommand words

@@ -14,11 +14,14 @@ use Rattle.max_flow.specs.declared.answers.Side.{Side}
 use Rattle.max_flow.specs.Flows.{HasNoGreater, IsFlowOf, Least, flow_value, side_capacity}
 use Rattle.measuring.specs.declared.measured.Measured.{Measured}
 use Rattle.measuring.specs.Measures.{Measures}
+use Rattle.many_runs.specs.declared.many.Many.{Many}
+use Rattle.many_runs.specs.Measures.{MeasuresAll}
 use Rattle.command_words.specs.CommandLines.{GuestNames, highest_budget}
 use Rattle.command_answers.specs.Checks.{judged_by}
 use Rattle.command_answers.specs.Guests.{Guest, GuestFiles, IsGuest}
 use Rattle.command_answers.specs.Headline.{AreGuestHeld}
 use Rattle.command_answers.specs.Replies.{Reply}
+use Rattle.command_answers.specs.ManyRuns.{setup_in}
 use Rattle.command_answers.specs.Runs.{start_of}
 
 -- a secret is accepted, with some output
@@ -38,21 +41,27 @@ pub record Measuring : Type 0 where
   pub turns : ℕ
   pub table : ℕ
 
--- the graph is that of the runs on these secrets
-abbrev pub IsGraphOfRuns : Guest → Measuring → List (List ℕ) → Graph → Type 0
-IsGraphOfRuns guest by [] graph = ⊥
-IsGraphOfRuns guest by (secret ∷ []) graph =
-    (measured : Measured)
+-- the graph is that of the run on the one secret
+abbrev pub IsGraphOfRun : Guest → Measuring → List (List ℕ) → Graph → Type 0
+IsGraphOfRun guest by secrets graph =
+    (secret : List ℕ) × (secrets ≡ secret ∷ []) × (measured : Measured)
     × Measures by.table guest.regions
     (start_of (record { guest = guest; secret = secret; turns = by.turns; table = by.table })) (length secret) by.turns
     measured × (measured.graph ≡ graph)
-IsGraphOfRuns guest by (secret ∷ (other ∷ secrets)) graph = ⊥
+
+-- the graph is that of the runs on all secrets together
+abbrev pub IsGraphOfRuns : Guest → Measuring → List (List ℕ) → Graph → Type 0
+IsGraphOfRuns guest by secrets graph =
+    (many : Many)
+    × MeasuresAll
+    (setup_in (record { guest = guest; secrets = secrets; turns = by.turns; table = by.table })) secrets many
+    × (many.graph ≡ graph)
 
 -- By what the file source tells, the names that the words name, and the reply: the text is that of a cut, with which,
 -- and with the number of its line `bits` as budget, a check accepts each of the secrets within the same turns; it is
--- short enough for a cut file, and the number is the maximum flow of the runs' graph.
-pub record MeasuredHeadline (source : Option Told) (names : GuestNames) (secret_names : List (List ℕ)) (by : Measuring)
-    (reply : Reply) : Type 0 where
+-- short enough for a cut file, and the number is the maximum flow of the graph of the one run, or of the runs together.
+pub record MeasuredHeadline (IsGraph : Guest → Measuring → List (List ℕ) → Graph → Type 0) (source : Option Told)
+    (names : GuestNames) (secret_names : List (List ℕ)) (by : Measuring) (reply : Reply) : Type 0 where
   pub done : reply.status ≡ 0
   pub guest_files : GuestFiles
   pub secrets : List (List ℕ)
@@ -68,5 +77,5 @@ pub record MeasuredHeadline (source : Option Told) (names : GuestNames) (secret_
   pub graph : Graph
   pub flow : Flow
   pub side : Side
-  pub of_runs : IsGraphOfRuns guest by secrets graph
+  pub of_runs : IsGraph guest by secrets graph
   pub greatest : IsGreatestFlow graph flow side cut.bits

@@ -1,21 +1,23 @@
 -- What is read of the files of a command line, and the limits of that.
-use Rattle.std.specs.Prelude.{◌≤◌, ℕ, List, length, All, option_map}
+use Rattle.std.specs.Prelude.{◌≡◌, ◌≤◌, true, ℕ, List, length, All, option_map}
 use Rattle.cut_file.specs.Pictures.{picture_of as cut_of}
 use Rattle.elf32_loader.specs.Images.{picture_of}
 use Rattle.lockstep_replay.specs.Tasks.{Limits as CheckLimits}
 use Rattle.command_words.specs.declared.limits.Limits.{Limits}
-use Rattle.command_words.specs.CommandLines.{highest_turns}
+use Rattle.command_words.specs.CommandLines.{highest_turns, is_known}
 use Rattle.command_answers.specs.declared.guests.Guest.{Guest as ReadGuest}
 use Rattle.command_answers.specs.declared.guests.GuestFiles.{GuestFiles as LoadedGuest}
 use Rattle.command_answers.specs.declared.tasks.CheckTask.{CheckTask as ReadCheck}
+use Rattle.command_answers.specs.declared.tasks.ManyRunsTask.{ManyRunsTask as ReadManyRuns}
 use Rattle.command_answers.specs.declared.tasks.RunTask.{RunTask as ReadRun}
 use Rattle.command_answers.specs.declared.tasks.Task.{Task as ReadTask}
 use Rattle.command_answers.specs.declared.tasks.Task.TheVariants as tasks
 use Rattle.command_answers.specs.Checks.{CheckTask}
 use Rattle.command_answers.specs.Guests.{Guest, GuestFiles}
+use Rattle.command_answers.specs.ManyRuns.{ManyRunsTask}
 use Rattle.command_answers.specs.Runs.{RunTask}
 use Rattle.command_answers.specs.Tasks.{Task, JudgeSecrets, TellRun, WriteProgram, ListProgram, VerifyCertificate}
-use Rattle.command_answers.specs.Tasks.{MigrateCut, TryNumber}
+use Rattle.command_answers.specs.Tasks.{MeasureAll, MigrateCut, TryNumber}
 
 abbrev pub files_in : LoadedGuest → GuestFiles
 files_in files = record {
@@ -40,14 +42,24 @@ check_in check = record {
   cut = cut_of check.cut;
   secrets = check.secrets.now;
   limits = limits_in check.limits;
+  judging = check.judging;
 }
 
 abbrev pub run_in : ReadRun → RunTask
 run_in run = record { guest = guest_in run.guest; secret = run.secret.now; turns = run.turns; table = run.table }
 
+abbrev pub many_runs_in : ReadManyRuns → ManyRunsTask
+many_runs_in runs = record {
+  guest = guest_in runs.guest;
+  secrets = runs.secrets.now;
+  turns = runs.turns;
+  table = runs.table;
+}
+
 abbrev pub task_in : ReadTask → Task
 task_in (tasks.JudgeSecrets check) = JudgeSecrets (check_in check)
 task_in (tasks.TellRun telling run) = TellRun telling (run_in run)
+task_in (tasks.MeasureAll version runs) = MeasureAll version (many_runs_in runs)
 task_in (tasks.WriteProgram image) = WriteProgram (picture_of image)
 task_in (tasks.ListProgram image) = ListProgram (picture_of image)
 task_in (tasks.VerifyCertificate certificate) = VerifyCertificate certificate.graph certificate.solved
@@ -60,6 +72,11 @@ task_in (tasks.TryNumber number) = TryNumber number
 abbrev pub AreShort : List (List ℕ) → Type 0
 AreShort secrets = All (λ secret. length secret ≤ 65536) secrets
 
+-- the secrets are within their limits, and a table is 1 or 2
+pub record IsBoundedCheck (check : ReadCheck) : Type 0 where
+  pub secrets : AreShort check.secrets.now
+  pub known : is_known check.judging ≡ true
+
 -- the secret and the turns are within their limits, and the table is 1 or 2
 pub record IsBoundedRun (run : ReadRun) : Type 0 where
   pub secret : length run.secret.now ≤ 65536
@@ -67,10 +84,20 @@ pub record IsBoundedRun (run : ReadRun) : Type 0 where
   pub first : 1 ≤ run.table
   pub last : run.table ≤ 2
 
+-- there are 1 to 64 secrets, each within its limit, the turns are within theirs, and the table is 1 or 2
+pub record AreBoundedRuns (runs : ReadManyRuns) : Type 0 where
+  pub secrets : AreShort runs.secrets.now
+  pub some : 1 ≤ length runs.secrets.now
+  pub most : length runs.secrets.now ≤ 64
+  pub turns : runs.turns ≤ highest_turns
+  pub first : 1 ≤ runs.table
+  pub last : runs.table ≤ 2
+
 -- what is read is within the limits of what answers it
 abbrev pub IsBounded : ReadTask → Type 0
-IsBounded (tasks.JudgeSecrets check) = AreShort check.secrets.now
+IsBounded (tasks.JudgeSecrets check) = IsBoundedCheck check
 IsBounded (tasks.TellRun telling run) = IsBoundedRun run
+IsBounded (tasks.MeasureAll version runs) = AreBoundedRuns runs
 IsBounded (tasks.WriteProgram image) = length image.segments ≤ 64
 IsBounded (tasks.ListProgram image) = Unit {0}
 IsBounded (tasks.VerifyCertificate certificate) = Unit {0}

@@ -23,9 +23,15 @@ use Rattle.flow_certificate.specs.Certificates.{IsFormFault}
 use Rattle.flow_certificate.specs.VerdictTexts.{form_fault_text}
 use Rattle.run_labels.specs.declared.faults.MeasureFault.{MeasureFault}
 use Rattle.run_labels.specs.declared.faults.MeasureFault.TheVariants.{Memory as NoRoomForRun}
+use Rattle.many_runs.specs.declared.faults.ManyFault.{ManyFault}
+use Rattle.many_runs.specs.declared.faults.ManyFault.TheVariants.{Memory as NoRoomForRuns}
+use Rattle.many_runs.specs.FaultTexts.{many_fault_text}
+use Rattle.region_learn.specs.declared.faults.LearnFault.{LearnFault}
+use Rattle.region_learn.specs.declared.faults.LearnFault.TheVariants.{Memory as NoRoomForLearning}
+use Rattle.region_learn.specs.FaultTexts.{learn_fault_text}
 use Rattle.command_answers.specs.declared.refusals.Refusal.{Refusal}
 use Rattle.command_answers.specs.declared.refusals.Refusal.TheVariants.{Usage, Program, Regions, Cut, Source, Load}
-use Rattle.command_answers.specs.declared.refusals.Refusal.TheVariants.{Certificate, Run, TooLarge, Memory}
+use Rattle.command_answers.specs.declared.refusals.Refusal.TheVariants.{Certificate, Run, Runs, Learn, TooLarge, Memory}
 use Rattle.command_answers.specs.declared.statuses.Status.{Status}
 use Rattle.command_answers.specs.declared.statuses.Status.TheVariants as statuses
 use Rattle.run_labels.specs.FaultTexts.{run_fault_text}
@@ -38,6 +44,8 @@ refusal_status (Cut fault) = statuses.Malformed
 refusal_status (Source fault) = statuses.Malformed
 refusal_status (Certificate fault) = statuses.Malformed
 refusal_status (Run fault) = statuses.RunRefused
+refusal_status (Runs fault) = statuses.RunRefused
+refusal_status (Learn fault) = statuses.RunRefused
 refusal_status (Load name) = statuses.LoadFailed
 refusal_status (TooLarge name number) = statuses.TooLarge
 refusal_status Memory = statuses.NoMemory
@@ -50,6 +58,8 @@ refusal_text (Cut fault) = codes "refused 3 cut " ++ cut_fault_text fault
 refusal_text (Source fault) = codes "refused 3 source " ++ source_fault_text fault
 refusal_text (Certificate fault) = codes "refused 3 certificate " ++ form_fault_text fault
 refusal_text (Run fault) = codes "refused 4 " ++ run_fault_text fault
+refusal_text (Runs fault) = codes "refused 4 " ++ many_fault_text fault
+refusal_text (Learn fault) = codes "refused 4 " ++ learn_fault_text fault
 refusal_text (Load name) = codes "refused 5 load " ++ name
 refusal_text (TooLarge name number) = codes "refused 6 too-large " ++ (name ++ (codes " " ++ decimal number))
 refusal_text Memory = codes "memory"
@@ -76,6 +86,14 @@ RefusesCertificate fault refusal =
 
 abbrev pub RefusesRun : MeasureFault → Refusal → Type 0
 RefusesRun fault refusal = (fault ≡ NoRoomForRun → refusal ≡ Memory) × (fault ≢ NoRoomForRun → refusal ≡ Run fault)
+
+abbrev pub RefusesRuns : ManyFault → Refusal → Type 0
+RefusesRuns fault refusal =
+    (fault ≡ NoRoomForRuns → refusal ≡ Memory) × (fault ≢ NoRoomForRuns → refusal ≡ Runs fault)
+
+abbrev pub RefusesLearning : LearnFault → Refusal → Type 0
+RefusesLearning fault refusal =
+    (fault ≡ NoRoomForLearning → refusal ≡ Memory) × (fault ≢ NoRoomForLearning → refusal ≡ Learn fault)
 
 -- ---- what is wrong with what is read
 

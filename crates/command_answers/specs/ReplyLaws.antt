@@ -1,7 +1,8 @@
 -- What holds of all replies: where the file source tells its meanings, words have one; and which status a command has
 -- where its files are loaded and well formed.
-use Rattle.std.specs.Prelude.{◌≡◌, ◌⊎◌, ℕ, ◌≤◌, true, List, Option, None, Some, is_some, Ok}
+use Rattle.std.specs.Prelude.{◌≡◌, ◌⊎◌, ℕ, ◌≤◌, Bool, true, List, Option, None, Some, is_some, Ok}
 use Rattle.std.specs.List.{AllByRecursion}
+use Rattle.flow_base.specs.declared.outputs.Output.{Output}
 use Rattle.flow_base.specs.Loads.{Told}
 use Rattle.flow_certificate.specs.Verdicts.{IsVerified}
 use Rattle.flow_graph.specs.declared.graphs.Graph.{Graph}
@@ -10,15 +11,26 @@ use Rattle.lockstep_replay.specs.Tasks.{Task as JudgedTask, Limits}
 use Rattle.measuring.specs.Measures.{HasCause}
 use Rattle.run_labels.specs.declared.faults.MeasureFault.{MeasureFault}
 use Rattle.run_labels.specs.declared.faults.MeasureFault.TheVariants.{Memory as NoRoomForRun}
-use Rattle.command_words.specs.declared.tellings.Telling.TheVariants.{Certificate}
+use Rattle.many_runs.specs.declared.faults.ManyFault.{ManyFault}
+use Rattle.many_runs.specs.declared.faults.ManyFault.TheVariants.{Memory as NoRoomForRuns}
+use Rattle.many_runs.specs.Causes.{HasManyCause}
+use Rattle.region_learn.specs.declared.faults.LearnFault.{LearnFault}
+use Rattle.region_learn.specs.LearnAnswers.{Refuses}
+use Rattle.taint_check.specs.Tainted.{IsClean, IsVerdict}
+use Rattle.command_words.specs.declared.judgings.Judging.{Judging}
+use Rattle.command_words.specs.declared.judgings.Judging.TheVariants.{Replay, Masks}
+use Rattle.command_words.specs.declared.tellings.Telling.{Telling}
+use Rattle.command_words.specs.declared.tellings.Telling.TheVariants.{CutText, Certificate, Report, Declaration}
 use Rattle.command_words.specs.CommandLines.{Run, Command, Tells, IsCommand}
 use Rattle.command_answers.specs.Checks.{judged_by}
+use Rattle.command_answers.specs.Declarations.{learnt_run}
 use Rattle.command_answers.specs.Loading.{loaded_from}
 use Rattle.command_answers.specs.MeasuredHeadline.{HasAccepted}
 use Rattle.command_answers.specs.Replies.{Reply, Replies}
+use Rattle.command_answers.specs.ManyRuns.{ManyRunsTask, setup_in}
 use Rattle.command_answers.specs.Runs.{RunTask, start_of}
 use Rattle.command_answers.specs.Tasks.{Task, JudgeSecrets, TellRun, WriteProgram, ListProgram, VerifyCertificate}
-use Rattle.command_answers.specs.Tasks.{MigrateCut, TryNumber, IsTaskOf, wants_of}
+use Rattle.command_answers.specs.Tasks.{MeasureAll, MigrateCut, TryNumber, IsTaskOf, wants_of}
 use Rattle.command_answers.specs.Trials.{run_of_number}
 
 -- ---- one reply
@@ -48,6 +60,22 @@ pub record CompletesCheck (task : JudgedTask) (limits : Limits) (secrets : List 
   pub accepted : status ≡ 0 → AllByRecursion (HasAccepted task limits) secrets
   pub done : AllByRecursion (HasAccepted task limits) secrets → status ≡ 0
 
+-- where this is the verdict on it, a secret is clean
+abbrev pub HasClean : ℕ → JudgedTask → Limits → List ℕ → Type 0
+HasClean table task limits secret =
+    (bits : List Bool) × (output : Output) × IsVerdict table task limits secret (IsClean bits output)
+
+-- 0 exactly where every secret is clean, and else 1
+pub record CompletesTaint (table : ℕ) (task : JudgedTask) (limits : Limits) (secrets : List (List ℕ)) (status : ℕ) :
+    Type 0 where
+  pub known : status ≤ 1
+  pub clean : status ≡ 0 → AllByRecursion (HasClean table task limits) secrets
+  pub done : AllByRecursion (HasClean table task limits) secrets → status ≡ 0
+
+abbrev pub CompletesBy : Judging → JudgedTask → Limits → List (List ℕ) → ℕ → Type 0
+CompletesBy Replay task limits secrets status = CompletesCheck task limits secrets status
+CompletesBy (Masks table) task limits secrets status = CompletesTaint table task limits secrets status
+
 -- nothing refuses the run but want of memory, of which nothing is said
 abbrev pub HasNoCause : RunTask → Type 0
 HasNoCause run =
@@ -60,6 +88,32 @@ pub record CompletesRun (run : RunTask) (status : ℕ) : Type 0 where
   pub measured : status ≡ 0 → HasNoCause run
   pub done : HasNoCause run → status ≡ 0
 
+-- nothing refuses the runs together but want of memory
+abbrev pub HaveNoCause : ManyRunsTask → Type 0
+HaveNoCause runs = (fault : ManyFault) → HasManyCause (setup_in runs) runs.secrets fault → fault ≡ NoRoomForRuns
+
+-- 0 exactly where nothing refuses the runs together, and else 4
+pub record CompletesRuns (runs : ManyRunsTask) (status : ℕ) : Type 0 where
+  pub known : (status ≡ 0) ⊎ (status ≡ 4)
+  pub measured : status ≡ 0 → HaveNoCause runs
+  pub done : HaveNoCause runs → status ≡ 0
+
+-- nothing refuses a declaration
+abbrev pub HasDeclaration : RunTask → Type 0
+HasDeclaration run = (fault : LearnFault) → ¬ Refuses (learnt_run run.guest run.secret run.turns) fault
+
+-- 0 exactly where nothing refuses a declaration, and else 4
+pub record CompletesLearning (run : RunTask) (status : ℕ) : Type 0 where
+  pub known : (status ≡ 0) ⊎ (status ≡ 4)
+  pub learnt : status ≡ 0 → HasDeclaration run
+  pub done : HasDeclaration run → status ≡ 0
+
+abbrev pub CompletesTelling : Telling → RunTask → ℕ → Type 0
+CompletesTelling (CutText version) run status = CompletesRun run status
+CompletesTelling Certificate run status = CompletesRun run status
+CompletesTelling (Report json) run status = CompletesRun run status
+CompletesTelling Declaration run status = CompletesLearning run status
+
 -- 0 exactly where the flow is feasible, the side is a side, and value, flow and side have one number; and else 1
 pub record CompletesVerdict (graph : Graph) (solved : Solved) (status : ℕ) : Type 0 where
   pub known : status ≤ 1
@@ -69,8 +123,9 @@ pub record CompletesVerdict (graph : Graph) (solved : Solved) (status : ℕ) : T
 -- a source that is assembled, a program that is listed and a cut that is migrated are done
 abbrev pub Completes : Task → ℕ → Type 0
 Completes (JudgeSecrets task) status =
-    CompletesCheck (judged_by task.guest task.cut) task.limits task.secrets status
-Completes (TellRun telling run) status = CompletesRun run status
+    CompletesBy task.judging (judged_by task.guest task.cut) task.limits task.secrets status
+Completes (TellRun telling run) status = CompletesTelling telling run status
+Completes (MeasureAll version runs) status = CompletesRuns runs status
 Completes (WriteProgram picture) status = status ≡ 0
 Completes (ListProgram picture) status = status ≡ 0
 Completes (VerifyCertificate graph solved) status = CompletesVerdict graph solved status

@@ -12,23 +12,26 @@ use Rattle.rv32im_asm.specs.Assembling.{assembled}
 use Rattle.rv32im_asm.specs.Listing.{listing}
 use Rattle.command_words.specs.declared.tellings.Telling.{Telling}
 use Rattle.command_words.specs.CommandLines.{Check, Run, Command, Checks, Tells as TellsOf, Assembles, Lists, Verifies}
-use Rattle.command_words.specs.CommandLines.{Migrates, Tries}
+use Rattle.command_words.specs.CommandLines.{ManyRuns, MeasuresAll, Migrates, Tries}
 use Rattle.command_answers.specs.declared.kinds.FileKind.TheVariants as kinds
 use Rattle.command_answers.specs.declared.refusals.Refusal.{Refusal}
 use Rattle.command_answers.specs.Answers.{Answer, Reads, done_by}
-use Rattle.command_answers.specs.Checks.{CheckTask, check_reply, judged_by, judgements_of}
+use Rattle.command_answers.specs.Checks.{CheckTask, AnswersCheck}
 use Rattle.command_answers.specs.Guests.{Guest, GuestFiles, AreGuestFiles, IsGuest, IsGuestRefusal, guest_wants}
 use Rattle.command_answers.specs.Loading.{Want, want}
 use Rattle.command_answers.specs.Refusals.{IsCertificateRefusal, IsCutRefusal, IsProgramRefusal, IsSourceRefusal}
-use Rattle.command_answers.specs.Runs.{RunTask, AnswersRun, Tells}
+use Rattle.command_answers.specs.ManyRuns.{ManyRunsTask, AnswersMany}
+use Rattle.command_answers.specs.Runs.{RunTask, AnswersRun}
+use Rattle.command_answers.specs.Tellings.{AnswersTelling}
 use Rattle.command_answers.specs.Trials.{TellsTrial, run_of_number}
 use Rattle.command_answers.specs.Verifications.{AnswersVerdict, IsCertificate}
 
--- to judge secrets, to tell of a measured run, to write the program file of an image, to list a program, to verify a
+-- to judge secrets, to tell of a run, to tell the one cut of several runs in a version, to write the program file of an image, to list a program, to verify a
 -- certificate, to write a cut in version 2, or to try the tool by a number
 pub data Task : Type 0 where
   JudgeSecrets : CheckTask → Task
   TellRun : Telling → RunTask → Task
+  MeasureAll : ℕ → ManyRunsTask → Task
   WriteProgram : Picture → Task
   ListProgram : Picture → Task
   VerifyCertificate : Graph → Solved → Task
@@ -41,6 +44,7 @@ pub data Task : Type 0 where
 abbrev pub wants_of : Command → List Want
 wants_of (Checks check) = guest_wants check.guest (want check.cut kinds.Cut ∷ []) check.secrets
 wants_of (TellsOf telling run) = guest_wants run.guest [] (run.secret ∷ [])
+wants_of (MeasuresAll version runs) = guest_wants runs.guest [] runs.secrets
 wants_of (Assembles source) = want source kinds.Source ∷ []
 wants_of (Lists program) = want program kinds.Program ∷ []
 wants_of (Verifies certificate) = want certificate kinds.Certificate ∷ []
@@ -55,6 +59,7 @@ pub record IsCheckTask (check : Check) (files : List (List ℕ)) (task : CheckTa
   pub guest : IsGuest guest_files task.guest
   pub cut : CutText cut_file task.cut
   pub limits : task.limits ≡ record { budget = check.budget; turns = check.turns }
+  pub judging : task.judging ≡ check.judging
 
 -- what is wrong with them: the first fault of the guest, and then of the cut
 pub record IsCheckRefusal (check : Check) (files : List (List ℕ)) (refusal : Refusal) : Type 0 where
@@ -81,10 +86,27 @@ pub record IsRunFilesRefusal (run : Run) (files : List (List ℕ)) (refusal : Re
   pub are : AreGuestFiles run.guest files guest_files [] (secret ∷ [])
   pub first : IsGuestRefusal guest_files refusal
 
+-- the files of several runs, which are well formed, and are this task
+pub record IsManyRunsTask (runs : ManyRuns) (files : List (List ℕ)) (task : ManyRunsTask) : Type 0 where
+  pub guest_files : GuestFiles
+  pub are : AreGuestFiles runs.guest files guest_files [] task.secrets
+  pub guest : IsGuest guest_files task.guest
+  pub turns : task.turns ≡ runs.turns
+  pub table : task.table ≡ runs.table
+
+-- what is wrong with them
+pub record IsManyRunsRefusal (runs : ManyRuns) (files : List (List ℕ)) (refusal : Refusal) : Type 0 where
+  pub guest_files : GuestFiles
+  pub secrets : List (List ℕ)
+  pub are : AreGuestFiles runs.guest files guest_files [] secrets
+  pub first : IsGuestRefusal guest_files refusal
+
 -- The files of a command are well formed, and with its words they are this task.
 abbrev pub IsTaskOf : Command → List (List ℕ) → Task → Type 0
 IsTaskOf (Checks check) files task = (it : CheckTask) × IsCheckTask check files it × (task ≡ JudgeSecrets it)
 IsTaskOf (TellsOf telling run) files task = (it : RunTask) × IsRunTask run files it × (task ≡ TellRun telling it)
+IsTaskOf (MeasuresAll version runs) files task =
+    (it : ManyRunsTask) × IsManyRunsTask runs files it × (task ≡ MeasureAll version it)
 IsTaskOf (Assembles source) files task =
     (file : List ℕ) × (picture : Picture) × (files ≡ file ∷ []) × (assembled file ≡ Ok picture)
     × (task ≡ WriteProgram picture)
@@ -102,6 +124,7 @@ IsTaskOf (Tries number) files task = task ≡ TryNumber number
 abbrev pub IsFormRefusal : Command → List (List ℕ) → Refusal → Type 0
 IsFormRefusal (Checks check) files refusal = IsCheckRefusal check files refusal
 IsFormRefusal (TellsOf telling run) files refusal = IsRunFilesRefusal run files refusal
+IsFormRefusal (MeasuresAll version runs) files refusal = IsManyRunsRefusal runs files refusal
 IsFormRefusal (Assembles source) files refusal =
     (file : List ℕ) × (files ≡ file ∷ []) × IsSourceRefusal file refusal
 IsFormRefusal (Lists program) files refusal = (file : List ℕ) × (files ≡ file ∷ []) × IsProgramRefusal file refusal
@@ -113,10 +136,9 @@ IsFormRefusal (Tries number) files refusal = ⊥
 -- ---- the answer
 
 abbrev pub AnswersTask : Task → Answer → Type 0
-AnswersTask (JudgeSecrets task) answer =
-    answer
-    ≡ Ok (check_reply (judgements_of (judged_by task.guest task.cut) task.limits task.secrets) task.limits.budget)
-AnswersTask (TellRun telling run) answer = AnswersRun run (Tells telling) answer
+AnswersTask (JudgeSecrets task) answer = AnswersCheck task answer
+AnswersTask (TellRun telling run) answer = AnswersTelling telling run answer
+AnswersTask (MeasureAll version runs) answer = AnswersMany version runs answer
 AnswersTask (WriteProgram picture) answer = answer ≡ done_by (written picture)
 AnswersTask (ListProgram picture) answer = answer ≡ done_by (listing picture.segments)
 AnswersTask (VerifyCertificate graph solved) answer = AnswersVerdict graph solved answer

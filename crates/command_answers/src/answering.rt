@@ -9,6 +9,7 @@ ghost use Rattle.command_answers.specs.declared.refusals.Refusal.TheVariants.{Me
 
 use crate::judging::judge_secrets;
 use crate::loads::load_all;
+use crate::many::tell_many;
 use crate::reading::read_task;
 use crate::refusals::Refusal;
 use crate::replies::Reply;
@@ -33,8 +34,9 @@ fn answer_task(alloc: Global, task: &Task, books: &[RuleBook]) -> Result<Reply, 
     ensures { result ≢ Err Memory → AnswersTask (task_in task.now) result }
 {
     match task {
-        Task::JudgeSecrets(check) => Ok(judge_secrets(alloc, check)?),
+        Task::JudgeSecrets(check) => Ok(judge_secrets(alloc, check, books)?),
         Task::TellRun { telling, run } => tell_run(alloc, *telling, run, books),
+        Task::MeasureAll { version, runs } => tell_many(alloc, *version, runs, books),
         Task::WriteProgram(image) => Ok(Reply::done(write_image(alloc, image)?)),
         Task::ListProgram(image) => Ok(Reply::done(list(alloc, image)?)),
         Task::VerifyCertificate(certificate) => Ok(reply_of_verdict(alloc, verify(certificate))?),

@@ -1,25 +1,26 @@
-//! A check of secrets: each is judged from a fresh start.
+//! Secrets that are judged, each from a fresh start.
 
-ghost use Rattle.std.specs.Prelude.{◌≡◌, ◌+◌, ◌==◌, ◌≤◌, length, IfOk, [], ◌∷◌, if◌then◌else◌};
+ghost use Rattle.std.specs.Prelude.{◌≡◌, ◌≢◌, ◌≤◌, Ok as Fine, Err, length, map, IfOk, [], ◌∷◌};
 ghost use Rattle.cut_file.specs.Pictures.{picture_of as cut_of};
 ghost use Rattle.lockstep_replay.specs.Judgements.{judgement_of};
 ghost use Rattle.lockstep_replay.specs.Verdicts.{First};
-ghost use Rattle.command_answers.specs.Checks.{check_reply, judged_by, judgements_of};
-ghost use Rattle.command_answers.specs.ReadTasks.{AreShort, check_in, guest_in, limits_in};
-ghost use Rattle.command_answers.specs.declared.statuses.Status.TheVariants.{Done, Rejected};
+ghost use Rattle.command_answers.specs.Checks.{AnswersCheck, check_reply, judged_by, judgements_of};
+ghost use Rattle.command_answers.specs.ReadTasks.{AreShort, IsBoundedCheck, check_in, guest_in, limits_in};
 ghost use Rattle.command_answers.specs.Texts.{accepted_count, verdict_lines};
 
+use crate::books::book_of;
+use crate::finding::find_secrets;
 use crate::guests::Guest;
 use crate::replies::Reply;
-use crate::statuses::Status;
 use crate::tasks::CheckTask;
-use crate::texts::counts_line;
-use command_words::Limits;
+use crate::texts::{counts_line, next, status_of};
+use command_words::{Judging, Limits};
 use cut_file::Cut;
 use flow_base::{Bytes, NoMemory};
 use leak_report::verdict_line;
 use lockstep_replay::{Lockstep, Memories, Verdict};
 use std::alloc::Global;
+use transfer_rules::RuleBook;
 
 /// The verdict on a secret, in the guest memories of another one, and these for the next one.
 fn judge_in(
@@ -76,24 +77,6 @@ fn accepted_by(verdict: &Verdict) -> usize
     }
 }
 
-/// Done where all secrets are accepted.
-fn status_of(accepted: usize, checked: usize) -> Status
-    ensures { result ≡ (if accepted == checked then Done else Rejected) }
-{
-    if accepted == checked {
-        Status::Done
-    } else {
-        Status::Rejected
-    }
-}
-
-/// The number of the next secret; the error is want of memory, which is answered too behind 2^32 secrets.
-fn next(number: u32) -> Result<u32, NoMemory>
-    ensures { IfOk result (λ after. after ≡ number + 1) }
-{
-    number.checked_add(1).ok_or(NoMemory)
-}
-
 /// The lines of secrets, and how many of them are accepted.
 #[derive(Drop)]
 struct Lines {
@@ -130,26 +113,43 @@ fn lines_of(
     Ok(Lines { text, accepted })
 }
 
-/// The reply to a check of secrets, each judged from a fresh start.
+/// The reply to a check of secrets by a second machine.
 #[tactic(auto, using(crate::proofs::Judgements::length_judgements))]
-pub fn judge_secrets(alloc: Global, task: &CheckTask) -> Result<Reply, NoMemory>
-    requires short { AreShort task.now.secrets.now }
-    ensures { IfOk result (λ reply. reply ≡ check_reply (judgements_of (judged_by (check_in task.now).guest
-        (check_in task.now).cut) (check_in task.now).limits (check_in task.now).secrets) (check_in
-        task.now).limits.budget) }
+fn replay_secrets(
+    alloc: Global,
+    guest: &Guest,
+    cut: &Cut,
+    secrets: &[Bytes],
+    limits: Limits,
+) -> Result<Reply, NoMemory>
+    requires short { AreShort secrets.now }
+    ensures { IfOk result (λ reply. reply ≡ check_reply (judgements_of (judged_by (guest_in guest.now) (cut_of cut.now))
+        (limits_in limits) secrets.now) limits.budget) }
 {
-    let lines = lines_of(alloc, &task.guest, &task.cut, task.secrets, task.limits)?;
-    let counts = counts_line(
-        alloc,
-        task.secrets.len(),
-        lines.accepted,
-        task.limits.budget,
-    )?;
-    let status = status_of(lines.accepted, task.secrets.len());
+    let lines = lines_of(alloc, guest, cut, secrets, limits)?;
+    let budget = limits.budget;
+    let counts = counts_line(alloc, "accepted", secrets.len(), lines.accepted, budget)?;
+    let status = status_of(lines.accepted, secrets.len());
     let mut text = lines.text;
     text.extend_from_slice(counts.as_slice())?;
     Ok(Reply {
         status,
         text: Bytes::from_vec(text),
     })
+}
+
+/// The reply to secrets that are to be judged, each from a fresh start.
+pub fn judge_secrets(alloc: Global, task: &CheckTask, books: &[RuleBook]) -> Result<Reply, NoMemory>
+    requires books { map (λ book. book.table) books.now ≡ 1 ∷ 2 ∷ [] }
+    requires bounded { IsBoundedCheck task.now }
+    ensures { IfOk result (λ reply. AnswersCheck (check_in task.now) (Fine reply)) }
+{
+    let secrets = task.secrets;
+    match task.judging {
+        Judging::Replay => replay_secrets(alloc, &task.guest, &task.cut, secrets, task.limits),
+        Judging::Masks(table) => {
+            let book = book_of(books, table);
+            find_secrets(alloc, &task.guest, &task.cut, secrets, task.limits, book)
+        }
+    }
 }

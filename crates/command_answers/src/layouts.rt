@@ -1,7 +1,7 @@
 //! The loaded files of a command, each by what it is for.
 
 ghost use Rattle.std.specs.Prelude.{◌≡◌, ◌≤◌, ◌++◌, ◌∷◌, [], ℕ, List as Seq, Option as Maybe, length, is_some, option_map};
-ghost use Rattle.command_words.specs.Words.{check_of, guest_of};
+ghost use Rattle.command_words.specs.Words.{check_of, guest_of, many_runs_of};
 ghost use Rattle.command_answers.specs.FileLimits.{limit_of};
 ghost use Rattle.command_answers.specs.Guests.{AreGuestFiles, and_others, guest_wants, region_wants, secret_wants};
 ghost use Rattle.command_answers.specs.Loading.{AreWithin, Want, want};
@@ -9,7 +9,7 @@ ghost use Rattle.command_answers.specs.ReadTasks.{AreShort, files_in};
 ghost use Rattle.command_answers.specs.declared.kinds.FileKind.TheVariants as kinds;
 
 use crate::guests::GuestFiles;
-use command_words::{CheckWords, RunWords};
+use command_words::{CheckWords, ManyRunsWords, RunWords};
 use flow_base::Bytes;
 
 /// The region file, where one is named, and the secrets.
@@ -19,6 +19,9 @@ fn others_of<'a>(named: bool, others: &'a [Bytes]) -> (Option<&'a Bytes>, &'a [B
     ensures parts { others.entry.now ≡ and_others (option_map (λ bytes. bytes.now) result.0) result.1.now }
     ensures named { is_some result.0 ≡ named }
     ensures short { AreShort result.1.now }
+    ensures count { (name : Maybe (Seq ℕ)) → (names : Seq (Seq ℕ)) → is_some name ≡ named
+        → AreWithin (region_wants name ++ secret_wants names) others.entry.now
+        → length result.1.now ≡ length names }
 {
     if !named {
         return (None, others);
@@ -74,6 +77,29 @@ pub fn files_of_run<'a>(run: &RunWords, files: &'a [Bytes]) -> (GuestFiles<'a>, 
         regions,
     };
     (guest, secret)
+}
+
+/// The files of several runs: those of the guest, and the secrets.
+pub fn files_of_many_runs<'a>(
+    runs: &ManyRunsWords,
+    files: &'a [Bytes],
+) -> (GuestFiles<'a>, &'a [Bytes])
+    requires within { AreWithin (guest_wants (guest_of runs.now.guest) [] (many_runs_of runs.now).secrets) files.now }
+    ensures are { AreGuestFiles (guest_of runs.now.guest) files.entry.now (files_in result.0) [] result.1.now }
+    ensures program { length result.0.program.now ≤ 16777216 }
+    ensures short { AreShort result.1.now }
+    ensures count { length result.1.now ≡ length runs.now.secrets }
+{
+    let [program, public_input, others @ ..] = files else {
+        unreachable!();
+    };
+    let (regions, secrets) = others_of(runs.guest.regions.is_some(), others);
+    let guest = GuestFiles {
+        program,
+        public_input,
+        regions,
+    };
+    (guest, secrets)
 }
 
 /// The one file of a command.

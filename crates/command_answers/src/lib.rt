@@ -4,12 +4,15 @@
 
 mod answering;
 mod books;
+mod finding;
 mod guests;
 mod judging;
 mod kinds;
 mod laws;
 mod layouts;
+mod learning;
 mod loads;
+mod many;
 mod measured_runs;
 mod names;
 mod reading;

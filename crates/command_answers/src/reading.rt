@@ -6,24 +6,24 @@ ghost use Rattle.cut_file.specs.Texts.{CutText};
 ghost use Rattle.elf32_loader.specs.Images.{picture_of};
 ghost use Rattle.elf32_loader.specs.Programs.{IsImage};
 ghost use Rattle.rv32im_asm.specs.Assembling.{assembled};
-ghost use Rattle.command_words.specs.Words.{check_of, command_of, guest_of, run_of};
+ghost use Rattle.command_words.specs.Words.{check_of, command_of, guest_of, many_runs_of, run_of};
 ghost use Rattle.command_answers.specs.Guests.{AreRegions, IsGuest, IsGuestRefusal, guest_wants};
 ghost use Rattle.command_answers.specs.Loading.{AreWithin, want};
-ghost use Rattle.command_answers.specs.ReadTasks.{AreShort, IsBounded, IsBoundedRun, check_in, files_in, guest_in};
-ghost use Rattle.command_answers.specs.ReadTasks.{run_in, task_in};
+ghost use Rattle.command_answers.specs.ReadTasks.{IsBounded, IsBoundedCheck, IsBoundedRun, check_in, files_in, guest_in};
+ghost use Rattle.command_answers.specs.ReadTasks.{AreBoundedRuns, many_runs_in, run_in, task_in};
 ghost use Rattle.command_answers.specs.Refusals.{IsCertificateRefusal, IsCutRefusal, IsProgramRefusal};
 ghost use Rattle.command_answers.specs.Refusals.{IsRegionsRefusal, IsSourceRefusal};
 ghost use Rattle.command_answers.specs.Tasks.{IsCheckRefusal, IsCheckTask, IsFormRefusal, IsRunFilesRefusal};
-ghost use Rattle.command_answers.specs.Tasks.{IsRunTask, IsTaskOf, wants_of};
+ghost use Rattle.command_answers.specs.Tasks.{IsManyRunsRefusal, IsManyRunsTask, IsRunTask, IsTaskOf, wants_of};
 ghost use Rattle.command_answers.specs.Verifications.{IsCertificate};
 ghost use Rattle.command_answers.specs.declared.kinds.FileKind.TheVariants as kinds;
 ghost use Rattle.command_answers.specs.declared.refusals.Refusal.TheVariants.{Memory};
 
 use crate::guests::{Guest, GuestFiles};
-use crate::layouts::{files_of_check, files_of_run, one_file};
+use crate::layouts::{files_of_check, files_of_many_runs, files_of_run, one_file};
 use crate::refusals::Refusal;
-use crate::tasks::{CheckTask, RunTask, Task};
-use command_words::{CheckWords, CommandWords, RunWords};
+use crate::tasks::{CheckTask, ManyRunsTask, RunTask, Task};
+use command_words::{CheckWords, CommandWords, ManyRunsWords, RunWords};
 use cut_file::{Cut, read_cut};
 use elf32_loader::{Image, load_image};
 use enclosure_regions::{Regions, read_regions};
@@ -105,7 +105,7 @@ fn read_check<'a>(
     requires within { AreWithin (guest_wants (guest_of check.now.guest) (want check.now.cut.now kinds.Cut ∷ [])
         (check_of check.now).secrets) files.now }
     ensures ok { IfOk result (λ task. IsCheckTask (check_of check.now) files.entry.now (check_in task)) }
-    ensures short { IfOk result (λ task. AreShort task.secrets.now) }
+    ensures bounded { IfOk result (λ task. IsBoundedCheck task) }
     ensures err { IfErr result (λ refusal. refusal ≢ Memory → IsCheckRefusal (check_of check.now) files.entry.now
         refusal) }
 {
@@ -117,10 +117,11 @@ fn read_check<'a>(
         cut,
         secrets,
         limits: check.limits,
+        judging: check.judging,
     })
 }
 
-/// The run that is to be measured.
+/// The run that is to be told of.
 fn read_run<'a>(alloc: Global, run: &RunWords, files: &'a [Bytes]) -> Result<RunTask<'a>, Refusal>
     requires within { AreWithin (guest_wants (guest_of run.now.guest) [] (run.now.secret.now ∷ [])) files.now }
     ensures ok { IfOk result (λ task. IsRunTask (run_of run.now) files.entry.now (run_in task)) }
@@ -135,6 +136,28 @@ fn read_run<'a>(alloc: Global, run: &RunWords, files: &'a [Bytes]) -> Result<Run
         secret,
         turns: run.turns,
         table: run.table,
+    })
+}
+
+/// The runs that are to be measured together.
+fn read_many_runs<'a>(
+    alloc: Global,
+    runs: &ManyRunsWords,
+    files: &'a [Bytes],
+) -> Result<ManyRunsTask<'a>, Refusal>
+    requires within { AreWithin (guest_wants (guest_of runs.now.guest) [] (many_runs_of runs.now).secrets) files.now }
+    ensures ok { IfOk result (λ task. IsManyRunsTask (many_runs_of runs.now) files.entry.now (many_runs_in task)) }
+    ensures bounded { IfOk result (λ task. AreBoundedRuns task) }
+    ensures err { IfErr result (λ refusal. refusal ≢ Memory → IsManyRunsRefusal (many_runs_of runs.now) files.entry.now
+        refusal) }
+{
+    let (guest, secrets) = files_of_many_runs(runs, files);
+    let guest = read_guest(alloc, guest)?;
+    Ok(ManyRunsTask {
+        guest,
+        secrets,
+        turns: runs.turns,
+        table: runs.table,
     })
 }
 
@@ -155,6 +178,10 @@ pub fn read_task<'a>(
         CommandWords::Tell { telling, run } => Ok(Task::TellRun {
             telling: *telling,
             run: read_run(alloc, run, files)?,
+        }),
+        CommandWords::MeasureAll { version, runs } => Ok(Task::MeasureAll {
+            version: *version,
+            runs: read_many_runs(alloc, runs, files)?,
         }),
         CommandWords::Assemble { .. } => {
             Ok(Task::WriteProgram(read_source(alloc, one_file(files))?))

@@ -8,6 +8,8 @@ use elf32_loader::ElfFault;
 use enclosure_regions::RegionFault;
 use flow_base::NoMemory;
 use flow_certificate::FormFault;
+use many_runs::ManyFault;
+use region_learn::LearnFault;
 use run_labels::MeasureFault;
 use rv32im_asm::AsmFault;
 use std::fmt;
@@ -29,6 +31,10 @@ pub enum Refusal {
     Certificate(FormFault),
     /// The run is not measured.
     Run(MeasureFault),
+    /// The runs are not measured together.
+    Runs(ManyFault),
+    /// No declaration of regions is learnt of the run.
+    Learn(LearnFault),
     /// The load of this name failed.
     Load {
         /// The name.
@@ -57,7 +63,7 @@ impl Refusal {
             | Refusal::Cut(_)
             | Refusal::Source(_)
             | Refusal::Certificate(_) => Status::Malformed,
-            Refusal::Run(_) => Status::RunRefused,
+            Refusal::Run(_) | Refusal::Runs(_) | Refusal::Learn(_) => Status::RunRefused,
             Refusal::Load { .. } => Status::LoadFailed,
             Refusal::TooLarge { .. } => Status::TooLarge,
             Refusal::Memory => Status::NoMemory,
@@ -80,6 +86,8 @@ impl fmt::Display for Refusal {
             Refusal::Source(fault) => write!(f, "refused 3 source {fault}"),
             Refusal::Certificate(fault) => write!(f, "refused 3 certificate {fault}"),
             Refusal::Run(fault) => write!(f, "refused 4 {fault}"),
+            Refusal::Runs(fault) => write!(f, "refused 4 {fault}"),
+            Refusal::Learn(fault) => write!(f, "refused 4 {fault}"),
             Refusal::Load { name } => write!(f, "refused 5 load {name}"),
             Refusal::TooLarge { name, number } => {
                 write!(f, "refused 6 too-large {name} {number}")
@@ -175,6 +183,32 @@ impl From<MeasureFault> for Refusal {
         match fault {
             MeasureFault::Memory => Refusal::Memory,
             fault => Refusal::Run(fault),
+        }
+    }
+}
+
+impl From<ManyFault> for Refusal {
+    ghost use Rattle.command_answers.specs.Refusals.{RefusesRuns};
+
+    ghost from_gives = { RefusesRuns };
+
+    fn from(fault: ManyFault) -> Refusal {
+        match fault {
+            ManyFault::Memory => Refusal::Memory,
+            fault => Refusal::Runs(fault),
+        }
+    }
+}
+
+impl From<LearnFault> for Refusal {
+    ghost use Rattle.command_answers.specs.Refusals.{RefusesLearning};
+
+    ghost from_gives = { RefusesLearning };
+
+    fn from(fault: LearnFault) -> Refusal {
+        match fault {
+            LearnFault::Memory => Refusal::Memory,
+            fault => Refusal::Learn(fault),
         }
     }
 }

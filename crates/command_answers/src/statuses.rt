@@ -4,15 +4,15 @@ ghost use Rattle.command_answers.specs.Statuses.{number_of};
 /// What a command line is answered by, beside its text.
 #[derive(Clone, Copy, Debug, PartialEq, Eq)]
 pub enum Status {
-    /// The command is done; of a check, all secrets are accepted; of a certificate, it is verified.
+    /// The command is done; of secrets, all are accepted or clean; of a certificate, it is verified.
     Done,
-    /// Some secret is rejected, or the certificate is.
+    /// Some secret is rejected or unclear, or the certificate is rejected.
     Rejected,
     /// The words are no command line.
     Usage,
     /// A program, a region file, a cut, a source or a certificate is malformed.
     Malformed,
-    /// The run of a guest is not measured.
+    /// The run of a guest is not measured, or no declaration is learnt of it.
     RunRefused,
     /// A load failed.
     LoadFailed,

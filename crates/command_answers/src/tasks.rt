@@ -1,5 +1,5 @@
 use crate::guests::Guest;
-use command_words::{Limits, Telling};
+use command_words::{Judging, Limits, Telling};
 use cut_file::Cut;
 use elf32_loader::Image;
 use flow_base::Bytes;
@@ -16,9 +16,11 @@ pub struct CheckTask<'a> {
     pub secrets: &'a [Bytes],
     /// The limits of bits and of turns.
     pub limits: Limits,
+    /// By what they are judged.
+    pub judging: Judging,
 }
 
-/// A run of a guest that is to be measured.
+/// A run of a guest that is to be told of.
 #[derive(Drop)]
 pub struct RunTask<'a> {
     /// The guest.
@@ -31,17 +33,37 @@ pub struct RunTask<'a> {
     pub table: u32,
 }
 
+/// Runs of a guest that are to be measured together.
+#[derive(Drop)]
+pub struct ManyRunsTask<'a> {
+    /// The guest.
+    pub guest: Guest<'a>,
+    /// The secrets.
+    pub secrets: &'a [Bytes],
+    /// The number of turns within which each run exits.
+    pub turns: u32,
+    /// The table of the mask rules by which they are measured.
+    pub table: u32,
+}
+
 /// What a command line and its files ask for.
 #[derive(Drop)]
 pub enum Task<'a> {
     /// To judge secrets.
     JudgeSecrets(CheckTask<'a>),
-    /// To tell of a measured run.
+    /// To tell of a run.
     TellRun {
         /// What is told.
         telling: Telling,
         /// The run.
         run: RunTask<'a>,
+    },
+    /// To tell the one cut of several runs.
+    MeasureAll {
+        /// The version of its text.
+        version: u32,
+        /// The runs.
+        runs: ManyRunsTask<'a>,
     },
     /// To write the program file of an image.
     WriteProgram(Image),

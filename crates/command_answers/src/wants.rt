@@ -91,6 +91,9 @@ pub fn wants_of<'a>(alloc: Global, command: &CommandWords<'a>) -> Result<List<Wa
             guest_wants_of(alloc, &check.guest, &[cut], check.secrets.as_slice())
         }
         CommandWords::Tell { run, .. } => guest_wants_of(alloc, &run.guest, &[], &[run.secret]),
+        CommandWords::MeasureAll { runs, .. } => {
+            guest_wants_of(alloc, &runs.guest, &[], runs.secrets.as_slice())
+        }
         CommandWords::Assemble { source } => one_want(alloc, *source, FileKind::Source),
         CommandWords::List { program } => one_want(alloc, *program, FileKind::Program),
         CommandWords::Verify { certificate } => {

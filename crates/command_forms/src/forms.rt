@@ -43,7 +43,7 @@ fn regions<'a>(alloc: Global) -> Arg<'a> {
 
 /// The option `--rules`.
 fn rules<'a>(alloc: Global) -> Arg<'a> {
-    let help = "The table of the mask rules by which the run is measured, 1 or 2; 1 without it";
+    let help = "The table of the mask rules by which masks follow the run, 1 or 2; 1 without it";
     option(alloc, "rules", "N", help).value_parser(ValueParser::unsigned(1, 2))
 }
 
@@ -62,10 +62,13 @@ fn json<'a>(alloc: Global) -> Arg<'a> {
         .help("Write the report as JSON")
 }
 
-/// The form of `check`.
-fn check<'a>(alloc: Global) -> Result<Command<'a>, AllocError> {
-    let about =
-        "Judge by lockstep replay whether a run on each secret gives away no bits but those of a cut";
+/// The form of a command that judges secrets.
+fn judged<'a>(
+    alloc: Global,
+    line: &'a str,
+    name: &'a str,
+    about: &'a str,
+) -> Result<Command<'a>, AllocError> {
     let budget = word(
         alloc,
         "BUDGET",
@@ -76,8 +79,8 @@ fn check<'a>(alloc: Global) -> Result<Command<'a>, AllocError> {
         "SECRET",
         "A file with a secret input; 1 to 64 of them",
     );
-    bare(alloc, "check")
-        .bin_name("flowcheck check")?
+    bare(alloc, name)
+        .bin_name(line)?
         .about(about)
         .arg(word(alloc, "PROG", "The guest, an ELF32 program file of RV32IM"))?
         .arg(word(alloc, "PUBLIC", "The file of its public input"))?
@@ -86,6 +89,19 @@ fn check<'a>(alloc: Global) -> Result<Command<'a>, AllocError> {
         .arg(secret.num_args(1..=64usize))?
         .arg(turns(alloc))?
         .arg(regions(alloc))
+}
+
+/// The forms of the commands that judge secrets.
+fn judged_forms<'a>(alloc: Global) -> Result<Vec<Command<'a>>, AllocError> {
+    let mut forms = Vec::new(alloc);
+    let about =
+        "Judge by lockstep replay whether a run on each secret gives away no bits but those of a cut";
+    forms.push(judged(alloc, "flowcheck check", "check", about)?)?;
+    let about =
+        "Check with masks whether a run on each secret decides by no bits but those of a cut";
+    let taint = judged(alloc, "flowcheck taint", "taint", about)?;
+    forms.push(taint.arg(rules(alloc))?)?;
+    Ok(forms)
 }
 
 /// The form of a command that measures a run.
@@ -106,6 +122,27 @@ fn one_run<'a>(
         .arg(rules(alloc))
 }
 
+/// The form of `measure-all`.
+fn measure_all<'a>(alloc: Global) -> Result<Command<'a>, AllocError> {
+    let about =
+        "Measure the runs on several secrets together, and write the one cut of all of them";
+    let secret = word(
+        alloc,
+        "SECRET",
+        "A file with a secret input, all of one length; 1 to 64 of them",
+    );
+    bare(alloc, "measure-all")
+        .bin_name("flowcheck measure-all")?
+        .about(about)
+        .arg(word(alloc, "PROG", "The guest, an ELF32 program file of RV32IM"))?
+        .arg(word(alloc, "PUBLIC", "The file of its public input"))?
+        .arg(secret.num_args(1..=64usize))?
+        .arg(turns(alloc))?
+        .arg(regions(alloc))?
+        .arg(rules(alloc))?
+        .arg(cut(alloc))
+}
+
 /// The forms of the commands that measure a run.
 fn one_run_forms<'a>(alloc: Global) -> Result<Vec<Command<'a>>, AllocError> {
     let mut forms = Vec::new(alloc);
@@ -113,12 +150,28 @@ fn one_run_forms<'a>(alloc: Global) -> Result<Vec<Command<'a>>, AllocError> {
         "Measure how many bits of the secret the output of a run can have given away, and write the cut";
     let measure = one_run(alloc, "flowcheck measure", "measure", about)?;
     forms.push(measure.arg(cut(alloc))?)?;
+    forms.push(measure_all(alloc)?)?;
     let about = "Measure a run, and write the certificate of the maximum flow of its graph";
     forms.push(one_run(alloc, "flowcheck graph", "graph", about)?)?;
     let about = "Measure a run, and write a report of it";
     let report = one_run(alloc, "flowcheck report", "report", about)?;
     forms.push(report.arg(json(alloc))?)?;
     Ok(forms)
+}
+
+/// The form of `learn`.
+fn learn<'a>(alloc: Global) -> Result<Command<'a>, AllocError> {
+    let about =
+        "Learn which registers and bytes the regions of FILE write in a run, and write the region file";
+    let file = "A region file, of which the numbers and the addresses are used";
+    bare(alloc, "learn")
+        .bin_name("flowcheck learn")?
+        .about(about)
+        .arg(word(alloc, "PROG", "The guest, an ELF32 program file of RV32IM"))?
+        .arg(word(alloc, "PUBLIC", "The file of its public input"))?
+        .arg(word(alloc, "SECRET", "The file of its secret input"))?
+        .arg(word(alloc, "FILE", file))?
+        .arg(turns(alloc))
 }
 
 /// The form of a command of one file.
@@ -164,10 +217,13 @@ fn trial<'a>(alloc: Global) -> Result<Command<'a>, AllocError> {
 /// The form of each command.
 pub fn forms<'a>(alloc: Global) -> Result<Vec<Command<'a>>, AllocError> {
     let mut forms = Vec::new(alloc);
-    forms.push(check(alloc)?)?;
+    for form in judged_forms(alloc)? {
+        forms.push(form)?;
+    }
     for form in one_run_forms(alloc)? {
         forms.push(form)?;
     }
+    forms.push(learn(alloc)?)?;
     for form in one_file_forms(alloc)? {
         forms.push(form)?;
     }

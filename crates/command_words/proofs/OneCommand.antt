@@ -1,12 +1,13 @@
 -- Words are one command line at most: what it is, is by its first word, and its fields by the words behind it.
-use Rattle.std.proofs.Common.{◌≡◌, ◌∙◌, ◌≤◌, ◌<◌, ◌^◌, ℕ, List, [], ◌∷◌, Option, Some, None, codes, sym, ap, subst, refl, arith}
+use Rattle.std.proofs.Common.{◌≡◌, ◌∙◌, ◌<◌, ◌^◌, ℕ, List, [], ◌∷◌, Option, Some, None, codes, sym, ap, subst, arith}
 use Rattle.std.proofs.lemmas.Fmt.{decimal_injective}
-use Rattle.std.specs.Fmt.{decimal}
 use Rattle.command_words.specs.declared.names.CommandName.{CommandName}
 use Rattle.command_words.specs.declared.names.CommandName.TheVariants as names
-use Rattle.command_words.specs.declared.tellings.Telling.TheVariants.{CutText, Certificate, Report}
-use Rattle.command_words.specs.CommandLines.{Check, Run, GuestNames, Command, Checks, Tells, Assembles, Lists, Verifies, Migrates, Tries, Fits, IsCheck, IsChoice, IsCommand, IsNumber, IsNumberOr, IsOneFile, IsRun, IsTrial, named_by}
-use Rattle.command_words.specs.Parts.{Parts, has_option, parts_of, value_of}
+use Rattle.command_words.specs.declared.judgings.Judging.{Judging}
+use Rattle.command_words.specs.declared.judgings.Judging.TheVariants.{Replay, Masks}
+use Rattle.command_words.specs.declared.tellings.Telling.TheVariants.{CutText, Certificate, Report, Declaration}
+use Rattle.command_words.specs.CommandLines.{IsManyRuns, ManyRuns, MeasuresAll, Check, Run, GuestNames, Command, Checks, Tells, Assembles, Lists, Verifies, Migrates, Tries, Fits, IsCheck, IsChoice, IsCommand, IsLearning, IsNumber, IsNumberOr, IsOneFile, IsRun, IsTrial, named_by}
+use Rattle.command_words.specs.Parts.{Parts, has_option, parts_of}
 
 -- ---- numbers
 
@@ -38,17 +39,19 @@ same-guest a b program public_input region_file =
     ∙ (ap (λ v. made-guest b.program v a.region_file) public_input
     ∙ ap (λ v. made-guest b.program b.public_input v) region_file)
 
-abbrev made-check : GuestNames → List ℕ → List (List ℕ) → ℕ → ℕ → Check
-made-check guest cut secrets budget turns = record {
+abbrev made-check : GuestNames → List ℕ → List (List ℕ) → ℕ → ℕ → Judging → Check
+made-check guest cut secrets budget turns judging = record {
   guest = guest;
   cut = cut;
   secrets = secrets;
   budget = budget;
   turns = turns;
+  judging = judging;
 }
 
-same-check : (parts : Parts) (a b : Check) → IsCheck parts a → IsCheck parts b → a ≡ b
-same-check parts a b one other =
+same-check : (options : List (List ℕ)) (first second : Judging) (parts : Parts) (a b : Check) → first ≡ second →
+    IsCheck options first parts a → IsCheck options second parts b → a ≡ b
+same-check options first second parts a b alike one other =
     let plain :
     a.guest.program ∷ a.guest.public_input ∷ a.cut ∷ one.budget ∷ a.secrets
     ≡ b.guest.program ∷ b.guest.public_input ∷ b.cut ∷ other.budget ∷ b.secrets =
@@ -63,17 +66,19 @@ same-check parts a b one other =
     (subst (λ w. IsNumber 0 1048576 w a.budget) word one.bits) other.bits in
     let turns : a.turns ≡ b.turns = same-number-or 1000000 1 20000000 _ a.turns b.turns (omega arith) one.turns
     other.turns in
-    ap (λ v. made-check v a.cut a.secrets a.budget a.turns) guest
-    ∙ (ap (λ v. made-check b.guest v a.secrets a.budget a.turns) cut
-    ∙ (ap (λ v. made-check b.guest b.cut v a.budget a.turns) secrets
-    ∙ (ap (λ v. made-check b.guest b.cut b.secrets v a.turns) budget
-    ∙ ap (λ v. made-check b.guest b.cut b.secrets b.budget v) turns)))
+    let judging : a.judging ≡ b.judging = one.judged ∙ (alike ∙ sym other.judged) in
+    ap (λ v. made-check v a.cut a.secrets a.budget a.turns a.judging) guest
+    ∙ (ap (λ v. made-check b.guest v a.secrets a.budget a.turns a.judging) cut
+    ∙ (ap (λ v. made-check b.guest b.cut v a.budget a.turns a.judging) secrets
+    ∙ (ap (λ v. made-check b.guest b.cut b.secrets v a.turns a.judging) budget
+    ∙ (ap (λ v. made-check b.guest b.cut b.secrets b.budget v a.judging) turns
+    ∙ ap (λ v. made-check b.guest b.cut b.secrets b.budget b.turns v) judging))))
 
 abbrev made-run : GuestNames → List ℕ → ℕ → ℕ → Run
 made-run guest secret turns table = record { guest = guest; secret = secret; turns = turns; table = table }
 
-same-choice : (value : Option (List ℕ)) (a b : ℕ) → IsChoice value a → IsChoice value b → a ≡ b
-same-choice value a b one other = same-number-or 1 1 2 value a b (omega arith) one other
+pub same_choice : (value : Option (List ℕ)) (a b : ℕ) → IsChoice value a → IsChoice value b → a ≡ b
+same_choice value a b one other = same-number-or 1 1 2 value a b (omega arith) one other
 
 same-run : (options flags : List (List ℕ)) (parts : Parts) (a b : Run) → IsRun options flags parts a →
     IsRun options flags parts b → a ≡ b
@@ -87,10 +92,48 @@ same-run options flags parts a b one other =
     let guest : a.guest ≡ b.guest = same-guest a.guest b.guest program public_input (sym one.regions ∙ other.regions) in
     let turns : a.turns ≡ b.turns = same-number-or 1000000 1 20000000 _ a.turns b.turns (omega arith) one.turns
     other.turns in
-    let table : a.table ≡ b.table = same-choice _ a.table b.table one.rules other.rules in
+    let table : a.table ≡ b.table = same_choice _ a.table b.table one.rules other.rules in
     ap (λ v. made-run v a.secret a.turns a.table) guest
     ∙ (ap (λ v. made-run b.guest v a.turns a.table) secret
     ∙ (ap (λ v. made-run b.guest b.secret v a.table) turns ∙ ap (λ v. made-run b.guest b.secret b.turns v) table))
+
+same-learning : (parts : Parts) (a b : Run) → IsLearning parts a → IsLearning parts b → a ≡ b
+same-learning parts a b one other =
+    let plain :
+    a.guest.program ∷ a.guest.public_input ∷ a.secret ∷ one.file ∷ []
+    ≡ b.guest.program ∷ b.guest.public_input ∷ b.secret ∷ other.file ∷ [] =
+    sym one.plain ∙ other.plain in
+    let program : a.guest.program ≡ b.guest.program = cc in
+    let public_input : a.guest.public_input ≡ b.guest.public_input = cc in
+    let secret : a.secret ≡ b.secret = cc in
+    let file : one.file ≡ other.file = cc in
+    let guest : a.guest ≡ b.guest = same-guest a.guest b.guest program public_input
+    (sym one.regions ∙ (ap (λ f. Some f) file ∙ other.regions)) in
+    let turns : a.turns ≡ b.turns = same-number-or 1000000 1 20000000 _ a.turns b.turns (omega arith) one.turns
+    other.turns in
+    let table : a.table ≡ b.table = one.rules ∙ sym other.rules in
+    ap (λ v. made-run v a.secret a.turns a.table) guest
+    ∙ (ap (λ v. made-run b.guest v a.turns a.table) secret
+    ∙ (ap (λ v. made-run b.guest b.secret v a.table) turns ∙ ap (λ v. made-run b.guest b.secret b.turns v) table))
+
+abbrev made-runs : GuestNames → List (List ℕ) → ℕ → ℕ → ManyRuns
+made-runs guest secrets turns table = record { guest = guest; secrets = secrets; turns = turns; table = table }
+
+same-runs : (parts : Parts) (a b : ManyRuns) → IsManyRuns parts a → IsManyRuns parts b → a ≡ b
+same-runs parts a b one other =
+    let plain :
+    a.guest.program ∷ a.guest.public_input ∷ a.secrets ≡ b.guest.program ∷ b.guest.public_input ∷ b.secrets =
+    sym one.plain ∙ other.plain in
+    let program : a.guest.program ≡ b.guest.program = cc in
+    let public_input : a.guest.public_input ≡ b.guest.public_input = cc in
+    let secrets : a.secrets ≡ b.secrets = cc in
+    let guest : a.guest ≡ b.guest = same-guest a.guest b.guest program public_input (sym one.regions ∙ other.regions) in
+    let turns : a.turns ≡ b.turns = same-number-or 1000000 1 20000000 _ a.turns b.turns (omega arith) one.turns
+    other.turns in
+    let table : a.table ≡ b.table = same_choice _ a.table b.table one.rules other.rules in
+    ap (λ v. made-runs v a.secrets a.turns a.table) guest
+    ∙ (ap (λ v. made-runs b.guest v a.turns a.table) secrets
+    ∙ (ap (λ v. made-runs b.guest b.secrets v a.table) turns ∙ ap (λ v. made-runs b.guest b.secrets b.turns v) table))
 
 same-file : (parts : Parts) (a b : List ℕ) → IsOneFile parts a → IsOneFile parts b → a ≡ b
 same-file parts a b one other = let plain : a ∷ [] ≡ b ∷ [] = sym one.plain ∙ other.plain in cc
@@ -106,15 +149,23 @@ same-trial parts a b one other =
 
 same-fit : (name : CommandName) (parts : Parts) (a b : Command) → Fits name parts a → Fits name parts b → a ≡ b
 same-fit names.Check parts a b (x, one, is) (y, other, also) =
-    is ∙ (ap (λ v. Checks v) (same-check parts x y one other) ∙ sym also)
+    is ∙ (ap (λ v. Checks v) (same-check _ Replay Replay parts x y (λ i. Replay) one other) ∙ sym also)
+same-fit names.Taint parts a b (v, x, one, first, is) (w, y, other, second, also) =
+    let alike : Masks v ≡ Masks w = ap (λ n. Masks n) (same_choice _ v w first second) in
+    is ∙ (ap (λ c. Checks c) (same-check _ (Masks v) (Masks w) parts x y alike one other) ∙ sym also)
 same-fit names.Measure parts a b (v, x, one, first, is) (w, y, other, second, also) =
-    is ∙ (ap (λ n. Tells (CutText n) x) (same-choice _ v w first second)
+    is ∙ (ap (λ n. Tells (CutText n) x) (same_choice _ v w first second)
     ∙ (ap (λ r. Tells (CutText w) r) (same-run _ _ parts x y one other) ∙ sym also))
+same-fit names.MeasureAll parts a b (v, x, one, first, is) (w, y, other, second, also) =
+    is ∙ (ap (λ n. MeasuresAll n x) (same_choice _ v w first second)
+    ∙ (ap (λ r. MeasuresAll w r) (same-runs parts x y one other) ∙ sym also))
 same-fit names.Graph parts a b (x, one, is) (y, other, also) =
     is ∙ (ap (λ r. Tells Certificate r) (same-run _ _ parts x y one other) ∙ sym also)
 same-fit names.Report parts a b (x, one, is) (y, other, also) =
     is ∙ (ap (λ r. Tells (Report (has_option (codes "--json") parts.options)) r) (same-run _ _ parts x y one other)
     ∙ sym also)
+same-fit names.Learn parts a b (x, one, is) (y, other, also) =
+    is ∙ (ap (λ r. Tells Declaration r) (same-learning parts x y one other) ∙ sym also)
 same-fit names.Assemble parts a b (x, one, is) (y, other, also) =
     is ∙ (ap (λ v. Assembles v) (same-file parts x y one other) ∙ sym also)
 same-fit names.List parts a b (x, one, is) (y, other, also) =

@@ -1,13 +1,15 @@
 -- The command lines that are understood: a row for each command. The words behind the command are parted into options
 -- and other words (see Parts).
-use Rattle.std.specs.Prelude.{◌≡◌, ℕ, ◌≤◌, Bool, true, List, [], ◌∷◌, length, codes, Option, None, Some}
-use Rattle.std.specs.Prelude.{if◌then◌else◌}
+use Rattle.std.specs.Prelude.{◌≡◌, ℕ, ◌≤◌, true, List, [], ◌∷◌, length, codes, Option, None, Some}
+use Rattle.std.specs.Prelude.{◌&&◌, nat_le, if◌then◌else◌, Bool}
 use Rattle.std.specs.Fmt.{decimal}
 use Rattle.std.specs.Str.{bytes_eq}
 use Rattle.command_words.specs.declared.names.CommandName.{CommandName}
 use Rattle.command_words.specs.declared.names.CommandName.TheVariants as names
+use Rattle.command_words.specs.declared.judgings.Judging.{Judging}
+use Rattle.command_words.specs.declared.judgings.Judging.TheVariants.{Replay, Masks}
 use Rattle.command_words.specs.declared.tellings.Telling.{Telling}
-use Rattle.command_words.specs.declared.tellings.Telling.TheVariants.{CutText, Certificate, Report}
+use Rattle.command_words.specs.declared.tellings.Telling.TheVariants.{CutText, Certificate, Report, Declaration}
 use Rattle.command_words.specs.Parts.{Parts, are_taken, has_option, parts_of, value_of}
 
 -- ---- what commands name
@@ -18,27 +20,37 @@ pub record GuestNames : Type 0 where
   pub public_input : List ℕ
   pub region_file : Option (List ℕ)
 
--- a check of secrets of a guest against a cut, with its limits of bits and of turns
+-- secrets of a guest that are to be judged by a cut, with the limits of bits and of turns, and by what
 pub record Check : Type 0 where
   pub guest : GuestNames
   pub cut : List ℕ
   pub secrets : List (List ℕ)
   pub budget : ℕ
   pub turns : ℕ
+  pub judging : Judging
 
--- one run of a guest that is to be measured: its secret, its limit of turns, and the table of the mask rules by which
--- it is measured
+-- one run of a guest that is to be told of: its secret, its limit of turns, and the table of the mask rules by which it
+-- is measured
 pub record Run : Type 0 where
   pub guest : GuestNames
   pub secret : List ℕ
   pub turns : ℕ
   pub table : ℕ
 
--- a command: a check of secrets, what is told of a measured run, the program file of a source, the listing of a program,
+-- several runs of a guest that are to be measured together
+pub record ManyRuns : Type 0 where
+  pub guest : GuestNames
+  pub secrets : List (List ℕ)
+  pub turns : ℕ
+  pub table : ℕ
+
+-- a command: the judgement of secrets, what is told of a run, the one cut of several runs in a version
+-- of its text, the program file of a source, the listing of a program,
 -- the verdict on a certificate, a cut in version 2, or a trial of the tool by a number
 pub data Command : Type 0 where
   Checks : Check → Command
   Tells : Telling → Run → Command
+  MeasuresAll : ℕ → ManyRuns → Command
   Assembles : List ℕ → Command
   Lists : List ℕ → Command
   Verifies : List ℕ → Command
@@ -79,10 +91,19 @@ IsTurnLimit value turns = IsNumberOr default_turns 1 highest_turns value turns
 abbrev pub IsChoice : Option (List ℕ) → ℕ → Type 0
 IsChoice value choice = IsNumberOr 1 1 2 value choice
 
+-- a table of mask rules is 1 or 2
+abbrev pub is_known : Judging → Bool
+is_known Replay = true
+is_known (Masks table) = nat_le 1 table && nat_le table 2
+
 -- ---- what stands behind each name of a command
 
--- PROG PUBLIC CUT BUDGET SECRET.., with 1 to 64 secrets
-pub record IsCheck (parts : Parts) (check : Check) : Type 0 where
+-- the options of every command that judges secrets
+abbrev pub check_options : List (List ℕ)
+check_options = codes "--turns" ∷ codes "--regions" ∷ []
+
+-- PROG PUBLIC CUT BUDGET SECRET.., with 1 to 64 secrets, and none but these options; the secrets are judged so
+pub record IsCheck (options : List (List ℕ)) (judging : Judging) (parts : Parts) (check : Check) : Type 0 where
   pub budget : List ℕ
   pub plain : parts.plain ≡ check.guest.program ∷ check.guest.public_input ∷ check.cut ∷ budget ∷ check.secrets
   pub some : 1 ≤ length check.secrets
@@ -90,7 +111,8 @@ pub record IsCheck (parts : Parts) (check : Check) : Type 0 where
   pub bits : IsNumber 0 highest_budget budget check.budget
   pub turns : IsTurnLimit (value_of (codes "--turns") parts.options) check.turns
   pub regions : value_of (codes "--regions") parts.options ≡ check.guest.region_file
-  pub taken : are_taken (codes "--turns" ∷ codes "--regions" ∷ []) [] parts.options ≡ true
+  pub taken : are_taken options [] parts.options ≡ true
+  pub judged : check.judging ≡ judging
 
 -- the options that every measured run may have
 abbrev pub run_options : List (List ℕ)
@@ -103,6 +125,26 @@ pub record IsRun (options flags : List (List ℕ)) (parts : Parts) (run : Run) :
   pub regions : value_of (codes "--regions") parts.options ≡ run.guest.region_file
   pub rules : IsChoice (value_of (codes "--rules") parts.options) run.table
   pub taken : are_taken options flags parts.options ≡ true
+
+-- PROG PUBLIC SECRET.., with 1 to 64 secrets
+pub record IsManyRuns (parts : Parts) (runs : ManyRuns) : Type 0 where
+  pub plain : parts.plain ≡ runs.guest.program ∷ runs.guest.public_input ∷ runs.secrets
+  pub some : 1 ≤ length runs.secrets
+  pub few : length runs.secrets ≤ 64
+  pub turns : IsTurnLimit (value_of (codes "--turns") parts.options) runs.turns
+  pub regions : value_of (codes "--regions") parts.options ≡ runs.guest.region_file
+  pub rules : IsChoice (value_of (codes "--rules") parts.options) runs.table
+  pub taken : are_taken (codes "--cut" ∷ run_options) [] parts.options ≡ true
+
+-- PROG PUBLIC SECRET FILE, with no option but the limit of turns: FILE is the region file
+pub record IsLearning (parts : Parts) (run : Run) : Type 0 where
+  pub file : List ℕ
+  pub plain : parts.plain ≡ run.guest.program ∷ run.guest.public_input ∷ run.secret ∷ file ∷ []
+  pub regions : Some file ≡ run.guest.region_file
+  pub turns : IsTurnLimit (value_of (codes "--turns") parts.options) run.turns
+  -- no mask rule is asked
+  pub rules : run.table ≡ 1
+  pub taken : are_taken (codes "--turns" ∷ []) [] parts.options ≡ true
 
 -- a number in decimal, and no option
 pub record IsTrial (parts : Parts) (number : ℕ) : Type 0 where
@@ -118,14 +160,22 @@ pub record IsOneFile (parts : Parts) (file : List ℕ) : Type 0 where
 
 -- the command that stands behind a name
 abbrev pub Fits : CommandName → Parts → Command → Type 0
-Fits names.Check parts command = (check : Check) × IsCheck parts check × (command ≡ Checks check)
+Fits names.Check parts command =
+    (check : Check) × IsCheck check_options Replay parts check × (command ≡ Checks check)
+Fits names.Taint parts command =
+    (table : ℕ) × (check : Check) × IsCheck (codes "--rules" ∷ check_options) (Masks table) parts check
+    × IsChoice (value_of (codes "--rules") parts.options) table × (command ≡ Checks check)
 Fits names.Measure parts command =
     (version : ℕ) × (run : Run) × IsRun (codes "--cut" ∷ run_options) [] parts run
     × IsChoice (value_of (codes "--cut") parts.options) version × (command ≡ Tells (CutText version) run)
+Fits names.MeasureAll parts command =
+    (version : ℕ) × (runs : ManyRuns) × IsManyRuns parts runs
+    × IsChoice (value_of (codes "--cut") parts.options) version × (command ≡ MeasuresAll version runs)
 Fits names.Graph parts command = (run : Run) × IsRun run_options [] parts run × (command ≡ Tells Certificate run)
 Fits names.Report parts command =
     (run : Run) × IsRun run_options (codes "--json" ∷ []) parts run
     × (command ≡ Tells (Report (has_option (codes "--json") parts.options)) run)
+Fits names.Learn parts command = (run : Run) × IsLearning parts run × (command ≡ Tells Declaration run)
 Fits names.Assemble parts command = (file : List ℕ) × IsOneFile parts file × (command ≡ Assembles file)
 Fits names.List parts command = (file : List ℕ) × IsOneFile parts file × (command ≡ Lists file)
 Fits names.Verify parts command = (file : List ℕ) × IsOneFile parts file × (command ≡ Verifies file)
@@ -138,9 +188,12 @@ Fits names.Trial parts command = (number : ℕ) × IsTrial parts number × (comm
 abbrev pub named_by : List ℕ → Option CommandName
 named_by word =
     if bytes_eq word (codes "check") then Some names.Check
+    else if bytes_eq word (codes "taint") then Some names.Taint
     else if bytes_eq word (codes "measure") then Some names.Measure
+    else if bytes_eq word (codes "measure-all") then Some names.MeasureAll
     else if bytes_eq word (codes "graph") then Some names.Graph
     else if bytes_eq word (codes "report") then Some names.Report
+    else if bytes_eq word (codes "learn") then Some names.Learn
     else if bytes_eq word (codes "asm") then Some names.Assemble
     else if bytes_eq word (codes "list") then Some names.List
     else if bytes_eq word (codes "verify") then Some names.Verify

@@ -1,7 +1,7 @@
 -- The words behind a command: words that are no options, flags, and options with values. A flag or an option may stand
 -- anywhere, and at most once. An option is two words, of which the second does not begin with a dash, or one word with
 -- `=` between name and value. No word and no value is empty.
-use Rattle.std.specs.Prelude.{ℕ, ◌==◌, nat_lt, not, List, [], ◌∷◌, ◌++◌, codes, length, Bool, true, false, Option, None, Some}
+use Rattle.std.specs.Prelude.{ℕ, ◌==◌, nat_lt, not, List, [], ◌∷◌, ◌++◌, codes, length, Bool, false, Option, None, Some}
 use Rattle.std.specs.Prelude.{option_and_then, if◌then◌else◌}
 use Rattle.std.specs.List.{find, list_all, list_any, position_or_len, before_first, after_first}
 use Rattle.std.specs.Str.{bytes_eq}

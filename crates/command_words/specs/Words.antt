@@ -6,10 +6,11 @@ use Rattle.command_words.specs.declared.commands.CommandWords.TheVariants as wor
 use Rattle.command_words.specs.declared.guests.GuestWords.{GuestWords}
 use Rattle.command_words.specs.declared.option_words.OptionWord.{OptionWord}
 use Rattle.command_words.specs.declared.parts.Parts.{Parts as PartedWords}
+use Rattle.command_words.specs.declared.runs.ManyRunsWords.{ManyRunsWords}
 use Rattle.command_words.specs.declared.runs.RunWords.{RunWords}
 use Rattle.command_words.specs.Parts.{Named, Parts}
 use Rattle.command_words.specs.CommandLines.{GuestNames, Check, Run, Command, Checks, Tells, Assembles, Lists}
-use Rattle.command_words.specs.CommandLines.{Verifies, Migrates, Tries}
+use Rattle.command_words.specs.CommandLines.{ManyRuns, MeasuresAll, Verifies, Migrates, Tries}
 
 abbrev pub named_in : OptionWord → Named
 named_in word = record { name = word.name.now; value = option_map (λ value. value.now) word.value }
@@ -35,6 +36,7 @@ check_of words = record {
   secrets = map (λ word. word.now) words.secrets;
   budget = words.limits.budget;
   turns = words.limits.turns;
+  judging = words.judging;
 }
 
 abbrev pub run_of : RunWords → Run
@@ -45,9 +47,18 @@ run_of words = record {
   table = words.table;
 }
 
+abbrev pub many_runs_of : ManyRunsWords → ManyRuns
+many_runs_of words = record {
+  guest = guest_of words.guest;
+  secrets = map (λ word. word.now) words.secrets;
+  turns = words.turns;
+  table = words.table;
+}
+
 abbrev pub command_of : CommandWords → Command
 command_of (words.Check check) = Checks (check_of check)
 command_of (words.Tell telling run) = Tells telling (run_of run)
+command_of (words.MeasureAll version runs) = MeasuresAll version (many_runs_of runs)
 command_of (words.Assemble source) = Assembles source.now
 command_of (words.List program) = Lists program.now
 command_of (words.Verify certificate) = Verifies certificate.now

@@ -4,13 +4,16 @@ ghost use Rattle.command_words.specs.CommandLines.{Command, Fits, IsCommand, IsN
 ghost use Rattle.command_words.specs.Words.{command_of, parts_in};
 ghost use Rattle.command_words.specs.declared.names.CommandName.TheVariants as names;
 
-use crate::checks::{CheckWords, check_words};
+use crate::check_rows::check_words;
+use crate::checks::CheckWords;
+use crate::judgings::Judging;
+use crate::learn_rows::learn_words;
 use crate::names::CommandName;
 use crate::numbers::{choice_of, number_of};
 use crate::option_words::{has_option, value_of};
 use crate::parts::{Parts, parts_of};
-use crate::run_rows::run_words;
-use crate::runs::RunWords;
+use crate::run_rows::{many_runs_words, run_words};
+use crate::runs::{ManyRunsWords, RunWords};
 use crate::tellings::Telling;
 use flow_base::NoMemory;
 use std::alloc::Global;
@@ -18,15 +21,23 @@ use std::alloc::Global;
 /// The words of a command.
 #[derive(Drop)]
 pub enum CommandWords<'a> {
-    /// `check PROG PUBLIC CUT BUDGET SECRET.. [--turns N] [--regions FILE]`
+    /// `check PROG PUBLIC CUT BUDGET SECRET.. [--turns N] [--regions FILE]`, or `taint`, which may have `--rules N`, in
+    /// place of `check`
     Check(CheckWords<'a>),
-    /// `measure PROG PUBLIC SECRET [--turns N] [--regions FILE] [--rules N] [--cut N]`, `graph` or `report`, which may
-    /// have `--json`, in place of `measure` and without `--cut`
+    /// `measure PROG PUBLIC SECRET [--turns N] [--regions FILE] [--rules N] [--cut N]`; `graph` or `report`, which may
+    /// have `--json`, in place of `measure` and without `--cut`; `learn PROG PUBLIC SECRET FILE [--turns N]`
     Tell {
         /// What is told of the run.
         telling: Telling,
         /// The run.
         run: RunWords<'a>,
+    },
+    /// `measure-all PROG PUBLIC SECRET.. [--turns N] [--regions FILE] [--rules N] [--cut N]`
+    MeasureAll {
+        /// The version of the text of the cut: 1 or 2.
+        version: u32,
+        /// The runs.
+        runs: ManyRunsWords<'a>,
     },
     /// `asm SOURCE`
     Assemble {
@@ -70,7 +81,24 @@ fn check_row<'a>(alloc: Global, parts: &Parts<'a>) -> Result<Option<CommandWords
         command))) }
     ensures none { result ≡ Ok None → (command : Command) → ¬ Fits names.Check (parts_in parts.now) command }
 {
-    let Some(check) = check_words(alloc, parts)? else {
+    let allowed = ["--turns", "--regions"];
+    let Some(check) = check_words(alloc, parts, &allowed, Judging::Replay)? else {
+        return Ok(None);
+    };
+    Ok(Some(CommandWords::Check(check)))
+}
+
+/// The check with one machine that the words behind `taint` name; None exactly where they name none.
+fn taint_row<'a>(alloc: Global, parts: &Parts<'a>) -> Result<Option<CommandWords<'a>>, NoMemory>
+    ensures is { IfOk result (λ found. IfSome found (λ command. Fits names.Taint (parts_in parts.now) (command_of
+        command))) }
+    ensures none { result ≡ Ok None → (command : Command) → ¬ Fits names.Taint (parts_in parts.now) command }
+{
+    let Some(table) = choice_of(alloc, value_of(parts.options.as_slice(), "--rules"))? else {
+        return Ok(None);
+    };
+    let allowed = ["--rules", "--turns", "--regions"];
+    let Some(check) = check_words(alloc, parts, &allowed, Judging::Masks(table))? else {
         return Ok(None);
     };
     Ok(Some(CommandWords::Check(check)))
@@ -98,6 +126,24 @@ fn measure_row<'a>(alloc: Global, parts: &Parts<'a>) -> Result<Option<CommandWor
         telling: Telling::CutText(version),
         run,
     }))
+}
+
+/// The cut of all the runs that the words behind `measure-all` name; None exactly where they name none.
+fn measure_all_row<'a>(
+    alloc: Global,
+    parts: &Parts<'a>,
+) -> Result<Option<CommandWords<'a>>, NoMemory>
+    ensures is { IfOk result (λ found. IfSome found (λ command. Fits names.MeasureAll (parts_in parts.now) (command_of
+        command))) }
+    ensures none { result ≡ Ok None → (command : Command) → ¬ Fits names.MeasureAll (parts_in parts.now) command }
+{
+    let Some(version) = choice_of(alloc, value_of(parts.options.as_slice(), "--cut"))? else {
+        return Ok(None);
+    };
+    let Some(runs) = many_runs_words(alloc, parts)? else {
+        return Ok(None);
+    };
+    Ok(Some(CommandWords::MeasureAll { version, runs }))
 }
 
 /// The certificate of the run that the words behind `graph` name; None exactly where they name none.
@@ -133,6 +179,21 @@ fn report_row<'a>(alloc: Global, parts: &Parts<'a>) -> Result<Option<CommandWord
     let json = has_option(parts.options.as_slice(), "--json");
     Ok(Some(CommandWords::Tell {
         telling: Telling::Report(json),
+        run,
+    }))
+}
+
+/// The declaration of the run that the words behind `learn` name; None exactly where they name none.
+fn learn_row<'a>(alloc: Global, parts: &Parts<'a>) -> Result<Option<CommandWords<'a>>, NoMemory>
+    ensures is { IfOk result (λ found. IfSome found (λ command. Fits names.Learn (parts_in parts.now) (command_of
+        command))) }
+    ensures none { result ≡ Ok None → (command : Command) → ¬ Fits names.Learn (parts_in parts.now) command }
+{
+    let Some(run) = learn_words(alloc, parts)? else {
+        return Ok(None);
+    };
+    Ok(Some(CommandWords::Tell {
+        telling: Telling::Declaration,
         run,
     }))
 }
@@ -174,9 +235,12 @@ fn row_of<'a>(
 {
     match name {
         CommandName::Check => check_row(alloc, parts),
+        CommandName::Taint => taint_row(alloc, parts),
         CommandName::Measure => measure_row(alloc, parts),
+        CommandName::MeasureAll => measure_all_row(alloc, parts),
         CommandName::Graph => graph_row(alloc, parts),
         CommandName::Report => report_row(alloc, parts),
+        CommandName::Learn => learn_row(alloc, parts),
         CommandName::Assemble => Ok(file_word(parts).map(|source| CommandWords::Assemble {
             source,
         })),

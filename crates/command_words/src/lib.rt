@@ -1,9 +1,12 @@
 //! What a command line is: the command that its words name, with the names of its files and its numbers, or none.
 #![tactic(auto)]
 
+mod check_rows;
 mod checks;
 mod commands;
 mod guests;
+mod judgings;
+mod learn_rows;
 mod limits;
 mod names;
 mod numbers;
@@ -16,11 +19,12 @@ mod tellings;
 pub use checks::CheckWords;
 pub use commands::{CommandWords, command_words};
 pub use guests::GuestWords;
+pub use judgings::Judging;
 pub use limits::Limits;
 pub use names::CommandName;
 #[doc(hidden)]
 pub use option_words::OptionWord;
 #[doc(hidden)]
 pub use parts::Parts;
-pub use runs::RunWords;
+pub use runs::{ManyRunsWords, RunWords};
 pub use tellings::Telling;

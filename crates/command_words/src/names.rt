@@ -6,12 +6,18 @@ ghost use Rattle.command_words.specs.CommandLines.{named_by};
 pub enum CommandName {
     /// `check`
     Check,
+    /// `taint`
+    Taint,
     /// `measure`
     Measure,
+    /// `measure-all`
+    MeasureAll,
     /// `graph`
     Graph,
     /// `report`
     Report,
+    /// `learn`
+    Learn,
     /// `asm`
     Assemble,
     /// `list`
@@ -32,14 +38,23 @@ impl CommandName {
         if word == "check" {
             return Some(CommandName::Check);
         }
+        if word == "taint" {
+            return Some(CommandName::Taint);
+        }
         if word == "measure" {
             return Some(CommandName::Measure);
+        }
+        if word == "measure-all" {
+            return Some(CommandName::MeasureAll);
         }
         if word == "graph" {
             return Some(CommandName::Graph);
         }
         if word == "report" {
             return Some(CommandName::Report);
+        }
+        if word == "learn" {
+            return Some(CommandName::Learn);
         }
         if word == "asm" {
             return Some(CommandName::Assemble);

@@ -1,6 +1,7 @@
-ghost use Rattle.std.specs.Prelude.{◌≤◌};
+ghost use Rattle.std.specs.Prelude.{◌≤◌, length};
 
 use crate::guests::GuestWords;
+use flow_base::List;
 
 /// The words of a command that measures a run.
 #[derive(Clone, Copy)]
@@ -16,4 +17,22 @@ pub struct RunWords<'a> {
     ghost few: { turns ≤ 20000000 },
     ghost first: { 1 ≤ table },
     ghost last: { table ≤ 2 },
+}
+
+/// The words of a command that measures several runs together.
+#[derive(Drop)]
+pub struct ManyRunsWords<'a> {
+    /// The guest.
+    pub guest: GuestWords<'a>,
+    /// The names of the files of the secrets, 1 to 64.
+    pub secrets: List<&'a str>,
+    /// The number of turns within which each run exits, at most 20,000,000.
+    pub turns: u32,
+    /// The table of the mask rules by which they are measured, 1 or 2.
+    pub table: u32,
+    ghost few: { turns ≤ 20000000 },
+    ghost first: { 1 ≤ table },
+    ghost last: { table ≤ 2 },
+    ghost some: { 1 ≤ length secrets },
+    ghost most: { length secrets ≤ 64 },
 }

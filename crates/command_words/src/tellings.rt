@@ -1,10 +1,12 @@
-/// What is told of a measured run.
+/// What is told of a run.
 #[derive(Clone, Copy, Debug, PartialEq, Eq)]
 pub enum Telling {
-    /// Its cut, in a version of the text of a cut: 1 or 2.
+    /// The cut that is measured of it, in a version of the text of a cut: 1 or 2.
     CutText(u32),
-    /// The certificate of its maximum flow.
+    /// The certificate of the maximum flow that is measured of it.
     Certificate,
-    /// A report, as JSON where it is true.
+    /// A report of what is measured of it, as JSON where it is true.
     Report(bool),
+    /// The least declaration of regions that it needs.
+    Declaration,
 }

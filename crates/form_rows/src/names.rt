@@ -1,9 +1,9 @@
 ghost use Rattle.std.specs.Prelude.{◌≡◌, None, Ok, map, string_bytes, IfOk, IfSome};
 ghost use Rattle.command_words.specs.CommandLines.{IsNoCommand};
 ghost use Rattle.command_words.specs.Words.{command_of};
-ghost use Rattle.form_rows.specs.Names.{IsNamed, name_of, telling_name};
+ghost use Rattle.form_rows.specs.Names.{IsNamed, judging_name, name_of, telling_name};
 
-use command_words::{CommandWords, Telling, command_words};
+use command_words::{CommandWords, Judging, Telling, command_words};
 use flow_base::NoMemory;
 use std::alloc::Global;
 
@@ -15,6 +15,17 @@ fn name_of_telling<'a>(telling: Telling) -> &'a str
         Telling::CutText(_) => "measure",
         Telling::Certificate => "graph",
         Telling::Report(_) => "report",
+        Telling::Declaration => "learn",
+    }
+}
+
+/// The name of the command that judges secrets so.
+fn name_of_judging<'a>(judging: Judging) -> &'a str
+    ensures { result.now ≡ judging_name judging }
+{
+    match judging {
+        Judging::Replay => "check",
+        Judging::Masks(_) => "taint",
     }
 }
 
@@ -23,8 +34,9 @@ fn name<'a>(command: &CommandWords<'_>) -> &'a str
     ensures { result.now ≡ name_of (command_of command.now) }
 {
     match command {
-        CommandWords::Check(_) => "check",
+        CommandWords::Check(check) => name_of_judging(check.judging),
         CommandWords::Tell { telling, .. } => name_of_telling(*telling),
+        CommandWords::MeasureAll { .. } => "measure-all",
         CommandWords::Assemble { .. } => "asm",
         CommandWords::List { .. } => "list",
         CommandWords::Verify { .. } => "verify",

@@ -8,4 +8,4 @@ mod verdict_lines;
 
 pub use json_reports::report_json;
 pub use reports::report_text;
-pub use verdict_lines::verdict_line;
+pub use verdict_lines::{taken_line, verdict_line};

@@ -1,27 +1,29 @@
 ghost use Rattle.std.specs.Prelude.{◌≡◌, IfOk};
 ghost use Rattle.lockstep_replay.specs.Judgements.{judgement_of};
-ghost use Rattle.lockstep_replay.specs.Verdicts.{Accepts, Rejects};
-ghost use Rattle.leak_report.specs.VerdictLines.{verdict_line as verdict_line_of};
+ghost use Rattle.lockstep_replay.specs.Verdicts.{Rejects};
+ghost use Rattle.leak_report.specs.VerdictLines.{taken_line as taken_line_of, verdict_line as verdict_line_of};
 
 use crossing_bits::Bits;
 use flow_base::{Bytes, NoMemory, Output};
 use lockstep_replay::{Verdict, Why};
 use std::alloc::Global;
 
-/// The line of a secret that is accepted.
-fn accepted_line(
+/// The line of the secret with a number that is taken, with its crossing bits as hexadecimal digits, behind a word for
+/// that. Its error is want of memory.
+pub fn taken_line(
     alloc: Global,
+    word: &str,
     number: u32,
     bits: &Bits,
     output: &Output,
 ) -> Result<Bytes, NoMemory>
-    ensures { IfOk result (λ text. text ≡ verdict_line_of number (Accepts bits.now.bits output.now)) }
+    ensures { IfOk result (λ text. text ≡ taken_line_of word.now number bits.now.bits output.now) }
 {
     let hex = bits.hex_text(alloc)?;
     let count = bits.count();
     let written = output.bytes.len();
     let status = output.status;
-    let head = format!(in alloc; "accepted {number} bits {count} crossing ")?;
+    let head = format!(in alloc; "{word} {number} bits {count} crossing ")?;
     let tail = format!(in alloc; " output {written} status {status}\n")?;
     let mut text = head.into_bytes();
     text.extend_from_slice(hex.as_slice())?;
@@ -43,7 +45,7 @@ pub fn verdict_line(alloc: Global, number: u32, verdict: &Verdict) -> Result<Byt
     ensures { IfOk result (λ text. text ≡ verdict_line_of number (judgement_of verdict.now)) }
 {
     match verdict {
-        Verdict::Accepted { bits, output } => accepted_line(alloc, number, bits, output),
+        Verdict::Accepted { bits, output } => taken_line(alloc, "accepted", number, bits, output),
         Verdict::Rejected(why) => rejected_line(alloc, number, *why),
     }
 }

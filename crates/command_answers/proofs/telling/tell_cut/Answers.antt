@@ -1,5 +1,5 @@
 use Rattle.std.proofs.Common.{Ok, inr, ap}
-use Rattle.command_answers.proofs.telling.tell_run.Goals as goal
+use Rattle.command_answers.proofs.telling.tell_cut.Goals as goal
 
 pub returns : goal.returns
 returns g c = λ known.

@@ -1,0 +1,8 @@
+/// By what secrets are judged.
+#[derive(Clone, Copy, Debug, PartialEq, Eq)]
+pub enum Judging {
+    /// By a second machine that never sees the secret.
+    Replay,
+    /// By the masks of the secret's own run, by the mask rules of a table: 1 or 2.
+    Masks(u32),
+}
