@@ -22,7 +22,7 @@ const NOWHERE: Point = Point {
 
 /// The mask of a passing, of what is made for it: an output of a skipped region has every bit of its slot.
 #[inline(always)]
-fn aimed_mask(aim: Aim, slot: Slot, skipped: bool, mask: u32) -> u32
+pub fn aimed_mask(aim: Aim, slot: Slot, skipped: bool, mask: u32) -> u32
     requires { IsTrue (is_slot slot) }
     ensures { result ≡ mask_aimed skipped aim slot mask }
 {
@@ -34,7 +34,7 @@ fn aimed_mask(aim: Aim, slot: Slot, skipped: bool, mask: u32) -> u32
 
 /// Of a mask the bits that do not cross.
 #[inline(always)]
-fn uncrossed(mask: u32, crossing: u32) -> u32
+pub fn uncrossed(mask: u32, crossing: u32) -> u32
     ensures { result ≡ mask_uncrossed mask crossing }
 {
     mask & !crossing

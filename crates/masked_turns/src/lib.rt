@@ -6,6 +6,6 @@ mod clearing;
 mod looking;
 mod uses;
 
-pub use clearing::{earlier_left, left_bits, note_cleared};
+pub use clearing::{aimed_mask, earlier_left, left_bits, note_cleared, uncrossed};
 pub use looking::{earlier_look, secret_look};
 pub use uses::{LeftBits, SecretLook};
