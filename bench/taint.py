@@ -1,13 +1,19 @@
 #!/usr/bin/env python3
-"""taint.py EXECUTABLE [TIMES]
+"""taint.py EXECUTABLE [TIMES | --instructions]
 
 Times `taint` of the built program beside `check` of the same guest with the same cut: the guests of run.py, and a loop
 that carries a secret byte through a thousand instructions and stores it in 2,000 places, of which every bit crosses at
-the exit alone, so that masks are at work all the way. Each is run so many times (3 without the word), in turns, and the
-best is taken. Prints for each the turns of the run, the seconds of both commands, how many times as long `taint` took,
-and the most memory that each had. Every secret must be accepted and clean. Linux with Python 3."""
+the exit alone, so that masks are at work all the way. Each is run so many times (5 without the word), in turns, and the
+least is taken. Prints for each the turns of the run, the seconds that a processor worked for both commands, how many
+times as long `taint` took, and the most memory that each had. Every secret must be accepted and clean.
+
+With --instructions it counts by valgrind the instructions of both commands, for about a tenth of the turns: that does
+not depend on what else the machine does. Linux with Python 3."""
 import os
 import pathlib
+import re
+import resource
+import subprocess
 import sys
 import tempfile
 
@@ -27,17 +33,17 @@ def carried(rounds):
     return guest
 
 
-def rows():
-    """Each guest with its name and with how many secrets it is checked."""
+def rows(turns):
+    """Each guest of about so many turns with its name and with how many secrets it is checked."""
     return [
-        ("tight loop", tight_loop(950_000), 1),
-        ("the same, ten times", tight_loop(9_500_000), 1),
-        ("beside 256 regions", beside_regions(950_000), 1),
-        ("loop through a region", region_loop(330_000, False), 1),
-        ("the same, skipped", region_loop(330_000, True), 1),
-        ("copy of memory", copy_loop(6, 65_536), 1),
-        ("a secret, carried", carried(2_000), 1),
-        ("64 secrets", tight_loop(15_000), 64),
+        ("tight loop", tight_loop(turns // 2), 1),
+        ("the same, ten times", tight_loop(5 * turns), 1),
+        ("beside 256 regions", beside_regions(turns // 2), 1),
+        ("loop through a region", region_loop(turns // 6, False), 1),
+        ("the same, skipped", region_loop(turns // 6, True), 1),
+        ("copy of memory", copy_loop(1, min(turns // 5, 1_000_000)), 1),
+        ("a secret, carried", carried(turns // 1_000), 1),
+        ("64 secrets", tight_loop(turns // 128), 64),
         ("exit at once, 64 secrets", Guest(EXIT, 3), 64),
     ]
 
@@ -50,24 +56,39 @@ def cut_of(executable, folder, guest, program):
     return LAST.format(listing.decode().rstrip("\n").split("\n")[-1].split()[0]), 8
 
 
-def timed_check(command, word, secrets, folder):
-    """The seconds and the most memory of a check, of which every secret must have this word."""
-    seconds, memory, status, text = timed(command, folder)
+def worked(words, folder):
+    """The seconds that a processor worked for a command, its most memory in bytes, its status and what it puts."""
+    before = resource.getrusage(resource.RUSAGE_CHILDREN)
+    _, memory, status, text = timed(words, folder)
+    after = resource.getrusage(resource.RUSAGE_CHILDREN)
+    return after.ru_utime + after.ru_stime - before.ru_utime - before.ru_stime, memory, status, text
+
+
+def counted(words, folder):
+    """The instructions of a command by valgrind in millions, no memory, its status and what it puts."""
+    command = ["valgrind", "--tool=callgrind", f"--callgrind-out-file={folder}/counts", *words]
+    done = subprocess.run(command, capture_output=True, check=False)
+    return int(re.search(rb"Collected : (\d+)", done.stderr)[1]) / 1e6, 0, done.returncode, done.stdout
+
+
+def checked(measure, command, word, secrets, folder):
+    """What a check takes, and its most memory; every secret must have this word."""
+    taken, memory, status, text = measure(command, folder)
     if status != 0 or f" {word} {secrets} ".encode() not in text:
         raise SystemExit(f"{command}: status {status}:\n{text.decode()[:300]}")
-    return seconds, memory
+    return taken, memory
 
 
-def both(executable, folder, guest, secrets, times):
-    """The best seconds and the most memory of `taint` and of `check`."""
+def both(executable, folder, guest, secrets, times, measure):
+    """The least that `taint` and `check` take, and the most memory of each."""
     paths, options = prepare(executable, folder, guest)
     cut, bits = cut_of(executable, folder, guest, paths["program"])
     pathlib.Path(paths["cut"]).write_text(cut)
     words = [paths["program"], paths["public"], paths["cut"], str(bits), *[paths["secret"]] * secrets, *options]
     tries = []
     for _ in range(times):
-        tainted = timed_check([executable, "taint", *words], "clean", secrets, folder)
-        tries.append((tainted, timed_check([executable, "check", *words], "accepted", secrets, folder)))
+        tainted = checked(measure, [executable, "taint", *words], "clean", secrets, folder)
+        tries.append((tainted, checked(measure, [executable, "check", *words], "accepted", secrets, folder)))
     return [(min(one[place][0] for one in tries), max(one[place][1] for one in tries)) for place in (0, 1)]
 
 
@@ -75,16 +96,16 @@ def main():
     if len(sys.argv) not in (2, 3):
         print(__doc__, file=sys.stderr)
         return 2
-    executable, times = os.path.abspath(sys.argv[1]), int(sys.argv[2]) if len(sys.argv) == 3 else 3
-    print(f"{'guest':26}{'turns':>12}{'taint':>10}{'check':>9}{'times':>7}{'memory of both':>22}")
+    executable, is_counting = os.path.abspath(sys.argv[1]), sys.argv[2:] == ["--instructions"]
+    times = 1 if is_counting else int(sys.argv[2]) if len(sys.argv) == 3 else 5
+    turns, measure, unit = (200_000, counted, "M") if is_counting else (2_000_000, worked, "s")
+    print(f"{'guest':26}{'turns':>12}{'taint':>10}{'check':>10}{'times':>7}{'memory of both':>22}")
     with tempfile.TemporaryDirectory() as folder:
-        for name, guest, secrets in rows():
-            (tainted, most), (checked, other) = both(executable, folder, guest, secrets, times)
-            print(
-                f"{name:26}{guest.turns * secrets:>12}{tainted:>8.2f} s{checked:>7.2f} s{tainted / checked:>7.2f}"
-                f"{most / 1e6:>11.1f}, {other / 1e6:.1f} MB",
-                flush=True,
-            )
+        for name, guest, secrets in rows(turns):
+            (tainted, most), (plain, other) = both(executable, folder, guest, secrets, times, measure)
+            memory = "" if is_counting else f"{most / 1e6:>11.1f}, {other / 1e6:.1f} MB"
+            print(f"{name:26}{guest.turns * secrets:>12}{tainted:>8.2f} {unit}{plain:>8.2f} {unit}"
+                  f"{tainted / plain:>7.2f}{memory}", flush=True)
     return 0
 
 
