@@ -196,6 +196,7 @@ REFUSALS = {
     "secret-code": "An instruction of the run is made of secret bits.",
     "turns": "The guest did not exit within this number of turns. --turns sets another, up to 20000000.",
     "graph-limit": "The graph of the run is too large.",
+    "usage": "The program takes no such words; an older one may not have this command.",
     "length": "The secrets have several lengths; the length is public, so that runs on one length alone have one cut.",
     "united-limit": "The graph of all runs together is too large.",
     "budget-limit": "More bits pass in all runs together than a budget can have.",
