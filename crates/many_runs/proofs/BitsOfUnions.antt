@@ -1,6 +1,6 @@
 -- A union of masks has no fewer bits than each of them, and what passes a point in one of several runs passes it in all
 -- of them together.
-use Rattle.std.proofs.Common.{◌≡◌, ◌⊎◌, ℕ, zero, suc, ◌/◌, ◌%◌, ◌≤◌, ◌<◌, ◌==◌, ◌∷◌, [], cond, not}
+use Rattle.std.proofs.Common.{◌≡◌, ◌⊎◌, ℕ, zero, suc, ◌/◌, ◌%◌, ◌≤◌, ◌<◌, ◌==◌, ◌||◌, ◌∷◌, [], cond, not}
 use Rattle.std.proofs.Common.{Bool, true, false, List, refl, ap, ◌∙◌, inl, inr, arith}
 use Rattle.std.specs.Prelude.{bit_or}
 use Rattle.std.specs.List.{sum_by}
@@ -15,7 +15,7 @@ use Rattle.flow_graph.specs.declared.events.Event.{Event}
 use Rattle.flow_graph.specs.declared.events.Event.TheVariants.{Pass, Link, FromSecret, Implicit, Out}
 use Rattle.flow_graph.specs.EventGraphs.{bits_at, has_passed, passed}
 use Rattle.covered_runs.specs.RunCuts.{mask_at_event, visit_masks}
-use Rattle.many_runs.specs.Uniting.{is_passed, joined, joined_masks}
+use Rattle.many_runs.specs.Uniting.{joined, joined_masks}
 
 -- ---- the bits of a union
 
@@ -125,6 +125,11 @@ some-not n some = ap not (ne_eqb n 0 (λ e. omega (arith, e, some)))
 not-some : (n : ℕ) → not (n == 0) ≡ true → 0 < n
 not-some zero known = absurd (cc)
 not-some (suc n) known = omega arith
+
+-- in some run a mask other than 0 has passed the point
+unfoldable pub is_passed : Point → List (List Event) → Bool
+is_passed point [] = false
+is_passed point (events ∷ runs) = has_passed events point || is_passed point runs
 
 -- what has passed a point in one of the runs has bits
 pub joined-some : (point : Point) (runs : List (List Event)) → is_passed point runs ≡ true →

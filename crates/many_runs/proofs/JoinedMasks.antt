@@ -2,6 +2,7 @@
 use Rattle.std.proofs.Common.{◌≡◌, ℕ, zero, suc, ◌+◌, ◌++◌, ◌∷◌, [], List, refl, sym, ap, ◌∙◌, append_assoc, replicate}
 use Rattle.std.specs.Prelude.{bit_or}
 use Rattle.std.proofs.lemmas.List.{replicate-append-replicate}
+use Rattle.measuring.proofs.CutRuns.{or_assoc}
 use Rattle.measuring.specs.declared.point_visits.VisitRun.{VisitRun}
 use Rattle.measuring.specs.VisitRuns.{run_masks}
 use Rattle.many_runs.specs.Uniting.{joined}
@@ -22,6 +23,15 @@ pub joined-replicate : (n x y : ℕ) (xs ys : List ℕ) →
 unfolding joined
 joined-replicate zero x y xs ys = refl
 joined-replicate (suc n) x y xs ys = ap (λ masks. bit_or x y ∷ masks) (joined-replicate n x y xs ys)
+
+-- which of three are joined first is all the same
+pub joined-chain : (a b c : List ℕ) → joined (joined a b) c ≡ joined a (joined b c)
+unfolding joined
+joined-chain [] b c = refl
+joined-chain (x ∷ a) [] c = refl
+joined-chain (x ∷ a) (y ∷ b) [] = refl
+joined-chain (x ∷ a) (y ∷ b) (z ∷ c) =
+    ap (λ m. m ∷ joined (joined a b) c) (or_assoc x y z) ∙ ap (λ masks. bit_or x (bit_or y z) ∷ masks) (joined-chain a b c)
 
 -- ---- runs
 

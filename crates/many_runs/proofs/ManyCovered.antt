@@ -2,8 +2,8 @@
 use Rattle.std.proofs.Common.{◌≡◌, ℕ, suc, ◌+◌, ◌≤◌, ◌<◌, ◌++◌, ◌∷◌, [], cond, not, Bool, true, false, List, length, get_or}
 use Rattle.std.proofs.Common.{refl, sym, ap, ◌∙◌, subst, arith, append_assoc, length-append}
 use Rattle.std.specs.Int.{bit_at}
-use Rattle.std.specs.List.{AllByRecursion, list_all, sum_by}
-use Rattle.std.proofs.lemmas.Bool.{and_from, and_parts}
+use Rattle.std.specs.List.{AllByRecursion, list_all}
+use Rattle.std.proofs.lemmas.Bool.{and_from}
 use Rattle.cut_file.specs.Cuts.{CutPicture, has_slot}
 use Rattle.cut_file.specs.Masks.{MaskAt}
 use Rattle.elf32_loader.specs.Pictures.{Picture}
@@ -11,8 +11,6 @@ use Rattle.enclosure_regions.specs.declared.region_parts.Region.{Region}
 use Rattle.enclosure_regions.specs.Regions.{stands_in}
 use Rattle.flow_base.specs.declared.outputs.Output.{Output}
 use Rattle.flow_base.specs.declared.points.Point.{Point}
-use Rattle.flow_base.specs.Points.{width_of}
-use Rattle.flow_base.specs.Words.{bit_count}
 use Rattle.flow_graph.specs.declared.events.Event.{Event}
 use Rattle.flow_graph.specs.declared.events.Event.TheVariants.{Pass, Link, FromSecret, Implicit, Out}
 use Rattle.flow_graph.specs.declared.graphs.Graph.{Graph}
@@ -40,33 +38,14 @@ use Rattle.covered_runs.proofs.CoveredRuns.{covered_law}
 use Rattle.covered_runs.proofs.CutVisits.{Counts, IsLike, counts-more, visit_masks-append}
 use Rattle.covered_runs.proofs.GraphEvents.{same-itself}
 use Rattle.covered_runs.proofs.GraphSides.{side-closed, side-outside}
-use Rattle.many_runs.specs.Uniting.{IsUnited, is_passed, joined_masks}
-use Rattle.many_runs.proofs.BitsOfUnions.{visit-bits}
+use Rattle.many_runs.specs.Uniting.{IsUnited, joined_masks}
 use Rattle.covered_runs.proofs.ProperRuns.{proper_events_law}
 use Rattle.covered_runs.proofs.ProperStarts.{guest_start_law}
 use Rattle.many_runs.proofs.MasksOfRuns.{IsPartOf, joined-fits}
 use Rattle.many_runs.proofs.PastBits.{cross-bits}
 use Rattle.many_runs.proofs.RunPasts.{runs-beside}
 use Rattle.many_runs.proofs.SameLinks.{each-among, of-among}
-use Rattle.many_runs.proofs.UnitedCuts.{Cuts, bits-within, exact-at, split-some}
-
--- ---- the masks of united events at a point that a side splits
-
-chosen-some : (b : Bool) (masks : List ℕ) → 0 < sum_by bit_count (cond b masks []) → cond b masks [] ≡ masks
-chosen-some true masks some = refl
-chosen-some false masks some = absurd (omega arith)
-
-pub split-masks : (runs : List (List Event)) (events : List Event) (graph : Graph) (halves : List Half)
-    (relays : List Bool) (point : Point) → IsUnited runs events → IsGraphOf events graph →
-    is_split (named_side graph halves relays) point ≡ true → visit_masks point events ≡ joined_masks point runs
-split-masks runs events graph halves relays point united of split =
-    let some = split-some events graph halves relays point of split in
-    let bits = visit-bits point events in
-    let same : sum_by bit_count (visit_masks point events)
-    ≡ sum_by bit_count (cond (is_passed point runs) (joined_masks point runs) []) =
-    ap (λ list. sum_by bit_count list) (united.masks point) in
-    united.masks point
-    ∙ chosen-some (is_passed point runs) (joined_masks point runs) (omega (arith, some, bits, same))
+use Rattle.many_runs.proofs.UnitedCuts.{Cuts, bits-within, exact-at}
 
 -- ---- one run
 
@@ -89,7 +68,7 @@ module _ (runs : List (List Event)) (united_events : List Event) (united : IsUni
       is_inner cut.skip point ≡ false → n < length (visit_masks point events) →
       IsWithin (get_or (visit_masks point events) n 0) (masks point (suc n))
   visit-within point n split inner below i none =
-      let same = split-masks runs united_events graph halves relays point united cuts.graph_of split in
+      let same = united.masks point in
       let count : length (visit_masks point united_events) ≡ length (joined_masks point runs) = ap length same in
       let few = (part.masks point).few in
       (part.masks point).within n below i
@@ -170,11 +149,6 @@ pub record CutsAll (runs : List (List Event)) (events : List Event) (graph : Gra
   pub slots : list_all has_slot cut.points ≡ true
   pub proper : AllByRecursion AreProperEvents runs
 
-fits-chosen : (b : Bool) (masks : List ℕ) (n width : ℕ) → n < length (cond b masks []) →
-    (n < length masks → get_or masks n 0 ≤ width) → get_or (cond b masks []) n 0 ≤ width
-fits-chosen true masks n width below fits = fits below
-fits-chosen false masks n width below fits = absurd (omega arith)
-
 module _ (runs : List (List Event)) (united_events : List Event) (graph : Graph) (halves : List Half)
     (relays : List Bool) (secret_len : ℕ) (cut : CutPicture)
     (all : CutsAll runs united_events graph halves relays secret_len cut) where
@@ -188,12 +162,10 @@ module _ (runs : List (List Event)) (united_events : List Event) (graph : Graph)
     like = is_used.like;
     fits = λ point n below.
         let same = all.united.masks point in
-        let count : length (visit_masks point united_events)
-        ≡ length (cond (is_passed point runs) (joined_masks point runs) []) = ap length same in
-        let fits = fits-chosen (is_passed point runs) (joined_masks point runs) n (width_of point.slot)
-        (omega (arith, below, count)) (λ inside. joined-fits point runs n all.proper inside) in
-        let at : get_or (visit_masks point united_events) n 0
-        ≡ get_or (cond (is_passed point runs) (joined_masks point runs) []) n 0 = ap (λ list. get_or list n 0) same in
+        let count : length (visit_masks point united_events) ≡ length (joined_masks point runs) = ap length same in
+        let fits = joined-fits point runs n all.proper (omega (arith, below, count)) in
+        let at : get_or (visit_masks point united_events) n 0 ≡ get_or (joined_masks point runs) n 0 =
+        ap (λ list. get_or list n 0) same in
         omega (arith, fits, at);
   }
 
@@ -225,10 +197,8 @@ module _ (runs : List (List Event)) (united_events : List Event) (graph : Graph)
       let within = bits-within united_events graph halves relays secret_len (side_capacity graph halves relays) cut
       (MaskAt used.points) cuts (real_after enclosures (length answers) place).past beside.within.slots
       (λ point named.
-      let split = (and_parts (is_split side point) (not (is_inner cut.skip point))
-      (sym (all.cut_of.points point) ∙ named)).0 in
       let masks : length (visit_masks point united_events) ≡ length (joined_masks point runs) =
-      ap length (split-masks runs united_events graph halves relays point all.united all.graph_of split) in
+      ap length (all.united.masks point) in
       let few = beside.within.few point in
       let most = (part.masks point).few in
       omega (arith, masks, few, most)) in

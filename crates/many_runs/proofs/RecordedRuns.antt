@@ -20,7 +20,15 @@ use Rattle.measuring.proofs.GraphWithinLimits.{recorded_exceeds_none}
 use Rattle.many_runs.specs.Causes.{IsFirstRefused}
 use Rattle.many_runs.specs.Following.{AreFollowed, IsFollowed, IsRunFault, many_fault_of}
 use Rattle.many_runs.specs.Measures.{AreRunsOn, IsRunOn, Setup, setup_of, start_on}
-use Rattle.many_runs.specs.Recordings.{AllKeep, Keeps}
+use Rattle.many_runs.specs.Recordings.{AllKeep, AreSameTogether, Keeps, RecordsUnion}
+use Rattle.many_runs.specs.Uniting.{IsUnited, all_links, joined, joined_masks}
+use Rattle.many_runs.proofs.JoinedMasks.{joined-chain, joined-none, none-joined}
+use Rattle.std.proofs.Common.{◌||◌, Bool, append-nil}
+use Rattle.std.proofs.lemmas.List.Folds.{list_any-append}
+use Rattle.flow_base.specs.declared.points.Point.{Point}
+use Rattle.flow_graph.specs.declared.named_links.NamedLink.{NamedLink}
+use Rattle.flow_graph.specs.EventGraphs.{is_among, named_links}
+use Rattle.covered_runs.specs.RunCuts.{visit_masks}
 
 pub exit-exceeds : (table : ℕ) (regions : List Region) (start : LabelledRun) (limit : ℕ) (exit : Exit) →
     HasEnded table regions start limit exit → exit.recording.collapse.is_full ≡ true →
@@ -71,9 +79,69 @@ keep-more (first ∷ recordings) [] recording events keep also = absurd keep
 keep-more (first ∷ recordings) (other ∷ runs) recording events keep also =
     (keep.0, keep-more recordings runs recording events keep.1 also)
 
+-- ---- a few recordings of many runs
+
+joined-append : (point : Point) (first second : List (List Event)) →
+    joined_masks point (first ++ second) ≡ joined (joined_masks point first) (joined_masks point second)
+unfolding joined_masks
+joined-append point [] second = sym (none-joined (joined_masks point second))
+joined-append point (events ∷ first) second =
+    ap (λ masks. joined (visit_masks point events) masks) (joined-append point first second)
+    ∙ sym (joined-chain (visit_masks point events) (joined_masks point first) (joined_masks point second))
+
+links-append : (first second : List (List Event)) (link : NamedLink) →
+    is_among (all_links (first ++ second)) link ≡ (is_among (all_links first) link || is_among (all_links second) link)
+unfolding all_links
+links-append [] second link = refl
+links-append (events ∷ first) second link =
+    list_any-append _ (named_links events) (all_links (first ++ second))
+    ∙ (ap (λ b. is_among (named_links events) link || b) (links-append first second link)
+    ∙ (or-chain (is_among (named_links events) link) (is_among (all_links first) link)
+    (is_among (all_links second) link)
+    ∙ ap (λ b. b || is_among (all_links second) link)
+    (sym (list_any-append _ (named_links events) (all_links first)))))
+  where
+    or-chain : (a b c : Bool) → (a || (b || c)) ≡ ((a || b) || c)
+    or-chain true b c = refl
+    or-chain false b c = refl
+
+same-more : (runs others : List (List Event)) (events : List Event) → AreSameTogether runs others →
+    AreSameTogether (runs ++ events ∷ []) (others ++ events ∷ [])
+same-more runs others events same = record {
+  masks = λ point. joined-append point others (events ∷ [])
+      ∙ (ap (λ masks. joined masks (joined_masks point (events ∷ []))) (same.masks point)
+      ∙ sym (joined-append point runs (events ∷ [])));
+  links = λ link. links-append others (events ∷ []) link
+      ∙ (ap (λ b. b || is_among (all_links (events ∷ [])) link) (same.links link)
+      ∙ sym (links-append runs (events ∷ []) link));
+}
+
+-- united events of some runs are one run that has what all of them have
+same-union : (runs others : List (List Event)) (events : List Event) → AreSameTogether runs others →
+    IsUnited others events → AreSameTogether runs (events ∷ [])
+unfolding joined_masks all_links
+same-union runs others events same united = record {
+  masks = λ point. joined-none (visit_masks point events) ∙ (united.masks point ∙ same.masks point);
+  links = λ link. ap (λ links. is_among links link) (append-nil (named_links events))
+      ∙ (united.links link ∙ same.links link);
+}
+
+pub united-too : (runs others : List (List Event)) (events : List Event) → AreSameTogether runs others →
+    IsUnited others events → IsUnited runs events
+united-too runs others events same united = record {
+  masks = λ point. united.masks point ∙ same.masks point;
+  links = λ link. united.links link ∙ same.links link;
+}
+
 pub none-followed : (setup : Setup) → AreFollowed setup [] []
 unfolding AreRunsOn AllKeep
-none-followed setup = record { runs = []; are_runs = tt; keep = tt }
+none-followed setup = record {
+  runs = [];
+  are_runs = tt;
+  kept = [];
+  keep = tt;
+  same = record { masks = λ point. refl; links = λ link. refl };
+}
 
 pub followed-more : (setup : Setup) (secrets : List (List ℕ)) (recordings : List Recording) (secret : List ℕ)
     (recording : Recording) → AreFollowed setup secrets recordings → IsFollowed setup secret recording →
@@ -81,8 +149,25 @@ pub followed-more : (setup : Setup) (secrets : List (List ℕ)) (recordings : Li
 followed-more setup secrets recordings secret recording are is = record {
   runs = are.runs ++ is.events ∷ [];
   are_runs = runs-more setup secrets are.runs secret is.events are.are_runs is.run;
-  keep = keep-more recordings are.runs recording is.events are.keep is.keeps;
+  kept = are.kept ++ is.events ∷ [];
+  keep = keep-more recordings are.kept recording is.events are.keep is.keeps;
+  same = same-more are.runs are.kept is.events are.same;
 }
+
+-- a recording of what the recordings have together stands in their place
+pub followed-union : (setup : Setup) (secrets : List (List ℕ)) (recordings : List Recording) (union : Recording) →
+    ((runs : List (List Event)) → AllKeep recordings runs → RecordsUnion runs union) →
+    union.collapse.is_full ≡ false → AreFollowed setup secrets recordings → AreFollowed setup secrets (union ∷ [])
+unfolding AllKeep
+followed-union setup secrets recordings union unites within are =
+    let all = unites are.kept are.keep in
+    record {
+      runs = are.runs;
+      are_runs = are.are_runs;
+      kept = all.events ∷ [];
+      keep = (record { within = within; records = all.records }, tt);
+      same = same-union are.runs are.kept all.events are.same all.united;
+    }
 
 -- ---- the place in a list
 

@@ -3,7 +3,7 @@ use Rattle.std.proofs.Common.{◌≡◌, ℕ, zero, suc, ◌+◌, ◌≤◌, ◌
 use Rattle.std.proofs.Common.{List, length, get_or, take, refl, sym, ap, ◌∙◌, subst, arith, inl, inr}
 use Rattle.std.specs.Prelude.{if◌then◌else◌}
 use Rattle.std.specs.List.{AllByRecursion, list_all, sum_by}
-use Rattle.std.proofs.lemmas.Bool.{and_parts, cases_Bool, cond-true, cond-false, ltb-true, or_cases}
+use Rattle.std.proofs.lemmas.Bool.{and_parts, cases_Bool, cond-true, cond-false, or_cases}
 use Rattle.std.proofs.lemmas.List.Sums.{sum_by-append, sum_by-cons}
 use Rattle.std.proofs.Math.Seq.{take-suc}
 use Rattle.cut_file.specs.declared.points.CutPoint.{CutPoint}
@@ -18,8 +18,7 @@ use Rattle.flow_graph.specs.declared.events.Event.{Event}
 use Rattle.flow_graph.specs.declared.events.Event.TheVariants.{Pass, Link, FromSecret, Implicit, Out}
 use Rattle.flow_graph.specs.declared.graphs.Graph.{Graph}
 use Rattle.flow_graph.specs.declared.nodes.Node.{Node}
-use Rattle.flow_graph.specs.EventGraphs.{IsGraphOf, bits_at, capacity_at, passed}
-use Rattle.flow_graph.specs.Graphs.{ascend, has_capacity, node_cmp}
+use Rattle.flow_graph.specs.EventGraphs.{IsGraphOf, bits_at, passed}
 use Rattle.flow_graph.proofs.MaskBitCounts.{bit_count-zero}
 use Rattle.max_flow.specs.declared.answers.Half.{Half}
 use Rattle.max_flow.specs.Flows.{IsSideOf, has_first, side_capacity}
@@ -136,36 +135,6 @@ named-slot (first ∷ points) point slots named =
       | inl same ↦ ap (λ (p : Point). is_slot p.slot) (sym (same-one first.point point same)) ∙ both.0
       | inr later ↦ named-slot points point both.1 later
     ]
-
-first-capacity : (nodes : List Node) (halves : List Half) (point : Point) → list_all has_capacity nodes ≡ true →
-    has_first (halves_at nodes halves point) ≡ true → 0 < capacity_at nodes point
-first-capacity [] halves point some inside = absurd (cc)
-first-capacity (node ∷ nodes) [] point some inside = absurd (cc)
-first-capacity (node ∷ nodes) (half ∷ halves) point some inside =
-    let both = and_parts (has_capacity node) (list_all has_capacity nodes) some in
-    elim (cases_Bool (is_same point node.point)) [
-      | inl same ↦
-          let here : capacity_at (node ∷ nodes) point ≡ node.capacity =
-          cond-true (is_same point node.point) node.capacity (capacity_at nodes point) same in
-          let positive : 0 < node.capacity = ltb-true 0 node.capacity both.0 in
-          omega (arith, here, positive)
-      | inr other ↦
-          let there : capacity_at (node ∷ nodes) point ≡ capacity_at nodes point =
-          cond-false (is_same point node.point) node.capacity (capacity_at nodes point) other in
-          let positive = first-capacity nodes halves point both.1
-          (ap has_first (sym (cond-false (is_same point node.point) half (halves_at nodes halves point) other)) ∙ inside) in
-          omega (arith, there, positive)
-    ]
-
--- what passes a point that the side splits has bits
-pub split-some : (events : List Event) (graph : Graph) (halves : List Half) (relays : List Bool) (point : Point) →
-    IsGraphOf events graph → is_split (named_side graph halves relays) point ≡ true → 0 < passed events point
-split-some events graph halves relays point of split =
-    let first = and_parts (has_first (halves_at graph.points halves point)) _ split in
-    let known = and_parts (list_all has_capacity graph.points) (ascend node_cmp graph.points) graph.points_ascend in
-    let positive = first-capacity graph.points halves point known.0 first.0 in
-    let same = of.points point in
-    omega (arith, positive, same)
 
 module _ (events : List Event) (graph : Graph) (halves : List Half) (relays : List Bool) (secret_len capacity : ℕ)
     (cut : CutPicture) (masks : Masks) (cuts : Cuts events graph halves relays secret_len capacity cut masks) where

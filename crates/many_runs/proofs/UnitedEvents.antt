@@ -24,10 +24,10 @@ use Rattle.covered_runs.specs.RunCuts.{visit_masks}
 use Rattle.covered_runs.proofs.CutVisits.{visit_masks-append}
 use Rattle.covered_runs.proofs.GraphEvents.{all-append}
 use Rattle.measuring.specs.declared.recordings.Recording.{Recording}
-use Rattle.many_runs.specs.Joining.{event_between, is_recorded, link_events, passes, passes_at, recorded_links, recorded_masks}
+use Rattle.many_runs.specs.Joining.{event_between, link_events, passes, passes_at, recorded_links, recorded_masks}
 use Rattle.many_runs.specs.Recordings.{AllKeep, Keeps}
-use Rattle.many_runs.specs.Uniting.{IsUnited, all_links, is_passed, joined, joined_masks}
-use Rattle.many_runs.proofs.BitsOfUnions.{has-united}
+use Rattle.many_runs.specs.Uniting.{IsUnited, all_links, joined, joined_masks}
+use Rattle.many_runs.proofs.BitsOfUnions.{has-united, is_passed}
 use Rattle.many_runs.proofs.FedEvents.{links-append}
 use Rattle.many_runs.proofs.SameLinks.{each-among, of-among}
 use Rattle.many_runs.proofs.UnitedLinks.{Fits, IsMade, IsPassing, links-again, links-made, passing-links}
@@ -48,17 +48,6 @@ masks-kept (recording ∷ recordings) [] point keep = absurd keep
 masks-kept (recording ∷ recordings) (events ∷ runs) point keep =
     ap (λ masks. joined masks (recorded_masks point recordings)) (keep.0.records.visits keep.0.within point)
     ∙ ap (λ masks. joined (visit_masks point events) masks) (masks-kept recordings runs point keep.1)
-
-known-kept : (recordings : List Recording) (runs : List (List Event)) (point : Point) → AllKeep recordings runs →
-    is_recorded point recordings ≡ is_passed point runs
-unfolding is_recorded is_passed AllKeep
-known-kept [] [] point keep = refl
-known-kept [] (events ∷ runs) point keep = absurd keep
-known-kept (recording ∷ recordings) [] point keep = absurd keep
-known-kept (recording ∷ recordings) (events ∷ runs) point keep =
-    ap (λ b. b || is_recorded point recordings)
-    (known-same _ _ events (graph-of recording events keep.0) point)
-    ∙ ap (λ b. has_passed events point || b) (known-kept recordings runs point keep.1)
 
 -- ---- the visits of the points
 
@@ -211,20 +200,22 @@ fits-kept before (recording ∷ recordings) (events ∷ runs) keep grows =
 
 -- ---- all together
 
+chosen : (b : Bool) (masks : List ℕ) → (b ≡ false → masks ≡ []) → cond b masks [] ≡ masks
+chosen true masks none = refl
+chosen false masks none = sym (none refl)
+
 pub united : (recordings : List Recording) (runs : List (List Event)) (points : List Point) → AllKeep recordings runs →
     IsStrictlySortedBy point_cmp points →
-    ((q : Point) → list_any (is_same q) points ≡ is_recorded q recordings) →
+    ((q : Point) → list_any (is_same q) points ≡ false → recorded_masks q recordings ≡ []) →
     IsUnited runs (passes_at recordings points ++ recorded_links recordings)
 united recordings runs points keep ordered have =
     let visits = passes_at recordings points in
-    let known : (q : Point) → list_any (is_same q) points ≡ is_passed q runs =
-    λ q. have q ∙ known-kept recordings runs q keep in
-    let masks : (q : Point) → visit_masks q visits ≡ cond (is_passed q runs) (joined_masks q runs) [] =
+    let masks : (q : Point) → visit_masks q visits ≡ joined_masks q runs =
     λ q. at-points recordings points q ordered
-    ∙ (ap (λ b. cond b (recorded_masks q recordings) []) (known q)
-    ∙ ap (λ list. cond (is_passed q runs) list []) (masks-kept recordings runs q keep)) in
+    ∙ (chosen (list_any (is_same q) points) (recorded_masks q recordings) (have q)
+    ∙ masks-kept recordings runs q keep) in
     let grows : (p : Point) → is_passed p runs ≡ true → has_passed visits p ≡ true =
-    λ p any. has-united p runs visits any (masks p ∙ ap (λ b. cond b (joined_masks p runs) []) any) in
+    λ p any. has-united p runs visits any (masks p) in
     record {
       masks = λ q.
           visit_masks-append q visits (recorded_links recordings)

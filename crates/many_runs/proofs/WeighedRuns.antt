@@ -9,6 +9,7 @@ use Rattle.many_runs.specs.Causes.{HasManyCause}
 use Rattle.many_runs.specs.Following.{AreFollowed}
 use Rattle.many_runs.specs.Measures.{HaveLength, MeasuresAll, Setup, first_length}
 use Rattle.many_runs.specs.Recordings.{AllKeep, RecordsUnion}
+use Rattle.many_runs.proofs.RecordedRuns.{united-too}
 use Rattle.many_runs.specs.Weighing.{IsWeighFault, WeighsAll}
 
 module _ (setup : Setup) (secrets : List (List ℕ)) (recordings : List Recording) (union : Recording)
@@ -17,31 +18,41 @@ module _ (setup : Setup) (secrets : List (List ℕ)) (recordings : List Recordin
   pub weighed : (many : Many) → WeighsAll union (first_length secrets) many → many.value ≤ 1048576 →
       MeasuresAll setup secrets many
   weighed many weighs budget =
-      let all = unites are.runs are.keep in
+      let all = unites are.kept are.keep in
       record {
         alike = alike;
         runs = are.runs;
         are_runs = are.are_runs;
         events = all.events;
-        united = all.united;
+        united = united-too are.runs are.kept all.events are.same all.united;
         measure = weighs all.events all.records;
         budget = budget;
       }
 
   pub unweighed : (fault : ManyFault) → IsWeighFault union fault → HasManyCause setup secrets fault
   unweighed UnitedLimit full =
-      let all = unites are.runs are.keep in
+      let all = unites are.kept are.keep in
       record {
         events = all.events;
-        union = record { alike = alike; runs = are.runs; are_runs = are.are_runs; united = all.united };
+        union = record {
+          alike = alike;
+          runs = are.runs;
+          are_runs = are.are_runs;
+          united = united-too are.runs are.kept all.events are.same all.united;
+        };
         exceeds = all.records.exceeds full;
       }
   unweighed (BudgetLimit value) over =
-      let all = unites are.runs are.keep in
+      let all = unites are.kept are.keep in
       let much = over all.events all.records in
       record {
         events = all.events;
-        union = record { alike = alike; runs = are.runs; are_runs = are.are_runs; united = all.united };
+        union = record {
+          alike = alike;
+          runs = are.runs;
+          are_runs = are.are_runs;
+          united = united-too are.runs are.kept all.events are.same all.united;
+        };
         within = much.within;
         maximum = much.maximum;
         over = much.over;

@@ -10,7 +10,7 @@ use Rattle.many_runs.specs.declared.faults.ManyFault.{ManyFault}
 use Rattle.many_runs.specs.declared.faults.ManyFault.TheVariants.{Length, Run, UnitedLimit, BudgetLimit, Memory}
 use Rattle.many_runs.specs.Causes.{HasOtherLength, IsFirstRefused}
 use Rattle.many_runs.specs.Measures.{AreRunsOn, IsRunOn, Setup}
-use Rattle.many_runs.specs.Recordings.{AllKeep, Keeps}
+use Rattle.many_runs.specs.Recordings.{AllKeep, AreSameTogether, Keeps}
 
 -- at most 65,536 bytes
 abbrev pub is_short : List ℕ → Bool
@@ -22,11 +22,13 @@ pub record IsFollowed (setup : Setup) (secret : List ℕ) (recording : Recording
   pub run : IsRunOn setup secret events
   pub keeps : Keeps recording events
 
--- so is each run on one of the secrets
+-- so is each run on one of the secrets, and these recordings have together what all of them have
 pub record AreFollowed (setup : Setup) (secrets : List (List ℕ)) (recordings : List Recording) : Type 0 where
   pub runs : List (List Event)
   pub are_runs : AreRunsOn setup secrets runs
-  pub keep : AllKeep recordings runs
+  pub kept : List (List Event)
+  pub keep : AllKeep recordings kept
+  pub same : AreSameTogether runs kept
 
 -- what is answered where the run with this index is not measured
 abbrev pub many_fault_of : ℕ → MeasureFault → ManyFault

@@ -1,5 +1,5 @@
 -- What the recordings of several runs have together.
-use Rattle.std.specs.Prelude.{ℕ, ◌||◌, ◌++◌, Bool, false, List, [], ◌∷◌}
+use Rattle.std.specs.Prelude.{ℕ, ◌++◌, List, [], ◌∷◌}
 use Rattle.std.specs.Map.{keys_of}
 use Rattle.flow_base.specs.declared.points.Point.{Point}
 use Rattle.flow_graph.specs.declared.events.Event.{Event}
@@ -7,7 +7,6 @@ use Rattle.flow_graph.specs.declared.events.Event.TheVariants.{Pass, Link, FromS
 use Rattle.flow_graph.specs.declared.named_links.NamedEnd.{NamedEnd}
 use Rattle.flow_graph.specs.declared.named_links.NamedEnd.TheVariants.{Source, At, Relay, Sink}
 use Rattle.flow_graph.specs.declared.named_links.NamedLink.{NamedLink}
-use Rattle.location_collapse.specs.Collapses.{knows}
 use Rattle.measuring.specs.declared.recordings.Recording.{Recording}
 use Rattle.measuring.specs.Visits.{all_masks}
 use Rattle.many_runs.specs.Uniting.{joined}
@@ -17,11 +16,6 @@ unfoldable pub recorded_masks : Point → List Recording → List ℕ
 recorded_masks point [] = []
 recorded_masks point (recording ∷ recordings) =
     joined (all_masks recording.visits point) (recorded_masks point recordings)
-
--- a mask other than 0 has passed the point in one of the recordings
-unfoldable pub is_recorded : Point → List Recording → Bool
-is_recorded point [] = false
-is_recorded point (recording ∷ recordings) = knows recording.collapse point || is_recorded point recordings
 
 -- the visits of a point with these masks
 unfoldable pub passes : Point → List ℕ → List Event

@@ -8,3 +8,4 @@ pub mod Recordings
 pub mod Joining
 pub mod Following
 pub mod Weighing
+pub mod Places

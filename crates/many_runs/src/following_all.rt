@@ -1,18 +1,22 @@
-ghost use Rattle.std.specs.Prelude.{◌≡◌, ◌≤◌, IfErr, IfOk, length, true};
+ghost use Rattle.std.specs.Prelude.{◌≡◌, ◌≤◌, ℕ, IfErr, IfOk, List as Seq, length, true};
 ghost use Rattle.std.specs.List.{list_all};
 ghost use Rattle.elf32_loader.specs.Images.{picture_of};
 ghost use Rattle.measuring.specs.Measures.{HasCause};
 ghost use Rattle.many_runs.specs.Following.{AreFollowed, IsFollowed, IsLengthFault, IsRunFault, is_short, many_fault_of};
-ghost use Rattle.many_runs.specs.Measures.{HaveLength, first_length, setup_of, start_on};
+ghost use Rattle.many_runs.specs.Measures.{HaveLength, Setup as TheSetup, first_length, setup_of, start_on};
 
 use crate::faults::ManyFault;
+use crate::uniting::unite;
 use elf32_loader::Image;
 use enclosure_regions::Regions;
-use flow_base::{Bytes, List};
+use flow_base::{Bytes, List, NoMemory};
 use measuring::{Recording, RunEnd, follow};
 use run_labels::MeasureFault;
 use std::alloc::Global;
 use transfer_rules::RuleBook;
+
+/// So many recordings of runs are kept at once, unless their graph together exceeds a limit.
+const MOST_KEPT: usize = 8;
 
 /// The length of all secrets, in bytes, 0 where there is none.
 /// `Length` where they have more than one.
@@ -79,7 +83,25 @@ fn many_fault(index: u32, fault: MeasureFault) -> ManyFault
     }
 }
 
-/// The recordings of the runs on all secrets.
+/// The same recordings; or where they are as many as are kept, and the graph of all of them exceeds no limit, a recording of
+/// what they have together in their place.
+fn gathered(alloc: Global, recordings: List<Recording>) -> Result<List<Recording>, NoMemory>
+    ensures { IfOk result (λ after. (setup : TheSetup) (secrets : Seq (Seq ℕ)) → AreFollowed setup secrets recordings →
+        AreFollowed setup secrets after) }
+{
+    if recordings.len() != MOST_KEPT {
+        return Ok(recordings);
+    }
+    let union = unite(alloc, recordings.as_slice())?;
+    if union.collapse.is_full {
+        return Ok(recordings);
+    }
+    let mut one = List::new(alloc);
+    one.push(union)?;
+    Ok(one)
+}
+
+/// What the recordings of the runs on all secrets have together, in a few recordings.
 /// `Run` where one is not measured, for another reason than want of memory.
 pub(crate) fn record_runs(
     alloc: Global,
@@ -100,7 +122,10 @@ pub(crate) fn record_runs(
     let mut recordings = List::new(alloc);
     for index in 0..secrets.len() {
         match record_run(alloc, image, public, &secrets[index], regions, book, turns) {
-            Ok(recording) => recordings.push(recording)?,
+            Ok(recording) => {
+                recordings.push(recording)?;
+                recordings = gathered(alloc, recordings)?;
+            }
             Err(fault) => return Err(many_fault(index as u32 + 1, fault)),
         }
     }

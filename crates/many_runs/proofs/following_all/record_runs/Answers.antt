@@ -20,12 +20,15 @@ returns-in-Err g c = record {
 }
 
 pub loop-index-preserved : goal.loop-index-preserved
-loop-index-preserved g c = subst (λ recordings. AreFollowed (setup_of c.args.book.now.table (picture_of c.args.image.now)
-    c.args.public.now c.args.regions.now.items c.args.turns) (take (c.loop-index.index + 1) c.args.secrets.now)
-    recordings) (sym c.in_ok-push-in-Ok.ensures.ok)
+loop-index-preserved g c =
+    c.in_ok-recordings-in-Ok.ensures (setup_of c.args.book.now.table (picture_of c.args.image.now) c.args.public.now
+    c.args.regions.now.items c.args.turns) (take (c.loop-index.index + 1) c.args.secrets.now)
+    (subst (λ recordings. AreFollowed (setup_of c.args.book.now.table (picture_of c.args.image.now) c.args.public.now
+    c.args.regions.now.items c.args.turns) (take (c.loop-index.index + 1) c.args.secrets.now) recordings)
+    (sym c.in_ok-push-in-Ok.ensures.ok)
     (subst (λ secrets. AreFollowed (setup_of c.args.book.now.table (picture_of c.args.image.now) c.args.public.now
     c.args.regions.now.items c.args.turns) secrets (c.loop-index.recordings ++ c.in-Ok.recording ∷ []))
     (sym (next-taken c.args.secrets.now c.loop-index.index c.index-secrets-index.result c.loop-index-test.true
     c.index-secrets-index.is))
     (followed-more _ (take c.loop-index.index c.args.secrets.now) c.loop-index.recordings c.index-secrets-index.result
-    c.in-Ok.recording c.loop-index.invariant c.in-Ok.ensures.ok))
+    c.in-Ok.recording c.loop-index.invariant c.in-Ok.ensures.ok)))
