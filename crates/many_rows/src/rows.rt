@@ -12,26 +12,29 @@ use transfer_rules::book_1;
 
 const FILE_LIMIT: u32 = 1_048_576;
 
-/// Runs that are measured together: the row's name, the names of the files of their program and their regions, the limit
-/// of turns, and the names of the files of their secrets, with a space between them. The public input is empty.
+/// Runs that are measured together: the row's name, the names of the files of their program, their public input and their
+/// regions, the limit of turns, and the names of the files of their secrets, with a space between them.
 #[derive(Clone, Copy)]
 pub struct Row<'a> {
     pub name: &'a str,
     pub program: &'a str,
+    pub public: &'a str,
     pub regions: &'a str,
     pub turns: u32,
     pub secrets: &'a str,
 }
 
-/// The row of a line of five words or more with a space between them.
+/// The row of a line of six words or more with a space between them.
 pub fn parse<'a>(line: &'a str) -> Option<Row<'a>> {
     let (name, rest) = line.split_once(' ')?;
     let (program, rest) = rest.split_once(' ')?;
+    let (public, rest) = rest.split_once(' ')?;
     let (regions, rest) = rest.split_once(' ')?;
     let (turns, secrets) = rest.split_once(' ')?;
     Some(Row {
         name,
         program,
+        public,
         regions,
         turns: turns.parse().ok()?,
         secrets,
@@ -102,7 +105,7 @@ pub fn measured<F: Files>(
 ) -> Option<Result<Vec<u8>, ManyFault>> {
     let image = program_of(alloc, files, row.program)?;
     let regions = regions_of(alloc, files, row.regions)?;
-    let public = Bytes::from_slice(alloc, b"").ok()?;
+    let public = files.load(alloc, row.public, FILE_LIMIT).ok()?;
     let secrets = secrets_of(alloc, files, row.secrets)?;
     if secrets.len() == 0 {
         return None;
