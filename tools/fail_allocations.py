@@ -104,6 +104,8 @@ def command_lines():
     """The words of each command line, and the status that it has with ample memory."""
     for name in "low", "branch", "count", "table":
         yield 0, ["check", name, "none", f"{name}.cut", "64", "secret"]
+        yield 0, ["taint", name, "none", f"{name}.cut", "64", "secret"]
+        yield 0, ["measure-all", name, "none", "secret", "other"]
         for words in ["measure"], ["graph"], ["report"]:
             yield 0, [*words, name, "none", "secret"]
         yield 0, ["report", "--json", name, "none", "secret"]
@@ -115,11 +117,15 @@ def command_lines():
     for name in "branch", "count", "table":
         region = ["--regions", f"{name}_region"]
         yield 0, ["check", name, "none", f"{name}.region_cut", "64", "secret", "secret", *region]
+        yield 0, ["taint", name, "none", f"{name}.region_cut", "64", "secret", "secret", *region]
         yield 0, ["measure", name, "none", "secret", *region]
+        yield 0, ["measure-all", name, "none", "secret", "other", "--cut", "2", *region]
+        yield 0, ["learn", name, "none", "secret", f"{name}_region"]
         yield 0, ["graph", name, "none", "secret", "--rules", "2", *region]
         yield 0, ["report", name, "none", "secret", *region]
     yield 0, ["trial", "6"]
     yield 1, ["check", "branch", "none", "no_cut", "0", "secret", "other"]
+    yield 1, ["taint", "branch", "none", "no_cut", "0", "secret", "other"]
     yield 2, ["measure", "low", "none"]
     yield 3, ["measure", "spoilt", "none", "secret"]
     yield 3, ["check", "low", "none", "low.cut", "8", "secret", "--regions", "spoilt_regions"]
@@ -128,6 +134,8 @@ def command_lines():
     yield 3, ["verify", "spoilt"]
     yield 4, ["measure", "own", "none", "secret"]
     yield 4, ["report", "loop", "none", "secret", "--turns", "20"]
+    yield 4, ["learn", "loop", "none", "secret", "branch_region", "--turns", "20"]
+    yield 4, ["measure-all", "loop", "none", "secret", "other", "--turns", "20"]
     yield 5, ["measure", "low", "none", "missing"]
     yield 6, ["measure", "low", "large", "secret"]
 
