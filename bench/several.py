@@ -1,0 +1,140 @@
+#!/usr/bin/env python3
+"""several.py EXECUTABLE [TURNS]
+
+Times `measure-all` of 64 runs of a guest, each on another secret byte, beside 64 calls of `measure` of one run each: a
+tight loop, a loop through a region, a copy of memory byte by byte, a loop that carries a secret byte through 3,000
+points, a loop in which a point's mask changes at every visit, and one with more rounds for a greater secret, each of
+about so many turns (1,000,000 without the word); a run whose graph has about 20,000 points and 300,000 links; and a
+guest that exits at once.
+
+The seconds are those in which a processor worked for the command. What it takes to read the files and to begin is taken
+off: the seconds of the same command with `--turns 1`, in which one run makes one turn, as often. Of `measure-all` it is
+the median of three calls. Prints for each guest the turns of a run, the number of bits, the seconds of the 64 calls and
+of the one, how many times as long the one took, and the most memory of a call of either. `check` must accept each
+secret with the one cut and number. Linux with Python 3."""
+import os
+import pathlib
+import statistics
+import sys
+import tempfile
+
+from measure import READ_A_BYTE, carried, changing, largest, prepare
+from run import EXIT, Guest, copy_loop, region_loop, tight_loop
+
+SECRETS = 64
+TIMES = 3
+
+
+def as_many_rounds(rounds):
+    """So many rounds, and 16 more for each one that the secret byte counts; it is known to the loop by its decision."""
+    lines = READ_A_BYTE + ["slli t1, t1, 4", f"li t0, {rounds}", "add t0, t0, t1", "loop: addi t0, t0, -1"]
+    lines += ["addi t2, t2, 1", "bne t0, x0, loop"] + EXIT
+    return Guest(lines, 3 * rounds + 14)
+
+
+def reading(guest):
+    """The guest, which reads the secret byte first and does nothing with it."""
+    guest.source = "\n".join(READ_A_BYTE) + "\n" + guest.source
+    guest.turns += len(READ_A_BYTE)
+    return guest
+
+
+def rows(turns):
+    """The guests by name."""
+    return [
+        ("tight loop", reading(tight_loop(turns // 2))),
+        ("loop through a region", region_loop(turns // 6, False)),
+        ("copy of memory", reading(copy_loop(max(1, turns // 81_935), 16_384))),
+        ("3,000 points", carried(max(1, turns // 3_000), 1_500)),
+        ("changing masks", changing(turns // 5)),
+        ("rounds by the secret", as_many_rounds(turns // 3)),
+        ("300,000 links", largest(500, 600, 9_000)),
+        ("exit at once", Guest(EXIT, 3)),
+    ]
+
+
+def worked(words, folder):
+    """The seconds in which a processor worked for a command, its most memory in bytes, its status and what it puts."""
+    put = f"{folder}/put"
+    child = os.fork()
+    if child == 0:
+        out = os.open(put, os.O_WRONLY | os.O_CREAT | os.O_TRUNC)
+        os.dup2(out, 1)
+        os.execv(words[0], words)
+    _, status, usage = os.wait4(child, 0)
+    seconds = usage.ru_utime + usage.ru_stime
+    return seconds, 1024 * usage.ru_maxrss, os.waitstatus_to_exitcode(status), pathlib.Path(put).read_bytes()
+
+
+class Calls:
+    """The calls for a guest, in a folder."""
+
+    def __init__(self, executable, folder, guest):
+        self.executable, self.folder = executable, folder
+        paths, self.options = prepare(executable, folder, guest)
+        self.cut, self.head = paths["cut"], [paths["program"], paths["public"]]
+        self.secrets = [f"{folder}/secret{number}" for number in range(SECRETS)]
+        for number, name in enumerate(self.secrets):
+            pathlib.Path(name).write_bytes(bytes([4 * number + 3]))
+        begun = self.options.index("--turns") + 1
+        self.one_turn = [*self.options[:begun], "1", *self.options[begun + 1 :]]
+
+    def call(self, command, secrets, options, expected=0):
+        """Seconds, memory and text of a call."""
+        seconds, memory, status, text = worked([self.executable, command, *self.head, *secrets, *options], self.folder)
+        if status != expected:
+            raise SystemExit(f"{command}: status {status}:\n{text.decode()[:300]}")
+        return seconds, memory, text
+
+    def together(self):
+        """The seconds of the call of all runs, what it takes to begin taken off, the most memory, and the text."""
+        done, begun = [], []
+        for _ in range(TIMES):
+            done.append(self.call("measure-all", self.secrets, self.options))
+            begun.append(self.call("measure-all", self.secrets, self.one_turn, 4)[0])
+        seconds = statistics.median(one[0] for one in done) - statistics.median(begun)
+        return seconds, max(one[1] for one in done), done[0][2]
+
+    def single(self):
+        """The seconds of 64 calls of one run each, likewise, and the most memory of one."""
+        seconds, most = 0, 0
+        for secret in self.secrets:
+            taken, memory, _ = self.call("measure", [secret], self.options)
+            seconds += taken - self.call("measure", [secret], self.one_turn, 4)[0]
+            most = max(most, memory)
+        return seconds, most
+
+    def check(self, cut):
+        """The number of bits of a cut, with which each secret must be accepted."""
+        pathlib.Path(self.cut).write_bytes(cut)
+        bits = cut.split(b"\nbits ")[1].split(b"\n")[0].decode()
+        words = [self.executable, "check", *self.head, self.cut, bits, *self.secrets, *self.options]
+        _, _, status, text = worked(words, self.folder)
+        if status != 0:
+            raise SystemExit(f"check: status {status}:\n{text.decode()[:300]}")
+        return bits
+
+
+def main():
+    if len(sys.argv) not in (2, 3):
+        print(__doc__, file=sys.stderr)
+        return 2
+    executable, turns = os.path.abspath(sys.argv[1]), int(sys.argv[2]) if len(sys.argv) == 3 else 1_000_000
+    print(f"{'guest':24}{'turns':>10}{'bits':>6}{'64 calls':>11}{'one call':>11}{'times':>7}{'memory of a call':>20}")
+    with tempfile.TemporaryDirectory() as folder:
+        for name, guest in rows(turns):
+            calls = Calls(executable, folder, guest)
+            together, most, cut = calls.together()
+            bits = calls.check(cut)
+            single, other = calls.single()
+            times = f"{together / single:.2f}" if single > 0.1 else "-"
+            print(
+                f"{name:24}{guest.turns:>10}{bits:>6}{single:>9.2f} s{together:>9.2f} s{times:>7}"
+                f"{other / 1e6:>11.1f}, {most / 1e6:.1f} MB",
+                flush=True,
+            )
+    return 0
+
+
+if __name__ == "__main__":
+    sys.exit(main())
