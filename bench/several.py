@@ -4,7 +4,7 @@
 Times `measure-all` of 64 runs of a guest, each on another secret byte, beside 64 calls of `measure` of one run each: a
 tight loop, a loop through a region, a copy of memory byte by byte, a loop that carries a secret byte through 3,000
 points, a loop in which a point's mask changes at every visit, and one with more rounds for a greater secret, each of
-about so many turns (1,000,000 without the word); a run whose graph has about 20,000 points and 300,000 links; and a
+about so many turns (500,000 without the word); a run whose graph has about 20,000 points and 300,000 links; and a
 guest that exits at once.
 
 The seconds are those in which a processor worked for the command. What it takes to read the files and to begin is taken
@@ -119,7 +119,7 @@ def main():
     if len(sys.argv) not in (2, 3):
         print(__doc__, file=sys.stderr)
         return 2
-    executable, turns = os.path.abspath(sys.argv[1]), int(sys.argv[2]) if len(sys.argv) == 3 else 1_000_000
+    executable, turns = os.path.abspath(sys.argv[1]), int(sys.argv[2]) if len(sys.argv) == 3 else 500_000
     print(f"{'guest':24}{'turns':>10}{'bits':>6}{'64 calls':>11}{'one call':>11}{'times':>7}{'memory of a call':>20}")
     with tempfile.TemporaryDirectory() as folder:
         for name, guest in rows(turns):
