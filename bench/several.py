@@ -1,20 +1,27 @@
 #!/usr/bin/env python3
-"""several.py EXECUTABLE [TURNS]
+"""several.py EXECUTABLE [--turns N] [--instructions]
 
 Times `measure-all` of 64 runs of a guest, each on another secret byte, beside 64 calls of `measure` of one run each: a
 tight loop, a loop through a region, a copy of memory byte by byte, a loop that carries a secret byte through 3,000
 points, a loop in which a point's mask changes at every visit, and one with more rounds for a greater secret, each of
-about so many turns (500,000 without the word); a run whose graph has about 20,000 points and 300,000 links; and a
-guest that exits at once.
+about N turns (500,000 without the option); a run whose graph has about 20,000 points and 300,000 links; and a guest
+that exits at once.
 
-The seconds are those in which a processor worked for the command. What it takes to read the files and to begin is taken
-off: the seconds of the same command with `--turns 1`, in which one run makes one turn, as often. Of `measure-all` it is
-the median of three calls. Prints for each guest the turns of a run, the number of bits, the seconds of the 64 calls and
-of the one, how many times as long the one took, and the most memory of a call of either. `check` must accept each
-secret with the one cut and number. Linux with Python 3."""
+The seconds are those in which a processor worked for the command. Those that it takes to read the files are taken off
+as often: of `measure-all` with a last secret of two bytes, which is refused before any run is made. Of 64 runs together
+it is the median of three calls. Prints for each guest the turns of a run, the number of bits, the seconds of the 64
+calls and of the one, how many times as long the one took, and the most memory of a call of either. `check` must accept
+each secret with the one cut and number.
+
+With --instructions it counts by valgrind the millions of instructions, of fewer turns (20,000 without the option). What
+else the machine does changes nothing of it; it has no part of the system's work. Of the 64 calls it makes eight, and
+counts each eight times. The run of so many links is left out. Linux with Python 3, and valgrind for the count."""
+import argparse
 import os
 import pathlib
+import re
 import statistics
+import subprocess
 import sys
 import tempfile
 
@@ -23,6 +30,7 @@ from run import EXIT, Guest, copy_loop, region_loop, tight_loop
 
 SECRETS = 64
 TIMES = 3
+LINKS = "300,000 links"
 
 
 def as_many_rounds(rounds):
@@ -48,7 +56,7 @@ def rows(turns):
         ("3,000 points", carried(max(1, turns // 3_000), 1_500)),
         ("changing masks", changing(turns // 5)),
         ("rounds by the secret", as_many_rounds(turns // 3)),
-        ("300,000 links", largest(500, 600, 9_000)),
+        (LINKS, largest(500, 600, 9_000)),
         ("exit at once", Guest(EXIT, 3)),
     ]
 
@@ -66,41 +74,53 @@ def worked(words, folder):
     return seconds, 1024 * usage.ru_maxrss, os.waitstatus_to_exitcode(status), pathlib.Path(put).read_bytes()
 
 
+def counted(words, folder):
+    """As `worked`, with millions of instructions for the seconds, and no memory."""
+    words = ["valgrind", "--tool=callgrind", f"--callgrind-out-file={folder}/counts"] + words
+    done = subprocess.run(words, capture_output=True, check=False)
+    return int(re.search(rb"Collected : (\d+)", done.stderr)[1]) / 1e6, 0, done.returncode, done.stdout
+
+
 class Calls:
     """The calls for a guest, in a folder."""
 
-    def __init__(self, executable, folder, guest):
-        self.executable, self.folder = executable, folder
+    def __init__(self, executable, folder, guest, is_counting):
+        self.executable, self.folder, self.is_counting = executable, folder, is_counting
         paths, self.options = prepare(executable, folder, guest)
         self.cut, self.head = paths["cut"], [paths["program"], paths["public"]]
         self.secrets = [f"{folder}/secret{number}" for number in range(SECRETS)]
         for number, name in enumerate(self.secrets):
             pathlib.Path(name).write_bytes(bytes([4 * number + 3]))
-        begun = self.options.index("--turns") + 1
-        self.one_turn = [*self.options[:begun], "1", *self.options[begun + 1 :]]
+        self.other = f"{folder}/other"
+        pathlib.Path(self.other).write_bytes(b"ab")
 
-    def call(self, command, secrets, options, expected=0):
+    def call(self, command, secrets, expected=0):
         """Seconds, memory and text of a call."""
-        seconds, memory, status, text = worked([self.executable, command, *self.head, *secrets, *options], self.folder)
+        words = [self.executable, command, *self.head, *secrets, *self.options]
+        seconds, memory, status, text = (counted if self.is_counting else worked)(words, self.folder)
         if status != expected:
             raise SystemExit(f"{command}: status {status}:\n{text.decode()[:300]}")
         return seconds, memory, text
 
+    def reading(self, secrets):
+        """The seconds of a call that reads these secrets, and is refused then."""
+        return self.call("measure-all", [*secrets, self.other], 4)[0]
+
     def together(self):
-        """The seconds of the call of all runs, what it takes to begin taken off, the most memory, and the text."""
-        done, begun = [], []
-        for _ in range(TIMES):
-            done.append(self.call("measure-all", self.secrets, self.options))
-            begun.append(self.call("measure-all", self.secrets, self.one_turn, 4)[0])
-        seconds = statistics.median(one[0] for one in done) - statistics.median(begun)
+        """The seconds of the call of all runs, those of reading taken off, the most memory, and the text."""
+        done, read = [], []
+        for _ in range(1 if self.is_counting else TIMES):
+            done.append(self.call("measure-all", self.secrets))
+            read.append(self.reading(self.secrets[1:]))
+        seconds = statistics.median(one[0] for one in done) - statistics.median(read)
         return seconds, max(one[1] for one in done), done[0][2]
 
     def single(self):
         """The seconds of 64 calls of one run each, likewise, and the most memory of one."""
-        seconds, most = 0, 0
-        for secret in self.secrets:
-            taken, memory, _ = self.call("measure", [secret], self.options)
-            seconds += taken - self.call("measure", [secret], self.one_turn, 4)[0]
+        seconds, most, each = 0, 0, 8 if self.is_counting else 1
+        for secret in self.secrets[::each]:
+            taken, memory, _ = self.call("measure", [secret])
+            seconds += each * (taken - self.reading([secret]))
             most = max(most, memory)
         return seconds, most
 
@@ -116,23 +136,25 @@ class Calls:
 
 
 def main():
-    if len(sys.argv) not in (2, 3):
-        print(__doc__, file=sys.stderr)
-        return 2
-    executable, turns = os.path.abspath(sys.argv[1]), int(sys.argv[2]) if len(sys.argv) == 3 else 500_000
+    parser = argparse.ArgumentParser(description=__doc__, formatter_class=argparse.RawDescriptionHelpFormatter)
+    parser.add_argument("executable", type=os.path.abspath)
+    parser.add_argument("--turns", type=int, metavar="N")
+    parser.add_argument("--instructions", action="store_true")
+    words = parser.parse_args()
+    is_counting, unit = words.instructions, "M" if words.instructions else "s"
     print(f"{'guest':24}{'turns':>10}{'bits':>6}{'64 calls':>11}{'one call':>11}{'times':>7}{'memory of a call':>20}")
     with tempfile.TemporaryDirectory() as folder:
-        for name, guest in rows(turns):
-            calls = Calls(executable, folder, guest)
+        for name, guest in rows(words.turns or (20_000 if is_counting else 500_000)):
+            if is_counting and name == LINKS:
+                continue
+            calls = Calls(words.executable, folder, guest, is_counting)
             together, most, cut = calls.together()
             bits = calls.check(cut)
             single, other = calls.single()
             times = f"{together / single:.2f}" if single > 0.1 else "-"
-            print(
-                f"{name:24}{guest.turns:>10}{bits:>6}{single:>9.2f} s{together:>9.2f} s{times:>7}"
-                f"{other / 1e6:>11.1f}, {most / 1e6:.1f} MB",
-                flush=True,
-            )
+            memory = "-" if is_counting else f"{other / 1e6:.1f}, {most / 1e6:.1f} MB"
+            numbers = f"{guest.turns:>10}{bits:>6}{single:>9.2f} {unit}{together:>9.2f} {unit}"
+            print(f"{name:24}{numbers}{times:>7}{memory:>20}", flush=True)
     return 0
 
 
