@@ -1,6 +1,7 @@
 """The whole answer to a command line: its status and its text. A file is named by a word; a name may have no file."""
 import re
 
+from bounds import Bounds, Task
 from certificates import verify
 from cuts import read_cut, read_regions
 from guest import Image
@@ -13,8 +14,10 @@ from verdicts import MOST_BUDGET, USUAL_TURNS, Command, answer
 from worked_trial import trial_line
 
 MOST_TURNS, MOST_SECRETS, MOST_WORD = 20_000_000, 64, 0xFFFFFFFF
+MOST_PATHS, USUAL_PATHS = 1 << 20, 1 << 16
+FLAGS = {("report", "--json"), ("bound", "--list")}
 PROGRAM, PUBLIC, SECRET, TEXT, REGIONS = 1 << 24, 1 << 20, 1 << 16, 1 << 26, 1 << 16
-NUMBERS = {"--turns": (1, MOST_TURNS), "--rules": (1, 2), "--cut": (1, 2)}
+NUMBERS = {"--turns": (1, MOST_TURNS), "--rules": (1, 2), "--cut": (1, 2), "--paths": (1, MOST_PATHS)}
 OPTIONS = {
     "measure": {"--regions", "--turns", "--rules", "--cut"},
     "measure-all": {"--regions", "--turns", "--rules", "--cut"},
@@ -23,13 +26,14 @@ OPTIONS = {
     "check": {"--regions", "--turns"},
     "taint": {"--regions", "--turns", "--rules"},
     "learn": {"--turns"},
+    "bound": {"--regions", "--turns", "--rules", "--paths"},
     "verify": set(),
     "migrate": set(),
     "trial": set(),
 }
 CHECKED = 5, 4 + MOST_SECRETS
 PLAIN = {"measure": (3, 3), "graph": (3, 3), "report": (3, 3), "check": CHECKED, "taint": CHECKED, "learn": (4, 4),
-         "measure-all": (3, 2 + MOST_SECRETS)}
+         "measure-all": (3, 2 + MOST_SECRETS), "bound": (4, 4)}
 
 
 class Ended(Exception):
@@ -54,7 +58,7 @@ def parsed_words(words):
         name, equals, value = word.partition("=")
         if not word.startswith("-") and word:
             plain.append(word)
-        elif (command, word) == ("report", "--json") and word not in options:
+        elif (command, word) in FLAGS and word not in options:
             options[word] = ""
         elif name in OPTIONS[command] and name not in options:
             value = value if equals else rest.pop(0) if rest and not rest[0].startswith("-") else ""
@@ -72,7 +76,7 @@ def are_in_range(command, plain, options):
     if not least <= len(plain) <= most:
         return False
     numbers = [(options[name], *bounds) for name, bounds in NUMBERS.items() if name in options]
-    numbers += [(plain[3], 0, MOST_BUDGET)] if command in ("check", "taint") else []
+    numbers += [(plain[3], 0, MOST_BUDGET)] if command in ("check", "taint", "bound") else []
     numbers += [(plain[0], 0, MOST_WORD)] if command == "trial" else []
     return all(is_number(*number) for number in numbers)
 
@@ -180,6 +184,21 @@ def learn_answer(files, plain, options):
         raise Ended(4, f"refused 4 {fault}\n") from None
 
 
+def bound_answer(files, plain, options):
+    """The answer of `bound`."""
+    program, public, cut, budget = plain
+    regions = options.get("--regions")
+    load(files, [(program, PROGRAM), (public, PUBLIC), (cut, TEXT), *([(regions, REGIONS)] if regions else [])])
+    require("program", program_fault(files[program]))
+    require("regions", regions and regions_fault(files[regions]))
+    require("cut", cut_fault(files[cut]))
+    listed = read_regions(files[regions]) if regions else []
+    numbers = (("--rules", 1), ("--turns", USUAL_TURNS), ("--paths", USUAL_PATHS))
+    table, turns, paths = (int(options.get(*number)) for number in numbers)
+    task = Task(Image(files[program]), files[public], listed, read_cut(files[cut]), table, int(budget), turns, paths)
+    return Bounds(task).text("--list" in options)
+
+
 def migrate_answer(files, name):
     """The answer of `migrate`."""
     load(files, [(name, TEXT)])
@@ -199,6 +218,8 @@ def answer_to(files, words):
             return 0, cut_text(many_of(files, plain, options), options)
         if command == "learn":
             return learn_answer(files, plain, options)
+        if command == "bound":
+            return bound_answer(files, plain, options)
         if command == "trial":
             return 0, trial_line(int(plain[0]))
         if command == "migrate":

@@ -1,0 +1,73 @@
+//! Walks all paths of the programs of a table, and prints what they show. A model of the walk found what must be printed.
+#![tactic(auto)]
+
+mod rows;
+
+use every_secret::{BoundVerdict, Bounded, Pattern};
+use flow_base::DiskFiles;
+use rows::{parse, verdict};
+use std::io;
+
+/// Prints the bits of a path as 0 and 1.
+fn print_bits(rt: &HostRuntime, bits: &[bool]) -> io::Result<()> {
+    for bit in bits {
+        print!(rt; "{}", u8::from(*bit))?;
+    }
+    Ok(())
+}
+
+/// Prints a pattern.
+fn print_pattern(rt: &HostRuntime, pattern: &Pattern) -> io::Result<()> {
+    println!(rt;
+        "  bytes {:?} status {} masks {:?} {}",
+        pattern.bytes.as_slice(),
+        pattern.status,
+        pattern.byte_masks.as_slice(),
+        pattern.status_mask
+    )
+}
+
+/// Prints what all paths show.
+fn print_bounded(rt: &HostRuntime, name: &str, bounded: &Bounded) -> io::Result<()> {
+    println!(rt;
+        "{name}: bounded paths {} stopped {}",
+        bounded.paths, bounded.stopped
+    )?;
+    for pattern in bounded.patterns.as_slice() {
+        print_pattern(rt, pattern)?;
+    }
+    if let Some(stopped) = &bounded.first_stop {
+        print!(rt; "  stopped ")?;
+        print_bits(rt, stopped.bits.as_slice())?;
+        println!(rt; " {}", stopped.stop)?;
+    }
+    Ok(())
+}
+
+/// Prints an answer.
+fn print_verdict(rt: &HostRuntime, name: &str, verdict: &BoundVerdict) -> io::Result<()> {
+    match verdict {
+        BoundVerdict::Bounded(bounded) => print_bounded(rt, name, bounded),
+        BoundVerdict::Unclear { path, why } => {
+            print!(rt; "{name}: unclear ")?;
+            print_bits(rt, path.as_slice())?;
+            println!(rt; " {why}")
+        }
+    }
+}
+
+fn main(rt: HostRuntime) -> io::Result<()> {
+    let mut files = DiskFiles::new(rt);
+    for line in rt.lines(rt.alloc()) {
+        let line = line?;
+        let Some(row) = parse(line.as_str()) else {
+            println!(rt; "{line}: no row")?;
+            continue;
+        };
+        match verdict(rt.alloc(), &mut files, &row) {
+            Some(verdict) => print_verdict(&rt, row.name, &verdict)?,
+            None => println!(rt; "{line}: no files, or memory is short")?,
+        }
+    }
+    Ok(())
+}

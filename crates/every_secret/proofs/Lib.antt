@@ -1,0 +1,15 @@
+pub mod Strings
+pub mod Nodes
+pub mod Ruled
+pub mod OneVisit
+pub mod MadeTurns
+pub mod WalkedPaths
+pub mod Trees
+pub mod SteppedPaths
+pub mod Alike
+pub mod Merging
+pub mod WalkKeeps
+pub mod WalkOutputs
+pub mod WalkLeaves
+pub mod WalkStands
+pub mod WalkSkips

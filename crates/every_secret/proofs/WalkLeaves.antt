@@ -1,0 +1,284 @@
+-- The leave of a region keeps that the real run, the replay and the walk agree outside the walk's masks: of a region that was
+-- run, and of one that the replay and the walk skip at once.
+use Rattle.std.proofs.Common.{◌≡◌, ℕ, ◌+◌, ◌≤◌, ◌⊎◌, inl, inr, ⊎_elim, Bool, true, false, List, [], ◌∷◌, ◌++◌, None}
+use Rattle.std.proofs.Common.{refl, sym, ap, subst, ◌∙◌, arith}
+use Rattle.std.specs.Prelude.{◌==◌, ◌&&◌, nat_lt, if◌then◌else◌}
+use Rattle.std.specs.List.{list_all}
+use Rattle.std.proofs.lemmas.Bool.{eqb-true, and_parts}
+use Rattle.flow_base.specs.declared.points.Point.{Point}
+use Rattle.crossing_bits.specs.Askers.{Asker}
+use Rattle.enclosure_regions.specs.declared.region_parts.Region.{Region}
+use Rattle.enclosure_regions.specs.Breaks.{keep_break}
+use Rattle.enclosure_regions.specs.Regions.{is_register}
+use Rattle.rv32im_machine.specs.declared.language.Place.{Place}
+use Rattle.rv32im_machine.specs.declared.language.Place.TheVariants.{Register, Byte, First, Second}
+use Rattle.rv32im_machine.specs.Folds.{real_end}
+use Rattle.rv32im_machine.specs.State.{Setting, Control, Store, entered, moved_to, restored}
+use Rattle.rv32im_machine.specs.Language.{Turn, Ends, Held, hold, put, walked, none_held, at_place}
+use Rattle.region_machine.specs.Guests.{gives, leave, skip}
+use Rattle.region_machine.specs.Runs.{passed}
+use Rattle.region_machine.specs.Within.{are_inside}
+use Rattle.replay_machine.specs.Runs.{ReplayPlace, replayed}
+use Rattle.lockstep_replay.specs.Crossing.{crossing}
+use Rattle.lockstep_replay.specs.Verdicts.{counted_bits}
+use Rattle.shadow_masks.specs.Labels.{clean}
+use Rattle.shadow_masks.specs.Shades.{is_listed}
+use Rattle.shadow_masks.specs.Writes.{LabelMap, Save, after}
+use Rattle.run_labels.specs.TurnLabels.{TurnLabels, at_start, label_at, put_label, restore_labels}
+use Rattle.covered_runs.specs.Proper.{place_limit}
+use Rattle.covered_runs.proofs.Entering.{SameStarts}
+use Rattle.covered_runs.proofs.Leaving.{KeptBeside, kept_same, outputs_are, put_back, restored_beside, same_outputs}
+use Rattle.covered_runs.proofs.Leaving.{zero_unlisted}
+use Rattle.covered_runs.proofs.Outputs.{IsAmong, OfByte, OfRegister, Output, Waits, given, output_place}
+use Rattle.covered_runs.proofs.RegionOutputsPass.{Waiting, gives_given, outputs_of, register_outputs, waiting_of}
+use Rattle.covered_runs.proofs.Skipping.{cleared, cleared_among, cleared_kept, skip_zeroed, zeroed, zeroed_replayed}
+use Rattle.covered_runs.proofs.SkipsKeepRelation.{SkippedTo, skip_waiting}
+use Rattle.covered_runs.proofs.WritesKeepRelation.{Beside, put_label_kept, put_label_limits}
+use Rattle.masked_turns.specs.Clearing.{Cutting}
+use Rattle.every_secret.specs.Masked.{Reached, masked}
+use Rattle.every_secret.specs.Rules.{Rules}
+use Rattle.every_secret.proofs.WalkKeeps.{AlikeControl, AreSmall, Outcome, everything, kept_of, knows, same_part, step}
+use Rattle.every_secret.proofs.WalkOutputs.{given_walks}
+
+-- ---- controls
+
+pub alike_entered : (number : ℕ) (masks : List ℕ) (mask : ℕ) (control shown : Control) →
+    AlikeControl masks mask control shown → AlikeControl masks mask (entered number control) (entered number shown)
+unfolding entered
+alike_entered number masks mask control shown alike = record {
+  output = alike.output;
+  mode = alike.mode;
+  same = ap (λ (c : Control). entered number c) alike.same;
+}
+
+pub alike_moved : (pc : ℕ) (masks : List ℕ) (mask : ℕ) (control shown : Control) →
+    AlikeControl masks mask control shown → AlikeControl masks mask (moved_to pc control) (moved_to pc shown)
+unfolding moved_to
+alike_moved pc masks mask control shown alike = record {
+  output = alike.output;
+  mode = alike.mode;
+  same = ap (λ (c : Control). moved_to pc c) alike.same;
+}
+
+-- ---- outputs that become 0 have no mask
+
+unfoldable pub cleaned : List Output → TurnLabels → TurnLabels
+cleaned [] labels = labels
+cleaned (o ∷ os) labels = cleaned os (put_label (output_place o) clean labels)
+
+held-still : (o : Output) (value : ℕ) (held : Held) → hold (output_place o) value held ≡ held
+held-still (OfRegister register) value held = refl
+held-still (OfByte range address) value held = refl
+
+zeroed_masked : (rules : Rules) (cutting : Cutting) (number : ℕ) (setting : Setting) (other : List ℕ) (past : List Point)
+    (crossed : ℕ) (masks : List ℕ) (mask : ℕ) (os : List Output) (turn : Turn) (labels : TurnLabels) (store : Store)
+    (held : Held) →
+    masked rules cutting number (knows past labels crossed masks mask) (walked setting other (zeroed os turn) store held)
+    ≡ masked rules cutting number (knows past (cleaned os labels) crossed masks mask)
+    (walked setting other turn (cleared setting.base os store) held)
+unfolding zeroed cleared cleaned masked walked
+zeroed_masked rules cutting number setting other past crossed masks mask [] turn labels store held = refl
+zeroed_masked rules cutting number setting other past crossed masks mask (o ∷ os) turn labels store held =
+    ap (λ h. masked rules cutting number (knows past (put_label (output_place o) clean labels) crossed masks mask)
+    (walked setting other (zeroed os turn) (put setting.base (output_place o) 0 store) h)) (held-still o 0 held)
+    ∙ zeroed_masked rules cutting number setting other past crossed masks mask os turn
+    (put_label (output_place o) clean labels) (put setting.base (output_place o) 0 store) held
+
+-- a place is that of an output, or has the label that it had
+put_case : (o : Output) (labels : TurnLabels) (q : Place) →
+    (output_place o ≡ q) ⊎ (label_at (put_label (output_place o) clean labels) q ≡ label_at labels q)
+put_case (OfRegister r) labels (Register q) = pick (nat_lt 0 q && q == r) refl
+  where
+    pick : (t : Bool) → (nat_lt 0 q && q == r) ≡ t →
+        (Register r ≡ Register q) ⊎ ((if t then clean else labels.map.registers q) ≡ labels.map.registers q)
+    pick true e = inl (ap (λ k. Register k) (sym (eqb-true q r (and_parts (nat_lt 0 q) (q == r) e).1)))
+    pick false e = inr refl
+put_case (OfRegister r) labels (Byte q) = inr refl
+put_case (OfRegister r) labels First = inr refl
+put_case (OfRegister r) labels Second = inr refl
+put_case (OfByte n p) labels (Register q) = inr refl
+put_case (OfByte n p) labels (Byte q) = pick (q == p) refl
+  where
+    pick : (t : Bool) → (q == p) ≡ t →
+        (Byte p ≡ Byte q) ⊎ ((if t then clean else labels.map.bytes q) ≡ labels.map.bytes q)
+    pick true e = inl (ap (λ k. Byte k) (sym (eqb-true q p e)))
+    pick false e = inr refl
+put_case (OfByte n p) labels First = inr refl
+put_case (OfByte n p) labels Second = inr refl
+
+cleaned_case : (os : List Output) (labels : TurnLabels) (q : Place) →
+    IsAmong os q ⊎ (label_at (cleaned os labels) q ≡ label_at labels q)
+unfolding cleaned IsAmong
+cleaned_case [] labels q = inr refl
+cleaned_case (o ∷ os) labels q = ⊎_elim
+    (λ among. inl (inr among))
+    (λ same. ⊎_elim (λ here. inl (inl here)) (λ still. inr (same ∙ still)) (put_case o labels q))
+    (cleaned_case os (put_label (output_place o) clean labels) q)
+
+none-limit : (o : Output) → 0 ≤ place_limit (output_place o)
+none-limit (OfRegister register) = omega arith
+none-limit (OfByte range address) = omega arith
+
+cleaned_limits : (os : List Output) (labels : TurnLabels) → ((q : Place) → (label_at labels q).mask ≤ place_limit q) →
+    (q : Place) → (label_at (cleaned os labels) q).mask ≤ place_limit q
+unfolding cleaned
+cleaned_limits [] labels limits q = limits q
+cleaned_limits (o ∷ os) labels limits q =
+    cleaned_limits os (put_label (output_place o) clean labels)
+    (λ p. put_label_limits (output_place o) clean labels (none-limit o) p (limits p)) q
+
+cleaned_kept : (os : List Output) (labels : TurnLabels) → (cleaned os labels).map.kept ≡ labels.map.kept
+unfolding cleaned
+cleaned_kept [] labels = refl
+cleaned_kept (o ∷ os) labels =
+    cleaned_kept os (put_label (output_place o) clean labels) ∙ put_label_kept (output_place o) clean labels
+
+-- what a leave puts back are the labels of the entry
+put_back_same : (keep : List ℕ) (before : LabelMap) (q : Place) →
+    label_at (restore_labels keep (at_start (after Save before))) q ≡ label_at (at_start before) q
+put_back_same keep before (Register q) = pick (is_listed keep q)
+  where
+    pick : (t : Bool) → (if t then before.registers q else before.registers q) ≡ before.registers q
+    pick true = refl
+    pick false = refl
+put_back_same keep before (Byte q) = refl
+put_back_same keep before First = refl
+put_back_same keep before Second = refl
+
+module _ (rules : Rules) (cutting : Cutting) (small : AreSmall cutting.masks) (setting : Setting) (secret other : List ℕ)
+    (number : ℕ) (region : Region) where
+  -- a region that was run is left
+  pub leave_walks : (control shown : Control) (labels : LabelMap) (crossed : ℕ) (masks : List ℕ) (mask : ℕ)
+      (real copy : Store) (past : List Point) → list_all is_register region.outs ≡ true →
+      list_all is_register region.keep ≡ true → are_inside region.ranges real.kept setting.base ≡ true →
+      SameStarts region.ranges real.kept copy.kept → keep_break region real.kept real.registers ≡ None →
+      KeptBeside everything labels real copy → Beside everything setting.base (at_start labels) real none_held copy
+      none_held → AlikeControl masks mask control shown →
+      Outcome setting other
+      (masked rules cutting number (knows past (at_start labels) crossed masks mask)
+      (walked setting other (leave region copy.kept shown) copy none_held)) crossed
+      (real_end (walked setting secret (leave region real.kept control) real none_held))
+      (passed past (walked setting secret (leave region real.kept control) real none_held))
+      (crossing cutting.masks past (walked setting secret (leave region real.kept control) real none_held))
+      (replayed cutting.masks past (walked setting other (leave region copy.kept control) copy none_held))
+      (kept_of copy labels)
+  unfolding walked masked replayed crossing passed real_end
+  leave_walks control shown labels crossed masks mask real copy past outs keeps inside starts unbroken kept beside alike =
+      let os = outputs_of region real.kept in
+      let end = Ends (entered 0 control) in
+      let shown_end = Ends (entered 0 shown) in
+      let changed = restored region.keep copy in
+      let after_back = restore_labels region.keep (at_start labels) in
+      let same_os : outputs_of region copy.kept ≡ os =
+      ap (λ later. register_outputs region.outs ++ later)
+      (sym (same_outputs real.kept copy.kept 0 region.ranges starts)) in
+      let copy_gives : (turn : Turn) → given region os turn ≡ gives region copy.kept turn = λ turn.
+      sym (gives_given region copy.kept turn ∙ ap (λ all_outputs. given region all_outputs turn) same_os) in
+      let back = restored_beside everything setting.base labels real copy region.keep (zero_unlisted region.keep keeps)
+      (λ q listed. kept_same region real.kept real.registers q unbroken listed) kept beside in
+      let Motive : Turn → Turn → Turn → Type 0 = λ run replay walk. Outcome setting other
+      (masked rules cutting number (knows past after_back crossed masks mask)
+      (walked setting other walk changed none_held)) crossed (real_end (walked setting secret run real none_held))
+      (passed past (walked setting secret run real none_held))
+      (crossing cutting.masks past (walked setting secret run real none_held))
+      (replayed cutting.masks past (walked setting other replay changed none_held)) (kept_of copy labels) in
+      let result : Motive (given region os end) (given region os end) (given region os shown_end) =
+      step setting other _ _ crossed crossed _ _ _ _ _ (kept_of changed labels) (kept_of copy labels) [] [] (λ rest. refl) (λ rest. refl)
+      (λ n. ap (λ k. counted_bits (crossed + k)) (omega arith)) (same_part (put_back region.keep copy).kept refl)
+      (given_walks rules cutting small setting secret other number region os (entered 0 control) (entered 0 shown)
+      after_back crossed masks mask real none_held changed none_held past
+      (outputs_are setting.base region real.kept outs inside)
+      (waiting_of everything region.id setting.base os after_back real none_held changed none_held back) (λ run. back)
+      (alike_entered 0 masks mask control shown alike)) in
+      subst (λ walk. Motive (gives region real.kept end) (gives region copy.kept end) walk) (copy_gives shown_end)
+      (subst (λ replay. Motive (gives region real.kept end) replay (given region os shown_end)) (copy_gives end)
+      (subst (λ run. Motive run (given region os end) (given region os shown_end))
+      (sym (gives_given region real.kept end)) result))
+
+  -- the outputs of a skipped region wait, and have no mask
+  module _ (before : LabelMap) (entry real copy : Store)
+      (beside : Beside everything setting.base (at_start before) entry none_held copy none_held)
+      (to : SkippedTo setting.base region before entry (after Save before) real)
+      (outs : list_all is_register region.outs ≡ true) (keeps : list_all is_register region.keep ≡ true)
+      (inside : are_inside region.ranges real.kept setting.base ≡ true)
+      (unbroken : keep_break region real.kept real.registers ≡ None) where
+    cleaned_waiting : Waiting everything region.id setting.base (outputs_of region real.kept)
+        (cleaned (outputs_of region real.kept) (at_start before)) real none_held
+        (cleared setting.base (outputs_of region real.kept) copy) none_held
+    cleaned_waiting =
+        let os = outputs_of region real.kept in
+        let waits = skip_waiting everything setting.base region refl before (after Save before) entry real copy beside to
+        outs keeps inside unbroken in record {
+          places = λ q iq. ⊎_elim
+              (λ among. inl (
+                among,
+                cleared_among setting.base os copy q (outputs_are setting.base region real.kept outs inside) iq among,
+                refl,
+              ))
+              (λ same. subst (λ label. Waits everything region.id os q label (at_place setting.base real none_held q)
+              (at_place setting.base (cleared setting.base os copy) none_held q))
+              (put_back_same region.keep before q ∙ sym same) (waits.places q iq))
+              (cleaned_case os (at_start before) q);
+          registers = waits.registers;
+          memory = waits.memory;
+          real_limits = waits.real_limits;
+          copy_limits = waits.copy_limits;
+          label_limits = cleaned_limits os (at_start before) beside.label_limits;
+        }
+
+    -- a region that the replay and the walk skip is left: its outputs have every bit of their slots
+    pub skip_walks : cutting.skipped ≡ true → SameStarts region.ranges real.kept copy.registers →
+        (control entered_by shown : Control) → entered 0 control ≡ moved_to region.leave entered_by → (crossed : ℕ)
+        (masks : List ℕ) (mask : ℕ) (past : List Point) → AlikeControl masks mask entered_by shown →
+        Outcome setting other
+        (masked rules cutting number (knows past (at_start before) crossed masks mask)
+        (walked setting other (skip region copy.registers shown) copy none_held)) crossed
+        (real_end (walked setting secret (leave region real.kept control) real none_held))
+        (passed past (walked setting secret (leave region real.kept control) real none_held))
+        (crossing cutting.masks past (walked setting secret (leave region real.kept control) real none_held))
+        (replayed cutting.masks past (walked setting other (skip region copy.registers entered_by) copy none_held))
+        (kept_of copy before)
+    unfolding walked crossing passed real_end
+    skip_walks whole starts control entered_by shown alike_ends crossed masks mask past alike =
+        let os = outputs_of region real.kept in
+        let end = Ends (entered 0 control) in
+        let changed = cleared setting.base os copy in
+        let same_os : os ≡ outputs_of region copy.registers =
+        ap (λ later. register_outputs region.outs ++ later)
+        (same_outputs real.kept copy.registers 0 region.ranges starts) in
+        let skipped : (by : Control) → zeroed os (given region os (Ends (moved_to region.leave by)))
+        ≡ skip region copy.registers by = λ by.
+        ap (λ all_outputs. zeroed all_outputs (given region all_outputs (Ends (moved_to region.leave by)))) same_os
+        ∙ sym (skip_zeroed region copy.registers by) in
+        let replay_skipped : zeroed os (given region os end) ≡ skip region copy.registers entered_by =
+        ap (λ c. zeroed os (given region os (Ends c))) alike_ends ∙ skipped entered_by in
+        let Motive : Turn → Asker ReplayPlace → Asker Reached → Type 0 = λ run replay walk. Outcome setting other walk crossed
+        (real_end (walked setting secret run real none_held))
+        (passed past (walked setting secret run real none_held))
+        (crossing cutting.masks past (walked setting secret run real none_held)) replay (kept_of copy before) in
+        let walk_of : Turn → Asker Reached = λ turn.
+        masked rules cutting number (knows past (at_start before) crossed masks mask)
+        (walked setting other turn copy none_held) in
+        let replay_of : Turn → Asker ReplayPlace = λ turn.
+        replayed cutting.masks past (walked setting other turn copy none_held) in
+        let result = step setting other _ _ crossed crossed _ _ _ _ _ (kept_of changed (cleaned os (at_start before)).map) (kept_of copy before) [] [] (λ rest. refl)
+        (λ rest. refl) (λ n. ap (λ k. counted_bits (crossed + k)) (omega arith)) (same_part (cleared_kept setting.base os copy) (cleaned_kept os (at_start before)))
+        (given_walks rules cutting small setting secret other number region os (entered 0 control)
+        (moved_to region.leave shown) (cleaned os (at_start before)) crossed masks mask real none_held changed none_held
+        past (outputs_are setting.base region real.kept outs inside) cleaned_waiting
+        (λ run. let both : true ≡ false = sym whole ∙ run in absurd (cc))
+        (subst (λ c. AlikeControl masks mask c (moved_to region.leave shown)) (sym alike_ends)
+        (alike_moved region.leave masks mask entered_by shown alike))) in
+        subst (λ run. Motive run (replay_of (skip region copy.registers entered_by))
+        (walk_of (skip region copy.registers shown))) (sym (gives_given region real.kept end))
+        (subst (λ turn. Motive (given region os end) (replay_of (skip region copy.registers entered_by)) (walk_of turn))
+        (skipped shown)
+        (subst (λ turn. Motive (given region os end) (replay_of turn)
+        (walk_of (zeroed os (given region os (Ends (moved_to region.leave shown)))))) replay_skipped
+        (subst (λ walk. Motive (given region os end) (replay_of (zeroed os (given region os end))) walk)
+        (sym (zeroed_masked rules cutting number setting other past crossed masks mask os
+        (given region os (Ends (moved_to region.leave shown))) (at_start before) copy none_held))
+        (subst (λ replay. Motive (given region os end) replay
+        (masked rules cutting number (knows past (cleaned os (at_start before)) crossed masks mask)
+        (walked setting other (given region os (Ends (moved_to region.leave shown))) changed none_held)))
+        (sym (zeroed_replayed cutting.masks past setting other os (given region os end) copy none_held)) result))))

@@ -1,0 +1,239 @@
+-- A region that is skipped: while the real run is inside it the replay and the walk stand at its entry, and at its leave both
+-- make the skip.
+use Rattle.std.proofs.Common.{◌≡◌, ℕ, ◌^◌, ◌<◌, ◌≤◌, ◌⊎◌, inl, inr, true, false, List, [], ◌++◌}
+use Rattle.std.proofs.Common.{Option, Some, None, refl, sym, ap, subst, ◌∙◌}
+use Rattle.std.specs.Prelude.{if◌then◌else◌, slice_index}
+use Rattle.flow_base.specs.declared.points.Point.{Point}
+use Rattle.crossing_bits.specs.Askers.{Asker, feed}
+use Rattle.enclosure_regions.specs.declared.region_parts.Region.{Region}
+use Rattle.enclosure_regions.specs.Breaks.{keep_break, outside_range, range_break}
+use Rattle.enclosure_regions.specs.Regions.{stands_in}
+use Rattle.rv32im_machine.specs.declared.language.Place.TheVariants.{Register}
+use Rattle.rv32im_machine.specs.declared.stepping.Stepped.TheVariants.{Ran}
+use Rattle.rv32im_machine.specs.Folds.{real_end}
+use Rattle.rv32im_machine.specs.State.{Control, Setting, State, Store, entered, saved}
+use Rattle.rv32im_machine.specs.Language.{Walk, none_held, walked}
+use Rattle.region_machine.specs.Enclosures.{Enters, kind_of, region_numbered}
+use Rattle.region_machine.specs.Guests.{entry, leave, skip as skip_turn}
+use Rattle.region_machine.specs.Runs.{passed}
+use Rattle.region_machine.specs.Within.{are_inside}
+use Rattle.region_machine.proofs.RangesStayInside.{inside_at_entry}
+use Rattle.replay_machine.specs.ReplayTurns.{entry_walk, kind_outside_range, outside_of, replay_kind_walk}
+use Rattle.replay_machine.specs.Runs.{replay_inside, replayed}
+use Rattle.lockstep_replay.specs.Crossing.{crossing}
+use Rattle.lockstep_replay.specs.Tasks.{Task}
+use Rattle.shadow_masks.specs.Writes.{LabelMap, Save, after}
+use Rattle.run_labels.specs.TurnLabels.{at_start}
+use Rattle.covered_runs.specs.Proper.{AreBytes}
+use Rattle.covered_runs.specs.ProperLaws.{ProperTurnsLaw}
+use Rattle.covered_runs.proofs.Entering.{SameStarts, entry_end, outside_same}
+use Rattle.covered_runs.proofs.RegionTurns.{leave_end, left_break, left_region, ranges_unbroken}
+use Rattle.covered_runs.proofs.SkippedTurns.{entered_break, entered_mode, entered_to, region_of_entered, same_control}
+use Rattle.covered_runs.proofs.SkippedTurns.{same_inside_refl}
+use Rattle.covered_runs.proofs.QuietInsideRegions.{SameInside}
+use Rattle.covered_runs.proofs.SkipsKeepRelation.{SkippedTo}
+use Rattle.covered_runs.proofs.StepsKeepStanding.{HasRules, placed, state_of}
+use Rattle.covered_runs.proofs.WritesKeepRelation.{Beside}
+use Rattle.every_secret.specs.Masked.{MaskedPlace, Reached, masked}
+use Rattle.every_secret.specs.Rules.{AreSoundRules, Rules}
+use Rattle.every_secret.specs.Turns.{cutting_of, kind_turn, masked_turn, secret_base, turn_from, turn_inside}
+use Rattle.every_secret.proofs.Alike.{AgreeEach, with_output}
+use Rattle.every_secret.proofs.WalkKeeps.{AreSmall, IsMet, Outcome, everything, kept_of, knows}
+use Rattle.every_secret.proofs.WalkLeaves.{skip_walks}
+use Rattle.every_secret.proofs.WalkStands.{At, Turned, clear_starts, walking_at}
+
+-- the real run is inside a skipped region that was entered with this control, these masks and these values
+pub record Skipping (skip : List ℕ) (regions : List Region) (base : ℕ) (control entered_by : Control) (before : LabelMap)
+    (real copy : Store) : Type 0 where
+  pub region : Region
+  pub entry_store : Store
+  pub beside : Beside everything base (at_start before) entry_store none_held copy none_held
+  pub skipped : stands_in skip region.id ≡ true
+  pub numbered : region_numbered regions control.region ≡ Some region
+  pub to : SkippedTo base region before entry_store (after Save before) real
+  pub clear : secret_base region.ranges before ≡ None
+  pub inside : are_inside region.ranges entry_store.registers base ≡ true
+  pub none : outside_range region copy.registers base ≡ None
+  pub quiet : SameInside (entered region.id entered_by) control
+  pub ran : control.mode ≡ Ran
+  pub kind : kind_of regions entered_by ≡ Enters region
+  pub nowhere : entered_by.region ≡ 0
+  pub small_break : control.current_break < 2 ^ 32
+
+module _ (rules : Rules) (sound : AreSoundRules rules) (task : Task) (setting : Setting) (secret other : List ℕ)
+    (bytes : AreBytes secret) (others : AreBytes other) (public_bytes : AreBytes setting.public_input)
+    (small_start : setting.start_break < 2 ^ 32) (small : AreSmall task.masks) (proper : ProperTurnsLaw) where
+  abbrev Standing : Control → LabelMap → Store → Store → List Point → Type 0
+  Standing control labels real copy past =
+      At rules sound task setting secret other bytes others public_bytes small_start small proper control labels real copy
+      past
+
+  abbrev Made : Control → MaskedPlace → Walk → Store → List Point → Type 0
+  Made control here walk copy past =
+      Turned rules sound task setting secret other bytes others public_bytes small_start small proper control here walk copy
+      past
+
+  abbrev Within : Control → Control → LabelMap → Store → Store → Type 0
+  Within control entered_by before real copy =
+      Skipping task.enclosures.skip task.enclosures.regions setting.base control entered_by before real copy
+
+  -- what the walk asks at the entry of a skipped region
+  abbrev skip_asker : Region → LabelMap → ℕ → List ℕ → ℕ → Control → Store → List Point → Asker Reached
+  skip_asker region before crossed masks mask shown copy past =
+      masked rules (cutting_of task (Enters region)) region.id (knows past (at_start before) crossed masks mask)
+      (entry_walk task.enclosures region (state_of setting other shown copy))
+
+  module _ (control : Control) (output written : List ℕ) (before : LabelMap) (copy : Store) (past : List Point)
+      (crossed : ℕ) (masks : List ℕ) (mask : ℕ) where
+    abbrev here : Control
+    here = with_output control output Ran
+
+    abbrev shown : Control
+    shown = with_output control written Ran
+
+    abbrev place : MaskedPlace
+    place = walking_at setting other shown copy past before crossed masks mask
+
+    asks : (region : Region) → kind_of task.enclosures.regions here ≡ Enters region → (found : Option ℕ) →
+        secret_base region.ranges before ≡ found →
+        masked_turn rules task place
+        ≡ turn_from found region.id (turn_inside (outside_of region (outside_range region copy.registers setting.base))
+        (skip_asker region before crossed masks mask shown copy past))
+    asks region kind found e =
+        ap (λ k. kind_turn rules task k place) kind
+        ∙ ap (λ b. turn_from b region.id
+        (turn_inside (outside_of region (outside_range region copy.registers setting.base))
+        (skip_asker region before crossed masks mask shown copy past))) e
+
+    -- ---- the entry
+
+    pub skip_begins : (real : Store) (region : Region) → kind_of task.enclosures.regions here ≡ Enters region →
+        stands_in task.enclosures.skip region.id ≡ true →
+        region_numbered task.enclosures.regions region.id ≡ Some region → control.region ≡ 0 →
+        range_break region real.registers setting.base ≡ None → Standing here before real copy past →
+        IsMet (masked_turn rules task place)
+        ⊎ Within (real_end (walked setting secret (entry region here) real none_held)).control here before
+        (real_end (walked setting secret (entry region here) real none_held)).store copy
+    skip_begins real region kind skipped numbered zeroth unbroken at =
+        pick (secret_base region.ranges before) refl
+      where
+        begun : secret_base region.ranges before ≡ None → Within (entered region.id here) here before (saved real) copy
+        begun clear = record {
+          region = region;
+          entry_store = real;
+          beside = at.beside;
+          skipped = skipped;
+          numbered = subst (λ r. region_numbered task.enclosures.regions r ≡ Some region)
+              (sym (region_of_entered region.id here)) numbered;
+          to = entered_to setting.base region before real at.beside.real_limits at.beside.label_limits;
+          clear = clear;
+          inside = inside_at_entry region real.registers setting.base
+              (ranges_unbroken region real.registers setting.base unbroken);
+          none = sym (outside_same region real.registers copy.registers setting.base
+              (clear_starts setting.base before real copy at.beside region.ranges clear))
+              ∙ ranges_unbroken region real.registers setting.base unbroken;
+          quiet = same_inside_refl (entered region.id here);
+          ran = entered_mode region.id here;
+          kind = kind;
+          nowhere = zeroth;
+          small_break = subst (λ b. b < 2 ^ 32) (sym (entered_break region.id here)) at.small_break;
+        }
+
+        pick : (found : Option ℕ) → secret_base region.ranges before ≡ found →
+            IsMet (masked_turn rules task place)
+            ⊎ Within (real_end (walked setting secret (entry region here) real none_held)).control here before
+            (real_end (walked setting secret (entry region here) real none_held)).store copy
+        pick None e =
+            inr (subst (λ (s : State). Within s.control here before s.store copy)
+            (sym (entry_end setting secret real none_held region here)) (begun e))
+        pick (Some register) e =
+            inl (record {
+              chosen = [];
+              why = _;
+              meets = λ more. ap (λ asker. feed asker more) (asks region kind (Some register) e);
+            })
+
+    -- ---- the leave
+
+    pub skip_ends : (now : Control) (real : Store) (at : Within now here before real copy) → AgreeEach masks output written →
+        now.pc ≡ at.region.leave → HasRules at.region → stands_in task.enclosures.skip 0 ≡ false →
+        keep_break at.region real.kept real.registers ≡ None →
+        Made here place (walked setting secret (leave at.region real.kept now) real none_held) copy past
+    skip_ends now real at agree pc are_rules outside unbroken =
+        made (skip_walks rules (cutting_of task (Enters region)) small setting secret other region.id region before
+        at.entry_store real copy at.beside at.to are_rules.outs are_rules.keeps inside unbroken at.skipped starts now here
+        shown (same_control now here region.leave region.id at.quiet at.ran refl at.nowhere pc) crossed masks mask past
+        (record { output = agree; mode = tt; same = refl }))
+      where
+        region : Region
+        region = at.region
+
+        walk : Walk
+        walk = walked setting secret (leave region real.kept now) real none_held
+
+        starts : SameStarts region.ranges real.kept copy.registers
+        starts =
+            subst (λ xs. SameStarts region.ranges xs copy.registers) (sym at.to.kept)
+            (clear_starts setting.base before at.entry_store copy at.beside region.ranges at.clear)
+
+        inside : are_inside region.ranges real.kept setting.base ≡ true
+        inside = subst (λ xs. are_inside region.ranges xs setting.base ≡ true) (sym at.to.kept) at.inside
+
+        skipping : Asker Reached
+        skipping =
+            masked rules (cutting_of task (Enters region)) region.id (knows past (at_start before) crossed masks mask)
+            (walked setting other (skip_turn region copy.registers shown) copy none_held)
+
+        skip_asks : masked_turn rules task place ≡ skipping
+        skip_asks =
+            asks region at.kind None at.clear
+            ∙ ap (λ o. turn_inside (outside_of region o) (skip_asker region before crossed masks mask shown copy past))
+            at.none
+            ∙ ap (λ t. masked rules (cutting_of task (Enters region)) region.id
+            (knows past (at_start before) crossed masks mask) (if t
+            then walked setting other (skip_turn region copy.registers shown) copy none_held
+            else walked setting other (entry region shown) copy none_held)) at.skipped
+
+        made : Outcome setting other skipping crossed (real_end walk) (passed past walk) (crossing task.masks past walk)
+            (replayed task.masks past (walked setting other (skip_turn region copy.registers here) copy none_held))
+            (kept_of copy before) →
+            Made here place walk copy past
+        made (inl met) = inl (subst (λ asker. IsMet asker) (sym skip_asks) met)
+        made (inr along) =
+            let end = leave_end setting secret region real.kept now real in
+            let region_is = ap (λ (c : Control). c.region) end.control_is ∙ left_region now in
+            let break_is = ap (λ (c : Control). c.current_break) end.control_is ∙ left_break now in inr (record {
+              chosen = along.chosen;
+              place = along.place;
+              goes = λ more. ap (λ asker. feed asker (along.chosen ++ more)) skip_asks ∙ along.goes more;
+              uses =
+                  ap (λ k. feed (replay_inside (kind_outside_range k (state_of setting other here copy)) task.enclosures
+                  task.masks (placed setting other here copy past)) (crossing task.masks past walk)) at.kind
+                  ∙ ap (λ o. feed (replay_inside (outside_of region o) task.enclosures task.masks
+                  (placed setting other here copy past)) (crossing task.masks past walk)) at.none
+                  ∙ ap (λ k. feed (replayed task.masks past (replay_kind_walk task.enclosures k
+                  (state_of setting other here copy))) (crossing task.masks past walk)) at.kind
+                  ∙ ap (λ t. feed (replayed task.masks past (if t
+                  then walked setting other (skip_turn region copy.registers here) copy none_held
+                  else walked setting other (entry region here) copy none_held)) (crossing task.masks past walk))
+                  at.skipped
+                  ∙ along.uses;
+              past_after = along.past_after;
+              count = along.count;
+              setting_after = along.setting_after;
+              secret_after = along.secret_after;
+              control_after = along.control;
+              stands = record {
+                beside = along.beside;
+                counts = λ point never. refl;
+                runs = subst (λ r. stands_in task.enclosures.skip r ≡ false) (sym region_is) outside;
+                nowhere = λ none. region_is;
+                inside = λ found is_in.
+                    let none_there : None ≡ Some found =
+                    subst (λ r. region_numbered task.enclosures.regions r ≡ Some found) region_is is_in in
+                    absurd (cc);
+                small_break = subst (λ b. b < 2 ^ 32) (sym break_is) at.small_break;
+                kept_words = λ r. subst (λ xs. slice_index xs r ≤ 4294967295) (sym (end.kept_is ∙ at.to.kept))
+                    (at.beside.real_limits (Register r));
+              };
+            })

@@ -1,0 +1,66 @@
+use Rattle.std.proofs.Common.{sym}
+use Rattle.region_machine.specs.Enclosures.{Enclosures}
+use Rattle.region_machine.specs.Within.{seen}
+use Rattle.replay_machine.specs.ReplayTurns.{kind_outside_range}
+use Rattle.tracked_run.specs.Labels.{map_of}
+use Rattle.every_secret.specs.Tapes.{tape_of}
+use Rattle.every_secret.specs.Turns.{secret_base_of}
+use Rattle.every_secret.proofs.MadeTurns.{kind-longer, kind-ready, kind-table, turn-makes}
+use Rattle.every_secret.proofs.turns.make_turn.Goals as goal
+
+pub returns-clause-table : goal.returns-clause-table
+returns-clause-table g c =
+    let side = c.args.side.now in
+    let new = c.make_kind.new.side in
+    let machine = c.args.machine.now in
+    let enclosures : Enclosures = record { regions = c.args.marked.now.regions.items; skip = c.args.skip.now } in
+    let kind = seen c.next_turn-turn.result in
+    kind-table enclosures kind c.entered_number-side.result c.skips-side.result c.none-side.result machine
+    (tape_of side.book.now.table side.shadow side.masks side.bits side.crossed side.byte_masks.items side.status_mask
+    side.unclear) c.in_ok-outside.outside c.make_kind.new.machine
+    (tape_of new.book.now.table new.shadow new.masks new.bits new.crossed new.byte_masks.items new.status_mask
+    new.unclear) (secret_base_of kind (map_of side.shadow)) (kind_outside_range kind machine)
+    (c.in_ok-outside.ensures.makes enclosures.regions)
+
+pub returns-clause-longer : goal.returns-clause-longer
+returns-clause-longer g c =
+    let side = c.args.side.now in
+    let new = c.make_kind.new.side in
+    let machine = c.args.machine.now in
+    let enclosures : Enclosures = record { regions = c.args.marked.now.regions.items; skip = c.args.skip.now } in
+    let kind = seen c.next_turn-turn.result in
+    kind-longer enclosures kind c.entered_number-side.result c.skips-side.result c.none-side.result machine
+    (tape_of side.book.now.table side.shadow side.masks side.bits side.crossed side.byte_masks.items side.status_mask
+    side.unclear) c.in_ok-outside.outside c.make_kind.new.machine
+    (tape_of new.book.now.table new.shadow new.masks new.bits new.crossed new.byte_masks.items new.status_mask
+    new.unclear) (secret_base_of kind (map_of side.shadow)) (kind_outside_range kind machine)
+    (c.in_ok-outside.ensures.makes enclosures.regions)
+
+pub returns-clause-ready : goal.returns-clause-ready
+returns-clause-ready g c = λ none clear.
+    let side = c.args.side.now in
+    let new = c.make_kind.new.side in
+    let machine = c.args.machine.now in
+    let enclosures : Enclosures = record { regions = c.args.marked.now.regions.items; skip = c.args.skip.now } in
+    let kind = seen c.next_turn-turn.result in
+    kind-ready enclosures kind c.entered_number-side.result c.skips-side.result c.none-side.result machine
+    (tape_of side.book.now.table side.shadow side.masks side.bits side.crossed side.byte_masks.items side.status_mask
+    side.unclear) c.in_ok-outside.outside c.make_kind.new.machine
+    (tape_of new.book.now.table new.shadow new.masks new.bits new.crossed new.byte_masks.items new.status_mask
+    new.unclear) c.args.marked.now.regions.keeps_rules (sym c.next_turn-turn.ensures.kind) c.requires
+    c.in_ok-outside.ensures.base none clear (c.in_ok-outside.ensures.makes enclosures.regions)
+
+pub returns-clause-makes : goal.returns-clause-makes
+returns-clause-makes g c = λ rules task place answers same at.
+    let side = c.args.side.now in
+    let new = c.make_kind.new.side in
+    let machine = c.args.machine.now in
+    let enclosures : Enclosures = record { regions = c.args.marked.now.regions.items; skip = c.args.skip.now } in
+    let kind = seen c.next_turn-turn.result in
+    turn-makes rules task place machine
+    (tape_of side.book.now.table side.shadow side.masks side.bits side.crossed side.byte_masks.items side.status_mask
+    side.unclear) c.in_ok-outside.outside c.make_kind.new.machine
+    (tape_of new.book.now.table new.shadow new.masks new.bits new.crossed new.byte_masks.items new.status_mask
+    new.unclear) enclosures kind c.entered_number-side.result c.skips-side.result c.none-side.result answers same at
+    c.next_turn-turn.ensures.kind c.entered_number-side.ensures
+    (c.skips-side.ensures enclosures.regions) c.none-side.ensures (c.in_ok-outside.ensures.makes enclosures.regions)

@@ -1,0 +1,17 @@
+pub mod Rules
+pub mod Shown
+pub mod Visits
+pub mod Masked
+pub mod Turns
+pub mod Tapes
+pub mod Visited
+pub mod Ends
+pub mod Turning
+pub mod Walks
+pub mod Replays
+pub mod Paths
+pub mod Orders
+pub mod Bounds
+pub mod Judging
+pub mod Stepping
+pub mod BoundTexts

@@ -1,0 +1,37 @@
+-- Where a string stands in a tree of paths.
+use Rattle.std.specs.Prelude.{List, [], ◌∷◌, ◌++◌, Bool, true, false, Option, Some, None, map}
+use Rattle.every_secret.specs.declared.path_ends.PathEnd.{PathEnd}
+use Rattle.every_secret.specs.Paths.{Fork, Leaf, Path, Tree, behind, paths_of}
+
+-- the end that a string comes to in a tree, and what is left of it
+pub record Come : Type 0 where
+  pub ends : PathEnd
+  pub rest : List Bool
+
+abbrev pub descend : Tree → List Bool → Option Come
+descend (Leaf e) bits = Some (record { ends = e; rest = bits })
+descend (Fork first second) [] = None
+descend (Fork first second) (false ∷ bits) = descend first bits
+descend (Fork first second) (true ∷ bits) = descend second bits
+
+-- a string does not go past the end of a path
+abbrev pub Opens : Tree → List Bool → Type 0
+Opens (Leaf e) [] = Unit {0}
+Opens (Leaf e) (bit ∷ bits) = ⊥
+Opens (Fork first second) [] = Unit {0}
+Opens (Fork first second) (false ∷ bits) = Opens first bits
+Opens (Fork first second) (true ∷ bits) = Opens second bits
+
+-- the first path that begins with a string
+abbrev pub first_from : Tree → List Bool → Path
+first_from (Leaf e) bits = record { bits = []; ends = e }
+first_from (Fork first second) [] = behind false (first_from first [])
+first_from (Fork first second) (false ∷ bits) = behind false (first_from first bits)
+first_from (Fork first second) (true ∷ bits) = behind true (first_from second bits)
+
+-- the paths behind the path of this string
+abbrev pub later : Tree → List Bool → List Path
+later (Leaf e) bits = []
+later (Fork first second) [] = []
+later (Fork first second) (false ∷ bits) = map (behind false) (later first bits) ++ map (behind true) (paths_of second)
+later (Fork first second) (true ∷ bits) = map (behind true) (later second bits)

@@ -1,0 +1,74 @@
+ghost use Rattle.std.specs.Prelude.{◌≡◌, ◌+◌, ◌<◌, ◌≤◌, ◌^◌, IfOk};
+ghost use Rattle.every_secret.specs.declared.path_ends.PathEnd.TheVariants.{Exits, Stops};
+ghost use Rattle.every_secret.specs.Bounds.{found_of};
+ghost use Rattle.every_secret.specs.Judging.{Counts, Judges};
+
+use crate::finding::{PATTERN_LIMIT, is_large, with_exit, with_stop};
+use crate::path_ends::PathEnd;
+use crate::patterns::Pattern;
+use crate::stops::PathStop;
+use crate::verdicts::Bounded;
+use crate::whys::UnclearWhy;
+use crossing_bits::Bits;
+use flow_base::NoMemory;
+use std::alloc::Global;
+
+/// What is made of a path.
+#[derive(Drop)]
+pub(crate) enum Judged {
+    Unclear(UnclearWhy),
+    Found(Bounded),
+}
+
+/// A path that exits. `NoMemory` where there is not enough.
+fn judge_exit(found: Bounded, path: &Bits, pattern: Pattern) -> Result<Judged, NoMemory>
+    requires paths { found.paths + 1 < 2 ^ 32 }
+    requires stopped { found.stopped ≤ found.paths }
+    ensures judges { IfOk result (λ judged. Judges judged path.now.bits (Exits pattern) (found_of found)) }
+    ensures counts { IfOk result (λ judged. Counts judged found.paths) }
+{
+    let _ = path;
+    let next = with_exit(found, pattern)?;
+    if is_large(next.patterns.as_slice()) {
+        return Ok(Judged::Unclear(UnclearWhy::Outputs {
+            limit: PATTERN_LIMIT,
+        }));
+    }
+    Ok(Judged::Found(next))
+}
+
+/// A path that stops. `NoMemory` where there is not enough.
+fn judge_stop(
+    alloc: Global,
+    found: Bounded,
+    path: &Bits,
+    stop: PathStop,
+) -> Result<Judged, NoMemory>
+    requires paths { found.paths + 1 < 2 ^ 32 }
+    requires stopped { found.stopped ≤ found.paths }
+    ensures judges { IfOk result (λ judged. Judges judged path.now.bits (Stops stop) (found_of found)) }
+    ensures counts { IfOk result (λ judged. Counts judged found.paths) }
+{
+    let next = with_stop(alloc, found, path, stop)?;
+    Ok(Judged::Found(next))
+}
+
+/// What is made of a path with these choices that ends so, where so much was found before.
+/// `NoMemory` where there is not enough.
+pub(crate) fn judge(
+    alloc: Global,
+    found: Bounded,
+    path: &Bits,
+    end: PathEnd,
+) -> Result<Judged, NoMemory>
+    requires paths { found.paths + 1 < 2 ^ 32 }
+    requires stopped { found.stopped ≤ found.paths }
+    ensures judges { IfOk result (λ judged. Judges judged path.now.bits end (found_of found)) }
+    ensures counts { IfOk result (λ judged. Counts judged found.paths) }
+{
+    match end {
+        PathEnd::Exits(pattern) => judge_exit(found, path, pattern),
+        PathEnd::Stops(stop) => judge_stop(alloc, found, path, stop),
+        PathEnd::Unclear(why) => Ok(Judged::Unclear(why)),
+    }
+}

@@ -1,0 +1,31 @@
+//! All outputs that any secret can give: the replay of a cut, walked with masks along every string of bits that can cross
+//! the cut. Where no walk looks at or decides by a bit that may differ and has not crossed, every secret's run follows one
+//! of these walks.
+#![tactic(auto)]
+
+mod afresh;
+mod bounding;
+mod bounds;
+mod endings;
+mod entries;
+mod finding;
+mod judging;
+mod laws;
+mod next_strings;
+mod path_ends;
+mod patterns;
+mod shown;
+mod stops;
+mod turns;
+mod verdicts;
+mod visits;
+mod walking;
+mod walks;
+mod whys;
+
+pub use bounds::bound;
+pub use laws::tables_have_rules;
+pub use patterns::Pattern;
+pub use stops::PathStop;
+pub use verdicts::{BoundVerdict, Bounded, StoppedPath};
+pub use whys::UnclearWhy;

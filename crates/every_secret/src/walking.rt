@@ -1,0 +1,176 @@
+ghost use Rattle.std.specs.Prelude.{◌≡◌, ◌≤◌, ℕ, IfOk, IsTrue, List as Seq, None, Some};
+ghost use Rattle.flow_base.specs.Points.{is_slot, width_of};
+ghost use Rattle.rv32im_machine.specs.Language.{Passed, Walk};
+ghost use Rattle.rv32im_machine.specs.Playing.{AreSources, Goes, IsAim};
+ghost use Rattle.tracked_run.specs.Labels.{labels_of};
+ghost use Rattle.every_secret.specs.Masked.{why_left, why_looked};
+ghost use Rattle.every_secret.specs.Tapes.{PlaysWalk, tape_of};
+
+use crate::shown::shown_of;
+use crate::visits::{note_free, passing_mask, put_in};
+use crate::whys::UnclearWhy;
+use crossing_bits::{Bits, bit_count};
+use flow_base::{NoMemory, Point, Slot};
+use masked_turns::{LeftBits, SecretLook, left_bits, secret_look, uncrossed};
+use replay_machine::VisitMasks;
+use rv32im_machine::{Passer, Passing, Place, Seen, Shape, Source};
+use shadow_masks::Shadow;
+use tracked_run::{Held, labelled, note_move, note_restore, note_save, put_aimed};
+use transfer_rules::RuleBook;
+
+/// The point of each label: none.
+const NOWHERE: Point = Point {
+    region: 0,
+    address: 0,
+    slot: Slot::First,
+};
+
+/// The walk's side of a turn.
+#[derive(Drop)]
+pub(crate) struct Walking<'b> {
+    /// The masks of registers and bytes, as labels at no point.
+    pub shadow: Shadow,
+    /// The masks of the cut.
+    pub masks: VisitMasks,
+    /// The string, which gets a 0 where a choice finds no bit left.
+    pub bits: Bits,
+    /// How many bits have crossed, 4,294,967,295 where there are more.
+    pub crossed: u32,
+    /// The free bits of each byte that was written.
+    pub byte_masks: Vec<u8>,
+    /// The free bits of the exit status.
+    pub status_mask: u8,
+    pub book: &'b RuleBook,
+    /// The masks of the operands of the turn.
+    pub held: Held,
+    /// The number of the region that the turn enters, 0: of none.
+    pub region: u16,
+    /// Whether the turn skips a region.
+    pub skipped: bool,
+    /// What makes the walk unclear; values then go on as they are.
+    pub unclear: Option<UnclearWhy>,
+}
+
+/// What a look at what may differ makes of a walk.
+fn looked(look: Option<SecretLook>) -> Option<UnclearWhy>
+    ensures { result ≡ why_looked look }
+{
+    match look {
+        Some(SecretLook::Code { pc }) => Some(UnclearWhy::SecretCode { pc }),
+        Some(SecretLook::BaseRegister { region, register }) => {
+            Some(UnclearWhy::BaseSecret { region, register })
+        }
+        None => None,
+    }
+}
+
+/// What bits that are left at a decision make of it.
+fn decided(left: Option<LeftBits>) -> Option<UnclearWhy>
+    ensures { result ≡ why_left left }
+{
+    left.map(|left| UnclearWhy::Left {
+        point: left.point,
+        mask: left.mask,
+    })
+}
+
+impl Walking<'_> {
+    /// A value passes: its bits that cross and may differ are chosen or free, and its mask loses those that cross.
+    /// `NoMemory` where there is not enough.
+    #[inline(always)]
+    fn visit(&mut self, passing: Passing) -> Result<u32, NoMemory>
+        requires slot { IsTrue (is_slot passing.point.slot) }
+        requires value { passing.value ≤ width_of passing.point.slot }
+        requires aim { IsAim (Some self.old.shadow.base) passing.aim }
+        requires sources { AreSources (Some self.old.shadow.base) passing.sources }
+        ensures memory { self.new.shadow.base ≡ self.old.shadow.base }
+        ensures width { IfOk result (λ other. other ≤ width_of passing.point.slot) }
+        ensures goes { self.old.unclear ≡ None → (go : ℕ → Walk) → Goes result
+            (λ other. PlaysWalk self.new.region self.new.skipped (labels_of self.new.shadow self.new.held)
+            (tape_of self.new.book.now.table self.new.shadow self.new.masks self.new.bits self.new.crossed
+            self.new.byte_masks.items self.new.status_mask self.new.unclear) (go other))
+            (PlaysWalk self.old.region self.old.skipped (labels_of self.old.shadow self.old.held)
+            (tape_of self.old.book.now.table self.old.shadow self.old.masks self.old.bits self.old.crossed
+            self.old.byte_masks.items self.old.status_mask self.old.unclear) (Passed passing go)) }
+    {
+        let crossing = self.masks.next(passing.point);
+        let mask = passing_mask(&self.shadow, self.held, self.book, passing, self.skipped)?;
+        let differing = mask & crossing;
+        let left = uncrossed(mask, crossing);
+        let label = labelled(left, NOWHERE);
+        put_aimed(&mut self.shadow, &mut self.held, passing.aim, label)?;
+        self.crossed = self.crossed.saturating_add(bit_count(crossing));
+        let shown = shown_of(passing.point.slot);
+        self.status_mask = note_free(&mut self.byte_masks, self.status_mask, shown, differing)?;
+        let value = put_in(&mut self.bits, shown, passing.value, differing)?;
+        self.unclear = decided(left_bits(passing.aim, passing.point, left));
+        Ok(value)
+    }
+}
+
+impl Passer for Walking<'_> {
+    ghost use Rattle.std.specs.Prelude.{Some};
+    ghost use Rattle.std.proofs.Common.{refl};
+    ghost use Rattle.tracked_run.specs.Labels.{labels_of};
+    ghost use Rattle.every_secret.specs.Tapes.{Tape, PlaysWalk, tape_of};
+    ghost use Rattle.every_secret.specs.Ends.{masks-Ended};
+
+    type Stop = NoMemory;
+
+    ghost Tape = { Tape };
+
+    ghost tape = { λ side. tape_of side.book.now.table side.shadow side.masks side.bits side.crossed
+        side.byte_masks.items side.status_mask side.unclear };
+
+    ghost memory = { λ side. Some side.shadow.base };
+
+    ghost Plays = { λ side walk out. PlaysWalk side.region side.skipped (labels_of side.shadow side.held)
+        (tape_of side.book.now.table side.shadow side.masks side.bits side.crossed side.byte_masks.items
+        side.status_mask side.unclear) walk out };
+
+    #[inline(always)]
+    fn look(&mut self, seen: Seen, _value: u32) -> Result<(), NoMemory> {
+        match self.unclear {
+            Some(_) => Ok(()),
+            None => {
+                self.unclear = looked(secret_look(&self.shadow, self.region, seen));
+                Ok(())
+            }
+        }
+    }
+
+    #[inline(always)]
+    fn pass(&mut self, passing: Passing) -> Result<u32, NoMemory> {
+        match self.unclear {
+            Some(_) => Ok(passing.value),
+            None => self.visit(passing),
+        }
+    }
+
+    fn move_to(
+        &mut self,
+        place: Place,
+        shape: Shape,
+        source: Source,
+        _value: u32,
+    ) -> Result<(), NoMemory> {
+        note_move(&mut self.shadow, &mut self.held, place, shape, source)?;
+        Ok(())
+    }
+
+    fn save(&mut self) -> Result<(), NoMemory> {
+        note_save(&mut self.shadow);
+        Ok(())
+    }
+
+    fn restore(&mut self, registers: &[u8]) -> Result<bool, NoMemory> {
+        note_restore(&mut self.shadow, registers);
+        Ok(true)
+    }
+
+    ghost at_end = { λ side state masks past ahead.
+        masks-Ended (record { masks = masks; skipped = side.skipped }) side.region past
+        (labels_of side.shadow side.held)
+        (tape_of side.book.now.table side.shadow side.masks side.bits side.crossed side.byte_masks.items
+        side.status_mask side.unclear) state refl ahead };
+}

@@ -1,0 +1,365 @@
+"""All outputs that any secret can give: the replay, walked with masks along every string of bits that can cross a cut.
+
+A walk knows of each register and byte the value of the replay and a mask: the bits that may differ in the run of another
+secret that has come the same way. Of the bits that cross at a visit those outside the mask are the replay's own, those of
+an output are free, and each other one is a choice, the next bit of the path."""
+from cuts import VisitMasks, places_of, slot_width
+from guest import BREAK, EXIT, EXIT_GROUP, READ, SECRET, WRITE
+from guest import GuestExit, GuestFault, ReplayGuest, ReplayStop, shown
+from instructions import ALL, WIDTHS, decode
+from rules import loaded_mask, result_mask
+from verdicts import walk
+
+MOST_BYTES, MOST_SHOWN = 67_108_864, 1 << 64
+ANSWER, NUMBER = 10, 17
+IMPLICIT = ("ad", "de", "nr", "a0", "a1", "a2", "ou", "st")
+
+
+class Unclear(Exception):
+    """The walk of a path ends so that nothing is known of all secrets; the text is the reason."""
+
+
+class TurnMasks:
+    """The masks of a walk. A turn is a coroutine beside that of the guest: at each visit it yields the mask of the value,
+    and it is sent the value that goes on with the mask that is left."""
+
+    def __init__(self, table, guest):
+        self.table, self.guest = table, guest
+        self.registers, self.bytes, self.at_entry, self.consumed = [0] * 32, {}, [], {}
+
+    def byte(self, address):
+        """The mask of a byte."""
+        return self.bytes.get(address, 0)
+
+    def set_register(self, number, mask):
+        """Keeps a register's mask; x0 has none."""
+        if number:
+            self.registers[number] = mask
+
+    def look_at_bases(self, region):
+        """A range must not begin where a secret says."""
+        for base, _, _ in region.ranges:
+            if base and self.registers[base]:
+                raise Unclear(f"region {region.number} base x{base} secret")
+
+    def look_at_code(self):
+        """An instruction must not be made of secrets."""
+        pc = self.guest.pc
+        if any(self.byte(address) for address in range(pc, pc + 4)):
+            raise Unclear(f"secret-code {shown(pc)}")
+
+    def turn(self, is_skipped):
+        """The turn that the guest makes next."""
+        guest, kind = self.guest, self.guest.kind()
+        self.consumed = dict(guest.consumed)
+        if kind == "enter":
+            region = guest.by_enter[guest.pc]
+            self.look_at_bases(region)
+            return self.skip(region) if is_skipped else self.enter()
+        if kind == "leave":
+            return self.leave(guest.entered)
+        if not guest.is_inside(guest.pc, 4):
+            return self.nothing(None)
+        self.look_at_code()
+        instruction = decode(guest.word(guest.pc, 4))
+        return FORMS[instruction.form](self, instruction) if instruction else self.nothing(None)
+
+    def enter(self):
+        """The entry of a region: its masks may come back at the leave."""
+        self.at_entry = list(self.registers)
+        yield from ()
+
+    def leave(self, region):
+        """The leave: kept registers have the masks of the entry, and outputs pass with their own."""
+        for number in region.keep:
+            self.registers[number] = self.at_entry[number]
+        yield from self.pass_outputs(region, self.guest.starts, lambda slot, mask: mask)
+
+    def skip(self, region):
+        """The skip: outputs pass with every bit of their slots."""
+        registers = list(self.guest.registers)
+        starts = [((registers[base] if base else 0) + offset) & ALL for base, offset, _ in region.ranges]
+        return self.pass_outputs(region, starts, lambda slot, mask: slot_width(slot))
+
+    def pass_outputs(self, region, starts, mask_of):
+        """Passes the outputs of a region, each with a mask of its slot and of what it had; what is left is kept."""
+        for number in region.outs:
+            _, self.registers[number] = yield mask_of(f"x{number}", self.registers[number])
+        for index, (_, _, length) in enumerate(region.ranges):
+            for address in range(starts[index], starts[index] + length):
+                _, self.bytes[address] = yield mask_of(f"r{index}", self.byte(address))
+
+    def use(self, number):
+        """Passes the value of a register: the value that goes on and the mask that is left."""
+        return (yield self.registers[number])
+
+    def address(self, instruction, first):
+        """Passes an address, or the target of JALR: the value that goes on."""
+        mask = result_mask(self.table, "add", first, (instruction.immediate & ALL, 0))
+        value, _ = yield mask & ~1 if instruction.form == "jump_register" else mask
+        return value
+
+    def clear(self, instruction):
+        """LUI, AUIPC and JAL, whose results are public."""
+        yield from ()
+        self.set_register(instruction.destination, 0)
+
+    def nothing(self, _):
+        """FENCE and EBREAK, which pass nothing."""
+        yield from ()
+
+    def jump_register(self, instruction):
+        """JALR."""
+        first = yield from self.use(instruction.first)
+        yield from self.address(instruction, first)
+        self.set_register(instruction.destination, 0)
+
+    def branch(self, instruction):
+        """A branch."""
+        first = yield from self.use(instruction.first)
+        second = yield from self.use(instruction.second)
+        yield result_mask(self.table, instruction.name, first, second) & 1
+
+    def load(self, instruction):
+        """A load, whose result has the masks of the bytes."""
+        first = yield from self.use(instruction.first)
+        address = yield from self.address(instruction, first)
+        masks = [self.byte(address + index) for index in range(WIDTHS[instruction.name])]
+        _, left = yield loaded_mask(instruction.name, masks)
+        self.set_register(instruction.destination, left)
+
+    def store(self, instruction):
+        """A store, whose bytes have their parts of the value's mask."""
+        first = yield from self.use(instruction.first)
+        _, mask = yield from self.use(instruction.second)
+        address = yield from self.address(instruction, first)
+        for index in range(WIDTHS[instruction.name]):
+            self.bytes[address + index] = mask >> 8 * index & 255
+
+    def immediate(self, instruction):
+        """Arithmetic with an immediate, which is public."""
+        first = yield from self.use(instruction.first)
+        _, left = yield result_mask(self.table, instruction.name, first, (instruction.immediate & ALL, 0))
+        self.set_register(instruction.destination, left)
+
+    def register(self, instruction):
+        """Arithmetic with two registers."""
+        first = yield from self.use(instruction.first)
+        second = yield from self.use(instruction.second)
+        _, left = yield result_mask(self.table, instruction.name, first, second)
+        self.set_register(instruction.destination, left)
+
+    def call(self, _):
+        """ECALL, whose answer is public."""
+        number, _ = yield from self.use(NUMBER)
+        if number in (EXIT, EXIT_GROUP):
+            yield self.registers[ANSWER] & 255
+            return
+        arguments = []
+        for index in range({READ: 3, WRITE: 3, BREAK: 1}.get(number, 0)):
+            arguments.append((yield from self.use(ANSWER + index))[0])
+        if number in (READ, WRITE):
+            yield from self.transfer(number, *arguments)
+        self.registers[ANSWER] = 0
+
+    def transfer(self, number, descriptor, address, count):
+        """The bytes of a read or a write at an address. The guest has passed a byte before its mask is asked for."""
+        guest = self.guest
+        if number == WRITE:
+            is_written = descriptor in (1, 2) and guest.is_inside(address, count)
+            for index in range(count if is_written else 0):
+                yield self.byte(address + index)
+            return
+        begin = self.consumed.get(descriptor, 0)
+        most = min(count, len(guest.inputs.get(descriptor, b"")) - begin)
+        is_read = most > 0 and guest.is_inside(address, most)
+        for index in range(most if is_read else 0):
+            self.bytes[address + index] = (yield 255)[1] if descriptor == SECRET else 0
+
+
+FORMS = {form: getattr(TurnMasks, form) for form in (
+    "jump_register", "branch", "load", "store", "immediate", "register", "call"
+)} | {"upper": TurnMasks.clear, "jump": TurnMasks.clear, "fence": TurnMasks.nothing, "breakpoint": TurnMasks.nothing}
+
+
+class Walk:
+    """A walk along a path, 0 behind its last bit: the choices that it made, how many bits crossed, the masks of its
+    output, and how it ended: `exited` with a status, or `stopped` with a text. It may be `Unclear`."""
+
+    def __init__(self, task, path):
+        self.guest = ReplayGuest(task.image, task.public, bytes(task.cut.secret_length), task.regions)
+        self.cut_masks, self.masks = VisitMasks(task.cut), TurnMasks(task.table, self.guest)
+        self.task, self.path, self.choices, self.crossed, self.free = task, path, [], 0, []
+        self.ending, self.unclear = None, None
+
+    def run(self):
+        """Walks to the end."""
+        try:
+            for _ in range(self.task.turns):
+                self.make_turn()
+                if self.ending:
+                    return self
+            self.ending = ("stopped", f"turns {self.task.turns}")
+        except Unclear as unclear:
+            self.unclear = str(unclear)
+        return self
+
+    def make_turn(self):
+        """Makes one turn."""
+        guest, task = self.guest, self.task
+        is_skipped = guest.kind() == "enter" and guest.by_enter[guest.pc].number in task.cut.skip
+        masks = self.masks.turn(is_skipped)
+        try:
+            self.walk_turn(guest.turn(is_skipped), masks)
+        except GuestExit as exited:
+            self.ending = ("exited", exited.status)
+        except GuestFault as fault:
+            self.ending = ("stopped", f"guest {fault}")
+            return
+        except ReplayStop as stop:
+            self.ending = ("stopped", str(stop))
+            return
+        if self.crossed > task.budget:
+            raise Unclear(f"budget {task.budget} needed {self.crossed}")
+
+    def walk_turn(self, turn, masks):
+        """Walks the turn of the guest and that of the masks side by side."""
+        kept = None
+
+        def respond(visit):
+            nonlocal kept
+            kept = self.pass_visit(visit, masks.send(kept))
+            return kept[0]
+
+        walk(turn, respond)
+        try:
+            masks.send(kept)
+        except StopIteration:
+            return
+        raise AssertionError("a mask that no visit has")
+
+    def pass_visit(self, visit, mask):
+        """What goes on at a visit whose value has this mask, and what is left of the mask."""
+        slot, value, crossing = visit[2], visit[3], self.cut_masks.mask_of(visit)
+        self.crossed += crossing.bit_count()
+        is_output = slot in ("ou", "st")
+        for place in places_of(crossing & mask):
+            bit = 0 if is_output else self.choose()
+            value = value & ~place | place * bit
+        left = mask & ~crossing
+        if left and slot in IMPLICIT:
+            raise Unclear(f"left {visit[0]} {shown(visit[1])} {slot} mask {shown(left)}")
+        if is_output:
+            self.free.append(crossing & mask)
+        return value, left
+
+    def choose(self):
+        """The next bit of the path."""
+        place = len(self.choices)
+        self.choices.append(self.path[place] if place < len(self.path) else 0)
+        return self.choices[-1]
+
+    def pattern(self):
+        """The bytes, the status, and the masks of the free bits of both."""
+        return bytes(self.guest.output), self.ending[1], bytes(self.free[:-1]), self.free[-1]
+
+
+class Task:
+    """What is walked: a program on its public input, its regions, a cut, the table of the rules, and the limits."""
+
+    def __init__(self, image, public, regions, cut, table, budget, turns, paths):
+        self.image, self.public, self.regions, self.cut, self.table = image, public, regions, cut, table
+        self.budget, self.turns, self.paths = budget, turns, paths
+
+
+def behind(choices):
+    """The path that is next in order, or None."""
+    while choices and choices[-1]:
+        choices.pop()
+    return choices[:-1] + [1] if choices else None
+
+
+def path_text(choices):
+    """The choices of a path, as they are printed."""
+    packed = bytearray((len(choices) + 7) // 8)
+    for index, bit in enumerate(choices):
+        packed[index // 8] |= bit << index % 8
+    return f"path {packed.hex() or '-'} bits {len(choices)}"
+
+
+class Bounds:
+    """The paths of a task: how many there are, how many stop, the first that does, and the patterns in the order in which
+    they were found with the bytes that they have together, the choices of the last path and of the first that stops; or the text of what is
+    unclear."""
+
+    def __init__(self, task):
+        self.task, self.paths, self.stopped, self.first = task, 0, 0, None
+        self.patterns, self.size, self.unclear, self.last, self.stopped_at = {}, 0, None, [], None
+        path = []
+        while path is not None and not self.unclear:
+            path = self.follow(path)
+
+    def follow(self, path):
+        """Walks a path; the path that is next in order, if there is one."""
+        ended = Walk(self.task, path).run()
+        self.last = ended.choices
+        self.paths += 1
+        reason, later = ended.unclear or self.add(ended), behind(list(ended.choices))
+        if not reason and later is not None and self.paths == self.task.paths:
+            reason = f"paths {self.paths}"
+        self.unclear = f"{path_text(ended.choices)} {reason}" if reason else None
+        return later
+
+    def add(self, ended):
+        """Adds what a path has come to; a reason where the patterns have too many bytes."""
+        if ended.ending[0] == "stopped":
+            self.stopped += 1
+            self.stopped_at = self.stopped_at or ended.choices
+            self.first = self.first or f"stopped {path_text(ended.choices)} {ended.ending[1]}"
+            return None
+        pattern = ended.pattern()
+        if pattern not in self.patterns:
+            self.patterns[pattern] = len(self.patterns) + 1
+            self.size += len(pattern[0]) + 1
+        return f"outputs {MOST_BYTES}" if self.size > MOST_BYTES else None
+
+    def outputs(self):
+        """The number of outputs for which a pattern stands."""
+        return sum(1 << free_bits(pattern) for pattern in self.patterns)
+
+    def text(self, is_listed):
+        """The status and the text of the answer."""
+        if self.unclear:
+            return 1, f"unclear {self.unclear}\n"
+        outputs, task = self.outputs(), self.task
+        lines = []
+        if is_listed:
+            lines = [pattern_text(place, pattern) for pattern, place in self.patterns.items()]
+            lines += [self.first] if self.first else []
+        bits = (outputs - 1).bit_length() if outputs else 0
+        counted = outputs if outputs < MOST_SHOWN else "-"
+        lines.append(
+            f"bounded secret {task.cut.secret_length} regions {len(task.regions)} paths {self.paths} "
+            f"stopped {self.stopped} outputs {counted} bits {bits}"
+        )
+        return 0, "\n".join(lines) + "\n"
+
+
+def free_bits(pattern):
+    """How many bits of a pattern are free."""
+    return sum(mask.bit_count() for mask in pattern[2]) + pattern[3].bit_count()
+
+
+def pattern_text(place, pattern):
+    """The line of a pattern."""
+    written, status, masks, status_mask = pattern
+    free = free_bits(pattern)
+    text = f"output {place} free {free} bytes {written.hex() or '-'} status {status}"
+    return f"{text} mask {masks.hex() or '-'} {status_mask:02x}" if free else text
+
+
+def stands_for(pattern, written, status):
+    """Whether a pattern stands for an output."""
+    if len(written) != len(pattern[0]) or (status ^ pattern[1]) & ~pattern[3]:
+        return False
+    return all((byte ^ other) & ~mask == 0 for byte, other, mask in zip(written, pattern[0], pattern[2]))
