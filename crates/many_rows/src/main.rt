@@ -1,5 +1,5 @@
 //! Measures the runs of the secrets of a table together, and prints the text of their one cut and of its fold, or why there
-//! is none. Each line that must be printed was found by hand.
+//! is none. Each line that must be printed was found by hand or by an independent model.
 #![tactic(auto)]
 
 mod rows;
