@@ -98,7 +98,7 @@ def main():
         return 2
     executable, is_counting = os.path.abspath(sys.argv[1]), sys.argv[2:] == ["--instructions"]
     times = 1 if is_counting else int(sys.argv[2]) if len(sys.argv) == 3 else 5
-    turns, measure, unit = (200_000, counted, "M") if is_counting else (2_000_000, worked, "s")
+    turns, measure, unit = (200_000, counted, "M") if is_counting else (1_900_000, worked, "s")
     print(f"{'guest':26}{'turns':>12}{'taint':>10}{'check':>10}{'times':>7}{'memory of both':>22}")
     with tempfile.TemporaryDirectory() as folder:
         for name, guest, secrets in rows(turns):
