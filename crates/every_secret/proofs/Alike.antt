@@ -42,13 +42,8 @@ use Rattle.rv32im_machine.specs.Calls.{kind_row, read_plan, write_plan, write_ch
 use Rattle.rv32im_machine.specs.Rows.{load_checked, store_at, store_checked, links, branches, row}
 use Rattle.rv32im_machine.specs.Rows.{fetched, running, stops}
 use Rattle.every_secret.specs.declared.shown.Shown.TheVariants.{Nothing, WrittenByte, ExitStatus}
+use Rattle.every_secret.specs.Listed.{AgreeEach, NoneLeft, OneMore}
 use Rattle.every_secret.specs.Shown.{shown_at}
-
--- values agree one by one, each pair outside a mask of its own
-pub data AgreeEach : List ℕ → List ℕ → List ℕ → Type 0 where
-  NoneLeft : AgreeEach [] [] []
-  OneMore : {mask real copy : ℕ} {masks reals copies : List ℕ} → Agree mask real copy →
-      AgreeEach masks reals copies → AgreeEach (mask ∷ masks) (real ∷ reals) (copy ∷ copies)
 
 abbrev pub AgreeMode : ℕ → Stepped → Stepped → Type 0
 AgreeMode mask Ran Ran = Unit {0}

@@ -60,7 +60,8 @@ use Rattle.every_secret.specs.Masked.{Goes, MaskedPlace, Meets, Reached, masked,
 use Rattle.every_secret.specs.Rules.{AreSoundRules, Rules, answer_to}
 use Rattle.every_secret.specs.Shown.{asked_for, byte_masks_after, status_mask_after}
 use Rattle.every_secret.specs.Visits.{Knowledge}
-use Rattle.every_secret.proofs.Alike.{AgreeEach, AgreeMode, Alike, Look, Pass, Decide, Show, Leave, Move, End, with_output}
+use Rattle.every_secret.specs.Listed.{AgreeEach}
+use Rattle.every_secret.proofs.Alike.{AgreeMode, Alike, Look, Pass, Decide, Show, Leave, Move, End, with_output}
 use Rattle.every_secret.proofs.Merging.{merged, patches_agree}
 
 -- every label is inside: values are only known to agree outside its mask

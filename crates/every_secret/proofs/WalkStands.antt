@@ -46,7 +46,8 @@ use Rattle.covered_runs.proofs.WritesKeepRelation.{Beside, close_equal, put_kept
 use Rattle.every_secret.specs.Masked.{Goes, MaskedPlace, Reached, masked, unless_met, why_looked}
 use Rattle.every_secret.specs.Rules.{AreSoundRules, Rules}
 use Rattle.every_secret.specs.Turns.{cutting_of, kind_turn, masked_turn, secret_base, secret_or, turn_from, turn_inside}
-use Rattle.every_secret.proofs.Alike.{AgreeEach, running_alike, with_output}
+use Rattle.every_secret.specs.Listed.{AgreeEach}
+use Rattle.every_secret.proofs.Alike.{running_alike, with_output}
 use Rattle.every_secret.proofs.WalkKeeps.{AlikeControl, AreSmall, IsMet, KeptPart, Outcome, everything, kept_of, knows}
 use Rattle.every_secret.proofs.WalkKeeps.{turn_walks}
 use Rattle.every_secret.proofs.WalkLeaves.{alike_entered, leave_walks}

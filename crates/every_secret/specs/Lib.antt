@@ -15,3 +15,6 @@ pub mod Bounds
 pub mod Judging
 pub mod Stepping
 pub mod BoundTexts
+pub mod Listed
+pub mod AllSecrets
+pub mod Laws
