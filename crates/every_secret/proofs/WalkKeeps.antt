@@ -1,12 +1,9 @@
 -- One turn of an instruction, made three times: in the real run of a secret; in the replay that is fed the run's crossing
 -- bits; and in the walk that is fed those of them that its masks leave open. The walk meets something, or all three come to
 -- places that agree outside the walk's masks.
-use Rattle.std.proofs.Common.{◌≡◌, ℕ, ◌+◌, ◌^◌, ◌<◌, ◌≤◌, ◌⊎◌, inl, inr, Bool, true, false, List, [], ◌∷◌, ◌++◌}
+use Rattle.std.proofs.Common.{◌≡◌, ℕ, ◌+◌, ◌^◌, ◌<◌, ◌≤◌, ◌⊎◌, inl, inr, Bool, List, [], ◌∷◌, ◌++◌}
 use Rattle.std.proofs.Common.{length, Option, Some, None, refl, sym, ap, subst, ◌∙◌, arith, append_assoc}
-use Rattle.rv32im_machine.specs.declared.language.Seen.{Seen}
-use Rattle.rv32im_machine.specs.declared.language.Seen.TheVariants.{Word, Base}
-use Rattle.std.specs.Prelude.{◌==◌, ◌&&◌, if◌then◌else◌, bit_and}
-use Rattle.std.proofs.lemmas.Bool.{eqb-true, and_parts}
+use Rattle.std.specs.Prelude.{bit_and}
 use Rattle.std.proofs.lemmas.List.{length-append}
 use Rattle.std.proofs.lemmas.Nat.{and_le_l}
 use Rattle.flow_base.specs.declared.points.Point.{Point}
@@ -25,12 +22,12 @@ use Rattle.rv32im_machine.specs.declared.language.Sources.{Sources}
 use Rattle.rv32im_machine.specs.declared.language.Sources.TheVariants.{One, Two, Byte as BytesOne, Half as BytesTwo}
 use Rattle.rv32im_machine.specs.declared.language.Sources.TheVariants.{Word as BytesFour}
 use Rattle.rv32im_machine.specs.Folds.{real_end}
-use Rattle.rv32im_machine.specs.State.{Control, Setting, State, Store, byte_of}
+use Rattle.rv32im_machine.specs.State.{Control, Setting, State, Store}
 use Rattle.rv32im_machine.specs.Language.{Turn, Held}
 use Rattle.rv32im_machine.specs.Language.{Making, Shaped, Computed, walked, put, hold, value_of, values_of, made, work_of}
 use Rattle.rv32im_machine.specs.Language.{shaped, first_of, second_of, seen_value, none_held}
 use Rattle.region_machine.specs.Runs.{passed}
-use Rattle.replay_machine.specs.Runs.{Masks, ReplayPlace, mask_at, replayed}
+use Rattle.replay_machine.specs.Runs.{ReplayPlace, mask_at, replayed}
 use Rattle.lockstep_replay.specs.Crossing.{crossing}
 use Rattle.lockstep_replay.specs.Verdicts.{counted_bits}
 use Rattle.run_labels.specs.Answers.{Holds, IsSoundAnswer, operands_of}
@@ -42,19 +39,20 @@ use Rattle.shadow_masks.specs.Writes.{LabelMap}
 use Rattle.shadow_masks.specs.Pages.{label_of}
 use Rattle.shadow_masks.specs.Points.{nowhere}
 use Rattle.transfer_rules.specs.Table1.{flipped}
-use Rattle.covered_runs.specs.Proper.{AreBytes, IsPassing, IsPut, IsMove, IsLook, IsProper, place_limit}
-use Rattle.covered_runs.specs.Sides.{NamedSide}
+use Rattle.covered_runs.specs.Proper.{AreBytes, IsPassing, IsPut, IsMove, IsProper, place_limit}
 use Rattle.covered_runs.proofs.AgreeOutsideMask.{agree_zero, patched_uncrossed}
 use Rattle.covered_runs.proofs.Passings.{first_word, made_agrees, made_fits, mask_fits, patched_slot, second_word, slot_word}
 use Rattle.covered_runs.proofs.Turns.{feed_bits, label_of_limit, seen_word}
 use Rattle.covered_runs.proofs.TurnsKeepRelation.{copied_close}
-use Rattle.covered_runs.proofs.WritesKeepRelation.{Beside, Close, close_equal, close_label_of, close_refl, fresh_beside, put_beside, put_kept, put_label_kept}
+use Rattle.covered_runs.proofs.WritesKeepRelation.{Beside, close_refl, fresh_beside, put_beside, put_kept, put_label_kept}
 use Rattle.masked_turns.specs.declared.uses.LeftBits.{LeftBits}
 use Rattle.masked_turns.specs.declared.uses.SecretLook.{SecretLook}
 use Rattle.masked_turns.specs.declared.uses.SecretLook.TheVariants.{Code, BaseRegister}
 use Rattle.masked_turns.specs.Clearing.{Cutting, uncrossed}
 use Rattle.masked_turns.specs.Deciding.{left_at}
 use Rattle.masked_turns.specs.Looking.{look_at}
+use Rattle.masked_turns.proofs.LooksAgree.{look_same}
+use Rattle.masked_turns.proofs.OutsideMasks.{AreSmall, close_of, decided_none, everything}
 use Rattle.every_secret.specs.declared.whys.UnclearWhy.{UnclearWhy}
 use Rattle.every_secret.specs.Masked.{Goes, MaskedPlace, Meets, Reached, masked, unless_met, why_left, why_looked}
 use Rattle.every_secret.specs.Rules.{AreSoundRules, Rules, answer_to}
@@ -63,70 +61,6 @@ use Rattle.every_secret.specs.Visits.{Knowledge}
 use Rattle.every_secret.specs.Listed.{AgreeEach}
 use Rattle.every_secret.proofs.Alike.{AgreeMode, Alike, Look, Pass, Decide, Show, Leave, Move, End, with_output}
 use Rattle.every_secret.proofs.Merging.{merged, patches_agree}
-
--- every label is inside: values are only known to agree outside its mask
-abbrev pub everything : NamedSide
-everything = record { first = λ point. true; second = λ point. true; relay = λ region. true }
-
-pub close_of : (mask real copy : ℕ) → Agree mask real copy → Close everything (label_of mask nowhere) real copy
-close_of mask real copy agree =
-    close_label_of everything mask nowhere real copy agree (λ outside. let both : true ≡ false = outside in absurd (cc))
-
--- ---- looks
-
-word_clean : (a b c d : ℕ) (address : ℕ) →
-    (if (a == 0) && ((b == 0) && ((c == 0) && (d == 0))) then None else Some (Code address)) ≡ None →
-    (a ≡ 0) × (b ≡ 0) × (c ≡ 0) × (d ≡ 0)
-word_clean a b c d address e = pick ((a == 0) && ((b == 0) && ((c == 0) && (d == 0)))) refl e
-  where
-    pick : (t : Bool) → ((a == 0) && ((b == 0) && ((c == 0) && (d == 0)))) ≡ t →
-        (if t then None else Some (Code address)) ≡ None → (a ≡ 0) × (b ≡ 0) × (c ≡ 0) × (d ≡ 0)
-    pick true is none =
-        let one = and_parts (a == 0) _ is in
-        let two = and_parts (b == 0) _ one.1 in
-        let three = and_parts (c == 0) _ two.1 in
-        (eqb-true a 0 one.0, eqb-true b 0 two.0, eqb-true c 0 three.0, eqb-true d 0 three.1)
-    pick false is none = absurd (cc)
-
-base_clean : (a region register : ℕ) → (if a == 0 then None else Some (BaseRegister region register)) ≡ None → a ≡ 0
-base_clean a region register e = pick (a == 0) refl e
-  where
-    pick : (t : Bool) → (a == 0) ≡ t → (if t then None else Some (BaseRegister region register)) ≡ None → a ≡ 0
-    pick true is none = eqb-true a 0 is
-    pick false is none = absurd (cc)
-
-look_same : (side : NamedSide) (base number : ℕ) (labels : TurnLabels) (real : Store) (held : Held) (copy : Store)
-    (taken : Held) → Beside side base labels real held copy taken → (seen : Seen) → IsLook base seen →
-    look_at number labels seen ≡ None → seen_value base real seen ≡ seen_value base copy seen
-look_same side base number labels real held copy taken beside (Word address) from e =
-    let second_from : base ≤ address + 1 = omega (arith, from) in
-    let third_from : base ≤ address + 2 = omega (arith, from) in
-    let fourth_from : base ≤ address + 3 = omega (arith, from) in
-    let none = word_clean _ _ _ _ address e in
-    let equal : (a : ℕ) → base ≤ a → byte_mask labels a ≡ 0 → byte_of base real a ≡ byte_of base copy a =
-    λ a le m. close_equal side (labels.map.bytes a) _ _ m (beside.places (Byte a) le) in
-    let one = equal address from none.0 in
-    let two = equal (address + 1) second_from none.1 in
-    let three = equal (address + 2) third_from none.2 in
-    let four = equal (address + 3) fourth_from none.3 in
-    cc
-look_same side base number labels real held copy taken beside (Base register) from e =
-    close_equal side (labels.map.registers register) _ _ (base_clean _ number register e)
-    (beside.places (Register register) tt)
-
--- no mask has bits past a word
-abbrev pub AreSmall : Masks → Type 0
-AreSmall masks = (point : Point) (visit : ℕ) → masks point visit < 2 ^ 32
-
-abbrev left_if : Bool → Point → ℕ → Option LeftBits
-left_if t point mask = if t then None else Some (record { point = point; mask = mask })
-
-decided_none : (point : Point) (mask : ℕ) → left_at Decision point mask ≡ None → mask ≡ 0
-decided_none point mask e = pick (mask == 0) refl e
-  where
-    pick : (t : Bool) → (mask == 0) ≡ t → left_if t point mask ≡ None → mask ≡ 0
-    pick true is none = eqb-true mask 0 is
-    pick false is none = absurd (cc)
 
 -- the two runs may change places
 pub swapped : (base : ℕ) (labels : TurnLabels) (real : Store) (held : Held) (copy : Store) (taken : Held) →

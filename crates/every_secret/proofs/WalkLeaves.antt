@@ -35,9 +35,10 @@ use Rattle.covered_runs.proofs.Skipping.{cleared, cleared_among, cleared_kept, s
 use Rattle.covered_runs.proofs.SkipsKeepRelation.{SkippedTo, skip_waiting}
 use Rattle.covered_runs.proofs.WritesKeepRelation.{Beside, put_label_kept, put_label_limits}
 use Rattle.masked_turns.specs.Clearing.{Cutting}
+use Rattle.masked_turns.proofs.OutsideMasks.{AreSmall, everything}
 use Rattle.every_secret.specs.Masked.{Reached, masked}
 use Rattle.every_secret.specs.Rules.{Rules}
-use Rattle.every_secret.proofs.WalkKeeps.{AlikeControl, AreSmall, Outcome, everything, kept_of, knows, same_part, step}
+use Rattle.every_secret.proofs.WalkKeeps.{AlikeControl, Outcome, kept_of, knows, same_part, step}
 use Rattle.every_secret.proofs.WalkOutputs.{given_walks}
 
 -- ---- controls

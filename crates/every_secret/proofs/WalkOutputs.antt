@@ -33,12 +33,13 @@ use Rattle.covered_runs.proofs.WritesKeepRelation.{Beside, fresh_beside, put_bes
 use Rattle.covered_runs.proofs.WritesKeepRelation.{put_label_kept}
 use Rattle.covered_runs.proofs.WritesKeepRelation.{put_memory, put_registers}
 use Rattle.masked_turns.specs.Clearing.{Cutting, output_mask, uncrossed}
+use Rattle.masked_turns.proofs.OutsideMasks.{AreSmall, close_of, everything}
 use Rattle.every_secret.specs.declared.shown.Shown.TheVariants.{Nothing}
 use Rattle.every_secret.specs.Masked.{Reached, masked}
 use Rattle.every_secret.specs.Rules.{Rules}
 use Rattle.every_secret.specs.Shown.{asked_for, byte_masks_after, shown_at, status_mask_after}
 use Rattle.every_secret.proofs.Merging.{merged}
-use Rattle.every_secret.proofs.WalkKeeps.{AlikeControl, AreSmall, Outcome, close_of, count_more, everything, kept_of, knows, same_part, step}
+use Rattle.every_secret.proofs.WalkKeeps.{AlikeControl, Outcome, count_more, kept_of, knows, same_part, step}
 
 -- an output of a region is not shown
 nothing-shown : (o : Output) → shown_at (output_slot o) ≡ Nothing

@@ -34,12 +34,13 @@ use Rattle.covered_runs.proofs.QuietInsideRegions.{SameInside}
 use Rattle.covered_runs.proofs.SkipsKeepRelation.{SkippedTo}
 use Rattle.covered_runs.proofs.StepsKeepStanding.{HasRules, placed, state_of}
 use Rattle.covered_runs.proofs.WritesKeepRelation.{Beside}
+use Rattle.masked_turns.proofs.OutsideMasks.{AreSmall, everything}
 use Rattle.every_secret.specs.Masked.{MaskedPlace, Reached, masked}
 use Rattle.every_secret.specs.Rules.{AreSoundRules, Rules}
 use Rattle.every_secret.specs.Turns.{cutting_of, kind_turn, masked_turn, secret_base, turn_from, turn_inside}
 use Rattle.every_secret.specs.Listed.{AgreeEach}
 use Rattle.every_secret.proofs.Alike.{with_output}
-use Rattle.every_secret.proofs.WalkKeeps.{AreSmall, IsMet, Outcome, everything, kept_of, knows}
+use Rattle.every_secret.proofs.WalkKeeps.{IsMet, Outcome, kept_of, knows}
 use Rattle.every_secret.proofs.WalkLeaves.{skip_walks}
 use Rattle.every_secret.proofs.WalkStands.{At, Turned, clear_starts, walking_at}
 

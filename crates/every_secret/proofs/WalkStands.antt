@@ -2,7 +2,7 @@
 -- an instruction keeps it so.
 use Rattle.std.proofs.Common.{◌≡◌, ℕ, ◌+◌, ◌%◌, ◌^◌, ◌<◌, ◌≤◌, ◌⊎◌, inl, inr, true, false, List, [], ◌∷◌, ◌++◌, Bool, length}
 use Rattle.std.proofs.Common.{Option, Some, None, refl, sym, ap, ap₂, subst, ◌∙◌, arith}
-use Rattle.std.specs.Prelude.{◌-◌, ◌==◌, if◌then◌else◌, slice_index}
+use Rattle.std.specs.Prelude.{◌==◌, if◌then◌else◌, slice_index}
 use Rattle.std.proofs.lemmas.Bool.{eqb-true}
 use Rattle.flow_base.specs.declared.points.Point.{Point}
 use Rattle.crossing_bits.specs.Askers.{Asker, Over, feed, Fed'}
@@ -11,14 +11,13 @@ use Rattle.enclosure_regions.specs.declared.region_parts.Range.{Range}
 use Rattle.enclosure_regions.specs.Breaks.{keep_break, outside_range, range_break}
 use Rattle.enclosure_regions.specs.Regions.{stands_in}
 use Rattle.enclosure_regions.specs.Turns.{base_value}
-use Rattle.rv32im_machine.specs.declared.language.Place.{Place}
-use Rattle.rv32im_machine.specs.declared.language.Place.TheVariants.{Register, Byte}
+use Rattle.rv32im_machine.specs.declared.language.Place.TheVariants.{Register}
 use Rattle.rv32im_machine.specs.declared.stepping.Stepped.TheVariants.{Ran}
 use Rattle.rv32im_machine.specs.Folds.{real_end}
 use Rattle.rv32im_machine.specs.Rows.{running}
 use Rattle.rv32im_machine.specs.State.{Control, Setting, State, Store, entered, saved}
-use Rattle.rv32im_machine.specs.Language.{Turn, Looks, Passes, Decides, Gives, Moves, Saves, Restores, Ends, Walk, Held}
-use Rattle.rv32im_machine.specs.Language.{walked, none_held, at_place, put, hold, value_of, values_of, made, shaped, seen_value}
+use Rattle.rv32im_machine.specs.Language.{Turn, Saves, Ends, Walk}
+use Rattle.rv32im_machine.specs.Language.{walked, none_held}
 use Rattle.region_machine.specs.Enclosures.{Enters, Leaves, Steps, kind_of, region_numbered}
 use Rattle.region_machine.specs.Guests.{entry, leave, looks, looks_at, skip as skip_turn}
 use Rattle.region_machine.proofs.RangesStayInside.{inside_at_entry}
@@ -30,9 +29,8 @@ use Rattle.lockstep_replay.specs.Tasks.{Task}
 use Rattle.lockstep_replay.specs.Verdicts.{counted_bits}
 use Rattle.shadow_masks.specs.Writes.{LabelMap, Save, after}
 use Rattle.run_labels.specs.TurnLabels.{at_start}
-use Rattle.covered_runs.specs.Proper.{AreBytes, IsGuest, IsProper, place_limit}
+use Rattle.covered_runs.specs.Proper.{AreBytes, IsGuest, IsProper}
 use Rattle.covered_runs.specs.ProperLaws.{ProperTurnsLaw}
-use Rattle.covered_runs.proofs.Passings.{made_fits, slot_word}
 use Rattle.covered_runs.proofs.StepsKeepStanding.{HasRules, InsideBeside, Stands, kept_moved, placed, state_of}
 use Rattle.covered_runs.proofs.Entering.{SameStarts, entry_crossing, entry_end, entry_passed, entry_replayed, outside_same}
 use Rattle.covered_runs.proofs.RegionTurns.{entered_region, leave_end, left_break, left_region, ranges_unbroken, saved_beside}
@@ -40,62 +38,19 @@ use Rattle.covered_runs.proofs.RegionTurns.{saved_inside, saved_kept, some_same}
 use Rattle.covered_runs.proofs.SkippedTurns.{entered_break}
 use Rattle.masked_turns.specs.declared.uses.SecretLook.TheVariants.{BaseRegister}
 use Rattle.masked_turns.specs.Clearing.{Cutting}
-use Rattle.covered_runs.proofs.Turns.{seen_word}
-use Rattle.covered_runs.proofs.Unchanged.{EndsProper, move_limit}
-use Rattle.covered_runs.proofs.WritesKeepRelation.{Beside, close_equal, put_kept, put_limits}
+use Rattle.covered_runs.proofs.Unchanged.{EndsProper}
+use Rattle.covered_runs.proofs.WritesKeepRelation.{Beside, close_equal}
+use Rattle.masked_turns.proofs.GuestStates.{guest_within}
+use Rattle.masked_turns.proofs.OutsideMasks.{AreSmall, everything}
+use Rattle.masked_turns.proofs.StepEnds.{step_ends}
 use Rattle.every_secret.specs.Masked.{Goes, MaskedPlace, Reached, masked, unless_met, why_looked}
 use Rattle.every_secret.specs.Rules.{AreSoundRules, Rules}
 use Rattle.every_secret.specs.Turns.{cutting_of, kind_turn, masked_turn, secret_base, secret_or, turn_from, turn_inside}
 use Rattle.every_secret.specs.Listed.{AgreeEach}
 use Rattle.every_secret.proofs.Alike.{running_alike, with_output}
-use Rattle.every_secret.proofs.WalkKeeps.{AlikeControl, AreSmall, IsMet, KeptPart, Outcome, everything, kept_of, knows}
+use Rattle.every_secret.proofs.WalkKeeps.{AlikeControl, IsMet, KeptPart, Outcome, kept_of, knows}
 use Rattle.every_secret.proofs.WalkKeeps.{turn_walks}
 use Rattle.every_secret.proofs.WalkLeaves.{alike_entered, leave_walks}
-
--- ---- what the turn of an instruction leaves
-
-module _ (setting : Setting) (secret : List ℕ) (bytes : AreBytes secret) (number : ℕ) where
-  pub ends_proper : (turn : Turn) (store : Store) (held : Held) → IsProper setting.base number turn →
-      ((place : Place) → at_place setting.base store held place ≤ place_limit place) →
-      EndsProper setting secret number store.kept (real_end (walked setting secret turn store held))
-  unfolding walked real_end IsProper
-  ends_proper (Looks seen go) store held proper limits =
-      ends_proper (go (seen_value setting.base store seen)) store held
-      (proper.1 _ (seen_word setting.base store held limits seen)) limits
-  ends_proper (Passes point place making sources turn) store held proper limits =
-      let value = made making (values_of setting secret store held sources) in
-      let is = proper.0 in
-      let fits = made_fits setting secret bytes store held limits point making sources is.named is.fits in
-      let width = proper.1.1 in
-      let small : value ≤ place_limit place = omega (arith, fits, width) in
-      subst (λ kept. EndsProper setting secret number kept
-      (real_end (walked setting secret turn (put setting.base place value store) (hold place value held))))
-      (put_kept setting.base place value store)
-      (ends_proper turn (put setting.base place value store) (hold place value held) proper.2
-      (λ q. put_limits setting.base place value store held small q (limits q)))
-  ends_proper (Decides point making sources go) store held proper limits =
-      let value = made making (values_of setting secret store held sources) in
-      let is = proper.0 in
-      let fits = made_fits setting secret bytes store held limits point making sources is.named is.fits in
-      ends_proper (go value) store held (proper.1 value (slot_word point.slot value fits)) limits
-  ends_proper (Moves place shape source turn) store held proper limits =
-      let value = shaped shape (value_of setting secret store held source ∷ []) in
-      subst (λ kept. EndsProper setting secret number kept
-      (real_end (walked setting secret turn (put setting.base place value store) (hold place value held))))
-      (put_kept setting.base place value store)
-      (ends_proper turn (put setting.base place value store) (hold place value held) proper.1
-      (λ q. put_limits setting.base place value store held
-      (move_limit setting secret bytes number place shape source store held limits proper.0) q (limits q)))
-  ends_proper (Gives point place turn) store held proper limits = absurd proper
-  ends_proper (Saves turn) store held proper limits = absurd proper
-  ends_proper (Restores registers turn) store held proper limits = absurd proper
-  ends_proper (Ends control) store held proper limits = record {
-    same_setting = refl;
-    same_secret = refl;
-    same_kept = refl;
-    small_break = proper.0;
-    same_region = proper.1;
-  }
 
 -- ---- between two turns
 
@@ -211,25 +166,9 @@ module _ (rules : Rules) (sound : AreSoundRules rules) (task : Task) (setting : 
 
   guest_of : (control : Control) (labels : LabelMap) (real copy : Store) (past : List Point) →
       At control labels real copy past → IsGuest (state_of setting secret control real)
-  guest_of control labels real copy past at = record {
-    store = record {
-      registers = λ r. let limit = at.beside.real_limits (Register r) in omega (arith, limit);
-      kept = λ r. let limit = at.kept_words r in omega (arith, limit);
-      memory = λ i. byte i;
-    };
-    secret = bytes;
-    public_input = public_bytes;
-    start_break = small_start;
-    current_break = at.small_break;
-  }
-    where
-      byte : (i : ℕ) → slice_index real.memory i < 256
-      byte i =
-          let limit : slice_index real.memory (setting.base + i - setting.base) ≤ 255 =
-          at.beside.real_limits (Byte (setting.base + i)) in
-          let same : setting.base + i - setting.base ≡ i = omega arith in
-          let here : slice_index real.memory i ≤ 255 = subst (λ k. slice_index real.memory k ≤ 255) same limit in
-          omega (arith, here)
+  guest_of control labels real copy past at =
+      guest_within setting secret control real bytes public_bytes small_start at.small_break at.beside.real_limits
+      at.kept_words
 
   -- ---- a step
 
@@ -267,7 +206,7 @@ module _ (rules : Rules) (sound : AreSoundRules rules) (task : Task) (setting : 
       asks = ap (λ k. kind_turn rules task k place) kind
 
       alone : EndsProper setting secret control.region real.kept (real_end walk)
-      alone = ends_proper setting secret bytes control.region turn real none_held is at.beside.real_limits
+      alone = (step_ends setting secret bytes control.region turn real none_held is at.beside.real_limits).ends
 
       turned : Outcome setting other
           (masked rules (cutting_of task (Steps found)) 0 (knows past (at_start labels) crossed masks mask)

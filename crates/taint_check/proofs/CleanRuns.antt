@@ -1,5 +1,5 @@
 -- A clean run is accepted: the replay that is fed its crossing bits follows it turn by turn and exits as it does.
-use Rattle.std.proofs.Common.{◌≡◌, ℕ, suc, ◌-◌, ◌<◌, ◌≤◌, ◌⊎◌, inl, inr, ⊎_elim, true, false, List, []}
+use Rattle.std.proofs.Common.{◌≡◌, ℕ, suc, ◌<◌, ◌≤◌, ◌⊎◌, inl, inr, ⊎_elim, true, false, List, []}
 use Rattle.std.proofs.Common.{◌∷◌, length, Option, Some, None, refl, sym, ap, subst, ◌∙◌, arith}
 use Rattle.std.proofs.lemmas.Bool.{cases_lt, ltb-false}
 use Rattle.flow_base.specs.declared.outputs.Output.{Output}
@@ -7,12 +7,9 @@ use Rattle.crossing_bits.specs.Askers.{Uses}
 use Rattle.enclosure_regions.specs.declared.break_kinds.Break.{Break}
 use Rattle.enclosure_regions.specs.declared.region_parts.Region.{Region}
 use Rattle.enclosure_regions.specs.Regions.{are_regions, stands_in}
-use Rattle.rv32im_machine.specs.declared.language.Place.{Place as ThePlace}
-use Rattle.rv32im_machine.specs.declared.language.Place.TheVariants.{Register, Byte, First, Second}
 use Rattle.rv32im_machine.specs.declared.stepping.Stepped.{Stepped}
 use Rattle.rv32im_machine.specs.declared.stepping.Stepped.TheVariants.{Ran, Exited, Stopped}
 use Rattle.rv32im_machine.specs.Folds.{real_end}
-use Rattle.rv32im_machine.specs.Language.{none_held, at_place}
 use Rattle.rv32im_machine.specs.State.{Setting, Control, State}
 use Rattle.region_machine.specs.Breaking.{Breaks}
 use Rattle.region_machine.specs.Enclosures.{is_enclosed, kind_of}
@@ -23,24 +20,24 @@ use Rattle.lockstep_replay.proofs.Bounds.{accepted_where}
 use Rattle.lockstep_replay.specs.Acceptance.{HasExited, EndAlike, SameMark, Accept}
 use Rattle.lockstep_replay.specs.Crossing.{cross_after}
 use Rattle.lockstep_replay.specs.Tasks.{Task, Limits, Cross, enclosed_of, real_of, real_start, replay_start}
-use Rattle.shadow_masks.specs.Writes.{default_map}
 use Rattle.run_labels.specs.Runs.{entered_number, stopped_fault}
-use Rattle.run_labels.specs.TurnLabels.{at_start, label_at}
-use Rattle.covered_runs.specs.Proper.{AreBytes, IsGuest, IsPlace, place_limit}
+use Rattle.run_labels.specs.TurnLabels.{at_start}
+use Rattle.covered_runs.specs.Proper.{AreBytes, IsGuest}
 use Rattle.covered_runs.specs.ProperLaws.{ProperTurnsLaw}
 use Rattle.covered_runs.proofs.CoveredRunAccepted.{end_alike, same_fed}
 use Rattle.covered_runs.proofs.RunFacts.{SameSetting, kind_setting}
-use Rattle.covered_runs.proofs.StepsKeepStanding.{state_of, Stands}
-use Rattle.covered_runs.proofs.WritesKeepRelation.{Close, close_refl}
+use Rattle.covered_runs.proofs.StepsKeepStanding.{state_of}
 use Rattle.masked_turns.specs.declared.uses.LeftBits.{LeftBits}
 use Rattle.masked_turns.specs.declared.uses.SecretLook.{SecretLook}
+use Rattle.masked_turns.proofs.OutsideMasks.{AreSmall}
+use Rattle.masked_turns.proofs.RunsBegin.{begins_beside}
 use Rattle.taint_check.specs.Cleared.{AnswersUnless, AreRunAnswers, Cleared, MaskedRun, cutting_at, is_hidden, kind_at}
 use Rattle.taint_check.specs.Reasons.{left_unless, look_unless, why_of}
 use Rattle.taint_check.proofs.FoundRuns.{AreFine}
 use Rattle.taint_check.proofs.ReasonsCounted.{fine-of}
 use Rattle.taint_check.proofs.RunVerdicts.{cleared-place}
 use Rattle.taint_check.proofs.RunsAgree.{Inside, Outside, copy_start, later, next_is, parts}
-use Rattle.taint_check.proofs.TurnsAgree.{AreSmall, IsClear, everything}
+use Rattle.taint_check.proofs.TurnsAgree.{IsClear}
 
 -- a turn without a reason is not stopped
 on_of : (look : Option SecretLook) (broken : Option Break) (mode : Stepped) (budget needed : ℕ)
@@ -95,50 +92,13 @@ module _ (table : ℕ) (task : Task) (limits : Limits) (secret other : List ℕ)
 
   -- ---- the start
 
-  start_stands : Stands everything task.enclosures.skip regions setting.base the_start.state.control default_map
-      the_start.state.store the_start.state.store [] []
-  start_stands = record {
-    beside = record {
-      places = places;
-      registers = refl;
-      memory = refl;
-      real_limits = within;
-      copy_limits = within;
-      label_limits = label_limits;
-    };
-    counts = λ point never. refl;
-    runs = nowhere;
-    nowhere = λ none. refl;
-    inside = λ region found.
-        let here : None ≡ Some region = found in
-        absurd (cc);
-    small_break = is.current_break;
-    kept_words = λ r. let word = is.store.kept r in omega (arith, word);
-  }
-    where
-      places : (place : ThePlace) → IsPlace setting.base place →
-          Close everything (label_at (at_start default_map) place)
-          (at_place setting.base the_start.state.store none_held place)
-          (at_place setting.base the_start.state.store none_held place)
-      places place ip =
-          close_refl everything (label_at (at_start default_map) place)
-          (at_place setting.base the_start.state.store none_held place)
-
-      within : (place : ThePlace) → at_place setting.base the_start.state.store none_held place ≤ place_limit place
-      within (Register r) = let word = is.store.registers r in omega (arith, word)
-      within (Byte a) = let byte = is.store.memory (a - setting.base) in omega (arith, byte)
-      within First = omega arith
-      within Second = omega arith
-
-      label_limits : (place : ThePlace) → (label_at (at_start default_map) place).mask ≤ place_limit place
-      label_limits (Register r) = omega arith
-      label_limits (Byte a) = omega arith
-      label_limits First = omega arith
-      label_limits Second = omega arith
-
   begins : IsOutside 0 (the_run [])
   unfolding Cleared real_after Replay common_turns cross_after
-  begins = record { copy = the_start.state.store; comes = refl; stands = start_stands }
+  begins = record {
+    copy = the_start.state.store;
+    comes = refl;
+    stands = begins_beside task.enclosures.skip regions the_start.state is refl nowhere;
+  }
 
   -- ---- one turn
 

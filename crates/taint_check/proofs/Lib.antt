@@ -4,9 +4,7 @@ pub mod MaskedTurns
 pub mod Beginnings
 pub mod MadeTurns
 pub mod RunVerdicts
-pub mod LooksAgree
 pub mod TurnsAgree
-pub mod StepEnds
 pub mod OutputsAgree
 pub mod LeavesAgree
 pub mod StandsAgree

@@ -30,7 +30,8 @@ use Rattle.masked_turns.specs.Answers.{EachCleared}
 use Rattle.masked_turns.specs.Clearing.{Cutting, cleared_in, output_mask, uncrossed}
 use Rattle.masked_turns.specs.Deciding.{left_in}
 use Rattle.masked_turns.specs.Looking.{looked_in}
-use Rattle.taint_check.proofs.TurnsAgree.{everything, close_of, AreSmall, IsClear, KeepsAgreed}
+use Rattle.masked_turns.proofs.OutsideMasks.{AreSmall, close_of, everything}
+use Rattle.taint_check.proofs.TurnsAgree.{IsClear, KeepsAgreed}
 
 module _ (cutting : Cutting) (small : AreSmall cutting.masks) (setting : Setting) (secret other : List ℕ) (number : ℕ)
     (region : Region) where

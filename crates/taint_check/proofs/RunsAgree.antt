@@ -33,11 +33,12 @@ use Rattle.covered_runs.proofs.StepsKeepStanding.{state_of, placed}
 use Rattle.covered_runs.proofs.TurnKinds.{enters_outside, leaves_inside, steps_inside, inside_turn, numbered_rules}
 use Rattle.covered_runs.proofs.TurnKinds.{numbered_id}
 use Rattle.masked_turns.specs.Clearing.{Cutting, cleared_in}
+use Rattle.masked_turns.proofs.OutsideMasks.{AreSmall}
 use Rattle.taint_check.specs.Cleared.{MaskedRun, Cleared, is_hidden, leaves_skipped, labels_unless, next_masked}
 use Rattle.taint_check.proofs.RunVerdicts.{cleared-place}
 use Rattle.taint_check.proofs.SkipsAgree.{Within, skip_enters, skip_steps, skip_leaves}
 use Rattle.taint_check.proofs.StandsAgree.{At, HasStood, step_stands, entry_stands, leave_stands}
-use Rattle.taint_check.proofs.TurnsAgree.{AreSmall, IsClear}
+use Rattle.taint_check.proofs.TurnsAgree.{IsClear}
 
 module _ (task : Task) (secret other : List ℕ) (bytes : AreBytes secret) (others : AreBytes other)
     (public_bytes : AreBytes (real_start task secret).state.setting.public_input)

@@ -1,13 +1,13 @@
 -- Inside a skipped region the real run goes on while the replay stands at its entry; at the leave the replay skips it.
-use Rattle.std.proofs.Common.{◌≡◌, ℕ, ◌+◌, ◌^◌, ◌<◌, ◌≤◌, true, false, List}
-use Rattle.std.proofs.Common.{Some, None, refl, sym, ap, subst, ◌∙◌, arith}
-use Rattle.std.specs.Prelude.{◌-◌, if◌then◌else◌, slice_index}
+use Rattle.std.proofs.Common.{◌≡◌, ℕ, ◌^◌, ◌<◌, ◌≤◌, true, false, List}
+use Rattle.std.proofs.Common.{Some, None, refl, sym, ap, subst, ◌∙◌}
+use Rattle.std.specs.Prelude.{if◌then◌else◌, slice_index}
 use Rattle.flow_base.specs.declared.points.Point.{Point}
 use Rattle.crossing_bits.specs.Askers.{feed}
 use Rattle.enclosure_regions.specs.declared.region_parts.Region.{Region}
 use Rattle.enclosure_regions.specs.Breaks.{keep_break, range_break}
 use Rattle.enclosure_regions.specs.Regions.{stands_in}
-use Rattle.rv32im_machine.specs.declared.language.Place.TheVariants.{Register, Byte}
+use Rattle.rv32im_machine.specs.declared.language.Place.TheVariants.{Register}
 use Rattle.rv32im_machine.specs.declared.stepping.Stepped.TheVariants.{Ran}
 use Rattle.rv32im_machine.specs.Folds.{real_end}
 use Rattle.rv32im_machine.specs.Rows.{turn_of}
@@ -35,10 +35,12 @@ use Rattle.covered_runs.proofs.SkipsKeepRelation.{SkippedTo}
 use Rattle.covered_runs.proofs.StepsKeepStanding.{state_of, placed, HasRules}
 use Rattle.covered_runs.proofs.Unchanged.{declared}
 use Rattle.masked_turns.specs.Clearing.{cleared_in}
+use Rattle.masked_turns.proofs.GuestStates.{guest_within}
+use Rattle.masked_turns.proofs.OutsideMasks.{AreSmall, everything}
+use Rattle.masked_turns.proofs.StepEnds.{step_ends}
 use Rattle.taint_check.proofs.LeavesAgree.{skip_kept}
 use Rattle.taint_check.proofs.StandsAgree.{At, HasStood, entry_cleared, is_proper, left_stands, same_starts}
-use Rattle.taint_check.proofs.StepEnds.{step_ends}
-use Rattle.taint_check.proofs.TurnsAgree.{everything, AreSmall, IsClear}
+use Rattle.taint_check.proofs.TurnsAgree.{IsClear}
 
 module _ (skip : List ℕ) (regions : List Region) (masks : Masks) (setting : Setting) (secret other : List ℕ)
     (bytes : AreBytes secret) (others : AreBytes other) (public_bytes : AreBytes setting.public_input)
@@ -106,31 +108,9 @@ module _ (skip : List ℕ) (regions : List Region) (masks : Masks) (setting : Se
 
   inside_guest : (control entered_by : Control) (labels : LabelMap) (real copy : Store) (past : List Point) →
       Within control entered_by labels real copy past → IsGuest (state_of setting secret control real)
-  inside_guest control entered_by labels real copy past at = record {
-    store = record {
-      registers = λ r. let limit = at.to.limits (Register r) in omega (arith, limit);
-      kept = λ r. kept r;
-      memory = λ i. byte i;
-    };
-    secret = bytes;
-    public_input = public_bytes;
-    start_break = small_start;
-    current_break = at.small_break;
-  }
-    where
-      kept : (r : ℕ) → slice_index real.kept r < 2 ^ 32
-      kept r =
-          let limit : slice_index real.kept r ≤ 4294967295 =
-          subst (λ xs. slice_index xs r ≤ 4294967295) (sym at.to.kept) (at.beside.real_limits (Register r)) in
-          omega (arith, limit)
-
-      byte : (i : ℕ) → slice_index real.memory i < 256
-      byte i =
-          let limit : slice_index real.memory (setting.base + i - setting.base) ≤ 255 =
-          at.to.limits (Byte (setting.base + i)) in
-          let same : setting.base + i - setting.base ≡ i = omega arith in
-          let here : slice_index real.memory i ≤ 255 = subst (λ k. slice_index real.memory k ≤ 255) same limit in
-          omega (arith, here)
+  inside_guest control entered_by labels real copy past at =
+      guest_within setting secret control real bytes public_bytes small_start at.small_break at.to.limits
+      (λ r. subst (λ xs. slice_index xs r ≤ 4294967295) (sym at.to.kept) (at.beside.real_limits (Register r)))
 
   pub skip_steps : (control entered_by : Control) (labels : LabelMap) (real copy : Store) (past : List Point)
       (at : Within control entered_by labels real copy past) →

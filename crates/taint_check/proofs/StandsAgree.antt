@@ -1,7 +1,7 @@
 -- Each turn outside of skipped regions keeps the replay, which is fed the crossing bits, beside the real run.
 use Rattle.std.proofs.Common.{◌≡◌, ℕ, ◌+◌, ◌%◌, ◌^◌, ◌<◌, ◌≤◌, Bool, true, false, List, [], ◌∷◌}
-use Rattle.std.proofs.Common.{Option, Some, None, refl, sym, ap, ap₂, subst, ◌∙◌, arith}
-use Rattle.std.specs.Prelude.{◌-◌, if◌then◌else◌, slice_index}
+use Rattle.std.proofs.Common.{Option, Some, None, refl, sym, ap, ap₂, subst, ◌∙◌}
+use Rattle.std.specs.Prelude.{if◌then◌else◌, slice_index}
 use Rattle.flow_base.specs.declared.points.Point.{Point}
 use Rattle.crossing_bits.specs.Askers.{feed, Fed'}
 use Rattle.enclosure_regions.specs.declared.region_parts.Range.{Range}
@@ -9,7 +9,7 @@ use Rattle.enclosure_regions.specs.declared.region_parts.Region.{Region}
 use Rattle.enclosure_regions.specs.Breaks.{keep_break, outside_range, range_break}
 use Rattle.enclosure_regions.specs.Regions.{stands_in}
 use Rattle.enclosure_regions.specs.Turns.{base_value}
-use Rattle.rv32im_machine.specs.declared.language.Place.TheVariants.{Register, Byte}
+use Rattle.rv32im_machine.specs.declared.language.Place.TheVariants.{Register}
 use Rattle.rv32im_machine.specs.declared.language.Seen.{Seen}
 use Rattle.rv32im_machine.specs.declared.language.Seen.TheVariants.{Base}
 use Rattle.rv32im_machine.specs.Folds.{real_end}
@@ -37,10 +37,12 @@ use Rattle.covered_runs.proofs.StepsKeepStanding.{state_of, placed, InsideBeside
 use Rattle.covered_runs.proofs.WritesKeepRelation.{Beside}
 use Rattle.masked_turns.specs.Clearing.{Cutting, cleared_in}
 use Rattle.masked_turns.specs.Looking.{looked_in}
+use Rattle.masked_turns.proofs.LooksAgree.{look_same, look-none}
+use Rattle.masked_turns.proofs.GuestStates.{guest_within}
+use Rattle.masked_turns.proofs.OutsideMasks.{AreSmall, everything}
+use Rattle.masked_turns.proofs.StepEnds.{step_ends, cleared_kept}
 use Rattle.taint_check.proofs.LeavesAgree.{leave_kept}
-use Rattle.taint_check.proofs.LooksAgree.{look_same, look-none}
-use Rattle.taint_check.proofs.StepEnds.{step_ends, cleared_kept}
-use Rattle.taint_check.proofs.TurnsAgree.{everything, AreSmall, IsClear, KeepsAgreed, turn_kept}
+use Rattle.taint_check.proofs.TurnsAgree.{IsClear, KeepsAgreed, turn_kept}
 
 -- ---- the entry
 
@@ -110,25 +112,9 @@ module _ (skip : List ℕ) (regions : List Region) (masks : Masks) (setting : Se
 
   pub guest_of : (control : Control) (labels : LabelMap) (real copy : Store) (past : List Point) →
       At control labels real copy past → IsGuest (state_of setting secret control real)
-  guest_of control labels real copy past at = record {
-    store = record {
-      registers = λ r. let limit = at.beside.real_limits (Register r) in omega (arith, limit);
-      kept = λ r. let limit = at.kept_words r in omega (arith, limit);
-      memory = λ i. byte i;
-    };
-    secret = bytes;
-    public_input = public_bytes;
-    start_break = small_start;
-    current_break = at.small_break;
-  }
-    where
-      byte : (i : ℕ) → slice_index real.memory i < 256
-      byte i =
-          let limit : slice_index real.memory (setting.base + i - setting.base) ≤ 255 =
-          at.beside.real_limits (Byte (setting.base + i)) in
-          let same : setting.base + i - setting.base ≡ i = omega arith in
-          let here : slice_index real.memory i ≤ 255 = subst (λ k. slice_index real.memory k ≤ 255) same limit in
-          omega (arith, here)
+  guest_of control labels real copy past at =
+      guest_within setting secret control real bytes public_bytes small_start at.small_break at.beside.real_limits
+      at.kept_words
 
   pub is_proper : (control : Control) (real : Store) → IsGuest (state_of setting secret control real) →
       IsProper setting.base control.region (turn_of setting control)

@@ -1,9 +1,7 @@
 -- One turn of a run of which masks are kept, and of the replay that is fed its crossing bits: the law of one passing, and
 -- that a whole turn of an instruction keeps that the two agree outside the masks.
-use Rattle.std.proofs.Common.{◌≡◌, ℕ, ◌^◌, ◌<◌, ◌≤◌, Bool, true, false, List, [], ◌∷◌}
+use Rattle.std.proofs.Common.{◌≡◌, ℕ, ◌^◌, ◌<◌, ◌≤◌, List, [], ◌∷◌}
 use Rattle.std.proofs.Common.{Option, Some, None, refl, sym, ap, subst, ◌∙◌, arith}
-use Rattle.std.specs.Prelude.{◌==◌, if◌then◌else◌}
-use Rattle.std.proofs.lemmas.Bool.{eqb-true}
 use Rattle.std.proofs.lemmas.Nat.{and_le_l}
 use Rattle.flow_base.specs.declared.points.Point.{Point}
 use Rattle.flow_base.specs.Points.{width_of}
@@ -21,7 +19,7 @@ use Rattle.rv32im_machine.specs.Language.{Turn, Looks, Passes, Decides, Gives, M
 use Rattle.rv32im_machine.specs.Language.{Making, walked, put, hold, value_of, values_of, made, work_of, shaped, first_of}
 use Rattle.rv32im_machine.specs.Language.{seen_value, none_held}
 use Rattle.region_machine.specs.Runs.{passed}
-use Rattle.replay_machine.specs.Runs.{Masks, mask_at, replayed}
+use Rattle.replay_machine.specs.Runs.{mask_at, replayed}
 use Rattle.lockstep_replay.specs.Crossing.{crossing}
 use Rattle.run_labels.specs.Answers.{Holds, IsSoundAnswer}
 use Rattle.run_labels.specs.Masks.{masks_of, work_mask, moved_label}
@@ -31,26 +29,18 @@ use Rattle.shadow_masks.specs.Pages.{label_of}
 use Rattle.shadow_masks.specs.Points.{nowhere}
 use Rattle.transfer_rules.specs.Table1.{flipped}
 use Rattle.covered_runs.specs.Proper.{AreBytes, IsPassing, IsPut, IsMove, IsProper, place_limit}
-use Rattle.covered_runs.specs.Sides.{NamedSide}
 use Rattle.covered_runs.proofs.AgreeOutsideMask.{agree_zero, patched_uncrossed}
 use Rattle.covered_runs.proofs.Passings.{made_agrees, made_fits, mask_fits, patched_slot, slot_word}
 use Rattle.covered_runs.proofs.Turns.{feed_bits, label_of_limit, seen_word}
 use Rattle.covered_runs.proofs.TurnsKeepRelation.{copied_close}
-use Rattle.covered_runs.proofs.WritesKeepRelation.{Beside, Close, close_label_of, close_refl, fresh_beside, put_beside, put_kept}
+use Rattle.covered_runs.proofs.WritesKeepRelation.{Beside, close_refl, fresh_beside, put_beside, put_kept}
 use Rattle.masked_turns.specs.declared.uses.LeftBits.{LeftBits}
 use Rattle.masked_turns.specs.Answers.{EachCleared}
 use Rattle.masked_turns.specs.Clearing.{Cutting, cleared_in, uncrossed}
 use Rattle.masked_turns.specs.Deciding.{first_left, left_at, left_in}
 use Rattle.masked_turns.specs.Looking.{looked_in}
-use Rattle.taint_check.proofs.LooksAgree.{look_same, look-none}
-
--- every label is inside: values are only known to agree outside its mask
-abbrev pub everything : NamedSide
-everything = record { first = λ point. true; second = λ point. true; relay = λ region. true }
-
-pub close_of : (mask real copy : ℕ) → Agree mask real copy → Close everything (label_of mask nowhere) real copy
-close_of mask real copy agree =
-    close_label_of everything mask nowhere real copy agree (λ outside. let both : true ≡ false = outside in absurd (cc))
+use Rattle.masked_turns.proofs.LooksAgree.{look_same, look-none}
+use Rattle.masked_turns.proofs.OutsideMasks.{AreSmall, close_of, decided_none, everything}
 
 -- what is known of a turn of which masks are kept, after these points
 pub record IsClear (number : ℕ) (cutting : Cutting) (past : List Point) (labels : TurnLabels) (answers : List ℕ)
@@ -73,23 +63,9 @@ pub record KeepsAgreed (cutting : Cutting) (setting : Setting) (other : List ℕ
       (real_end walk).store none_held store none_held
   pub kept : store.kept ≡ copy.kept
 
--- no mask has bits past a word
-abbrev pub AreSmall : Masks → Type 0
-AreSmall masks = (point : Point) (visit : ℕ) → masks point visit < 2 ^ 32
-
 pub left-none : (first later : Option LeftBits) → first_left first later ≡ None → (first ≡ None) × (later ≡ None)
 left-none None later e = (refl, e)
 left-none (Some left) later e = absurd (cc)
-
-abbrev left_if : Bool → Point → ℕ → Option LeftBits
-left_if t point mask = if t then None else Some (record { point = point; mask = mask })
-
-decided_none : (point : Point) (mask : ℕ) → left_at Decide point mask ≡ None → mask ≡ 0
-decided_none point mask e = pick (mask == 0) refl e
-  where
-    pick : (t : Bool) → (mask == 0) ≡ t → left_if t point mask ≡ None → mask ≡ 0
-    pick true is none = eqb-true mask 0 is
-    pick false is none = absurd (cc)
 
 module _ (cutting : Cutting) (small : AreSmall cutting.masks) (setting : Setting) (secret other : List ℕ)
     (bytes : AreBytes secret) (others : AreBytes other) (number region : ℕ) where
