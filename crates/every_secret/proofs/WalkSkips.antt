@@ -11,11 +11,13 @@ use Rattle.enclosure_regions.specs.Regions.{stands_in}
 use Rattle.rv32im_machine.specs.declared.language.Place.TheVariants.{Register}
 use Rattle.rv32im_machine.specs.declared.stepping.Stepped.TheVariants.{Ran}
 use Rattle.rv32im_machine.specs.Folds.{real_end}
+use Rattle.rv32im_machine.specs.Rows.{turn_in, turn_of}
 use Rattle.rv32im_machine.specs.State.{Control, Setting, State, Store, entered, saved}
 use Rattle.rv32im_machine.specs.Language.{Walk, none_held, walked}
 use Rattle.region_machine.specs.Enclosures.{Enters, kind_of, region_numbered}
 use Rattle.region_machine.specs.Guests.{entry, leave, skip as skip_turn}
-use Rattle.region_machine.specs.Runs.{passed}
+use Rattle.region_machine.specs.Breaking.{walk_break}
+use Rattle.region_machine.specs.Runs.{has_exited, passed}
 use Rattle.region_machine.specs.Within.{are_inside}
 use Rattle.region_machine.proofs.RangesStayInside.{inside_at_entry}
 use Rattle.replay_machine.specs.ReplayTurns.{entry_walk, kind_outside_range, outside_of, replay_kind_walk}
@@ -24,17 +26,20 @@ use Rattle.lockstep_replay.specs.Crossing.{crossing}
 use Rattle.lockstep_replay.specs.Tasks.{Task}
 use Rattle.shadow_masks.specs.Writes.{LabelMap, Save, after}
 use Rattle.run_labels.specs.TurnLabels.{at_start}
-use Rattle.covered_runs.specs.Proper.{AreBytes}
+use Rattle.covered_runs.specs.Proper.{AreBytes, IsGuest, IsProper}
 use Rattle.covered_runs.specs.ProperLaws.{ProperTurnsLaw}
 use Rattle.covered_runs.proofs.Entering.{SameStarts, entry_end, outside_same}
 use Rattle.covered_runs.proofs.RegionTurns.{leave_end, left_break, left_region, ranges_unbroken}
 use Rattle.covered_runs.proofs.SkippedTurns.{entered_break, entered_mode, entered_to, region_of_entered, same_control}
-use Rattle.covered_runs.proofs.SkippedTurns.{same_inside_refl}
-use Rattle.covered_runs.proofs.QuietInsideRegions.{SameInside}
+use Rattle.covered_runs.proofs.SkippedTurns.{same_inside_later, same_inside_refl}
+use Rattle.covered_runs.proofs.QuietInsideRegions.{SameInside, step_quiet}
+use Rattle.covered_runs.proofs.Unchanged.{declared}
 use Rattle.covered_runs.proofs.SkipsKeepRelation.{SkippedTo}
 use Rattle.covered_runs.proofs.StepsKeepStanding.{HasRules, placed, state_of}
 use Rattle.covered_runs.proofs.WritesKeepRelation.{Beside}
+use Rattle.masked_turns.proofs.GuestStates.{guest_within}
 use Rattle.masked_turns.proofs.OutsideMasks.{AreSmall, everything}
+use Rattle.masked_turns.proofs.StepEnds.{step_ends}
 use Rattle.every_secret.specs.Masked.{MaskedPlace, Reached, masked}
 use Rattle.every_secret.specs.Rules.{AreSoundRules, Rules}
 use Rattle.every_secret.specs.Turns.{cutting_of, kind_turn, masked_turn, secret_base, turn_from, turn_inside}
@@ -84,6 +89,59 @@ module _ (rules : Rules) (sound : AreSoundRules rules) (task : Task) (setting : 
   skip_asker region before crossed masks mask shown copy past =
       masked rules (cutting_of task (Enters region)) region.id (knows past (at_start before) crossed masks mask)
       (entry_walk task.enclosures region (state_of setting other shown copy))
+
+  -- ---- a turn inside, which the walk does not make
+
+  inside_guest : (now entered_by : Control) (before : LabelMap) (real copy : Store) →
+      Within now entered_by before real copy → IsGuest (state_of setting secret now real)
+  inside_guest now entered_by before real copy at =
+      guest_within setting secret now real bytes public_bytes small_start at.small_break at.to.limits
+      (λ r. subst (λ xs. slice_index xs r ≤ 4294967295) (sym at.to.kept) (at.beside.real_limits (Register r)))
+
+  pub skip_goes : (now entered_by : Control) (before : LabelMap) (real copy : Store)
+      (at : Within now entered_by before real copy) →
+      walk_break at.region real.kept now.pc (walked setting secret (turn_of setting now) real none_held) ≡ None →
+      (real_end (walked setting secret (turn_of setting now) real none_held)).control.mode ≡ Ran →
+      Within (real_end (walked setting secret (turn_of setting now) real none_held)).control entered_by before
+      (real_end (walked setting secret (turn_of setting now) real none_held)).store copy
+  skip_goes now entered_by before real copy at unbroken ran =
+      let turn = turn_of setting now in
+      let region = at.region in
+      let is : IsProper setting.base now.region turn =
+      subst (λ m. IsProper setting.base now.region (turn_in m setting now)) (sym at.ran)
+      (proper (state_of setting secret now real) (inside_guest now entered_by before real copy at)) in
+      let alone = step_ends setting secret bytes now.region turn real none_held is at.to.limits in
+      let on : has_exited now.mode ≡ false = ap (λ m. has_exited m) at.ran in
+      let quiet = step_quiet region real.kept now.pc (state_of setting secret now real) on unbroken in
+      record {
+        region = region;
+        entry_store = at.entry_store;
+        beside = at.beside;
+        skipped = at.skipped;
+        numbered = subst (λ r. region_numbered task.enclosures.regions r ≡ Some region) (sym alone.ends.same_region)
+            at.numbered;
+        to = record {
+          kept = alone.ends.same_kept ∙ at.to.kept;
+          label_kept = at.to.label_kept;
+          same = λ q iq dq.
+              let early = at.to.same q iq dq in
+              let declared_now : declared region real.kept q ≡ false =
+              subst (λ xs. declared region xs q ≡ false) (sym at.to.kept) dq in
+              (alone.same region real.kept now.pc unbroken q iq declared_now ∙ early.0, early.1);
+          registers = alone.registers ∙ at.to.registers;
+          memory = alone.memory ∙ at.to.memory;
+          limits = alone.limits;
+          label_limits = at.to.label_limits;
+        };
+        clear = at.clear;
+        inside = at.inside;
+        none = at.none;
+        quiet = same_inside_later (entered region.id entered_by) now _ at.quiet quiet;
+        ran = ran;
+        kind = at.kind;
+        nowhere = at.nowhere;
+        small_break = alone.ends.small_break;
+      }
 
   module _ (control : Control) (output written : List ℕ) (before : LabelMap) (copy : Store) (past : List Point)
       (crossed : ℕ) (masks : List ℕ) (mask : ℕ) where
