@@ -13,3 +13,6 @@ pub mod WalkOutputs
 pub mod WalkLeaves
 pub mod WalkStands
 pub mod WalkSkips
+pub mod RealTurns
+pub mod WalkRuns
+pub mod SecretsChoose

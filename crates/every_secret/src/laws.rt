@@ -1,7 +1,14 @@
+ghost use Rattle.every_secret.specs.Laws.{RunLaw};
 ghost use Rattle.every_secret.specs.Rules.{TablesHaveRules};
 
 /// A law, which does nothing when it is called: what a book of table 1 or of table 2 answers is a function, that of the
 /// table.
 pub fn tables_have_rules()
     ensures { TablesHaveRules }
+{}
+
+/// A law, which does nothing when it is called: by any sound rules, the run of a secret that breaks no region chooses a
+/// path of the masked replay, with whose pattern its output agrees and with which it is accepted; or it does not exit.
+pub fn runs_choose_paths()
+    ensures { RunLaw }
 {}

@@ -24,7 +24,7 @@ mod walks;
 mod whys;
 
 pub use bounds::bound;
-pub use laws::tables_have_rules;
+pub use laws::{runs_choose_paths, tables_have_rules};
 pub use patterns::Pattern;
 pub use stops::PathStop;
 pub use verdicts::{BoundVerdict, Bounded, StoppedPath};
