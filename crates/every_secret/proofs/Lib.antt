@@ -16,3 +16,4 @@ pub mod WalkSkips
 pub mod RealTurns
 pub mod WalkRuns
 pub mod SecretsChoose
+pub mod Ceilings

@@ -12,6 +12,7 @@ pub mod Replays
 pub mod Paths
 pub mod Orders
 pub mod Bounds
+pub mod Ceilings
 pub mod Judging
 pub mod Stepping
 pub mod BoundTexts

@@ -12,6 +12,7 @@ mod finding;
 mod judging;
 mod laws;
 mod next_strings;
+mod numbers;
 mod path_ends;
 mod patterns;
 mod shown;
@@ -25,6 +26,8 @@ mod whys;
 
 pub use bounds::bound;
 pub use laws::{runs_choose_paths, tables_have_rules};
+pub use laws::tables_have_rules;
+pub use numbers::{free_bits, output_bits, output_count};
 pub use patterns::Pattern;
 pub use stops::PathStop;
 pub use verdicts::{BoundVerdict, Bounded, StoppedPath};
