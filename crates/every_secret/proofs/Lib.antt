@@ -17,3 +17,4 @@ pub mod RealTurns
 pub mod WalkRuns
 pub mod SecretsChoose
 pub mod Ceilings
+pub mod SoundTables

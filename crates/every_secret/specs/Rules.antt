@@ -38,3 +38,7 @@ answer_to rules (Computed operation first second) masks = rules operation (opera
 -- The law that the answers of a book of table 1 are those of that table, and so of table 2.
 abbrev pub TablesHaveRules : Type 0
 TablesHaveRules = AnswerAs 1 (rules_of mask_by_table_1) × AnswerAs 2 (rules_of mask_by_table_2)
+
+-- The law that the masks of both tables are sound, whatever the operands are.
+abbrev pub TablesAreSound : Type 0
+TablesAreSound = AreSoundRules (rules_of mask_by_table_1) × AreSoundRules (rules_of mask_by_table_2)

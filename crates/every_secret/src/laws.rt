@@ -1,5 +1,6 @@
 ghost use Rattle.every_secret.specs.Laws.{RunLaw};
 ghost use Rattle.every_secret.specs.Rules.{TablesHaveRules};
+ghost use Rattle.every_secret.specs.Rules.{TablesAreSound, TablesHaveRules};
 
 /// A law, which does nothing when it is called: what a book of table 1 or of table 2 answers is a function, that of the
 /// table.
@@ -11,4 +12,7 @@ pub fn tables_have_rules()
 /// path of the masked replay, with whose pattern its output agrees and with which it is accepted; or it does not exit.
 pub fn runs_choose_paths()
     ensures { RunLaw }
+/// A law, which does nothing when it is called: the rules of table 1, and of table 2, are sound.
+pub fn tables_are_sound()
+    ensures { TablesAreSound }
 {}

@@ -1,0 +1,114 @@
+-- The masks of both tables are words, and sound.
+use Rattle.std.proofs.Common.{ℕ, ◌+◌, ◌-◌, ◌*◌, ◌%◌, ◌^◌, ◌≤◌, ◌<◌, Bool, true, false, refl, arith}
+use Rattle.std.specs.Prelude.{◌==◌, bit_and, bit_or, if◌then◌else◌}
+use Rattle.std.proofs.lemmas.Nat.{and_le_l, or_lt, xor_lt}
+use Rattle.rv32im_decode.specs.declared.instructions.OpKind.TheVariants as op
+use Rattle.rv32im_decode.specs.Operations.{op_result}
+use Rattle.rv32im_machine.specs.declared.language.Operation.TheVariants.{Result, Decision, Target}
+use Rattle.transfer_rules.specs.declared.classes.Class.{Class}
+use Rattle.transfer_rules.specs.declared.classes.Class.TheVariants.{Add, Sub, And, Or, Xor, Sll, Srl, Sra, Slt, Sltu}
+use Rattle.transfer_rules.specs.declared.classes.Class.TheVariants.{Equal, Mul, High, Div}
+use Rattle.transfer_rules.specs.declared.operands.Operands.{Operands}
+use Rattle.transfer_rules.specs.Classes.{branch_class, operation_class}
+use Rattle.transfer_rules.specs.Soundness.{AreWords, IsSound, IsSoundTarget}
+use Rattle.transfer_rules.specs.Table1.{all_mask, either, flipped, mask_by_table_1, one_mask, sum_mask}
+use Rattle.transfer_rules.specs.Table2.{greatest, least, lowest, mask_by_table_2}
+use Rattle.transfer_rules.specs.Tables.{Table}
+use Rattle.transfer_rules.proofs.Instructions.{target_by_sum}
+use Rattle.transfer_rules.proofs.Masks.{sound_by_table_1}
+use Rattle.transfer_rules.proofs.NarrowMasks.{sound_by_table_2}
+use Rattle.transfer_rules.proofs.Shifts.{left_fits, right_fits, signed_fits}
+use Rattle.every_secret.specs.Rules.{AreSoundRules, TablesAreSound, rules_of}
+
+-- ---- the masks are words
+
+choice_word : (test : Bool) (x y : ℕ) → x < 2 ^ 32 → y < 2 ^ 32 → (if test then x else y) < 2 ^ 32
+choice_word true x y first second = first
+choice_word false x y first second = second
+
+sum_word : (secret : ℕ) → secret < 2 ^ 32 → sum_mask secret < 2 ^ 32
+sum_word secret small = or_lt 32 secret ((2 ^ 32 - secret) % 2 ^ 32) small (omega arith)
+
+either_word : (o : Operands) → AreWords o → either o < 2 ^ 32
+either_word o words = or_lt 32 o.m1 o.m2 words.1 words.3
+
+one_word : (secret : ℕ) → one_mask secret < 2 ^ 32
+one_word secret = choice_word (secret == 0) 0 1 (omega arith) (omega arith)
+
+all_word : (secret : ℕ) → all_mask secret < 2 ^ 32
+all_word secret = choice_word (secret == 0) 0 4294967295 (omega arith) (omega arith)
+
+both_word : (a b c : ℕ) → a < 2 ^ 32 → bit_and (bit_and a b) c < 2 ^ 32
+both_word a b c small =
+    let first : bit_and a b ≤ a = and_le_l a b in
+    let second : bit_and (bit_and a b) c ≤ bit_and a b = and_le_l (bit_and a b) c in
+    omega (arith, first, second, small)
+
+table_1_word : (class : Class) (o : Operands) → AreWords o → mask_by_table_1 class o < 2 ^ 32
+table_1_word Add o words = sum_word (either o) (either_word o words)
+table_1_word Sub o words = sum_word (either o) (either_word o words)
+table_1_word And o words = both_word (either o) (bit_or o.m1 o.v1) (bit_or o.m2 o.v2) (either_word o words)
+table_1_word Or o words =
+    both_word (either o) (bit_or o.m1 (flipped o.v1)) (bit_or o.m2 (flipped o.v2)) (either_word o words)
+table_1_word Xor o words = either_word o words
+table_1_word Sll o words =
+    choice_word (o.m2 % 32 == 0) (op_result op.Sll o.m1 o.v2) 4294967295 (left_fits o.m1 (o.v2 % 32) words.1)
+    (omega arith)
+table_1_word Srl o words =
+    choice_word (o.m2 % 32 == 0) (op_result op.Srl o.m1 o.v2) 4294967295 (right_fits o.m1 (o.v2 % 32) words.1)
+    (omega arith)
+table_1_word Sra o words =
+    choice_word (o.m2 % 32 == 0) (op_result op.Sra o.m1 o.v2) 4294967295 (signed_fits o.m1 (o.v2 % 32) words.1)
+    (omega arith)
+table_1_word Slt o words = one_word (either o)
+table_1_word Sltu o words = one_word (either o)
+table_1_word Equal o words = one_word (either o)
+table_1_word Mul o words = sum_word (either o) (either_word o words)
+table_1_word High o words = all_word (either o)
+table_1_word Div o words = all_word (either o)
+
+table_2_word : (class : Class) (o : Operands) → AreWords o → mask_by_table_2 class o < 2 ^ 32
+table_2_word Add o words =
+    or_lt 32 (either o) _ (either_word o words)
+    (xor_lt 32 ((greatest o.v1 o.m1 + greatest o.v2 o.m2) % 2 ^ 32) ((least o.v1 o.m1 + least o.v2 o.m2) % 2 ^ 32)
+    (omega arith) (omega arith))
+table_2_word Sub o words =
+    or_lt 32 (either o) _ (either_word o words)
+    (xor_lt 32 ((greatest o.v1 o.m1 + (2 ^ 32 - least o.v2 o.m2)) % 2 ^ 32)
+    ((least o.v1 o.m1 + (2 ^ 32 - greatest o.v2 o.m2)) % 2 ^ 32) (omega arith) (omega arith))
+table_2_word Slt o words = choice_word _ 0 1 (omega arith) (omega arith)
+table_2_word Sltu o words = choice_word _ 0 1 (omega arith) (omega arith)
+table_2_word Equal o words = choice_word _ 0 1 (omega arith) (omega arith)
+table_2_word Mul o words =
+    sum_word _ (or_lt 32 (lowest o.m1 * lowest (greatest o.v2 o.m2) % 2 ^ 32)
+    (lowest o.m2 * lowest (greatest o.v1 o.m1) % 2 ^ 32) (omega arith) (omega arith))
+table_2_word And o words = table_1_word And o words
+table_2_word Or o words = table_1_word Or o words
+table_2_word Xor o words = table_1_word Xor o words
+table_2_word Sll o words = table_1_word Sll o words
+table_2_word Srl o words = table_1_word Srl o words
+table_2_word Sra o words = table_1_word Sra o words
+table_2_word High o words = table_1_word High o words
+table_2_word Div o words = table_1_word Div o words
+
+-- ---- they are sound
+
+target_sound : (o : Operands) (answer : ℕ) → AreWords o → IsSound Add o answer →
+    IsSoundTarget o.v2 o.v1 o.m1 (answer - answer % 2)
+target_sound o answer words sound other fits agree =
+    target_by_sum o answer sound other o.v2 fits words.2 agree (λ i none. refl)
+
+rules_sound : (table : Table) → ((class : Class) (o : Operands) → AreWords o → table class o < 2 ^ 32) →
+    ((class : Class) (o : Operands) → AreWords o → IsSound class o (table class o)) → AreSoundRules (rules_of table)
+rules_sound table word sound (Result kind) o words =
+    (word (operation_class kind) o words, sound (operation_class kind) o words)
+rules_sound table word sound (Decision kind) o words =
+    (word (branch_class kind) o words, sound (branch_class kind) o words)
+rules_sound table word sound Target o words =
+    (let small = word Add o words in omega (arith, small), target_sound o (table Add o) words (sound Add o words))
+
+pub tables_sound : TablesAreSound
+tables_sound = (
+  rules_sound mask_by_table_1 table_1_word (λ class o words. sound_by_table_1 class o _ words refl),
+  rules_sound mask_by_table_2 table_2_word (λ class o words. sound_by_table_2 class o _ words refl),
+)
