@@ -17,4 +17,10 @@ pub mod RealTurns
 pub mod WalkRuns
 pub mod SecretsChoose
 pub mod Ceilings
+pub mod PatternOutputs
+pub mod PathWeights
+pub mod JudgedPaths
+pub mod WalkWeights
 pub mod SoundTables
+pub mod WalkWords
+pub mod EverySecret
