@@ -3,7 +3,7 @@
 
 mod rows;
 
-use every_secret::{BoundVerdict, Bounded, Pattern};
+use every_secret::{BoundVerdict, Bounded, Pattern, output_bits, output_count};
 use flow_base::DiskFiles;
 use rows::{parse, verdict};
 use std::io;
@@ -27,12 +27,25 @@ fn print_pattern(rt: &HostRuntime, pattern: &Pattern) -> io::Result<()> {
     )
 }
 
+/// Prints for how many outputs patterns stand, a dash where these are 2 ^ 64 or more, and how many bits they need.
+fn print_numbers(rt: &HostRuntime, patterns: &[Pattern]) -> io::Result<()> {
+    match output_count(patterns) {
+        Some(count) => print!(rt; " outputs {count}")?,
+        None => print!(rt; " outputs -")?,
+    }
+    match output_bits(rt.alloc(), patterns) {
+        Ok(bits) => println!(rt; " bits {bits}"),
+        Err(_) => println!(rt; " memory is short"),
+    }
+}
+
 /// Prints what all paths show.
 fn print_bounded(rt: &HostRuntime, name: &str, bounded: &Bounded) -> io::Result<()> {
-    println!(rt;
+    print!(rt;
         "{name}: bounded paths {} stopped {}",
         bounded.paths, bounded.stopped
     )?;
+    print_numbers(rt, bounded.patterns.as_slice())?;
     for pattern in bounded.patterns.as_slice() {
         print_pattern(rt, pattern)?;
     }
