@@ -6,7 +6,7 @@ use Rattle.flow_base.specs.declared.outputs.Output.{Output}
 use Rattle.covered_runs.specs.Proper.{AreBytes}
 use Rattle.lockstep_replay.specs.Acceptance.{Accept, HasExited}
 use Rattle.lockstep_replay.specs.Tasks.{Limits, Task, real_of}
-use Rattle.every_secret.specs.Bounds.{Found, output_count}
+use Rattle.every_secret.specs.Bounds.{Answer, Found, IsBounded, IsUnclear, output_count}
 use Rattle.every_secret.specs.Listed.{IsListed}
 
 -- a secret of the length that the cut names
@@ -37,3 +37,8 @@ pub record AreAll (task : Task) (limits : Limits) (found : Found) : Type 0 where
   -- with no region, and where no path stops, every secret gives an output
   pub every : task.enclosures.regions ≡ [] → found.stopped ≡ 0 → (secret : List ℕ) → IsSecret task secret →
       (output : Output) × Gives task limits secret output
+
+-- where the answer is bounded, it tells of all secrets
+abbrev pub TellsAll : Task → Limits → Answer → Type 0
+TellsAll task limits (IsBounded found) = AreAll task limits found
+TellsAll task limits (IsUnclear bits why) = Unit {0}

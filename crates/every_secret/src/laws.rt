@@ -1,5 +1,4 @@
-ghost use Rattle.every_secret.specs.Laws.{RunLaw};
-ghost use Rattle.every_secret.specs.Rules.{TablesHaveRules};
+ghost use Rattle.every_secret.specs.Laws.{AllSecretsLaw, RunLaw};
 ghost use Rattle.every_secret.specs.Rules.{TablesAreSound, TablesHaveRules};
 
 /// A law, which does nothing when it is called: what a book of table 1 or of table 2 answers is a function, that of the
@@ -8,11 +7,20 @@ pub fn tables_have_rules()
     ensures { TablesHaveRules }
 {}
 
+/// A law, which does nothing when it is called: the rules of table 1, and of table 2, are sound.
+pub fn tables_are_sound()
+    ensures { TablesAreSound }
+{}
+
 /// A law, which does nothing when it is called: by any sound rules, the run of a secret that breaks no region chooses a
 /// path of the masked replay, with whose pattern its output agrees and with which it is accepted; or it does not exit.
 pub fn runs_choose_paths()
     ensures { RunLaw }
-/// A law, which does nothing when it is called: the rules of table 1, and of table 2, are sound.
-pub fn tables_are_sound()
-    ensures { TablesAreSound }
+{}
+
+/// A law, which does nothing when it is called: where the answer for a task is bounded, by any sound rules, each secret
+/// whose run exits and breaks no region is accepted, and one of the patterns stands for its output; the patterns count
+/// all these outputs, and at most 2 to the budget; and with no region and no path that stops every secret's run exits.
+pub fn bounds_tell_of_all_secrets()
+    ensures { AllSecretsLaw }
 {}

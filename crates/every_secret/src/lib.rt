@@ -25,9 +25,9 @@ mod walks;
 mod whys;
 
 pub use bounds::bound;
-pub use laws::{runs_choose_paths, tables_have_rules};
-pub use laws::tables_have_rules;
-pub use laws::{tables_are_sound, tables_have_rules};
+pub use laws::{
+    bounds_tell_of_all_secrets, runs_choose_paths, tables_are_sound, tables_have_rules,
+};
 pub use numbers::{free_bits, output_bits, output_count};
 pub use patterns::Pattern;
 pub use stops::PathStop;

@@ -1,0 +1,38 @@
+use Rattle.std.proofs.Common.{◌≡◌, ◌<◌, ℕ, List, [], true, arith, rules, sym}
+use Rattle.cut_file.specs.Cuts.{CutPicture, is_valid as is_valid_cut}
+use Rattle.cut_file.specs.Pictures.{picture_of as cut_picture}
+use Rattle.covered_runs.specs.MeasuredLaws.{AreInputs}
+use Rattle.elf32_loader.specs.Images.{picture_of}
+use Rattle.elf32_loader.specs.Pictures.{Picture}
+use Rattle.enclosure_regions.specs.declared.region_parts.Region.{Region}
+use Rattle.lockstep_replay.specs.Tasks.{Limits, task_of}
+use Rattle.every_secret.specs.AllSecrets.{TellsAll}
+use Rattle.every_secret.specs.Bounds.{Answer, Bounds, IsBounded, IsUnclear, answer_of}
+use Rattle.every_secret.specs.Rules.{AreSoundRules, Rules}
+use Rattle.every_secret.proofs.EverySecret.{every_secret}
+use Rattle.every_secret.proofs.SecretsChoose.{run_law}
+use Rattle.every_secret.proofs.bounds.bound.Goals as goal
+
+tells : (by : Rules) (program : Picture) (public_input : List ℕ) (regions : List Region) (secret : List ℕ)
+    (cut : CutPicture) (limits : Limits) (paths : ℕ) (answer : Answer) → AreSoundRules by →
+    AreInputs program public_input regions secret → is_valid_cut cut ≡ true → limits.budget < 4294967295 →
+    Bounds by (task_of program public_input regions cut) limits paths ≡ answer →
+    TellsAll (task_of program public_input regions cut) limits answer
+tells by program public_input regions secret cut limits paths (IsBounded found) sound inputs valid small is =
+    every_secret run_law by program public_input regions cut limits paths found sound (record {
+      program_valid = inputs.program_valid;
+      program_bytes = inputs.program_bytes;
+      public_bytes = inputs.public_bytes;
+      regions_valid = inputs.regions_valid;
+      secret_bytes = λ index. omega arith;
+    }) valid small is
+tells by program public_input regions secret cut limits paths (IsUnclear bits why) sound inputs valid small is = tt
+
+pub returns-clause-all : goal.returns-clause-all
+returns-clause-all g c = λ by answers sound.
+    let answer : Answer = answer_of c.in_ok-verdict.verdict in
+    let is : answer ≡ Bounds by (task_of (picture_of c.args.image.now) c.args.public.now c.args.regions.now.items
+    (cut_picture c.args.cut.now)) (record { budget = c.args.budget; turns = c.args.turns }) c.args.paths = search rules in
+    tells by (picture_of c.args.image.now) c.args.public.now c.args.regions.now.items _ (cut_picture c.args.cut.now)
+    (record { budget = c.args.budget; turns = c.args.turns }) c.args.paths answer sound c.tell_inputs.ensures
+    c.tell_cut.ensures c.requires.budget (sym is)
