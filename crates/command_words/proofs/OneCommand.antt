@@ -1,12 +1,12 @@
 -- Words are one command line at most: what it is, is by its first word, and its fields by the words behind it.
-use Rattle.std.proofs.Common.{◌≡◌, ◌∙◌, ◌<◌, ◌^◌, ℕ, List, [], ◌∷◌, Option, Some, None, codes, sym, ap, subst, arith}
+use Rattle.std.proofs.Common.{Bool, ◌≡◌, ◌∙◌, ◌<◌, ◌^◌, ℕ, List, [], ◌∷◌, Option, Some, None, codes, sym, ap, subst, arith}
 use Rattle.std.proofs.lemmas.Fmt.{decimal_injective}
 use Rattle.command_words.specs.declared.names.CommandName.{CommandName}
 use Rattle.command_words.specs.declared.names.CommandName.TheVariants as names
 use Rattle.command_words.specs.declared.judgings.Judging.{Judging}
 use Rattle.command_words.specs.declared.judgings.Judging.TheVariants.{Replay, Masks}
 use Rattle.command_words.specs.declared.tellings.Telling.TheVariants.{CutText, Certificate, Report, Declaration}
-use Rattle.command_words.specs.CommandLines.{IsManyRuns, ManyRuns, MeasuresAll, Check, Run, GuestNames, Command, Checks, Tells, Assembles, Lists, Verifies, Migrates, Tries, Fits, IsCheck, IsChoice, IsCommand, IsLearning, IsNumber, IsNumberOr, IsOneFile, IsRun, IsTrial, named_by}
+use Rattle.command_words.specs.CommandLines.{AllSecrets, Bounds, IsAllSecrets, IsManyRuns, ManyRuns, MeasuresAll, Check, Run, GuestNames, Command, Checks, Tells, Assembles, Lists, Verifies, Migrates, Tries, Fits, IsCheck, IsChoice, IsCommand, IsLearning, IsNumber, IsNumberOr, IsOneFile, IsRun, IsTrial, named_by}
 use Rattle.command_words.specs.Parts.{Parts, has_option, parts_of}
 
 -- ---- numbers
@@ -73,6 +73,44 @@ same-check options first second parts a b alike one other =
     ∙ (ap (λ v. made-check b.guest b.cut b.secrets v a.turns a.judging) budget
     ∙ (ap (λ v. made-check b.guest b.cut b.secrets b.budget v a.judging) turns
     ∙ ap (λ v. made-check b.guest b.cut b.secrets b.budget b.turns v) judging))))
+
+abbrev made-all : GuestNames → List ℕ → ℕ → ℕ → ℕ → ℕ → Bool → AllSecrets
+made-all guest cut budget turns table paths listed = record {
+  guest = guest;
+  cut = cut;
+  budget = budget;
+  turns = turns;
+  table = table;
+  paths = paths;
+  listed = listed;
+}
+
+same-all : (parts : Parts) (a b : AllSecrets) → IsAllSecrets parts a → IsAllSecrets parts b → a ≡ b
+same-all parts a b one other =
+    let plain :
+    a.guest.program ∷ a.guest.public_input ∷ a.cut ∷ one.budget ∷ []
+    ≡ b.guest.program ∷ b.guest.public_input ∷ b.cut ∷ other.budget ∷ [] =
+    sym one.plain ∙ other.plain in
+    let program : a.guest.program ≡ b.guest.program = cc in
+    let public_input : a.guest.public_input ≡ b.guest.public_input = cc in
+    let cut : a.cut ≡ b.cut = cc in
+    let word : one.budget ≡ other.budget = cc in
+    let guest : a.guest ≡ b.guest = same-guest a.guest b.guest program public_input (sym one.regions ∙ other.regions) in
+    let budget : a.budget ≡ b.budget = same-number 0 1048576 other.budget a.budget b.budget (omega arith)
+    (subst (λ w. IsNumber 0 1048576 w a.budget) word one.bits) other.bits in
+    let turns : a.turns ≡ b.turns = same-number-or 1000000 1 20000000 _ a.turns b.turns (omega arith) one.turns
+    other.turns in
+    let table : a.table ≡ b.table = same-number-or 1 1 2 _ a.table b.table (omega arith) one.rules other.rules in
+    let paths : a.paths ≡ b.paths = same-number-or 65536 1 1048576 _ a.paths b.paths (omega arith) one.paths
+    other.paths in
+    let listed : a.listed ≡ b.listed = one.listed ∙ sym other.listed in
+    ap (λ v. made-all v a.cut a.budget a.turns a.table a.paths a.listed) guest
+    ∙ (ap (λ v. made-all b.guest v a.budget a.turns a.table a.paths a.listed) cut
+    ∙ (ap (λ v. made-all b.guest b.cut v a.turns a.table a.paths a.listed) budget
+    ∙ (ap (λ v. made-all b.guest b.cut b.budget v a.table a.paths a.listed) turns
+    ∙ (ap (λ v. made-all b.guest b.cut b.budget b.turns v a.paths a.listed) table
+    ∙ (ap (λ v. made-all b.guest b.cut b.budget b.turns b.table v a.listed) paths
+    ∙ ap (λ v. made-all b.guest b.cut b.budget b.turns b.table b.paths v) listed)))))
 
 abbrev made-run : GuestNames → List ℕ → ℕ → ℕ → Run
 made-run guest secret turns table = record { guest = guest; secret = secret; turns = turns; table = table }
@@ -153,6 +191,8 @@ same-fit names.Check parts a b (x, one, is) (y, other, also) =
 same-fit names.Taint parts a b (v, x, one, first, is) (w, y, other, second, also) =
     let alike : Masks v ≡ Masks w = ap (λ n. Masks n) (same_choice _ v w first second) in
     is ∙ (ap (λ c. Checks c) (same-check _ (Masks v) (Masks w) parts x y alike one other) ∙ sym also)
+same-fit names.Bound parts a b (x, one, is) (y, other, also) =
+    is ∙ (ap (λ c. Bounds c) (same-all parts x y one other) ∙ sym also)
 same-fit names.Measure parts a b (v, x, one, first, is) (w, y, other, second, also) =
     is ∙ (ap (λ n. Tells (CutText n) x) (same_choice _ v w first second)
     ∙ (ap (λ r. Tells (CutText w) r) (same-run _ _ parts x y one other) ∙ sym also))

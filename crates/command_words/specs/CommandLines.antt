@@ -44,11 +44,23 @@ pub record ManyRuns : Type 0 where
   pub turns : ℕ
   pub table : ℕ
 
--- a command: the judgement of secrets, what is told of a run, the one cut of several runs in a version
--- of its text, the program file of a source, the listing of a program,
+-- all secrets of a guest, whose outputs are to be bounded by a cut, with the limits of bits, of turns and of paths, by the
+-- mask rules of a table; and whether each pattern of outputs is listed
+pub record AllSecrets : Type 0 where
+  pub guest : GuestNames
+  pub cut : List ℕ
+  pub budget : ℕ
+  pub turns : ℕ
+  pub table : ℕ
+  pub paths : ℕ
+  pub listed : Bool
+
+-- a command: the judgement of secrets, the bound for all secrets, what is told of a run, the one cut of several runs in a
+-- version of its text, the program file of a source, the listing of a program,
 -- the verdict on a certificate, a cut in version 2, or a trial of the tool by a number
 pub data Command : Type 0 where
   Checks : Check → Command
+  Bounds : AllSecrets → Command
   Tells : Telling → Run → Command
   MeasuresAll : ℕ → ManyRuns → Command
   Assembles : List ℕ → Command
@@ -68,6 +80,13 @@ default_turns = 1000000
 
 abbrev pub highest_turns : ℕ
 highest_turns = 20000000
+
+-- where no limit of paths is named
+abbrev pub default_paths : ℕ
+default_paths = 65536
+
+abbrev pub highest_paths : ℕ
+highest_paths = 1048576
 
 -- the greatest number of a trial
 abbrev pub highest_number : ℕ
@@ -113,6 +132,19 @@ pub record IsCheck (options : List (List ℕ)) (judging : Judging) (parts : Part
   pub regions : value_of (codes "--regions") parts.options ≡ check.guest.region_file
   pub taken : are_taken options [] parts.options ≡ true
   pub judged : check.judging ≡ judging
+
+-- PROG PUBLIC CUT BUDGET, with the options of a check, and those of table and paths
+pub record IsAllSecrets (parts : Parts) (all : AllSecrets) : Type 0 where
+  pub budget : List ℕ
+  pub plain : parts.plain ≡ all.guest.program ∷ all.guest.public_input ∷ all.cut ∷ budget ∷ []
+  pub bits : IsNumber 0 highest_budget budget all.budget
+  pub turns : IsTurnLimit (value_of (codes "--turns") parts.options) all.turns
+  pub regions : value_of (codes "--regions") parts.options ≡ all.guest.region_file
+  pub rules : IsChoice (value_of (codes "--rules") parts.options) all.table
+  pub paths : IsNumberOr default_paths 1 highest_paths (value_of (codes "--paths") parts.options) all.paths
+  pub listed : all.listed ≡ has_option (codes "--list") parts.options
+  pub taken :
+      are_taken (codes "--rules" ∷ codes "--paths" ∷ check_options) (codes "--list" ∷ []) parts.options ≡ true
 
 -- the options that every measured run may have
 abbrev pub run_options : List (List ℕ)
@@ -165,6 +197,7 @@ Fits names.Check parts command =
 Fits names.Taint parts command =
     (table : ℕ) × (check : Check) × IsCheck (codes "--rules" ∷ check_options) (Masks table) parts check
     × IsChoice (value_of (codes "--rules") parts.options) table × (command ≡ Checks check)
+Fits names.Bound parts command = (all : AllSecrets) × IsAllSecrets parts all × (command ≡ Bounds all)
 Fits names.Measure parts command =
     (version : ℕ) × (run : Run) × IsRun (codes "--cut" ∷ run_options) [] parts run
     × IsChoice (value_of (codes "--cut") parts.options) version × (command ≡ Tells (CutText version) run)
@@ -189,6 +222,7 @@ abbrev pub named_by : List ℕ → Option CommandName
 named_by word =
     if bytes_eq word (codes "check") then Some names.Check
     else if bytes_eq word (codes "taint") then Some names.Taint
+    else if bytes_eq word (codes "bound") then Some names.Bound
     else if bytes_eq word (codes "measure") then Some names.Measure
     else if bytes_eq word (codes "measure-all") then Some names.MeasureAll
     else if bytes_eq word (codes "graph") then Some names.Graph

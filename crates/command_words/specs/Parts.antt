@@ -2,7 +2,7 @@
 -- anywhere, and at most once. An option is two words, of which the second does not begin with a dash, or one word with
 -- `=` between name and value. No word and no value is empty.
 use Rattle.std.specs.Prelude.{ℕ, ◌==◌, nat_lt, not, List, [], ◌∷◌, ◌++◌, codes, length, Bool, false, Option, None, Some}
-use Rattle.std.specs.Prelude.{option_and_then, if◌then◌else◌}
+use Rattle.std.specs.Prelude.{option_and_then, if◌then◌else◌, ◌||◌}
 use Rattle.std.specs.List.{find, list_all, list_any, position_or_len, before_first, after_first}
 use Rattle.std.specs.Str.{bytes_eq}
 
@@ -49,7 +49,7 @@ is_name (byte ∷ bytes) = not (byte == 45)
 
 -- the word is an option without a value
 abbrev pub is_flag : List ℕ → Bool
-is_flag word = bytes_eq word (codes "--json")
+is_flag word = bytes_eq word (codes "--json") || bytes_eq word (codes "--list")
 
 abbrev pub is_equals : ℕ → Bool
 is_equals byte = byte == 61

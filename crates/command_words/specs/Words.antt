@@ -1,5 +1,6 @@
 -- What the words of a command line name.
 use Rattle.std.specs.Prelude.{map, option_map}
+use Rattle.command_words.specs.declared.all_secrets.AllSecretsWords.{AllSecretsWords}
 use Rattle.command_words.specs.declared.checks.CheckWords.{CheckWords}
 use Rattle.command_words.specs.declared.commands.CommandWords.{CommandWords}
 use Rattle.command_words.specs.declared.commands.CommandWords.TheVariants as words
@@ -10,7 +11,7 @@ use Rattle.command_words.specs.declared.runs.ManyRunsWords.{ManyRunsWords}
 use Rattle.command_words.specs.declared.runs.RunWords.{RunWords}
 use Rattle.command_words.specs.Parts.{Named, Parts}
 use Rattle.command_words.specs.CommandLines.{GuestNames, Check, Run, Command, Checks, Tells, Assembles, Lists}
-use Rattle.command_words.specs.CommandLines.{ManyRuns, MeasuresAll, Verifies, Migrates, Tries}
+use Rattle.command_words.specs.CommandLines.{AllSecrets, Bounds, ManyRuns, MeasuresAll, Verifies, Migrates, Tries}
 
 abbrev pub named_in : OptionWord → Named
 named_in word = record { name = word.name.now; value = option_map (λ value. value.now) word.value }
@@ -39,6 +40,17 @@ check_of words = record {
   judging = words.judging;
 }
 
+abbrev pub all_secrets_of : AllSecretsWords → AllSecrets
+all_secrets_of words = record {
+  guest = guest_of words.guest;
+  cut = words.cut.now;
+  budget = words.limits.budget;
+  turns = words.limits.turns;
+  table = words.table;
+  paths = words.paths;
+  listed = words.listed;
+}
+
 abbrev pub run_of : RunWords → Run
 run_of words = record {
   guest = guest_of words.guest;
@@ -57,6 +69,7 @@ many_runs_of words = record {
 
 abbrev pub command_of : CommandWords → Command
 command_of (words.Check check) = Checks (check_of check)
+command_of (words.Bound all) = Bounds (all_secrets_of all)
 command_of (words.Tell telling run) = Tells telling (run_of run)
 command_of (words.MeasureAll version runs) = MeasuresAll version (many_runs_of runs)
 command_of (words.Assemble source) = Assembles source.now

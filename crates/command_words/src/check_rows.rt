@@ -12,7 +12,7 @@ use crate::parts::Parts;
 use flow_base::{List, NoMemory};
 use std::alloc::Global;
 
-const HIGHEST_BUDGET: u32 = 1_048_576;
+pub(crate) const HIGHEST_BUDGET: u32 = 1_048_576;
 
 /// The secrets that the words behind a command name, to be judged so; none but these options may stand there. None exactly
 /// where they name none.

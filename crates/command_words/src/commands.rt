@@ -4,6 +4,8 @@ ghost use Rattle.command_words.specs.CommandLines.{Command, Fits, IsCommand, IsN
 ghost use Rattle.command_words.specs.Words.{command_of, parts_in};
 ghost use Rattle.command_words.specs.declared.names.CommandName.TheVariants as names;
 
+use crate::all_secrets::AllSecretsWords;
+use crate::all_secrets_rows::all_secrets_words;
 use crate::check_rows::check_words;
 use crate::checks::CheckWords;
 use crate::judgings::Judging;
@@ -24,6 +26,8 @@ pub enum CommandWords<'a> {
     /// `check PROG PUBLIC CUT BUDGET SECRET.. [--turns N] [--regions FILE]`, or `taint`, which may have `--rules N`, in
     /// place of `check`
     Check(CheckWords<'a>),
+    /// `bound PROG PUBLIC CUT BUDGET [--turns N] [--regions FILE] [--rules N] [--paths N] [--list]`
+    Bound(AllSecretsWords<'a>),
     /// `measure PROG PUBLIC SECRET [--turns N] [--regions FILE] [--rules N] [--cut N]`; `graph` or `report`, which may
     /// have `--json`, in place of `measure` and without `--cut`; `learn PROG PUBLIC SECRET FILE [--turns N]`
     Tell {
@@ -102,6 +106,18 @@ fn taint_row<'a>(alloc: Global, parts: &Parts<'a>) -> Result<Option<CommandWords
         return Ok(None);
     };
     Ok(Some(CommandWords::Check(check)))
+}
+
+/// The bound that the words behind `bound` name; None exactly where they name none.
+fn bound_row<'a>(alloc: Global, parts: &Parts<'a>) -> Result<Option<CommandWords<'a>>, NoMemory>
+    ensures is { IfOk result (λ found. IfSome found (λ command. Fits names.Bound (parts_in parts.now) (command_of
+        command))) }
+    ensures none { result ≡ Ok None → (command : Command) → ¬ Fits names.Bound (parts_in parts.now) command }
+{
+    let Some(all) = all_secrets_words(alloc, parts)? else {
+        return Ok(None);
+    };
+    Ok(Some(CommandWords::Bound(all)))
 }
 
 /// The cut of the run that the words behind `measure` name; None exactly where they name none.
@@ -236,6 +252,7 @@ fn row_of<'a>(
     match name {
         CommandName::Check => check_row(alloc, parts),
         CommandName::Taint => taint_row(alloc, parts),
+        CommandName::Bound => bound_row(alloc, parts),
         CommandName::Measure => measure_row(alloc, parts),
         CommandName::MeasureAll => measure_all_row(alloc, parts),
         CommandName::Graph => graph_row(alloc, parts),

@@ -1,6 +1,8 @@
 //! What a command line is: the command that its words name, with the names of its files and its numbers, or none.
 #![tactic(auto)]
 
+mod all_secrets;
+mod all_secrets_rows;
 mod check_rows;
 mod checks;
 mod commands;
@@ -16,6 +18,7 @@ mod run_rows;
 mod runs;
 mod tellings;
 
+pub use all_secrets::AllSecretsWords;
 pub use checks::CheckWords;
 pub use commands::{CommandWords, command_words};
 pub use guests::GuestWords;

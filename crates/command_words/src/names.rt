@@ -8,6 +8,8 @@ pub enum CommandName {
     Check,
     /// `taint`
     Taint,
+    /// `bound`
+    Bound,
     /// `measure`
     Measure,
     /// `measure-all`
@@ -40,6 +42,9 @@ impl CommandName {
         }
         if word == "taint" {
             return Some(CommandName::Taint);
+        }
+        if word == "bound" {
+            return Some(CommandName::Bound);
         }
         if word == "measure" {
             return Some(CommandName::Measure);

@@ -2,7 +2,8 @@
 
 ghost use Rattle.std.specs.Prelude.{◌≡◌, ◌≤◌, ◌<◌, ℕ, None, Ok, option_map, IfOk, IfSome};
 ghost use Rattle.std.specs.Fmt.{decimal};
-ghost use Rattle.command_words.specs.CommandLines.{IsChoice, IsNumber, IsTurnLimit, highest_turns};
+ghost use Rattle.command_words.specs.CommandLines.{IsChoice, IsNumber, IsNumberOr, IsTurnLimit, default_paths};
+ghost use Rattle.command_words.specs.CommandLines.{highest_paths, highest_turns};
 
 use flow_base::NoMemory;
 use std::alloc::Global;
@@ -10,6 +11,10 @@ use std::alloc::Global;
 const DEFAULT_TURNS: u32 = 1_000_000;
 
 const HIGHEST_TURNS: u32 = 20_000_000;
+
+const DEFAULT_PATHS: u32 = 65_536;
+
+const HIGHEST_PATHS: u32 = 1_048_576;
 
 /// The number that a word names; None exactly where it is no decimal of 32 bits without leading zeros.
 fn decimal_of(alloc: Global, word: &str) -> Result<Option<u32>, NoMemory>
@@ -55,6 +60,21 @@ pub fn turns_of(alloc: Global, value: Option<&str>) -> Result<Option<u32>, NoMem
     match value {
         Some(word) => number_of(alloc, word, 1, HIGHEST_TURNS),
         None => Ok(Some(DEFAULT_TURNS)),
+    }
+}
+
+/// The limit of paths that a value names, or the one without a value; None exactly where it names none.
+pub fn paths_of(alloc: Global, value: Option<&str>) -> Result<Option<u32>, NoMemory>
+    ensures is { IfOk result (λ found. IfSome found (λ paths. IsNumberOr default_paths 1 highest_paths (option_map
+        (λ word. word.now) value.entry) paths)) }
+    ensures some { IfOk result (λ found. IfSome found (λ paths. 1 ≤ paths)) }
+    ensures few { IfOk result (λ found. IfSome found (λ paths. paths ≤ highest_paths)) }
+    ensures none { result ≡ Ok None → (paths : ℕ) → ¬ IsNumberOr default_paths 1 highest_paths (option_map
+        (λ word. word.now) value.entry) paths }
+{
+    match value {
+        Some(word) => number_of(alloc, word, 1, HIGHEST_PATHS),
+        None => Ok(Some(DEFAULT_PATHS)),
     }
 }
 

@@ -119,7 +119,7 @@ fn after_word<'a>(before: Parts<'a>, word: &'a str) -> Result<Option<Parts<'a>>,
     if is_name(word) {
         return Ok(Some(with_plain(before, word)?));
     }
-    if word == "--json" {
+    if word == "--json" || word == "--list" {
         return with_option(before, word, None);
     }
     if let Some((name, value)) = around_equals(word) {

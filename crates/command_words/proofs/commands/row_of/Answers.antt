@@ -6,6 +6,9 @@ returns-in-Check-clause-none c = λ none. rw c.in-Check.is (c.check_row.ensures.
 pub returns-in-Taint-clause-none : goal.returns-in-Taint-clause-none
 returns-in-Taint-clause-none c = λ none. rw c.in-Taint.is (c.taint_row.ensures.none none)
 
+pub returns-in-Bound-clause-none : goal.returns-in-Bound-clause-none
+returns-in-Bound-clause-none c = λ none. rw c.in-Bound.is (c.bound_row.ensures.none none)
+
 pub returns-in-Measure-clause-none : goal.returns-in-Measure-clause-none
 returns-in-Measure-clause-none c = λ none. rw c.in-Measure.is (c.measure_row.ensures.none none)
 
