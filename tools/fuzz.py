@@ -224,7 +224,7 @@ def with_turns(dice, words, turns):
 
 def call_of(dice, corpus, seed, turns):
     """The files of a call and its words."""
-    kind = dice.choice(["check"] * 4 + ["taint"] * 2 + ["measure", "measure", "graph", "report", "learn", "verify"]
+    kind = dice.choice(["check"] * 4 + ["taint"] * 2 + ["bound"] * 2 + ["measure", "measure", "graph", "report", "learn", "verify"]
                        + ["migrate", "asm", "list"])
     if kind == "asm":
         files = {"source": corpus.source(dice)}
@@ -238,6 +238,14 @@ def call_of(dice, corpus, seed, turns):
                 words = ["program", "public", "cut", str(dice.choice([0, 8, 32])), *words[2:]]
             rules = ["--rules", "2"] if kind == "taint" and dice.happens(0.4) else []
             words = with_turns(dice, [kind, *words, *rules], turns)
+        elif kind == "bound":
+            if words[0:3] != ["program", "public", "cut"]:
+                words = ["program", "public", "cut", str(dice.choice([0, 8, 32]))]
+            rest = ["--regions", "regions"] if "regions" in files else []
+            rest += ["--rules", "2"] if dice.happens(0.4) else []
+            rest += ["--list"] if dice.happens(0.5) else []
+            rest += ["--paths", str(dice.choice([1, 2, 100]))]
+            words = with_turns(dice, [kind, *words[:4], *rest], turns)
         elif kind == "learn":
             files.setdefault("regions", b'{"regions":[]}')
             secret = "secret" if "secret" in files else "secret1"

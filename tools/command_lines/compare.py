@@ -18,12 +18,12 @@ from concurrent.futures import ThreadPoolExecutor
 
 RUN = ("--turns", "--regions")
 MEASURED = RUN + ("--rules",)
-OPTIONS = {"check": RUN, "taint": MEASURED, "measure": MEASURED + ("--cut",), "measure-all": MEASURED + ("--cut",),
+OPTIONS = {"check": RUN, "taint": MEASURED, "bound": MEASURED + ("--paths",), "measure": MEASURED + ("--cut",), "measure-all": MEASURED + ("--cut",),
            "graph": MEASURED, "report": MEASURED, "learn": ("--turns",), "asm": (), "list": (), "verify": (),
            "migrate": (), "trial": ()}
-COUNTS = {"check": (5, 68), "taint": (5, 68), "measure": (3, 3), "measure-all": (3, 66), "graph": (3, 3),
+COUNTS = {"check": (5, 68), "taint": (5, 68), "bound": (4, 4), "measure": (3, 3), "measure-all": (3, 66), "graph": (3, 3),
           "report": (3, 3), "learn": (4, 4)}
-FLAGS = {"report": ("--json",)}
+FLAGS = {"report": ("--json",), "bound": ("--list",)}
 
 
 def number(word, lowest, highest):
@@ -43,7 +43,7 @@ def first_file(words):
         if not word.startswith("-"):
             plain.append(word)
             continue
-        if word == "--json":
+        if word in ("--json", "--list"):
             if word not in FLAGS.get(words[0], ()) or word in taken:
                 return None
             taken[word] = ""
@@ -58,6 +58,8 @@ def first_file(words):
         taken[name] = value
     if not number(taken.get("--turns", "1"), 1, 20_000_000):
         return None
+    if not number(taken.get("--paths", "1"), 1, 1_048_576):
+        return None
     if not all(number(taken.get(name, "1"), 1, 2) for name in ("--rules", "--cut")):
         return None
     if words[0] == "trial":
@@ -65,13 +67,14 @@ def first_file(words):
     least, most = COUNTS.get(words[0], (1, 1))
     if not least <= len(plain) <= most:
         return None
-    return None if words[0] in ("check", "taint") and not number(plain[3], 0, 1_048_576) else plain[0]
+    return None if words[0] in ("check", "taint", "bound") and not number(plain[3], 0, 1_048_576) else plain[0]
 
 
 ODD = ["", "-", "--", "-x", "--help", "--version", "--json", "--json=", "--json=v", "--turns", "--turns=", "--turns=5",
        "--regions", "--regions=", "--regions=r", "--regions=-r", "--regions=a=b", "--rules", "--rules=2", "--rules=3",
        "--cut=2", "--cut=02", "--turns=05", "--turns=0", "--turns=20000001", "--turn=5", "a=b", "=", "=5", "-t=5", "05",
-       "1048577", "+5", " 5", "check", "report", "taint", "learn", "measure-all"]
+       "1048577", "+5", " 5", "check", "report", "taint", "bound", "learn", "measure-all", "--list", "--list=", "--list=v",
+       "--paths", "--paths=9", "--paths=0", "--paths=1048577"]
 
 
 def option(rng):
@@ -79,7 +82,7 @@ def option(rng):
     if rng.random() < 0.2:
         choice = rng.choice(["1", "2"] * 4 + ["0", "3", "02", "x", ""])
         return rng.choice([["--rules", choice], ["--rules=" + choice], ["--cut", choice], ["--cut=" + choice],
-                           ["--json"], ["--json"]])
+                           ["--json"], ["--json"], ["--list"], ["--list"], ["--paths", choice], ["--paths=65536"]])
     kind = rng.randrange(8)
     turns = rng.choice(["1", "5", "20000000", "0", "05", "-5", "20000001", "x"]) if rng.random() < 0.3 else "7"
     return [["--turns", turns], ["--turns=" + turns], ["--regions", "r"], ["--regions=r"], ["--regions=-r"],
@@ -88,11 +91,11 @@ def option(rng):
 
 def trial(rng):
     """Words that are nearly a command line."""
-    command = rng.choice(["check"] * 4 + ["taint", "measure", "graph", "report", "learn", "measure-all"] * 2
+    command = rng.choice(["check"] * 4 + ["taint", "bound", "measure", "graph", "report", "learn", "measure-all"] * 2
                          + ["asm", "list", "verify", "migrate", "help", "trial"])
-    if command in ("check", "taint"):
+    if command in ("check", "taint", "bound"):
         budget = rng.choice(["0", "8", "1048576"] * 4 + ["1048577", "08", "-8", "", "x", "4294967296"])
-        count = rng.choice([1, 1, 2, 3, 64] * 3 + [0, 65])
+        count = rng.choice([0, 0, 0, 0, 1] if command == "bound" else [1, 1, 2, 3, 64] * 3 + [0, 65])
         parts = [["prog"], ["public"], ["cut"], [budget]] + [["s%d" % i] for i in range(count)]
     elif command == "measure-all":
         parts = [["prog"], ["public"]] + [["s%d" % i] for i in range(rng.choice([1, 1, 2, 64] * 3 + [0, 65]))]

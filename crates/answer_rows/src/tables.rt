@@ -1,5 +1,6 @@
 //! Command lines with their files, and what must come, table by table.
 
+mod bound_rows;
 mod break_rows;
 mod broken_region_rows;
 mod check_rows;
@@ -62,13 +63,16 @@ pub struct Row {
 }
 
 /// The tables.
-pub const TABLES: [&[Row]; 32] = [
+pub const TABLES: [&[Row]; 35] = [
     &check_rows::JUDGED,
     &check_rows::REJECTED,
     &check_rows::REFUSED,
     &finding_rows::CLEAN,
     &finding_rows::UNCLEAR,
     &finding_rows::REGIONS,
+    &bound_rows::BOUNDED,
+    &bound_rows::UNCLEAR,
+    &bound_rows::REFUSED,
     &source_rows::ROWS,
     &break_rows::CROSSINGS,
     &break_rows::BREAKS,

@@ -24,10 +24,11 @@ use Rattle.command_answers.specs.ReplyLaws.{AreLoaded, Completes, CompletesBy, C
 use Rattle.command_answers.specs.Runs.{RunTask}
 use Rattle.command_answers.specs.Tellings.{AnswersTelling, IsCertificateText, IsCutOfRun, IsReport, Tells}
 use Rattle.command_answers.specs.Statuses.{number_of}
-use Rattle.command_answers.specs.Tasks.{Task, JudgeSecrets, TellRun, MeasureAll, WriteProgram, ListProgram, VerifyCertificate, MigrateCut, TryNumber, AnswersFiles, AnswersTask, IsFormRefusal, IsTaskOf, wants_of}
+use Rattle.command_answers.specs.Tasks.{Task, BoundAll, JudgeSecrets, TellRun, MeasureAll, WriteProgram, ListProgram, VerifyCertificate, MigrateCut, TryNumber, AnswersFiles, AnswersTask, IsFormRefusal, IsTaskOf, wants_of}
 use Rattle.command_answers.specs.Texts.{accepted_count}
 use Rattle.command_answers.specs.Trials.{TellsTrial, run_of_number}
 use Rattle.command_answers.proofs.OneGuest.{RegionLaws}
+use Rattle.command_answers.proofs.OneBound.{bound_completes}
 use Rattle.command_answers.proofs.OneFinding.{taint_completes}
 use Rattle.command_answers.proofs.OneLearning.{learning_completes}
 use Rattle.command_answers.proofs.OneReply.{Decides, DecidesBy, certificate_completes, run_completes, task_decides, telling-done, trial-done, words_reading}
@@ -124,6 +125,7 @@ telling-completes Declaration run answer deciding h = learning_completes run ans
 task-completes : (task : Task) (answer : Answer) → Decides task → AnswersTask task answer →
     Completes task (status_of answer)
 task-completes (JudgeSecrets task) answer deciding h = check-completes task.judging task answer deciding h
+task-completes (BoundAll all) answer deciding h = bound_completes all answer h
 task-completes (TellRun telling run) answer deciding h = telling-completes telling run answer deciding h
 task-completes (MeasureAll version runs) answer deciding h = many_completes version runs answer deciding h
 task-completes (WriteProgram picture) answer deciding e = ap status_of e

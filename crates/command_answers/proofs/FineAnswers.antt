@@ -20,12 +20,14 @@ use Rattle.command_answers.specs.Loading.{Want, IsLoadRefusal}
 use Rattle.command_answers.specs.Names.{shown}
 use Rattle.command_answers.specs.Refusals.{refusal_text}
 use Rattle.command_answers.specs.Replies.{AnswersCommand}
+use Rattle.command_answers.specs.AllSecrets.{AllSecretsTask, AnswersBound, bound_of}
 use Rattle.command_answers.specs.Checks.{CheckTask, AnswersBy}
+use Rattle.every_secret.specs.Bounds.{Answer as BoundAnswer, IsBounded, IsUnclear}
 use Rattle.command_answers.specs.ManyRuns.{ManyRunsTask, AnswersMany}
 use Rattle.command_answers.specs.Runs.{RunTask, AnswersRun}
 use Rattle.command_answers.specs.Tellings.{AnswersTelling, IsCertificateText, IsCutOfRun, IsReport, Tells}
 use Rattle.command_answers.specs.Trials.{TellsTrial, run_of_number}
-use Rattle.command_answers.specs.Tasks.{Task, JudgeSecrets, TellRun, MeasureAll, WriteProgram, ListProgram, VerifyCertificate, MigrateCut, TryNumber, AnswersTask, AnswersFiles, wants_of}
+use Rattle.command_answers.specs.Tasks.{Task, BoundAll, JudgeSecrets, TellRun, MeasureAll, WriteProgram, ListProgram, VerifyCertificate, MigrateCut, TryNumber, AnswersTask, AnswersFiles, wants_of}
 use Rattle.command_answers.specs.Verifications.{verdict_reply}
 use Rattle.command_answers.proofs.OneLine.{Clean, literal, joined, cut_fault, region, program, run_fault, many_fault, learn_fault, source_fault, form_fault, name, number}
 use Rattle.command_answers.proofs.OneTask.{form-status}
@@ -150,8 +152,14 @@ check-made : (judging : Judging) (task : CheckTask) (answer : Answer) → Answer
 check-made Replay task answer e = inl (low-as answer _ e (low-either _))
 check-made (Masks table) task answer (findings, are, e) = inl (low-as answer _ e (low-either _))
 
+bound-made : (all : AllSecretsTask) (known : BoundAnswer) (answer : Answer) → AnswersBound all known answer →
+    IsMade answer
+bound-made all (IsBounded found) answer (bits, least, e) = inl (low-as answer _ e (omega arith))
+bound-made all (IsUnclear bits why) answer e = inl (low-as answer _ e (omega arith))
+
 task-made : (task : Task) (answer : Answer) → AnswersTask task answer → IsMade answer
 task-made (JudgeSecrets task) answer h = check-made task.judging task answer h
+task-made (BoundAll all) answer h = bound-made all (bound_of all) answer h
 task-made (TellRun telling run) answer h = telling-made telling run answer h
 task-made (MeasureAll version runs) answer h = many-made version runs answer h
 task-made (WriteProgram picture) answer e = inl (low-as answer _ e (omega arith))

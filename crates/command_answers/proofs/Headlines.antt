@@ -27,11 +27,14 @@ use Rattle.command_words.specs.declared.judgings.Judging.{Judging}
 use Rattle.command_words.specs.declared.judgings.Judging.TheVariants.{Replay, Masks}
 use Rattle.command_words.specs.declared.tellings.Telling.{Telling}
 use Rattle.command_words.specs.declared.tellings.Telling.TheVariants.{CutText, Certificate, Report, Declaration}
-use Rattle.command_words.specs.CommandLines.{Check, ManyRuns, Run, Command, Checks, Tells, MeasuresAll, Assembles, Lists, Verifies, Migrates, Tries, IsCommand}
+use Rattle.command_words.specs.CommandLines.{AllSecrets, Bounds, Check, ManyRuns, Run, Command, Checks, Tells, MeasuresAll, Assembles, Lists, Verifies, Migrates, Tries, IsCommand}
 use Rattle.command_answers.specs.declared.kinds.FileKind.TheVariants as kinds
 use Rattle.command_answers.specs.declared.refusals.Refusal.{Refusal}
 use Rattle.command_answers.specs.declared.statuses.Status.TheVariants.{Done, Rejected}
 use Rattle.command_answers.specs.Answers.{Answer, done_by, told}
+use Rattle.every_secret.specs.Bounds.{Answer as BoundAnswer, IsBounded, IsUnclear}
+use Rattle.command_answers.specs.AllSecrets.{AllSecretsTask, AnswersBound, bound_of}
+use Rattle.command_answers.specs.BoundHeadline.{BoundHeadline, Shows, named_task}
 use Rattle.command_answers.specs.Checks.{CheckTask, AnswersBy, judged_by, judgements_of}
 use Rattle.command_answers.specs.Clauses.{Carries, JudgingCarries, TellingCarries}
 use Rattle.command_answers.specs.CleanHeadline.{AllFound, CleanHeadline, IsAcceptedThen}
@@ -47,7 +50,7 @@ use Rattle.command_answers.specs.CutTexts.{IsCutText, IsInVersion}
 use Rattle.command_answers.specs.ManyRuns.{ManyRunsTask, AreMeasured, IsRunsRefusal, TellsAll, setup_in}
 use Rattle.command_answers.specs.Tellings.{IsCutOfRun, Tells as TellsOf}
 use Rattle.command_answers.specs.Statuses.{number_of}
-use Rattle.command_answers.specs.Tasks.{Task, TellRun, MeasureAll, AnswersFiles, AnswersTask, IsCheckTask, IsFormRefusal, IsManyRunsTask, IsRunTask, IsTaskOf, wants_of}
+use Rattle.command_answers.specs.Tasks.{Task, TellRun, MeasureAll, AnswersFiles, AnswersTask, IsAllSecretsTask, IsCheckTask, IsFormRefusal, IsManyRunsTask, IsRunTask, IsTaskOf, wants_of}
 use Rattle.command_answers.specs.Texts.{accepted_count, check_text, clean_count, findings_text}
 use Rattle.command_answers.proofs.HeldFiles.{all-held, guest_held, secret_short}
 use Rattle.command_answers.proofs.OneReply.{words_reading}
@@ -197,6 +200,53 @@ judged-headline : (source : Option Told) (judging : Judging) (check : Check) (fi
 judged-headline source Replay check files task answer loads is e = check-headline source check files task answer loads is e
 judged-headline source (Masks table) check files task answer loads is (findings, are, e) =
     clean-headline source table check files task findings answer loads is are e
+
+-- ---- a bound
+
+-- the task of the words and the files
+same-named : (all : AllSecrets) (files : List (List ℕ)) (task : AllSecretsTask) → IsAllSecretsTask all files task →
+    task ≡ named_task all task.guest task.cut
+same-named all files task is =
+    let made : Limits → ℕ → ℕ → Bool → AllSecretsTask = λ limits table paths listed. record {
+      guest = task.guest;
+      cut = task.cut;
+      limits = limits;
+      table = table;
+      paths = paths;
+      listed = listed;
+    } in
+    ap (λ v. made v task.table task.paths task.listed) is.limits
+    ∙ (ap (λ v. made (record { budget = all.budget; turns = all.turns }) v task.paths task.listed) is.table
+    ∙ (ap (λ v. made (record { budget = all.budget; turns = all.turns }) all.table v task.listed) is.paths
+    ∙ ap (λ v. made (record { budget = all.budget; turns = all.turns }) all.table all.paths v) is.listed))
+
+shows : (task : AllSecretsTask) (known : BoundAnswer) (answer : Answer) → AnswersBound task known answer →
+    Shows task known (reply_of answer)
+shows task (IsBounded found) answer (bits, least, e) = record {
+  bits = bits;
+  least = least;
+  lines = ap (λ a. (told a).text) e;
+  status_is = ap status_of e;
+}
+shows task (IsUnclear bits why) answer e = (ap (λ a. (told a).text) e, ap status_of e)
+
+bound-headline : (source : Option Told) (all : AllSecrets) (files : List (List ℕ)) (task : AllSecretsTask)
+    (answer : Answer) → Loads source (wants_of (Bounds all)) (Ok files) → IsAllSecretsTask all files task →
+    AnswersBound task (bound_of task) answer → BoundHeadline source all (reply_of answer)
+bound-headline source all files task answer loads is h = record {
+  guest_files = is.guest_files;
+  cut_file = is.cut_file;
+  held =
+      guest_held source all.guest (want all.cut kinds.Cut ∷ []) [] files is.guest_files (is.cut_file ∷ []) [] refl is.are
+      (all-held source (wants_of (Bounds all)) files loads);
+  guest = task.guest;
+  is_guest = is.guest;
+  cut = task.cut;
+  is_cut = is.cut;
+  shows =
+      subst (λ t. Shows t (bound_of t) (reply_of answer)) (same-named all files task is)
+      (shows task (bound_of task) answer h);
+}
 
 -- ---- a measured run
 
@@ -433,6 +483,8 @@ task-headline : (source : Option Told) (command : Command) (files : List (List �
 task-headline source (Checks check) files task answer loads (x, is, e) low h =
     judged-headline source check.judging check files x answer loads is
     (subst (λ j. AnswersBy j x answer) is.judging (subst (λ t. AnswersTask t answer) e h))
+task-headline source (Bounds all) files task answer loads (x, is, e) low h =
+    bound-headline source all files x answer loads is (subst (λ t. AnswersTask t answer) e h)
 task-headline source (Tells telling run) files task answer loads (x, is, e) low h =
     told-headline source telling run files x answer loads is low (subst (λ t. AnswersTask t answer) e h)
 task-headline source (MeasuresAll version runs) files task answer loads (x, is, e) low h =

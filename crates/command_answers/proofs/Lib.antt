@@ -16,6 +16,7 @@ pub mod OneFinding
 pub mod OneLearning
 pub mod CutTexts
 pub mod OneUnion
+pub mod OneBound
 pub mod OneReply
 pub mod CompleteReplies
 pub mod HeldFiles

@@ -28,7 +28,7 @@ use Rattle.command_words.specs.declared.judgings.Judging.{Judging}
 use Rattle.command_words.specs.declared.judgings.Judging.TheVariants.{Replay, Masks}
 use Rattle.command_words.specs.declared.tellings.Telling.{Telling}
 use Rattle.command_words.specs.declared.tellings.Telling.TheVariants.{CutText, Certificate, Report, Declaration}
-use Rattle.command_words.specs.CommandLines.{Run, Command, Checks, Tells, MeasuresAll, Assembles, Lists, Verifies, Migrates, Tries, Fits, IsCommand, IsChoice}
+use Rattle.command_words.specs.CommandLines.{Run, Command, Checks, Bounds, Tells, MeasuresAll, Assembles, Lists, Verifies, Migrates, Tries, Fits, IsCommand, IsChoice}
 use Rattle.command_words.specs.Parts.{Parts}
 use Rattle.command_words.proofs.OneCommand.{one_command}
 use Rattle.command_answers.specs.declared.refusals.Refusal.{Refusal}
@@ -40,11 +40,12 @@ use Rattle.command_answers.specs.Replies.{AnswersCommand, AnswersWords, IsUsage,
 use Rattle.command_answers.specs.Runs.{RunTask, AnswersRun, IsMeasured, IsRunRefusal, start_of}
 use Rattle.command_answers.specs.CutTexts.{IsCutText}
 use Rattle.command_answers.specs.Tellings.{AnswersTelling, IsCertificateText, IsCutOfRun, IsReport, Tells as TellsOf, report_of}
-use Rattle.command_answers.specs.Tasks.{Task, JudgeSecrets, TellRun, MeasureAll, WriteProgram, ListProgram, VerifyCertificate, MigrateCut, TryNumber, AnswersTask, AnswersFiles, IsFormRefusal, IsTaskOf, wants_of}
+use Rattle.command_answers.specs.Tasks.{Task, BoundAll, JudgeSecrets, TellRun, MeasureAll, WriteProgram, ListProgram, VerifyCertificate, MigrateCut, TryNumber, AnswersTask, AnswersFiles, IsFormRefusal, IsTaskOf, wants_of}
 use Rattle.command_answers.specs.Trials.{TellsTrial, crossing_count, guest_of_number, run_of_number, trial_line, trial_turns}
 use Rattle.command_answers.specs.Verifications.{AnswersVerdict, IsExactVerdict, verdict_reply}
 use Rattle.command_answers.specs.ReplyLaws.{CompletesRun, CompletesVerdict, IsNoGraph}
 use Rattle.command_answers.proofs.CutTexts.{one_cut_text}
+use Rattle.command_answers.proofs.OneBound.{bound_same}
 use Rattle.command_answers.proofs.OneFinding.{taint_same}
 use Rattle.command_answers.proofs.OneGuest.{RegionLaws}
 use Rattle.command_answers.proofs.OneLearning.{learning_same}
@@ -68,6 +69,7 @@ DecidesBy (Masks table) = IsDeciding table
 -- the table of a command that asks mask rules decides
 abbrev DecidesCommand : Command → Type 0
 DecidesCommand (Checks check) = DecidesBy check.judging
+DecidesCommand (Bounds all) = Unit {0}
 DecidesCommand (Tells telling run) = IsDeciding run.table
 DecidesCommand (MeasuresAll version runs) = IsDeciding runs.table
 DecidesCommand (Assembles source) = Unit {0}
@@ -82,6 +84,7 @@ fit-decides names.Check parts command (check, is, e) =
     subst DecidesCommand (sym e) (subst DecidesBy (sym is.judged) tt)
 fit-decides names.Taint parts command (table, check, is, choice, e) =
     subst DecidesCommand (sym e) (subst DecidesBy (sym is.judged) (decides _ table choice))
+fit-decides names.Bound parts command (all, is, e) = subst DecidesCommand (sym e) tt
 fit-decides names.Measure parts command (version, run, is, choice, e) =
     subst DecidesCommand (sym e) (decides _ run.table is.rules)
 fit-decides names.MeasureAll parts command (version, runs, is, choice, e) =
@@ -98,6 +101,7 @@ fit-decides names.Trial parts command (number, is, e) = subst DecidesCommand (sy
 -- the table of a task that asks mask rules decides
 abbrev pub Decides : Task → Type 0
 Decides (JudgeSecrets task) = DecidesBy task.judging
+Decides (BoundAll all) = Unit {0}
 Decides (TellRun telling run) = IsDeciding run.table
 Decides (MeasureAll version runs) = IsDeciding runs.table
 Decides (WriteProgram picture) = Unit {0}
@@ -110,6 +114,7 @@ decides-task : (files : List (List ℕ)) (command : Command) (task : Task) → D
     IsTaskOf command files task → Decides task
 decides-task files (Checks check) task known (x, is, e) =
     subst Decides (sym e) (subst DecidesBy (sym is.judging) known)
+decides-task files (Bounds all) task known (x, is, e) = subst Decides (sym e) tt
 decides-task files (Tells telling run) task known (x, is, e) =
     subst Decides (sym e) (subst IsDeciding (sym is.table) known)
 decides-task files (MeasuresAll version runs) task known (x, is, e) =
@@ -267,6 +272,7 @@ IsNoCertificate Declaration = Unit {0}
 
 abbrev NoGraph : Task → Type 0
 NoGraph (JudgeSecrets task) = Unit {0}
+NoGraph (BoundAll all) = Unit {0}
 NoGraph (TellRun telling run) = IsNoCertificate telling
 NoGraph (MeasureAll version runs) = Unit {0}
 NoGraph (WriteProgram picture) = Unit {0}
@@ -285,6 +291,7 @@ no-certificate words Declaration run none named = tt
 no-graph : (words files : List (List ℕ)) (command : Command) (task : Task) → IsNoGraph words →
     IsCommand words command → IsTaskOf command files task → NoGraph task
 no-graph words files (Checks check) task none named (x, is, e) = subst NoGraph (sym e) tt
+no-graph words files (Bounds all) task none named (x, is, e) = subst NoGraph (sym e) tt
 no-graph words files (Tells telling run) task none named (x, is, e) =
     subst NoGraph (sym e) (no-certificate words telling run none named)
 no-graph words files (MeasuresAll version runs) task none named (x, is, e) = subst NoGraph (sym e) tt
@@ -314,6 +321,7 @@ task-same : (task : Task) (first second : Answer) → NoGraph task → Decides t
     AnswersTask task second → first ≡ second
 task-same (JudgeSecrets task) first second none deciding one other =
     check-same task.judging task first second deciding one other
+task-same (BoundAll all) first second none deciding one other = bound_same all first second one other
 task-same (TellRun telling run) first second none deciding one other =
     telling-same telling run first second none deciding one other
 task-same (MeasureAll version runs) first second none deciding one other =
@@ -341,6 +349,7 @@ task-one : (task : Task) (first second : Answer) → Decides task → AnswersTas
     AreOne first second
 task-one (JudgeSecrets task) first second deciding one other =
     ap status_of (task-same (JudgeSecrets task) first second tt deciding one other)
+task-one (BoundAll all) first second deciding one other = ap status_of (bound_same all first second one other)
 task-one (TellRun telling run) first second deciding one other = telling-one telling run first second deciding one other
 task-one (MeasureAll version runs) first second deciding one other =
     ap status_of (many_same version runs first second deciding one other)

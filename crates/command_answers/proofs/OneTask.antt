@@ -16,16 +16,18 @@ use Rattle.elf32_loader.proofs.Unique.{same-image}
 use Rattle.lockstep_replay.specs.Tasks.{Limits}
 use Rattle.rv32im_asm.specs.declared.fault.AsmFault.{AsmFault}
 use Rattle.rv32im_asm.specs.Assembling.{assembled}
-use Rattle.command_words.specs.CommandLines.{Check, ManyRuns, Run, Command, Checks, Tells, MeasuresAll, Assembles, Lists, Verifies, Migrates, Tries}
+use Rattle.command_words.specs.CommandLines.{AllSecrets, Bounds, Check, GuestNames, ManyRuns, Run, Command, Checks, Tells, MeasuresAll, Assembles, Lists, Verifies, Migrates, Tries}
 use Rattle.command_words.specs.declared.judgings.Judging.{Judging}
 use Rattle.command_answers.specs.declared.refusals.Refusal.{Refusal}
 use Rattle.command_answers.specs.declared.refusals.Refusal.TheVariants.{Certificate, Source}
+use Rattle.std.proofs.Common.{Bool}
+use Rattle.command_answers.specs.AllSecrets.{AllSecretsTask}
 use Rattle.command_answers.specs.Checks.{CheckTask}
-use Rattle.command_answers.specs.Guests.{Guest, GuestFiles, IsGuest, IsGuestRefusal}
+use Rattle.command_answers.specs.Guests.{AreGuestFiles, Guest, GuestFiles, IsGuest, IsGuestRefusal}
 use Rattle.command_answers.specs.Refusals.{IsCutRefusal, IsProgramRefusal}
 use Rattle.command_answers.specs.ManyRuns.{ManyRunsTask}
 use Rattle.command_answers.specs.Runs.{RunTask}
-use Rattle.command_answers.specs.Tasks.{Task, JudgeSecrets, TellRun, MeasureAll, WriteProgram, ListProgram, VerifyCertificate, MigrateCut, IsCheckRefusal, IsCheckTask, IsFormRefusal, IsManyRunsRefusal, IsManyRunsTask, IsRunFilesRefusal, IsRunTask, IsTaskOf}
+use Rattle.command_answers.specs.Tasks.{Task, BoundAll, IsAllSecretsTask, JudgeSecrets, TellRun, MeasureAll, WriteProgram, ListProgram, VerifyCertificate, MigrateCut, IsCutFilesRefusal, IsCheckTask, IsFormRefusal, IsManyRunsRefusal, IsManyRunsTask, IsRunFilesRefusal, IsRunTask, IsTaskOf}
 use Rattle.command_answers.specs.Verifications.{IsCertificate}
 use Rattle.command_answers.proofs.OneCertificate.{one_certificate}
 use Rattle.command_answers.proofs.OneGuest.{RegionLaws, cut_reading, guest-status, guest_reading, program_reading, same_check_files, same_run_files}
@@ -61,22 +63,26 @@ abbrev FirstRefusal : GuestFiles → List ℕ → Refusal → Type 0
 FirstRefusal guest_files cut_file refusal =
     IsGuestRefusal guest_files refusal ⊎ ((guest : Guest) × IsGuest guest_files guest × IsCutRefusal cut_file refusal)
 
-no-first-fault : RegionLaws → (guest_files : GuestFiles) (cut_file : List ℕ) (task : CheckTask) (refusal : Refusal) →
-    IsGuest guest_files task.guest → CutText cut_file task.cut → FirstRefusal guest_files cut_file refusal → ⊥
-no-first-fault laws guest_files cut_file task refusal guest cut (inl first) =
-    (guest_reading laws guest_files).none task.guest refusal guest first
-no-first-fault laws guest_files cut_file task refusal guest cut (inr (other, also, first)) =
-    (cut_reading cut_file).none task.cut refusal cut first
+no-first-fault : RegionLaws → (guest_files : GuestFiles) (cut_file : List ℕ) (guest : Guest) (cut : CutPicture)
+    (refusal : Refusal) → IsGuest guest_files guest → CutText cut_file cut →
+    FirstRefusal guest_files cut_file refusal → ⊥
+no-first-fault laws guest_files cut_file guest cut refusal is_guest is_cut (inl first) =
+    (guest_reading laws guest_files).none guest refusal is_guest first
+no-first-fault laws guest_files cut_file guest cut refusal is_guest is_cut (inr (other, also, first)) =
+    (cut_reading cut_file).none cut refusal is_cut first
 
-no-check-fault : RegionLaws → (check : Check) (files : List (List ℕ)) (task : CheckTask) (refusal : Refusal) →
-    IsCheckTask check files task → IsCheckRefusal check files refusal → ⊥
-no-check-fault laws check files task refusal is refused =
-    let same = same_check_files check.guest files refused.guest_files is.guest_files refused.cut_file is.cut_file
-    refused.secrets task.secrets refused.are is.are in
-    let first : FirstRefusal is.guest_files refused.cut_file refusal = subst (λ f. FirstRefusal f refused.cut_file
+-- where the files are a guest and a cut, nothing is wrong with them
+no-cut-fault : RegionLaws → (names : GuestNames) (files : List (List ℕ)) (guest_files : GuestFiles) (cut_file : List ℕ)
+    (secrets : List (List ℕ)) (guest : Guest) (cut : CutPicture) (refusal : Refusal) →
+    AreGuestFiles names files guest_files (cut_file ∷ []) secrets → IsGuest guest_files guest → CutText cut_file cut →
+    IsCutFilesRefusal names files refusal → ⊥
+no-cut-fault laws names files guest_files cut_file secrets guest cut refusal are is_guest is_cut refused =
+    let same = same_check_files names files refused.guest_files guest_files refused.cut_file cut_file refused.secrets secrets
+    refused.are are in
+    let first : FirstRefusal guest_files refused.cut_file refusal = subst (λ f. FirstRefusal f refused.cut_file
     refusal) same.guests refused.first in
-    no-first-fault laws is.guest_files is.cut_file task refusal is.guest is.cut
-    (subst (λ c. FirstRefusal is.guest_files c refusal) same.cuts first)
+    no-first-fault laws guest_files cut_file guest cut refusal is_guest is_cut
+    (subst (λ c. FirstRefusal guest_files c refusal) same.cuts first)
 
 one-first : RegionLaws → (guest_files : GuestFiles) (cut_file : List ℕ) (first second : Refusal) →
     FirstRefusal guest_files cut_file first → FirstRefusal guest_files cut_file second → first ≡ second
@@ -89,10 +95,10 @@ one-first laws guest_files cut_file first second (inr (guest, alike, is)) (inl a
 one-first laws guest_files cut_file first second (inr (guest, alike, is)) (inr (other, same, also)) =
     (cut_reading cut_file).refused first second is also
 
-one-check-fault : RegionLaws → (check : Check) (files : List (List ℕ)) (first second : Refusal) →
-    IsCheckRefusal check files first → IsCheckRefusal check files second → first ≡ second
-one-check-fault laws check files first second one other =
-    let same = same_check_files check.guest files one.guest_files other.guest_files one.cut_file other.cut_file one.secrets
+one-cut-fault : RegionLaws → (names : GuestNames) (files : List (List ℕ)) (first second : Refusal) →
+    IsCutFilesRefusal names files first → IsCutFilesRefusal names files second → first ≡ second
+one-cut-fault laws names files first second one other =
+    let same = same_check_files names files one.guest_files other.guest_files one.cut_file other.cut_file one.secrets
     other.secrets one.are other.are in
     let here : FirstRefusal other.guest_files one.cut_file first = subst (λ f. FirstRefusal f one.cut_file first)
     same.guests one.first in
@@ -111,6 +117,33 @@ first-status : (guest_files : GuestFiles) (cut_file : List ℕ) (refusal : Refus
     FirstRefusal guest_files cut_file refusal → status_of (Err refusal) ≡ 3
 first-status guest_files cut_file refusal (inl first) = guest-status guest_files refusal first
 first-status guest_files cut_file refusal (inr (guest, also, (fault, first, e))) = ap (λ r. status_of (Err r)) e
+
+-- ---- a bound
+
+abbrev made-all : Guest → CutPicture → Limits → ℕ → ℕ → Bool → AllSecretsTask
+made-all guest cut limits table paths listed = record {
+  guest = guest;
+  cut = cut;
+  limits = limits;
+  table = table;
+  paths = paths;
+  listed = listed;
+}
+
+same-all : RegionLaws → (all : AllSecrets) (files : List (List ℕ)) (a b : AllSecretsTask) → IsAllSecretsTask all files a →
+    IsAllSecretsTask all files b → a ≡ b
+same-all laws all files a b one other =
+    let same = same_check_files all.guest files one.guest_files other.guest_files one.cut_file other.cut_file [] [] one.are
+    other.are in
+    let guest : a.guest ≡ b.guest = (guest_reading laws other.guest_files).one a.guest b.guest
+    (subst (λ f. IsGuest f a.guest) same.guests one.guest) other.guest in
+    let cut : a.cut ≡ b.cut = one-cut other.cut_file a.cut b.cut (rw same.cuts at one.cut) other.cut in
+    ap (λ v. made-all v a.cut a.limits a.table a.paths a.listed) guest
+    ∙ (ap (λ v. made-all b.guest v a.limits a.table a.paths a.listed) cut
+    ∙ (ap (λ v. made-all b.guest b.cut v a.table a.paths a.listed) (one.limits ∙ sym other.limits)
+    ∙ (ap (λ v. made-all b.guest b.cut b.limits v a.paths a.listed) (one.table ∙ sym other.table)
+    ∙ (ap (λ v. made-all b.guest b.cut b.limits b.table v a.listed) (one.paths ∙ sym other.paths)
+    ∙ ap (λ v. made-all b.guest b.cut b.limits b.table b.paths v) (one.listed ∙ sym other.listed)))))
 
 -- ---- a run
 
@@ -194,6 +227,8 @@ same-task : RegionLaws → (command : Command) (files : List (List ℕ)) (a b : 
     IsTaskOf command files b → a ≡ b
 same-task laws (Checks check) files a b (x, one, e) (y, other, f) =
     e ∙ (ap (λ v. JudgeSecrets v) (same-check laws check files x y one other) ∙ sym f)
+same-task laws (Bounds all) files a b (x, one, e) (y, other, f) =
+    e ∙ (ap (λ v. BoundAll v) (same-all laws all files x y one other) ∙ sym f)
 same-task laws (Tells telling run) files a b (x, one, e) (y, other, f) =
     e ∙ (ap (λ v. TellRun telling v) (same-run laws run files x y one other) ∙ sym f)
 same-task laws (MeasuresAll version runs) files a b (x, one, e) (y, other, f) =
@@ -217,7 +252,10 @@ same-task laws (Tries number) files a b e f = e ∙ sym f
 no-task-fault : RegionLaws → (command : Command) (files : List (List ℕ)) (task : Task) (refusal : Refusal) →
     IsTaskOf command files task → IsFormRefusal command files refusal → ⊥
 no-task-fault laws (Checks check) files task refusal (x, is, e) refused =
-    no-check-fault laws check files x refusal is refused
+    no-cut-fault laws check.guest files is.guest_files is.cut_file x.secrets x.guest x.cut refusal is.are is.guest is.cut
+    refused
+no-task-fault laws (Bounds all) files task refusal (x, is, e) refused =
+    no-cut-fault laws all.guest files is.guest_files is.cut_file [] x.guest x.cut refusal is.are is.guest is.cut refused
 no-task-fault laws (Tells telling run) files task refusal (x, is, e) refused =
     no-run-fault laws run files x refusal is refused
 no-task-fault laws (MeasuresAll version runs) files task refusal (x, is, e) refused =
@@ -240,7 +278,10 @@ err-err a b result e f = cc
 
 one-form-fault : RegionLaws → (command : Command) (files : List (List ℕ)) (first second : Refusal) →
     IsFormRefusal command files first → IsFormRefusal command files second → first ≡ second
-one-form-fault laws (Checks check) files first second one other = one-check-fault laws check files first second one other
+one-form-fault laws (Checks check) files first second one other =
+    one-cut-fault laws check.guest files first second one other
+one-form-fault laws (Bounds all) files first second one other =
+    one-cut-fault laws all.guest files first second one other
 one-form-fault laws (Tells telling run) files first second one other = one-run-fault laws run files first second one other
 one-form-fault laws (MeasuresAll version runs) files first second one other =
     one-runs-fault laws runs files first second one other
@@ -261,6 +302,7 @@ one-form-fault laws (Tries number) files first second one other = absurd one
 pub form-status : (command : Command) (files : List (List ℕ)) (refusal : Refusal) →
     IsFormRefusal command files refusal → status_of (Err refusal) ≡ 3
 form-status (Checks check) files refusal is = first-status is.guest_files is.cut_file refusal is.first
+form-status (Bounds all) files refusal is = first-status is.guest_files is.cut_file refusal is.first
 form-status (Tells telling run) files refusal is = guest-status is.guest_files refusal is.first
 form-status (MeasuresAll version runs) files refusal is = guest-status is.guest_files refusal is.first
 form-status (Assembles source) files refusal (file, are, (fault, first, e)) = ap (λ r. status_of (Err r)) e

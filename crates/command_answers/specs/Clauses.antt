@@ -7,8 +7,9 @@ use Rattle.command_words.specs.declared.judgings.Judging.{Judging}
 use Rattle.command_words.specs.declared.judgings.Judging.TheVariants.{Replay, Masks}
 use Rattle.command_words.specs.declared.tellings.Telling.{Telling}
 use Rattle.command_words.specs.declared.tellings.Telling.TheVariants.{CutText, Certificate, Report, Declaration}
-use Rattle.command_words.specs.CommandLines.{Check, Run, Command, Checks, Tells, MeasuresAll, Assembles, Lists, Verifies, Migrates, Tries}
+use Rattle.command_words.specs.CommandLines.{Check, Run, Command, Checks, Bounds, Tells, MeasuresAll, Assembles, Lists, Verifies, Migrates, Tries}
 use Rattle.command_words.specs.CommandLines.{IsCommand, IsNoCommand}
+use Rattle.command_answers.specs.BoundHeadline.{BoundHeadline}
 use Rattle.command_answers.specs.CleanHeadline.{CleanHeadline}
 use Rattle.command_answers.specs.Headline.{Headline}
 use Rattle.command_answers.specs.LearntHeadline.{LearntHeadline}
@@ -32,6 +33,7 @@ TellingCarries source Declaration run reply = LearntHeadline source run reply
 -- the headline that a command carries
 abbrev pub Carries : Option Told → Command → Reply → Type 0
 Carries source (Checks check) reply = JudgingCarries source check.judging check reply
+Carries source (Bounds all) reply = BoundHeadline source all reply
 Carries source (Tells telling run) reply = TellingCarries source telling run reply
 Carries source (MeasuresAll version runs) reply =
     MeasuredHeadline IsGraphOfRuns source runs.guest runs.secrets

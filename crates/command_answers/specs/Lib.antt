@@ -16,6 +16,8 @@ pub mod Declarations
 pub mod CutTexts
 pub mod Tellings
 pub mod ManyRuns
+pub mod BoundTexts
+pub mod AllSecrets
 pub mod Trials
 pub mod Verifications
 pub mod Tasks
@@ -25,5 +27,6 @@ pub mod Headline
 pub mod CleanHeadline
 pub mod MeasuredHeadline
 pub mod LearntHeadline
+pub mod BoundHeadline
 pub mod Clauses
 pub mod ReplyLaws

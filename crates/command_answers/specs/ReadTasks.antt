@@ -7,17 +7,19 @@ use Rattle.command_words.specs.declared.limits.Limits.{Limits}
 use Rattle.command_words.specs.CommandLines.{highest_turns, is_known}
 use Rattle.command_answers.specs.declared.guests.Guest.{Guest as ReadGuest}
 use Rattle.command_answers.specs.declared.guests.GuestFiles.{GuestFiles as LoadedGuest}
+use Rattle.command_answers.specs.declared.tasks.AllSecretsTask.{AllSecretsTask as ReadAllSecrets}
 use Rattle.command_answers.specs.declared.tasks.CheckTask.{CheckTask as ReadCheck}
 use Rattle.command_answers.specs.declared.tasks.ManyRunsTask.{ManyRunsTask as ReadManyRuns}
 use Rattle.command_answers.specs.declared.tasks.RunTask.{RunTask as ReadRun}
 use Rattle.command_answers.specs.declared.tasks.Task.{Task as ReadTask}
 use Rattle.command_answers.specs.declared.tasks.Task.TheVariants as tasks
+use Rattle.command_answers.specs.AllSecrets.{AllSecretsTask}
 use Rattle.command_answers.specs.Checks.{CheckTask}
 use Rattle.command_answers.specs.Guests.{Guest, GuestFiles}
 use Rattle.command_answers.specs.ManyRuns.{ManyRunsTask}
 use Rattle.command_answers.specs.Runs.{RunTask}
 use Rattle.command_answers.specs.Tasks.{Task, JudgeSecrets, TellRun, WriteProgram, ListProgram, VerifyCertificate}
-use Rattle.command_answers.specs.Tasks.{MeasureAll, MigrateCut, TryNumber}
+use Rattle.command_answers.specs.Tasks.{BoundAll, MeasureAll, MigrateCut, TryNumber}
 
 abbrev pub files_in : LoadedGuest → GuestFiles
 files_in files = record {
@@ -45,6 +47,16 @@ check_in check = record {
   judging = check.judging;
 }
 
+abbrev pub all_secrets_in : ReadAllSecrets → AllSecretsTask
+all_secrets_in all = record {
+  guest = guest_in all.guest;
+  cut = cut_of all.cut;
+  limits = limits_in all.limits;
+  table = all.table;
+  paths = all.paths;
+  listed = all.listed;
+}
+
 abbrev pub run_in : ReadRun → RunTask
 run_in run = record { guest = guest_in run.guest; secret = run.secret.now; turns = run.turns; table = run.table }
 
@@ -58,6 +70,7 @@ many_runs_in runs = record {
 
 abbrev pub task_in : ReadTask → Task
 task_in (tasks.JudgeSecrets check) = JudgeSecrets (check_in check)
+task_in (tasks.BoundAll all) = BoundAll (all_secrets_in all)
 task_in (tasks.TellRun telling run) = TellRun telling (run_in run)
 task_in (tasks.MeasureAll version runs) = MeasureAll version (many_runs_in runs)
 task_in (tasks.WriteProgram image) = WriteProgram (picture_of image)
@@ -76,6 +89,12 @@ AreShort secrets = All (λ secret. length secret ≤ 65536) secrets
 pub record IsBoundedCheck (check : ReadCheck) : Type 0 where
   pub secrets : AreShort check.secrets.now
   pub known : is_known check.judging ≡ true
+
+-- a path may be walked, and the table is 1 or 2
+pub record IsBoundedAll (all : ReadAllSecrets) : Type 0 where
+  pub some : 1 ≤ all.paths
+  pub first : 1 ≤ all.table
+  pub last : all.table ≤ 2
 
 -- the secret and the turns are within their limits, and the table is 1 or 2
 pub record IsBoundedRun (run : ReadRun) : Type 0 where
@@ -96,6 +115,7 @@ pub record AreBoundedRuns (runs : ReadManyRuns) : Type 0 where
 -- what is read is within the limits of what answers it
 abbrev pub IsBounded : ReadTask → Type 0
 IsBounded (tasks.JudgeSecrets check) = IsBoundedCheck check
+IsBounded (tasks.BoundAll all) = IsBoundedAll all
 IsBounded (tasks.TellRun telling run) = IsBoundedRun run
 IsBounded (tasks.MeasureAll version runs) = AreBoundedRuns runs
 IsBounded (tasks.WriteProgram image) = length image.segments ≤ 64

@@ -17,11 +17,13 @@ use Rattle.many_runs.specs.Causes.{HasManyCause}
 use Rattle.region_learn.specs.declared.faults.LearnFault.{LearnFault}
 use Rattle.region_learn.specs.LearnAnswers.{Refuses}
 use Rattle.taint_check.specs.Tainted.{IsClean, IsVerdict}
+use Rattle.every_secret.specs.Bounds.{Found, IsBounded}
 use Rattle.command_words.specs.declared.judgings.Judging.{Judging}
 use Rattle.command_words.specs.declared.judgings.Judging.TheVariants.{Replay, Masks}
 use Rattle.command_words.specs.declared.tellings.Telling.{Telling}
 use Rattle.command_words.specs.declared.tellings.Telling.TheVariants.{CutText, Certificate, Report, Declaration}
 use Rattle.command_words.specs.CommandLines.{Run, Command, Tells, IsCommand}
+use Rattle.command_answers.specs.AllSecrets.{AllSecretsTask, bound_of}
 use Rattle.command_answers.specs.Checks.{judged_by}
 use Rattle.command_answers.specs.Declarations.{learnt_run}
 use Rattle.command_answers.specs.Loading.{loaded_from}
@@ -30,7 +32,7 @@ use Rattle.command_answers.specs.Replies.{Reply, Replies}
 use Rattle.command_answers.specs.ManyRuns.{ManyRunsTask, setup_in}
 use Rattle.command_answers.specs.Runs.{RunTask, start_of}
 use Rattle.command_answers.specs.Tasks.{Task, JudgeSecrets, TellRun, WriteProgram, ListProgram, VerifyCertificate}
-use Rattle.command_answers.specs.Tasks.{MeasureAll, MigrateCut, TryNumber, IsTaskOf, wants_of}
+use Rattle.command_answers.specs.Tasks.{BoundAll, MeasureAll, MigrateCut, TryNumber, IsTaskOf, wants_of}
 use Rattle.command_answers.specs.Trials.{run_of_number}
 
 -- ---- one reply
@@ -75,6 +77,16 @@ pub record CompletesTaint (table : ℕ) (task : JudgedTask) (limits : Limits) (s
 abbrev pub CompletesBy : Judging → JudgedTask → Limits → List (List ℕ) → ℕ → Type 0
 CompletesBy Replay task limits secrets status = CompletesCheck task limits secrets status
 CompletesBy (Masks table) task limits secrets status = CompletesTaint table task limits secrets status
+
+-- the bound is known
+abbrev pub HasBound : AllSecretsTask → Type 0
+HasBound all = (found : Found) × (bound_of all ≡ IsBounded found)
+
+-- 0 exactly where the bound is known, and else 1
+pub record CompletesBound (all : AllSecretsTask) (status : ℕ) : Type 0 where
+  pub known : status ≤ 1
+  pub bounded : status ≡ 0 → HasBound all
+  pub done : HasBound all → status ≡ 0
 
 -- nothing refuses the run but want of memory, of which nothing is said
 abbrev pub HasNoCause : RunTask → Type 0
@@ -124,6 +136,7 @@ pub record CompletesVerdict (graph : Graph) (solved : Solved) (status : ℕ) : T
 abbrev pub Completes : Task → ℕ → Type 0
 Completes (JudgeSecrets task) status =
     CompletesBy task.judging (judged_by task.guest task.cut) task.limits task.secrets status
+Completes (BoundAll all) status = CompletesBound all status
 Completes (TellRun telling run) status = CompletesTelling telling run status
 Completes (MeasureAll version runs) status = CompletesRuns runs status
 Completes (WriteProgram picture) status = status ≡ 0

@@ -11,10 +11,11 @@ use Rattle.max_flow.specs.declared.answers.Solved.{Solved}
 use Rattle.rv32im_asm.specs.Assembling.{assembled}
 use Rattle.rv32im_asm.specs.Listing.{listing}
 use Rattle.command_words.specs.declared.tellings.Telling.{Telling}
-use Rattle.command_words.specs.CommandLines.{Check, Run, Command, Checks, Tells as TellsOf, Assembles, Lists, Verifies}
-use Rattle.command_words.specs.CommandLines.{ManyRuns, MeasuresAll, Migrates, Tries}
+use Rattle.command_words.specs.CommandLines.{Check, GuestNames, Run, Command, Checks, Tells as TellsOf, Assembles, Lists, Verifies}
+use Rattle.command_words.specs.CommandLines.{AllSecrets, Bounds, ManyRuns, MeasuresAll, Migrates, Tries}
 use Rattle.command_answers.specs.declared.kinds.FileKind.TheVariants as kinds
 use Rattle.command_answers.specs.declared.refusals.Refusal.{Refusal}
+use Rattle.command_answers.specs.AllSecrets.{AllSecretsTask, AnswersAllSecrets}
 use Rattle.command_answers.specs.Answers.{Answer, Reads, done_by}
 use Rattle.command_answers.specs.Checks.{CheckTask, AnswersCheck}
 use Rattle.command_answers.specs.Guests.{Guest, GuestFiles, AreGuestFiles, IsGuest, IsGuestRefusal, guest_wants}
@@ -26,10 +27,11 @@ use Rattle.command_answers.specs.Tellings.{AnswersTelling}
 use Rattle.command_answers.specs.Trials.{TellsTrial, run_of_number}
 use Rattle.command_answers.specs.Verifications.{AnswersVerdict, IsCertificate}
 
--- to judge secrets, to tell of a run, to tell the one cut of several runs in a version, to write the program file of an image, to list a program, to verify a
--- certificate, to write a cut in version 2, or to try the tool by a number
+-- to judge secrets, to bound the outputs of all secrets, to tell of a run, to tell the one cut of several runs in a
+-- version, to write the program file of an image, to list a program, to verify a certificate, to write a cut in version 2, or to try the tool by a number
 pub data Task : Type 0 where
   JudgeSecrets : CheckTask → Task
+  BoundAll : AllSecretsTask → Task
   TellRun : Telling → RunTask → Task
   MeasureAll : ℕ → ManyRunsTask → Task
   WriteProgram : Picture → Task
@@ -43,6 +45,7 @@ pub data Task : Type 0 where
 -- in the order of its loads
 abbrev pub wants_of : Command → List Want
 wants_of (Checks check) = guest_wants check.guest (want check.cut kinds.Cut ∷ []) check.secrets
+wants_of (Bounds all) = guest_wants all.guest (want all.cut kinds.Cut ∷ []) []
 wants_of (TellsOf telling run) = guest_wants run.guest [] (run.secret ∷ [])
 wants_of (MeasuresAll version runs) = guest_wants runs.guest [] runs.secrets
 wants_of (Assembles source) = want source kinds.Source ∷ []
@@ -61,15 +64,27 @@ pub record IsCheckTask (check : Check) (files : List (List ℕ)) (task : CheckTa
   pub limits : task.limits ≡ record { budget = check.budget; turns = check.turns }
   pub judging : task.judging ≡ check.judging
 
--- what is wrong with them: the first fault of the guest, and then of the cut
-pub record IsCheckRefusal (check : Check) (files : List (List ℕ)) (refusal : Refusal) : Type 0 where
+-- what is wrong with the files of a guest and a cut: the first fault of the guest, and then of the cut
+pub record IsCutFilesRefusal (names : GuestNames) (files : List (List ℕ)) (refusal : Refusal) : Type 0 where
   pub guest_files : GuestFiles
   pub cut_file : List ℕ
   pub secrets : List (List ℕ)
-  pub are : AreGuestFiles check.guest files guest_files (cut_file ∷ []) secrets
+  pub are : AreGuestFiles names files guest_files (cut_file ∷ []) secrets
   pub first :
       IsGuestRefusal guest_files refusal
       ⊎ ((guest : Guest) × IsGuest guest_files guest × IsCutRefusal cut_file refusal)
+
+-- the files of a bound, which are well formed, and are this task
+pub record IsAllSecretsTask (all : AllSecrets) (files : List (List ℕ)) (task : AllSecretsTask) : Type 0 where
+  pub guest_files : GuestFiles
+  pub cut_file : List ℕ
+  pub are : AreGuestFiles all.guest files guest_files (cut_file ∷ []) []
+  pub guest : IsGuest guest_files task.guest
+  pub cut : CutText cut_file task.cut
+  pub limits : task.limits ≡ record { budget = all.budget; turns = all.turns }
+  pub table : task.table ≡ all.table
+  pub paths : task.paths ≡ all.paths
+  pub listed : task.listed ≡ all.listed
 
 -- the files of a run, which are well formed, and are this task
 pub record IsRunTask (run : Run) (files : List (List ℕ)) (task : RunTask) : Type 0 where
@@ -104,6 +119,7 @@ pub record IsManyRunsRefusal (runs : ManyRuns) (files : List (List ℕ)) (refusa
 -- The files of a command are well formed, and with its words they are this task.
 abbrev pub IsTaskOf : Command → List (List ℕ) → Task → Type 0
 IsTaskOf (Checks check) files task = (it : CheckTask) × IsCheckTask check files it × (task ≡ JudgeSecrets it)
+IsTaskOf (Bounds all) files task = (it : AllSecretsTask) × IsAllSecretsTask all files it × (task ≡ BoundAll it)
 IsTaskOf (TellsOf telling run) files task = (it : RunTask) × IsRunTask run files it × (task ≡ TellRun telling it)
 IsTaskOf (MeasuresAll version runs) files task =
     (it : ManyRunsTask) × IsManyRunsTask runs files it × (task ≡ MeasureAll version it)
@@ -122,7 +138,8 @@ IsTaskOf (Tries number) files task = task ≡ TryNumber number
 
 -- What is wrong with the first of its files that is malformed.
 abbrev pub IsFormRefusal : Command → List (List ℕ) → Refusal → Type 0
-IsFormRefusal (Checks check) files refusal = IsCheckRefusal check files refusal
+IsFormRefusal (Checks check) files refusal = IsCutFilesRefusal check.guest files refusal
+IsFormRefusal (Bounds all) files refusal = IsCutFilesRefusal all.guest files refusal
 IsFormRefusal (TellsOf telling run) files refusal = IsRunFilesRefusal run files refusal
 IsFormRefusal (MeasuresAll version runs) files refusal = IsManyRunsRefusal runs files refusal
 IsFormRefusal (Assembles source) files refusal =
@@ -137,6 +154,7 @@ IsFormRefusal (Tries number) files refusal = ⊥
 
 abbrev pub AnswersTask : Task → Answer → Type 0
 AnswersTask (JudgeSecrets task) answer = AnswersCheck task answer
+AnswersTask (BoundAll all) answer = AnswersAllSecrets all answer
 AnswersTask (TellRun telling run) answer = AnswersTelling telling run answer
 AnswersTask (MeasureAll version runs) answer = AnswersMany version runs answer
 AnswersTask (WriteProgram picture) answer = answer ≡ done_by (written picture)

@@ -7,6 +7,7 @@ ghost use Rattle.command_answers.specs.SingleLoads.{HasCause, KeepsCount};
 ghost use Rattle.command_answers.specs.Tasks.{AnswersTask};
 ghost use Rattle.command_answers.specs.declared.refusals.Refusal.TheVariants.{Memory};
 
+use crate::bounding::bound_all;
 use crate::judging::judge_secrets;
 use crate::loads::load_all;
 use crate::many::tell_many;
@@ -35,6 +36,7 @@ fn answer_task(alloc: Global, task: &Task, books: &[RuleBook]) -> Result<Reply, 
 {
     match task {
         Task::JudgeSecrets(check) => Ok(judge_secrets(alloc, check, books)?),
+        Task::BoundAll(all) => Ok(bound_all(alloc, all, books)?),
         Task::TellRun { telling, run } => tell_run(alloc, *telling, run, books),
         Task::MeasureAll { version, runs } => tell_many(alloc, *version, runs, books),
         Task::WriteProgram(image) => Ok(Reply::done(write_image(alloc, image)?)),

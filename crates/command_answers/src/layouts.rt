@@ -9,7 +9,7 @@ ghost use Rattle.command_answers.specs.ReadTasks.{AreShort, files_in};
 ghost use Rattle.command_answers.specs.declared.kinds.FileKind.TheVariants as kinds;
 
 use crate::guests::GuestFiles;
-use command_words::{CheckWords, ManyRunsWords, RunWords};
+use command_words::{AllSecretsWords, CheckWords, ManyRunsWords, RunWords};
 use flow_base::Bytes;
 
 /// The region file, where one is named, and the secrets.
@@ -55,6 +55,32 @@ pub fn files_of_check<'a>(
         regions,
     };
     (guest, cut, secrets)
+}
+
+/// The files of a bound: those of the guest, and the cut.
+pub fn files_of_all_secrets<'a>(
+    all: &AllSecretsWords,
+    files: &'a [Bytes],
+) -> (GuestFiles<'a>, &'a Bytes)
+    requires within { AreWithin (guest_wants (guest_of all.now.guest) (want all.now.cut.now kinds.Cut ∷ []) [])
+        files.now }
+    ensures are { AreGuestFiles (guest_of all.now.guest) files.entry.now (files_in result.0) (result.1.now ∷ []) [] }
+    ensures program { length result.0.program.now ≤ 16777216 }
+    ensures cut { length result.1.now ≤ 67108864 }
+{
+    let [program, public_input, cut, others @ ..] = files else {
+        unreachable!();
+    };
+    let (regions, secrets) = others_of(all.guest.regions.is_some(), others);
+    let [] = secrets else {
+        unreachable!();
+    };
+    let guest = GuestFiles {
+        program,
+        public_input,
+        regions,
+    };
+    (guest, cut)
 }
 
 /// The files of a run: those of the guest, and the secret.

@@ -4,6 +4,8 @@
 
 mod answering;
 mod books;
+mod bound_lines;
+mod bounding;
 mod finding;
 mod guests;
 mod judging;

@@ -6,24 +6,26 @@ ghost use Rattle.cut_file.specs.Texts.{CutText};
 ghost use Rattle.elf32_loader.specs.Images.{picture_of};
 ghost use Rattle.elf32_loader.specs.Programs.{IsImage};
 ghost use Rattle.rv32im_asm.specs.Assembling.{assembled};
-ghost use Rattle.command_words.specs.Words.{check_of, command_of, guest_of, many_runs_of, run_of};
+ghost use Rattle.command_words.specs.Words.{all_secrets_of, check_of, command_of, guest_of, many_runs_of, run_of};
 ghost use Rattle.command_answers.specs.Guests.{AreRegions, IsGuest, IsGuestRefusal, guest_wants};
 ghost use Rattle.command_answers.specs.Loading.{AreWithin, want};
 ghost use Rattle.command_answers.specs.ReadTasks.{IsBounded, IsBoundedCheck, IsBoundedRun, check_in, files_in, guest_in};
+ghost use Rattle.command_answers.specs.ReadTasks.{IsBoundedAll, all_secrets_in};
 ghost use Rattle.command_answers.specs.ReadTasks.{AreBoundedRuns, many_runs_in, run_in, task_in};
 ghost use Rattle.command_answers.specs.Refusals.{IsCertificateRefusal, IsCutRefusal, IsProgramRefusal};
 ghost use Rattle.command_answers.specs.Refusals.{IsRegionsRefusal, IsSourceRefusal};
-ghost use Rattle.command_answers.specs.Tasks.{IsCheckRefusal, IsCheckTask, IsFormRefusal, IsRunFilesRefusal};
+ghost use Rattle.command_answers.specs.Tasks.{IsAllSecretsTask, IsCheckTask, IsCutFilesRefusal, IsFormRefusal};
+ghost use Rattle.command_answers.specs.Tasks.{IsRunFilesRefusal};
 ghost use Rattle.command_answers.specs.Tasks.{IsManyRunsRefusal, IsManyRunsTask, IsRunTask, IsTaskOf, wants_of};
 ghost use Rattle.command_answers.specs.Verifications.{IsCertificate};
 ghost use Rattle.command_answers.specs.declared.kinds.FileKind.TheVariants as kinds;
 ghost use Rattle.command_answers.specs.declared.refusals.Refusal.TheVariants.{Memory};
 
 use crate::guests::{Guest, GuestFiles};
-use crate::layouts::{files_of_check, files_of_many_runs, files_of_run, one_file};
+use crate::layouts::{files_of_all_secrets, files_of_check, files_of_many_runs, files_of_run, one_file};
 use crate::refusals::Refusal;
-use crate::tasks::{CheckTask, ManyRunsTask, RunTask, Task};
-use command_words::{CheckWords, CommandWords, ManyRunsWords, RunWords};
+use crate::tasks::{AllSecretsTask, CheckTask, ManyRunsTask, RunTask, Task};
+use command_words::{AllSecretsWords, CheckWords, CommandWords, ManyRunsWords, RunWords};
 use cut_file::{Cut, read_cut};
 use elf32_loader::{Image, load_image};
 use enclosure_regions::{Regions, read_regions};
@@ -106,7 +108,7 @@ fn read_check<'a>(
         (check_of check.now).secrets) files.now }
     ensures ok { IfOk result (λ task. IsCheckTask (check_of check.now) files.entry.now (check_in task)) }
     ensures bounded { IfOk result (λ task. IsBoundedCheck task) }
-    ensures err { IfErr result (λ refusal. refusal ≢ Memory → IsCheckRefusal (check_of check.now) files.entry.now
+    ensures err { IfErr result (λ refusal. refusal ≢ Memory → IsCutFilesRefusal (check_of check.now).guest files.entry.now
         refusal) }
 {
     let (guest, cut, secrets) = files_of_check(check, files);
@@ -118,6 +120,32 @@ fn read_check<'a>(
         secrets,
         limits: check.limits,
         judging: check.judging,
+    })
+}
+
+/// What a bound asks for.
+fn read_all_secrets<'a>(
+    alloc: Global,
+    all: &AllSecretsWords,
+    files: &'a [Bytes],
+) -> Result<AllSecretsTask<'a>, Refusal>
+    requires within { AreWithin (guest_wants (guest_of all.now.guest) (want all.now.cut.now kinds.Cut ∷ []) [])
+        files.now }
+    ensures ok { IfOk result (λ task. IsAllSecretsTask (all_secrets_of all.now) files.entry.now (all_secrets_in task)) }
+    ensures bounded { IfOk result (λ task. IsBoundedAll task) }
+    ensures err { IfErr result (λ refusal. refusal ≢ Memory → IsCutFilesRefusal (all_secrets_of all.now).guest
+        files.entry.now refusal) }
+{
+    let (guest, cut) = files_of_all_secrets(all, files);
+    let guest = read_guest(alloc, guest)?;
+    let cut = read_cut_file(alloc, cut)?;
+    Ok(AllSecretsTask {
+        guest,
+        cut,
+        limits: all.limits,
+        table: all.table,
+        paths: all.paths,
+        listed: all.listed,
     })
 }
 
@@ -175,6 +203,7 @@ pub fn read_task<'a>(
 {
     match command {
         CommandWords::Check(check) => Ok(Task::JudgeSecrets(read_check(alloc, check, files)?)),
+        CommandWords::Bound(all) => Ok(Task::BoundAll(read_all_secrets(alloc, all, files)?)),
         CommandWords::Tell { telling, run } => Ok(Task::TellRun {
             telling: *telling,
             run: read_run(alloc, run, files)?,

@@ -20,6 +20,23 @@ pub struct CheckTask<'a> {
     pub judging: Judging,
 }
 
+/// All secrets of a guest, whose outputs are to be bounded.
+#[derive(Drop)]
+pub struct AllSecretsTask<'a> {
+    /// The guest.
+    pub guest: Guest<'a>,
+    /// The cut.
+    pub cut: Cut,
+    /// The limits of bits and of turns.
+    pub limits: Limits,
+    /// The table of the mask rules.
+    pub table: u32,
+    /// The number of paths that are walked at most.
+    pub paths: u32,
+    /// Whether each pattern of outputs is listed.
+    pub listed: bool,
+}
+
 /// A run of a guest that is to be told of.
 #[derive(Drop)]
 pub struct RunTask<'a> {
@@ -51,6 +68,8 @@ pub struct ManyRunsTask<'a> {
 pub enum Task<'a> {
     /// To judge secrets.
     JudgeSecrets(CheckTask<'a>),
+    /// To bound the outputs of all secrets.
+    BoundAll(AllSecretsTask<'a>),
     /// To tell of a run.
     TellRun {
         /// What is told.

@@ -90,6 +90,13 @@ pub fn wants_of<'a>(alloc: Global, command: &CommandWords<'a>) -> Result<List<Wa
             };
             guest_wants_of(alloc, &check.guest, &[cut], check.secrets.as_slice())
         }
+        CommandWords::Bound(all) => {
+            let cut = Want {
+                name: all.cut,
+                kind: FileKind::Cut,
+            };
+            guest_wants_of(alloc, &all.guest, &[cut], &[])
+        }
         CommandWords::Tell { run, .. } => guest_wants_of(alloc, &run.guest, &[], &[run.secret]),
         CommandWords::MeasureAll { runs, .. } => {
             guest_wants_of(alloc, &runs.guest, &[], runs.secrets.as_slice())

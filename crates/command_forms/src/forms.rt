@@ -54,12 +54,17 @@ fn cut<'a>(alloc: Global) -> Arg<'a> {
     option(alloc, "cut", "N", help).value_parser(ValueParser::unsigned(1, 2))
 }
 
+/// A flag.
+fn flag<'a>(alloc: Global, name: &'a str, help: &'a str) -> Arg<'a> {
+    Arg::new(alloc, name)
+        .long(name)
+        .action(ArgAction::SetTrue)
+        .help(help)
+}
+
 /// The flag `--json`.
 fn json<'a>(alloc: Global) -> Arg<'a> {
-    Arg::new(alloc, "json")
-        .long("json")
-        .action(ArgAction::SetTrue)
-        .help("Write the report as JSON")
+    flag(alloc, "json", "Write the report as JSON")
 }
 
 /// The form of a command that judges secrets.
@@ -91,7 +96,31 @@ fn judged<'a>(
         .arg(regions(alloc))
 }
 
-/// The forms of the commands that judge secrets.
+/// The form of `bound`.
+fn bound<'a>(alloc: Global) -> Result<Command<'a>, AllocError> {
+    let about = "Bound the outputs of PROG whatever the secret is, by walking all that can cross a cut";
+    let budget = word(
+        alloc,
+        "BUDGET",
+        "How many bits may cross on a path, 0 to 1048576",
+    );
+    let help = "How many paths are walked at most, 1 to 1048576; 65536 without it";
+    let paths = option(alloc, "paths", "N", help).value_parser(ValueParser::unsigned(1, 1_048_576));
+    bare(alloc, "bound")
+        .bin_name("flowcheck bound")?
+        .about(about)
+        .arg(word(alloc, "PROG", "The guest, an ELF32 program file of RV32IM"))?
+        .arg(word(alloc, "PUBLIC", "The file of its public input"))?
+        .arg(word(alloc, "CUT", "The file of the cut"))?
+        .arg(budget.value_parser(ValueParser::unsigned(0, 1_048_576)))?
+        .arg(turns(alloc))?
+        .arg(regions(alloc))?
+        .arg(rules(alloc))?
+        .arg(paths)?
+        .arg(flag(alloc, "list", "List the outputs that there can be"))
+}
+
+/// The forms of the commands that judge secrets, or bound the outputs of all.
 fn judged_forms<'a>(alloc: Global) -> Result<Vec<Command<'a>>, AllocError> {
     let mut forms = Vec::new(alloc);
     let about =
@@ -101,6 +130,7 @@ fn judged_forms<'a>(alloc: Global) -> Result<Vec<Command<'a>>, AllocError> {
         "Check with masks whether a run on each secret decides by no bits but those of a cut";
     let taint = judged(alloc, "flowcheck taint", "taint", about)?;
     forms.push(taint.arg(rules(alloc))?)?;
+    forms.push(bound(alloc)?)?;
     Ok(forms)
 }
 

@@ -4,7 +4,7 @@ use Rattle.command_words.specs.declared.judgings.Judging.{Judging}
 use Rattle.command_words.specs.declared.judgings.Judging.TheVariants.{Replay, Masks}
 use Rattle.command_words.specs.declared.tellings.Telling.{Telling}
 use Rattle.command_words.specs.declared.tellings.Telling.TheVariants.{CutText, Certificate, Report, Declaration}
-use Rattle.command_words.specs.CommandLines.{Command, Checks, Tells, MeasuresAll, Assembles, Lists, Verifies, Migrates, Tries}
+use Rattle.command_words.specs.CommandLines.{Command, Checks, Bounds, Tells, MeasuresAll, Assembles, Lists, Verifies, Migrates, Tries}
 use Rattle.command_words.specs.CommandLines.{IsCommand}
 
 abbrev pub judging_name : Judging → List ℕ
@@ -19,6 +19,7 @@ telling_name Declaration = codes "learn"
 
 abbrev pub name_of : Command → List ℕ
 name_of (Checks check) = judging_name check.judging
+name_of (Bounds all) = codes "bound"
 name_of (Tells telling run) = telling_name telling
 name_of (MeasuresAll version runs) = codes "measure-all"
 name_of (Assembles source) = codes "asm"

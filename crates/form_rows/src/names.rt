@@ -35,6 +35,7 @@ fn name<'a>(command: &CommandWords<'_>) -> &'a str
 {
     match command {
         CommandWords::Check(check) => name_of_judging(check.judging),
+        CommandWords::Bound(_) => "bound",
         CommandWords::Tell { telling, .. } => name_of_telling(*telling),
         CommandWords::MeasureAll { .. } => "measure-all",
         CommandWords::Assemble { .. } => "asm",

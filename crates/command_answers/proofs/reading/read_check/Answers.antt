@@ -2,7 +2,7 @@ use Rattle.std.proofs.Common.{◌≡◌, Err, inl, inr, arith}
 use Rattle.std.proofs.lemmas.Grind.{common_steps}
 use Rattle.command_words.specs.Words.{check_of}
 use Rattle.command_answers.specs.ReadTasks.{files_in, guest_in}
-use Rattle.command_answers.specs.Tasks.{IsCheckRefusal}
+use Rattle.command_answers.specs.Tasks.{IsCutFilesRefusal}
 use Rattle.command_answers.proofs.Refusing.{handed_on}
 use Rattle.command_answers.proofs.reading.read_check.Goals as goal
 
@@ -11,7 +11,7 @@ returns-in_err-guest-clause-err c =
     let refusal = c.in_err-guest.field-0.0 in
     let same : c.from_residual.result ≡ Err refusal = grind (arith, common_steps) in
     let files = c.files_of_check.result in
-    handed_on (IsCheckRefusal (check_of c.args.check.now) c.args.files.now) refusal c.from_residual.result same
+    handed_on (IsCutFilesRefusal (check_of c.args.check.now).guest c.args.files.now) refusal c.from_residual.result same
     (λ known. record {
       guest_files = files_in files.0;
       cut_file = files.1.now;
@@ -25,7 +25,7 @@ returns-in_err-cut-clause-err c =
     let refusal = c.in_err-cut.field-0.0 in
     let same : c.from_residual-in_err-cut.result ≡ Err refusal = grind (arith, common_steps) in
     let files = c.files_of_check.result in
-    handed_on (IsCheckRefusal (check_of c.args.check.now) c.args.files.now) refusal c.from_residual-in_err-cut.result same
+    handed_on (IsCutFilesRefusal (check_of c.args.check.now).guest c.args.files.now) refusal c.from_residual-in_err-cut.result same
     (λ known. record {
       guest_files = files_in files.0;
       cut_file = files.1.now;
