@@ -130,7 +130,7 @@ pub const REFUSED: [Row; 4] = [
         failing: Nothing,
         loads: 3,
         status: 3,
-        text: Text("refused 3 cut version\n"),
+        text: Text("refused 3 cut truncated\n"),
     },
     Row {
         name: "a cut of a bound is not loaded",
