@@ -154,7 +154,7 @@ check-made (Masks table) task answer (findings, are, e) = inl (low-as answer _ e
 
 bound-made : (all : AllSecretsTask) (known : BoundAnswer) (answer : Answer) → AnswersBound all known answer →
     IsMade answer
-bound-made all (IsBounded found) answer (bits, least, e) = inl (low-as answer _ e (omega arith))
+bound-made all (IsBounded found) answer (tells, (bits, least, e)) = inl (low-as answer _ e (omega arith))
 bound-made all (IsUnclear bits why) answer e = inl (low-as answer _ e (omega arith))
 
 task-made : (task : Task) (answer : Answer) → AnswersTask task answer → IsMade answer

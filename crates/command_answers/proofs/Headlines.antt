@@ -222,7 +222,8 @@ same-named all files task is =
 
 shows : (task : AllSecretsTask) (known : BoundAnswer) (answer : Answer) → AnswersBound task known answer →
     Shows task known (reply_of answer)
-shows task (IsBounded found) answer (bits, least, e) = record {
+shows task (IsBounded found) answer (all, (bits, least, e)) = record {
+  all_secrets = all;
   bits = bits;
   least = least;
   lines = ap (λ a. (told a).text) e;

@@ -16,7 +16,7 @@ one-power outputs a b one other =
 
 same-bound : (all : AllSecretsTask) (known : BoundAnswer) (first second : Answer) → AnswersBound all known first →
     AnswersBound all known second → first ≡ second
-same-bound all (IsBounded found) first second (a, one, e) (b, other, f) =
+same-bound all (IsBounded found) first second (tells, (a, one, e)) (also, (b, other, f)) =
     e ∙ (ap (λ bits. Ok (record { status = Done; text = bounded_text all found bits })) (one-power _ a b one other)
     ∙ sym f)
 same-bound all (IsUnclear bits why) first second e f = e ∙ sym f
@@ -27,7 +27,7 @@ bound_same all first second one other = same-bound all (bound_of all) first seco
 
 completes : (all : AllSecretsTask) (known : BoundAnswer) (answer : Answer) → bound_of all ≡ known →
     AnswersBound all known answer → CompletesBound all (status_of answer)
-completes all (IsBounded found) answer is (bits, least, e) =
+completes all (IsBounded found) answer is (tells, (bits, least, e)) =
     let zero : status_of answer ≡ 0 = ap status_of e in
     record { known = omega (arith, zero); bounded = λ z. (found, is); done = λ has. zero }
 completes all (IsUnclear bits why) answer is e =

@@ -3,16 +3,19 @@ use Rattle.std.specs.Prelude.{◌≡◌, ℕ, List, [], ◌∷◌, Option}
 use Rattle.cut_file.specs.Cuts.{CutPicture}
 use Rattle.cut_file.specs.Texts.{CutText}
 use Rattle.flow_base.specs.Loads.{Told}
+use Rattle.every_secret.specs.AllSecrets.{AreAll}
 use Rattle.every_secret.specs.Bounds.{Answer as BoundAnswer, Found, IsBounded, IsLeastPower, IsUnclear, output_count}
 use Rattle.command_words.specs.CommandLines.{AllSecrets}
-use Rattle.command_answers.specs.AllSecrets.{AllSecretsTask, bound_of, bounded_text}
+use Rattle.command_answers.specs.AllSecrets.{AllSecretsTask, bound_of, bounded_text, task_in}
 use Rattle.command_answers.specs.BoundTexts.{unclear_line}
 use Rattle.command_answers.specs.Guests.{Guest, GuestFiles, IsGuest}
 use Rattle.command_answers.specs.Headline.{AreGuestHeld}
 use Rattle.command_answers.specs.Replies.{Reply}
 
--- a bounded answer shows what is found, with the number of its outputs and the least number of bits for that
+-- a bounded answer shows what is found, which tells of all secrets, with the number of its outputs and the least number
+-- of bits for that
 pub record ShowsBound (all : AllSecretsTask) (found : Found) (reply : Reply) : Type 0 where
+  pub all_secrets : AreAll (task_in all) all.limits found
   pub bits : ℕ
   pub least : IsLeastPower (output_count found.patterns) bits
   pub lines : reply.text ≡ bounded_text all found bits

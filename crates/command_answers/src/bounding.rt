@@ -1,8 +1,10 @@
 //! The outputs of all secrets of a guest, bounded by a cut.
 
 ghost use Rattle.std.specs.Prelude.{◌≡◌, ◌∷◌, [], Ok as Fine, map, option_map, IfOk};
+ghost use Rattle.every_secret.specs.AllSecrets.{AreAll, TellsAll};
 ghost use Rattle.every_secret.specs.Bounds.{IsBounded, IsUnclear, answer_of, found_of};
 ghost use Rattle.command_answers.specs.AllSecrets.{AnswersAllSecrets, AnswersBound, bound_of};
+ghost use Rattle.command_answers.specs.AllSecrets.{task_in as bound_task};
 ghost use Rattle.command_answers.specs.ReadTasks.{IsBoundedAll, all_secrets_in};
 
 use crate::books::book_of;
@@ -11,7 +13,9 @@ use crate::replies::Reply;
 use crate::statuses::Status;
 use crate::tasks::AllSecretsTask;
 use crossing_bits::Bits;
-use every_secret::{BoundVerdict, Bounded, UnclearWhy, bound, tables_have_rules};
+use every_secret::{
+    BoundVerdict, Bounded, UnclearWhy, bound, tables_are_sound, tables_have_rules,
+};
 use flow_base::{Bytes, NoMemory};
 use std::alloc::Global;
 use transfer_rules::RuleBook;
@@ -24,9 +28,12 @@ fn verdict_on(
 ) -> Result<BoundVerdict, NoMemory>
     requires books { map (λ book. book.table) books.now ≡ 1 ∷ 2 ∷ [] }
     requires bounded { IsBoundedAll all.now }
-    ensures { IfOk result (λ verdict. answer_of verdict ≡ bound_of (all_secrets_in all.now)) }
+    ensures answer { IfOk result (λ verdict. answer_of verdict ≡ bound_of (all_secrets_in all.now)) }
+    ensures all { IfOk result (λ verdict. TellsAll (bound_task (all_secrets_in all.now)) (all_secrets_in all.now).limits
+        (answer_of verdict)) }
 {
     tables_have_rules();
+    tables_are_sound();
     bound(
         alloc,
         &all.guest.image,
@@ -42,6 +49,7 @@ fn verdict_on(
 
 /// The reply to what all paths show.
 fn bounded_reply(alloc: Global, all: &AllSecretsTask, found: &Bounded) -> Result<Reply, NoMemory>
+    requires { AreAll (bound_task (all_secrets_in all.now)) (all_secrets_in all.now).limits (found_of found.now) }
     ensures { IfOk result (λ reply. AnswersBound (all_secrets_in all.now) (IsBounded (found_of found.now)) (Fine reply)) }
 {
     let lines = listing(alloc, all.listed, found)?;
