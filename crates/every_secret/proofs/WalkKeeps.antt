@@ -15,7 +15,6 @@ use Rattle.crossing_bits.specs.Askers.{Asker, Asks, feed, Fed'}
 use Rattle.rv32im_machine.specs.declared.language.Aim.TheVariants.{Decide as Decision}
 use Rattle.rv32im_machine.specs.declared.language.Place.{Place}
 use Rattle.rv32im_machine.specs.declared.language.Place.TheVariants.{Register, Byte, First, Second}
-use Rattle.rv32im_machine.specs.declared.language.Shape.{Shape}
 use Rattle.rv32im_machine.specs.declared.language.Source.{Source}
 use Rattle.rv32im_machine.specs.declared.language.Source.TheVariants.{At, Constant, Secret}
 use Rattle.rv32im_machine.specs.declared.language.Sources.{Sources}
@@ -34,17 +33,15 @@ use Rattle.run_labels.specs.Answers.{Holds, IsSoundAnswer, operands_of}
 use Rattle.run_labels.specs.Masks.{byte_mask, masks_of, source_mask, work_mask, moved_label}
 use Rattle.run_labels.specs.TurnLabels.{TurnLabels, label_at, at_start, put_label}
 use Rattle.shadow_masks.specs.declared.labels.Label.{Label}
-use Rattle.shadow_masks.specs.Labels.{clean}
 use Rattle.shadow_masks.specs.Writes.{LabelMap}
 use Rattle.shadow_masks.specs.Pages.{label_of}
 use Rattle.shadow_masks.specs.Points.{nowhere}
 use Rattle.transfer_rules.specs.Table1.{flipped}
-use Rattle.covered_runs.specs.Proper.{AreBytes, IsPassing, IsPut, IsMove, IsProper, place_limit}
+use Rattle.covered_runs.specs.Proper.{AreBytes, IsPassing, IsPut, IsProper, place_limit}
 use Rattle.covered_runs.proofs.AgreeOutsideMask.{agree_zero, patched_uncrossed}
 use Rattle.covered_runs.proofs.Passings.{first_word, made_agrees, made_fits, mask_fits, patched_slot, second_word, slot_word}
 use Rattle.covered_runs.proofs.Turns.{feed_bits, label_of_limit, seen_word}
-use Rattle.covered_runs.proofs.TurnsKeepRelation.{copied_close}
-use Rattle.covered_runs.proofs.WritesKeepRelation.{Beside, close_refl, fresh_beside, put_beside, put_kept, put_label_kept}
+use Rattle.covered_runs.proofs.WritesKeepRelation.{Beside, fresh_beside, put_beside, put_kept, put_label_kept}
 use Rattle.masked_turns.specs.declared.uses.LeftBits.{LeftBits}
 use Rattle.masked_turns.specs.declared.uses.SecretLook.{SecretLook}
 use Rattle.masked_turns.specs.declared.uses.SecretLook.TheVariants.{Code, BaseRegister}
@@ -52,6 +49,7 @@ use Rattle.masked_turns.specs.Clearing.{Cutting, uncrossed}
 use Rattle.masked_turns.specs.Deciding.{left_at}
 use Rattle.masked_turns.specs.Looking.{look_at}
 use Rattle.masked_turns.proofs.LooksAgree.{look_same}
+use Rattle.masked_turns.proofs.MovesAgree.{moved_beside}
 use Rattle.masked_turns.proofs.OutsideMasks.{AreSmall, close_of, decided_none, everything}
 use Rattle.every_secret.specs.declared.whys.UnclearWhy.{UnclearWhy}
 use Rattle.every_secret.specs.Masked.{Goes, MaskedPlace, Meets, Reached, masked, unless_met, why_left, why_looked}
@@ -372,25 +370,6 @@ module _ (rules : Rules) (sound : AreSoundRules rules) (cutting : Cutting) (smal
 
   -- ---- one turn
 
-  -- the masks of a move are those of what is moved
-  moved : (labels : TurnLabels) (real : Store) (held : Held) (copy : Store) (taken : Held) →
-      Beside everything setting.base labels real held copy taken → (place : Place) (shape : Shape) (source : Source) →
-      IsMove setting.base place shape source →
-      Beside everything setting.base (put_label place (moved_label labels shape source) labels)
-      (put setting.base place (shaped shape (value_of setting secret real held source ∷ [])) real)
-      (hold place (shaped shape (value_of setting secret real held source ∷ [])) held)
-      (put setting.base place (shaped shape (value_of setting other copy taken source ∷ [])) copy)
-      (hold place (shaped shape (value_of setting other copy taken source ∷ [])) taken)
-  moved labels real held copy taken beside place shape (At from) is =
-      put_beside everything setting.base place _ _ _ labels real held copy taken is.0
-      (copied_close everything shape (label_at labels from) _ _ (beside.places from is.1))
-      (is.2 _ (beside.real_limits from)) (is.2 _ (beside.copy_limits from))
-      (label_of_limit _ _ _ (is.2 _ (beside.label_limits from))) beside
-  moved labels real held copy taken beside place shape (Constant value) is =
-      put_beside everything setting.base place clean _ _ labels real held copy taken is.0
-      (close_refl everything clean (shaped shape (value ∷ []))) is.1 is.1 (omega arith) beside
-  moved labels real held copy taken beside place shape (Secret index) is = absurd is
-
   pub turn_walks : {masks : List ℕ} {mask : ℕ} {turn turned : Turn} → Alike masks mask turn turned →
       (labels : TurnLabels) (crossed : ℕ) (real : Store) (held : Held) (copy : Store) (taken : Held) (past : List Point) →
       IsProper setting.base region turn → Beside everything setting.base labels real held copy taken →
@@ -422,7 +401,7 @@ module _ (rules : Rules) (sound : AreSoundRules rules) (cutting : Cutting) (smal
       (hold place (shaped shape (value_of setting secret real held source ∷ [])) held)
       (put setting.base place (shaped shape (value_of setting other copy taken source ∷ [])) copy)
       (hold place (shaped shape (value_of setting other copy taken source ∷ [])) taken) past proper.1
-      (moved labels real held copy taken beside place shape source proper.0))
+      (moved_beside setting secret other labels real held copy taken beside place shape source proper.0))
   turn_walks (End {masks = masks} {mask = mask} control output written mode stop agree modes) labels crossed real held copy taken past proper beside =
       inr (record {
         chosen = [];

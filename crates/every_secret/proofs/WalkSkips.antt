@@ -39,6 +39,7 @@ use Rattle.covered_runs.proofs.StepsKeepStanding.{HasRules, placed, state_of}
 use Rattle.covered_runs.proofs.WritesKeepRelation.{Beside}
 use Rattle.masked_turns.proofs.GuestStates.{guest_within}
 use Rattle.masked_turns.proofs.OutsideMasks.{AreSmall, everything}
+use Rattle.masked_turns.proofs.RegionsKeepStanding.{stands_left}
 use Rattle.masked_turns.proofs.StepEnds.{step_ends}
 use Rattle.every_secret.specs.Masked.{MaskedPlace, Reached, masked}
 use Rattle.every_secret.specs.Rules.{AreSoundRules, Rules}
@@ -283,17 +284,8 @@ module _ (rules : Rules) (sound : AreSoundRules rules) (task : Task) (setting : 
               setting_after = along.setting_after;
               secret_after = along.secret_after;
               control_after = along.control;
-              stands = record {
-                beside = along.beside;
-                counts = λ point never. refl;
-                runs = subst (λ r. stands_in task.enclosures.skip r ≡ false) (sym region_is) outside;
-                nowhere = λ none. region_is;
-                inside = λ found is_in.
-                    let none_there : None ≡ Some found =
-                    subst (λ r. region_numbered task.enclosures.regions r ≡ Some found) region_is is_in in
-                    absurd (cc);
-                small_break = subst (λ b. b < 2 ^ 32) (sym break_is) at.small_break;
-                kept_words = λ r. subst (λ xs. slice_index xs r ≤ 4294967295) (sym (end.kept_is ∙ at.to.kept))
-                    (at.beside.real_limits (Register r));
-              };
+              stands = stands_left task.enclosures.skip task.enclosures.regions setting.base _ _ _ along.place.state.store _
+                  along.beside outside region_is (subst (λ b. b < 2 ^ 32) (sym break_is) at.small_break)
+                  (λ r. subst (λ xs. slice_index xs r ≤ 4294967295) (sym (end.kept_is ∙ at.to.kept))
+                  (at.beside.real_limits (Register r)));
             })

@@ -20,7 +20,6 @@ use Rattle.rv32im_machine.specs.Language.{Turn, Saves, Ends, Walk}
 use Rattle.rv32im_machine.specs.Language.{walked, none_held}
 use Rattle.region_machine.specs.Enclosures.{Enters, Leaves, Steps, kind_of, region_numbered}
 use Rattle.region_machine.specs.Guests.{entry, leave, looks, looks_at, skip as skip_turn}
-use Rattle.region_machine.proofs.RangesStayInside.{inside_at_entry}
 use Rattle.region_machine.specs.Runs.{passed}
 use Rattle.replay_machine.specs.ReplayTurns.{entry_walk, kind_outside_range, outside_of, replay_kind_walk}
 use Rattle.replay_machine.specs.Runs.{replay_inside, replay_turn, replayed}
@@ -33,15 +32,14 @@ use Rattle.covered_runs.specs.Proper.{AreBytes, IsGuest, IsProper}
 use Rattle.covered_runs.specs.ProperLaws.{ProperTurnsLaw}
 use Rattle.covered_runs.proofs.StepsKeepStanding.{HasRules, InsideBeside, Stands, kept_moved, placed, state_of}
 use Rattle.covered_runs.proofs.Entering.{SameStarts, entry_crossing, entry_end, entry_passed, entry_replayed, outside_same}
-use Rattle.covered_runs.proofs.RegionTurns.{entered_region, leave_end, left_break, left_region, ranges_unbroken, saved_beside}
-use Rattle.covered_runs.proofs.RegionTurns.{saved_inside, saved_kept, some_same}
-use Rattle.covered_runs.proofs.SkippedTurns.{entered_break}
+use Rattle.covered_runs.proofs.RegionTurns.{leave_end, left_break, left_region, ranges_unbroken}
 use Rattle.masked_turns.specs.declared.uses.SecretLook.TheVariants.{BaseRegister}
 use Rattle.masked_turns.specs.Clearing.{Cutting}
 use Rattle.covered_runs.proofs.Unchanged.{EndsProper}
 use Rattle.covered_runs.proofs.WritesKeepRelation.{Beside, close_equal}
 use Rattle.masked_turns.proofs.GuestStates.{guest_within}
 use Rattle.masked_turns.proofs.OutsideMasks.{AreSmall, everything}
+use Rattle.masked_turns.proofs.RegionsKeepStanding.{stands_entered, stands_left}
 use Rattle.masked_turns.proofs.StepEnds.{step_ends}
 use Rattle.every_secret.specs.Masked.{Goes, MaskedPlace, Reached, masked, unless_met, why_looked}
 use Rattle.every_secret.specs.Rules.{AreSoundRules, Rules}
@@ -302,26 +300,9 @@ module _ (rules : Rules) (sound : AreSoundRules rules) (task : Task) (setting : 
           let end = entry_end setting secret real none_held region here in
           let no_bits = entry_crossing setting secret real none_held region here task.masks past in
           let passed_here = entry_passed setting secret real none_held region here past in
-          let stands : At new (after Save labels) (saved real) (saved copy) past = record {
-            beside = saved_beside everything setting.base labels real copy at.beside;
-            counts = λ point never. refl;
-            runs = subst (λ r. stands_in task.enclosures.skip r ≡ false) (sym (entered_region region.id here)) unskipped;
-            nowhere = λ lost.
-                let found : region_numbered task.enclosures.regions region.id ≡ None =
-                subst (λ r. region_numbered task.enclosures.regions r ≡ None) (entered_region region.id here) lost in
-                absurd (cc);
-            inside = λ found is_in.
-                let also : region_numbered task.enclosures.regions region.id ≡ Some found =
-                subst (λ r. region_numbered task.enclosures.regions r ≡ Some found) (entered_region region.id here) is_in
-                in
-                let same : region ≡ found = some_same region found (sym numbered ∙ also) in
-                subst (λ r. InsideBeside everything setting.base r (after Save labels) (saved real) (saved copy)) same
-                (saved_inside everything setting.base region labels real copy at.beside starts
-                (inside_at_entry region real.registers setting.base none));
-            small_break = subst (λ b. b < 2 ^ 32) (sym (entered_break region.id here)) at.small_break;
-            kept_words = λ r. subst (λ xs. slice_index xs r ≤ 4294967295) (sym (saved_kept real))
-                (at.beside.real_limits (Register r));
-          } in record {
+          let stands : At new (after Save labels) (saved real) (saved copy) past =
+          stands_entered task.enclosures.skip task.enclosures.regions setting.base here labels real copy past region unskipped
+          numbered starts none at in record {
             chosen = [];
             place = walking_at setting other (entered region.id shown) (saved copy) past (after Save labels) crossed masks
                 mask;
@@ -426,16 +407,7 @@ module _ (rules : Rules) (sound : AreSoundRules rules) (task : Task) (setting : 
             setting_after = along.setting_after;
             secret_after = along.secret_after;
             control_after = along.control;
-            stands = record {
-              beside = along.beside;
-              counts = λ point never. refl;
-              runs = subst (λ r. stands_in task.enclosures.skip r ≡ false) (sym region_is) outside;
-              nowhere = λ none. region_is;
-              inside = λ found is_in.
-                  let none_there : None ≡ Some found =
-                  subst (λ r. region_numbered task.enclosures.regions r ≡ Some found) region_is is_in in
-                  absurd (cc);
-              small_break = subst (λ b. b < 2 ^ 32) (sym break_is) at.small_break;
-              kept_words = λ r. subst (λ xs. slice_index xs r ≤ 4294967295) (sym end.kept_is) (at.kept_words r);
-            };
+            stands = stands_left task.enclosures.skip task.enclosures.regions setting.base _ _ _ along.place.state.store _
+                along.beside outside region_is (subst (λ b. b < 2 ^ 32) (sym break_is) at.small_break)
+                (λ r. subst (λ xs. slice_index xs r ≤ 4294967295) (sym end.kept_is) (at.kept_words r));
           })

@@ -5,3 +5,5 @@ pub mod StepEnds
 pub mod CutNumbers
 pub mod RunsBegin
 pub mod GuestStates
+pub mod MovesAgree
+pub mod RegionsKeepStanding

@@ -9,7 +9,6 @@ use Rattle.enclosure_regions.specs.declared.region_parts.Region.{Region}
 use Rattle.enclosure_regions.specs.Breaks.{keep_break, outside_range, range_break}
 use Rattle.enclosure_regions.specs.Regions.{stands_in}
 use Rattle.enclosure_regions.specs.Turns.{base_value}
-use Rattle.rv32im_machine.specs.declared.language.Place.TheVariants.{Register}
 use Rattle.rv32im_machine.specs.declared.language.Seen.{Seen}
 use Rattle.rv32im_machine.specs.declared.language.Seen.TheVariants.{Base}
 use Rattle.rv32im_machine.specs.Folds.{real_end}
@@ -19,7 +18,6 @@ use Rattle.rv32im_machine.specs.Language.{Turn, Ends, Saves, Walk, Looked, Held,
 use Rattle.region_machine.specs.Enclosures.{Enclosures, Enters, Leaves, Steps, kind_of, region_numbered}
 use Rattle.region_machine.specs.Guests.{entry, leave, looks, looks_at, skip as skip_turn}
 use Rattle.region_machine.specs.Runs.{passed}
-use Rattle.region_machine.proofs.RangesStayInside.{inside_at_entry}
 use Rattle.replay_machine.specs.ReplayTurns.{replay_kind_walk, kind_outside_range, outside_of}
 use Rattle.replay_machine.specs.Runs.{Masks, replayed, replay_turn, replay_inside}
 use Rattle.lockstep_replay.specs.Crossing.{crossing}
@@ -30,16 +28,16 @@ use Rattle.covered_runs.specs.ProperLaws.{ProperTurnsLaw}
 use Rattle.covered_runs.specs.Sides.{NamedSide}
 use Rattle.covered_runs.proofs.Entering.{SameStarts, outside_same, entry_end, entry_passed, entry_crossing, entry_replayed}
 use Rattle.covered_runs.proofs.Entering.{looks_same}
-use Rattle.covered_runs.proofs.RegionTurns.{leave_end, left_region, left_break, entered_region, saved_kept}
-use Rattle.covered_runs.proofs.RegionTurns.{some_same, saved_beside, saved_inside, ranges_unbroken}
-use Rattle.covered_runs.proofs.SkippedTurns.{entered_break}
-use Rattle.covered_runs.proofs.StepsKeepStanding.{state_of, placed, InsideBeside, Stands, HasRules, kept_moved, proper_turn}
+use Rattle.covered_runs.proofs.RegionTurns.{leave_end, left_region, left_break}
+use Rattle.covered_runs.proofs.RegionTurns.{ranges_unbroken}
+use Rattle.covered_runs.proofs.StepsKeepStanding.{state_of, placed, Stands, HasRules, kept_moved, proper_turn}
 use Rattle.covered_runs.proofs.WritesKeepRelation.{Beside}
 use Rattle.masked_turns.specs.Clearing.{Cutting, cleared_in}
 use Rattle.masked_turns.specs.Looking.{looked_in}
 use Rattle.masked_turns.proofs.LooksAgree.{look_same, look-none}
 use Rattle.masked_turns.proofs.GuestStates.{guest_within}
 use Rattle.masked_turns.proofs.OutsideMasks.{AreSmall, everything}
+use Rattle.masked_turns.proofs.RegionsKeepStanding.{stands_entered, stands_left}
 use Rattle.masked_turns.proofs.StepEnds.{step_ends, cleared_kept}
 use Rattle.taint_check.proofs.LeavesAgree.{leave_kept}
 use Rattle.taint_check.proofs.TurnsAgree.{IsClear, KeepsAgreed, turn_kept}
@@ -185,25 +183,8 @@ module _ (skip : List ℕ) (regions : List Region) (masks : Masks) (setting : Se
       answers in
       let passed_here = entry_passed setting secret real none_held region control in
       let new = entered region.id control in
-      let stands : At new (after Save labels) (saved real) (saved copy) past = record {
-        beside = saved_beside everything setting.base labels real copy at.beside;
-        counts = λ point never. refl;
-        runs = subst (λ r. stands_in skip r ≡ false) (sym (entered_region region.id control)) unskipped;
-        nowhere = λ lost.
-            let found : region_numbered regions region.id ≡ None =
-            subst (λ r. region_numbered regions r ≡ None) (entered_region region.id control) lost in
-            absurd (cc);
-        inside = λ found is_in.
-            let also : region_numbered regions region.id ≡ Some found =
-            subst (λ r. region_numbered regions r ≡ Some found) (entered_region region.id control) is_in in
-            let same : region ≡ found = some_same region found (sym numbered ∙ also) in
-            subst (λ r. InsideBeside everything setting.base r (after Save labels) (saved real) (saved copy)) same
-            (saved_inside everything setting.base region labels real copy at.beside starts
-            (inside_at_entry region real.registers setting.base none));
-        small_break = subst (λ b. b < 2 ^ 32) (sym (entered_break region.id control)) at.small_break;
-        kept_words = λ r. subst (λ xs. slice_index xs r ≤ 4294967295) (sym (saved_kept real))
-            (at.beside.real_limits (Register r));
-      } in record {
+      let stands = stands_entered skip regions setting.base control labels real copy past region unskipped numbered starts
+      none at in record {
         store = saved copy;
         uses =
             ap (λ k. feed (replay_inside (kind_outside_range k (state_of setting other control copy)) enclosures masks
@@ -242,17 +223,10 @@ module _ (skip : List ℕ) (regions : List Region) (masks : Masks) (setting : Se
   left_stands skipped control labels answers real copy past region copied outside small_break words kept =
       let end = leave_end setting secret region real.kept control real in
       let region_is = ap (λ (c : Control). c.region) end.control_is ∙ left_region control in
-      let break_is = ap (λ (c : Control). c.current_break) end.control_is ∙ left_break control in record {
-        beside = kept.beside;
-        counts = λ point never. refl;
-        runs = subst (λ r. stands_in skip r ≡ false) (sym region_is) outside;
-        nowhere = λ none. region_is;
-        inside = λ found is_in.
-            let here : None ≡ Some found = subst (λ r. region_numbered regions r ≡ Some found) region_is is_in in
-            absurd (cc);
-        small_break = subst (λ b. b < 2 ^ 32) (sym break_is) small_break;
-        kept_words = λ r. subst (λ xs. slice_index xs r ≤ 4294967295) (sym end.kept_is) (words r);
-      }
+      let break_is = ap (λ (c : Control). c.current_break) end.control_is ∙ left_break control in
+      stands_left skip regions setting.base _ _ _ kept.store _ kept.beside outside region_is
+      (subst (λ b. b < 2 ^ 32) (sym break_is) small_break)
+      (λ r. subst (λ xs. slice_index xs r ≤ 4294967295) (sym end.kept_is) (words r))
 
   pub leave_stands : (skipped : Bool) (control : Control) (labels : LabelMap) (answers : List ℕ) (real copy : Store)
       (past : List Point) (region : Region) → kind_of regions control ≡ Leaves region →

@@ -9,37 +9,33 @@ use Rattle.flow_base.specs.Words.{Agree, bits_under, patched}
 use Rattle.crossing_bits.specs.Askers.{feed, Fed'}
 use Rattle.rv32im_machine.specs.declared.language.Aim.TheVariants.{Decide}
 use Rattle.rv32im_machine.specs.declared.language.Place.{Place}
-use Rattle.rv32im_machine.specs.declared.language.Shape.{Shape}
-use Rattle.rv32im_machine.specs.declared.language.Source.{Source}
-use Rattle.rv32im_machine.specs.declared.language.Source.TheVariants.{At, Constant, Secret}
 use Rattle.rv32im_machine.specs.declared.language.Sources.{Sources}
 use Rattle.rv32im_machine.specs.Folds.{real_end}
 use Rattle.rv32im_machine.specs.State.{Setting, Store}
 use Rattle.rv32im_machine.specs.Language.{Turn, Looks, Passes, Decides, Gives, Moves, Saves, Restores, Ends, Walk, Held}
-use Rattle.rv32im_machine.specs.Language.{Making, walked, put, hold, value_of, values_of, made, work_of, shaped, first_of}
+use Rattle.rv32im_machine.specs.Language.{Making, walked, put, hold, values_of, made, work_of, first_of}
 use Rattle.rv32im_machine.specs.Language.{seen_value, none_held}
 use Rattle.region_machine.specs.Runs.{passed}
 use Rattle.replay_machine.specs.Runs.{mask_at, replayed}
 use Rattle.lockstep_replay.specs.Crossing.{crossing}
 use Rattle.run_labels.specs.Answers.{Holds, IsSoundAnswer}
-use Rattle.run_labels.specs.Masks.{masks_of, work_mask, moved_label}
-use Rattle.run_labels.specs.TurnLabels.{TurnLabels, label_at, at_start, put_label}
-use Rattle.shadow_masks.specs.Labels.{clean}
+use Rattle.run_labels.specs.Masks.{masks_of, work_mask}
+use Rattle.run_labels.specs.TurnLabels.{TurnLabels, at_start, put_label}
 use Rattle.shadow_masks.specs.Pages.{label_of}
 use Rattle.shadow_masks.specs.Points.{nowhere}
 use Rattle.transfer_rules.specs.Table1.{flipped}
-use Rattle.covered_runs.specs.Proper.{AreBytes, IsPassing, IsPut, IsMove, IsProper, place_limit}
+use Rattle.covered_runs.specs.Proper.{AreBytes, IsPassing, IsPut, IsProper, place_limit}
 use Rattle.covered_runs.proofs.AgreeOutsideMask.{agree_zero, patched_uncrossed}
 use Rattle.covered_runs.proofs.Passings.{made_agrees, made_fits, mask_fits, patched_slot, slot_word}
 use Rattle.covered_runs.proofs.Turns.{feed_bits, label_of_limit, seen_word}
-use Rattle.covered_runs.proofs.TurnsKeepRelation.{copied_close}
-use Rattle.covered_runs.proofs.WritesKeepRelation.{Beside, close_refl, fresh_beside, put_beside, put_kept}
+use Rattle.covered_runs.proofs.WritesKeepRelation.{Beside, fresh_beside, put_beside, put_kept}
 use Rattle.masked_turns.specs.declared.uses.LeftBits.{LeftBits}
 use Rattle.masked_turns.specs.Answers.{EachCleared}
 use Rattle.masked_turns.specs.Clearing.{Cutting, cleared_in, uncrossed}
 use Rattle.masked_turns.specs.Deciding.{first_left, left_at, left_in}
 use Rattle.masked_turns.specs.Looking.{looked_in}
 use Rattle.masked_turns.proofs.LooksAgree.{look_same, look-none}
+use Rattle.masked_turns.proofs.MovesAgree.{moved_beside}
 use Rattle.masked_turns.proofs.OutsideMasks.{AreSmall, close_of, decided_none, everything}
 
 -- what is known of a turn of which masks are kept, after these points
@@ -147,24 +143,6 @@ module _ (cutting : Cutting) (small : AreSmall cutting.masks) (setting : Setting
 
   -- ---- one turn
 
-  moved : (labels : TurnLabels) (real : Store) (held : Held) (copy : Store) (taken : Held) →
-      Beside everything setting.base labels real held copy taken → (place : Place) (shape : Shape) (source : Source) →
-      IsMove setting.base place shape source →
-      Beside everything setting.base (put_label place (moved_label labels shape source) labels)
-      (put setting.base place (shaped shape (value_of setting secret real held source ∷ [])) real)
-      (hold place (shaped shape (value_of setting secret real held source ∷ [])) held)
-      (put setting.base place (shaped shape (value_of setting other copy taken source ∷ [])) copy)
-      (hold place (shaped shape (value_of setting other copy taken source ∷ [])) taken)
-  moved labels real held copy taken beside place shape (At from) is =
-      put_beside everything setting.base place _ _ _ labels real held copy taken is.0
-      (copied_close everything shape (label_at labels from) _ _ (beside.places from is.1))
-      (is.2 _ (beside.real_limits from)) (is.2 _ (beside.copy_limits from))
-      (label_of_limit _ _ _ (is.2 _ (beside.label_limits from))) beside
-  moved labels real held copy taken beside place shape (Constant value) is =
-      put_beside everything setting.base place clean _ _ labels real held copy taken is.0
-      (close_refl everything clean (shaped shape (value ∷ []))) is.1 is.1 (omega arith) beside
-  moved labels real held copy taken beside place shape (Secret index) is = absurd is
-
   pub turn_kept : (turn : Turn) (labels : TurnLabels) (answers : List ℕ) (real : Store) (held : Held) (copy : Store)
       (taken : Held) (past : List Point) → IsProper setting.base region turn →
       Beside everything setting.base labels real held copy taken →
@@ -226,7 +204,7 @@ module _ (cutting : Cutting) (small : AreSmall cutting.masks) (setting : Setting
         kept = rest.kept;
       }
   turn_kept (Moves place shape source turn) labels answers real held copy taken past proper beside clear =
-      let here = moved labels real held copy taken beside place shape source proper.0 in
+      let here = moved_beside setting secret other labels real held copy taken beside place shape source proper.0 in
       let rest = turn_kept turn _ answers _ _ _ _ past proper.1 here
       (record { sound = clear.sound; looks = clear.looks; left = clear.left }) in record {
         store = rest.store;
