@@ -1,4 +1,4 @@
-use Rattle.std.proofs.Common.{◌≡◌, ◌<◌, ℕ, List, [], true, arith, rules, sym}
+use Rattle.std.proofs.Common.{◌≡◌, ◌<◌, ℕ, List, true, arith, rules, sym}
 use Rattle.cut_file.specs.Cuts.{CutPicture, is_valid as is_valid_cut}
 use Rattle.cut_file.specs.Pictures.{picture_of as cut_picture}
 use Rattle.covered_runs.specs.MeasuredLaws.{AreInputs}
