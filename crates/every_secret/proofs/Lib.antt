@@ -24,3 +24,4 @@ pub mod WalkWeights
 pub mod SoundTables
 pub mod WalkWords
 pub mod EverySecret
+pub mod KeptKeys

@@ -1,9 +1,10 @@
 -- What one path changes.
 use Rattle.std.specs.Prelude.{◌≡◌, ℕ, ◌+◌, ◌≤◌, List, Bool}
+use Rattle.every_secret.specs.Finding.{found_by}
 use Rattle.every_secret.specs.declared.judging.Judged.{Judged}
 use Rattle.every_secret.specs.declared.judging.Judged.TheVariants as judged_as
 use Rattle.every_secret.specs.declared.path_ends.PathEnd.{PathEnd}
-use Rattle.every_secret.specs.Bounds.{Answer, Found, IsUnclear, after_end, after_path, found_of}
+use Rattle.every_secret.specs.Bounds.{Answer, Found, IsUnclear, after_end, after_path}
 use Rattle.every_secret.specs.Paths.{Path}
 
 -- what is made of a path with these choices that ends so, whatever paths are left
@@ -14,7 +15,7 @@ Judges (judged_as.Unclear why) bits ends found =
 Judges (judged_as.Found next) bits ends found =
     (limit : ℕ) (paths : List Path) (later : Found → Answer) →
     after_end limit ends (record { bits = bits; ends = ends }) paths found later
-    ≡ after_path limit (record { bits = bits; ends = ends }) paths (found_of next) (later (found_of next))
+    ≡ after_path limit (record { bits = bits; ends = ends }) paths (found_by next) (later (found_by next))
 
 -- one path more was walked, and no more stop than were walked
 abbrev pub Counts : Judged → ℕ → Type 0

@@ -13,6 +13,8 @@ pub mod Paths
 pub mod Orders
 pub mod Bounds
 pub mod Ceilings
+pub mod KeptPatterns
+pub mod Finding
 pub mod Judging
 pub mod Stepping
 pub mod BoundTexts

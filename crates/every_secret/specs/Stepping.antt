@@ -1,9 +1,10 @@
 -- What the walk of one path does on the way to the answer.
 use Rattle.std.specs.Prelude.{◌≡◌, ℕ, ◌+◌, ◌<◌, ◌≤◌, List, [], ◌∷◌, Bool, Some}
+use Rattle.every_secret.specs.Finding.{found_by}
 use Rattle.every_secret.specs.declared.path_ends.PathEnd.{PathEnd}
 use Rattle.every_secret.specs.declared.bounding.Step.{Step}
 use Rattle.every_secret.specs.declared.bounding.Step.TheVariants.{Answered, Goes}
-use Rattle.every_secret.specs.Bounds.{Answer, Found, after_path, answer_of, found_of, judged}
+use Rattle.every_secret.specs.Bounds.{Answer, Found, after_path, answer_of, judged}
 use Rattle.every_secret.specs.Orders.{Opens, descend, first_from, later}
 use Rattle.every_secret.specs.Paths.{Tree}
 
@@ -16,7 +17,7 @@ judged_from limit found tree bits =
 abbrev pub Steps : Step → ℕ → Found → Tree → List Bool → Type 0
 Steps (Answered verdict) limit found tree bits = judged_from limit found tree bits ≡ answer_of verdict
 Steps (Goes next memory string) limit found tree bits =
-    (judged_from limit found tree bits ≡ judged_from limit (found_of next) tree string.bits) × Opens tree string.bits
+    (judged_from limit found tree bits ≡ judged_from limit (found_by next) tree string.bits) × Opens tree string.bits
 
 -- the next path is walked within the limit, from an untaken string
 abbrev pub CountsStep : Step → ℕ → ℕ → Type 0
@@ -33,7 +34,7 @@ left_after limit found tree bits ends =
 abbrev pub StepsAfter : Step → ℕ → Found → Tree → List Bool → PathEnd → Type 0
 StepsAfter (Answered verdict) limit found tree bits ends = left_after limit found tree bits ends ≡ answer_of verdict
 StepsAfter (Goes next memory string) limit found tree bits ends =
-    (left_after limit found tree bits ends ≡ judged_from limit (found_of next) tree string.bits)
+    (left_after limit found tree bits ends ≡ judged_from limit (found_by next) tree string.bits)
     × Opens tree string.bits
 
 -- a string is that of a path that ends so

@@ -3,7 +3,8 @@ ghost use Rattle.cut_file.specs.Pictures.{picture_of as cut_picture};
 ghost use Rattle.elf32_loader.specs.Images.{picture_of};
 ghost use Rattle.lockstep_replay.specs.Tasks.{task_of};
 ghost use Rattle.rv32im_machine.specs.Start.{zeros};
-ghost use Rattle.every_secret.specs.Bounds.{answer_of, found_of, judged, nothing_found};
+ghost use Rattle.every_secret.specs.Bounds.{answer_of, judged, nothing_found};
+ghost use Rattle.every_secret.specs.Finding.{found_by};
 ghost use Rattle.every_secret.specs.Orders.{Opens};
 ghost use Rattle.every_secret.specs.declared.path_ends.PathEnd.{PathEnd as ThePathEnd};
 ghost use Rattle.every_secret.specs.Paths.{Paths, Tree, tree_of};
@@ -12,10 +13,11 @@ ghost use Rattle.every_secret.specs.Rules.{AnswerAs, Rules};
 ghost use Rattle.every_secret.specs.Stepping.{CountsStep, EndsPath, Steps, StepsAfter};
 
 use crate::afresh::{Walked, Walks, walk_afresh};
-use crate::finding::nothing;
+use crate::finding::{bounded, nothing};
+use crate::findings::Findings;
 use crate::judging::{Judged, judge};
 use crate::next_strings::{last_zero, turned};
-use crate::verdicts::{BoundVerdict, Bounded};
+use crate::verdicts::BoundVerdict;
 use crate::whys::UnclearWhy;
 use crossing_bits::Bits;
 use flow_base::NoMemory;
@@ -26,14 +28,14 @@ use std::alloc::Global;
 #[derive(Drop)]
 pub(crate) enum Step {
     Answered(BoundVerdict),
-    Goes(Bounded, GuestMemory, Bits),
+    Goes(Findings, GuestMemory, Bits),
 }
 
 /// What comes after a path that does not make it unclear, with which so much is found.
 /// `NoMemory` where there is not enough.
 fn after_path(
     alloc: Global,
-    found: Bounded,
+    found: Findings,
     memory: GuestMemory,
     path: Bits,
     limit: u32,
@@ -42,10 +44,13 @@ fn after_path(
     requires stopped { found.stopped ≤ found.paths }
     ensures counts { IfOk result (λ step. (before : ℕ) → found.paths ≡ before + 1 → CountsStep step limit before) }
     ensures steps { IfOk result (λ step. (tree : Tree) (ends : ThePathEnd) → EndsPath tree path.bits ends →
-        StepsAfter step limit (found_of found) tree path.bits ends) }
+        StepsAfter step limit (found_by found) tree path.bits ends) }
 {
     match last_zero(path.as_slice()) {
-        None => Ok(Step::Answered(BoundVerdict::Bounded(found))),
+        None => {
+            let bounded = bounded(alloc, found)?;
+            Ok(Step::Answered(BoundVerdict::Bounded(bounded)))
+        }
         Some(place) => {
             if found.paths == limit {
                 return Ok(Step::Answered(BoundVerdict::Unclear {
@@ -64,7 +69,7 @@ fn after_path(
 fn next_path(
     alloc: Global,
     walks: Walks<'_>,
-    found: Bounded,
+    found: Findings,
     memory: GuestMemory,
     bits: Bits,
     limit: u32,
@@ -78,7 +83,7 @@ fn next_path(
         Opens (tree_of (MaskedReplay rules (task_of (picture_of walks.entry.image.now) walks.entry.public.now
         walks.entry.marked.now.regions.items (cut_picture walks.entry.cut.now))
         (record { budget = walks.entry.budget; turns = walks.entry.turns }))) bits.bits →
-        Steps step limit (found_of found) (tree_of (MaskedReplay rules (task_of (picture_of walks.entry.image.now)
+        Steps step limit (found_by found) (tree_of (MaskedReplay rules (task_of (picture_of walks.entry.image.now)
         walks.entry.public.now walks.entry.marked.now.regions.items (cut_picture walks.entry.cut.now))
         (record { budget = walks.entry.budget; turns = walks.entry.turns }))) bits.bits) }
 {

@@ -1,13 +1,14 @@
 ghost use Rattle.std.specs.Prelude.{◌≡◌, ◌+◌, ◌<◌, ◌≤◌, ◌^◌, IfOk};
 ghost use Rattle.every_secret.specs.declared.path_ends.PathEnd.TheVariants.{Exits, Stops};
-ghost use Rattle.every_secret.specs.Bounds.{found_of};
+ghost use Rattle.every_secret.specs.Finding.{found_by};
 ghost use Rattle.every_secret.specs.Judging.{Counts, Judges};
 
-use crate::finding::{PATTERN_LIMIT, is_large, with_exit, with_stop};
+use crate::finding::{with_exit, with_stop};
+use crate::findings::Findings;
 use crate::path_ends::PathEnd;
+use crate::pattern_set::PATTERN_LIMIT;
 use crate::patterns::Pattern;
 use crate::stops::PathStop;
-use crate::verdicts::Bounded;
 use crate::whys::UnclearWhy;
 use crossing_bits::Bits;
 use flow_base::NoMemory;
@@ -17,19 +18,19 @@ use std::alloc::Global;
 #[derive(Drop)]
 pub(crate) enum Judged {
     Unclear(UnclearWhy),
-    Found(Bounded),
+    Found(Findings),
 }
 
 /// A path that exits. `NoMemory` where there is not enough.
-fn judge_exit(found: Bounded, path: &Bits, pattern: Pattern) -> Result<Judged, NoMemory>
+fn judge_exit(found: Findings, path: &Bits, pattern: Pattern) -> Result<Judged, NoMemory>
     requires paths { found.paths + 1 < 2 ^ 32 }
     requires stopped { found.stopped ≤ found.paths }
-    ensures judges { IfOk result (λ judged. Judges judged path.now.bits (Exits pattern) (found_of found)) }
+    ensures judges { IfOk result (λ judged. Judges judged path.now.bits (Exits pattern) (found_by found)) }
     ensures counts { IfOk result (λ judged. Counts judged found.paths) }
 {
     let _ = path;
     let next = with_exit(found, pattern)?;
-    if is_large(next.patterns.as_slice()) {
+    if next.patterns.is_large() {
         return Ok(Judged::Unclear(UnclearWhy::Outputs {
             limit: PATTERN_LIMIT,
         }));
@@ -40,13 +41,13 @@ fn judge_exit(found: Bounded, path: &Bits, pattern: Pattern) -> Result<Judged, N
 /// A path that stops. `NoMemory` where there is not enough.
 fn judge_stop(
     alloc: Global,
-    found: Bounded,
+    found: Findings,
     path: &Bits,
     stop: PathStop,
 ) -> Result<Judged, NoMemory>
     requires paths { found.paths + 1 < 2 ^ 32 }
     requires stopped { found.stopped ≤ found.paths }
-    ensures judges { IfOk result (λ judged. Judges judged path.now.bits (Stops stop) (found_of found)) }
+    ensures judges { IfOk result (λ judged. Judges judged path.now.bits (Stops stop) (found_by found)) }
     ensures counts { IfOk result (λ judged. Counts judged found.paths) }
 {
     let next = with_stop(alloc, found, path, stop)?;
@@ -57,13 +58,13 @@ fn judge_stop(
 /// `NoMemory` where there is not enough.
 pub(crate) fn judge(
     alloc: Global,
-    found: Bounded,
+    found: Findings,
     path: &Bits,
     end: PathEnd,
 ) -> Result<Judged, NoMemory>
     requires paths { found.paths + 1 < 2 ^ 32 }
     requires stopped { found.stopped ≤ found.paths }
-    ensures judges { IfOk result (λ judged. Judges judged path.now.bits end (found_of found)) }
+    ensures judges { IfOk result (λ judged. Judges judged path.now.bits end (found_by found)) }
     ensures counts { IfOk result (λ judged. Counts judged found.paths) }
 {
     match end {

@@ -2,7 +2,8 @@ use Rattle.std.proofs.Common.{◌∙◌, subst}
 use Rattle.cut_file.specs.Pictures.{picture_of as cut_picture}
 use Rattle.elf32_loader.specs.Images.{picture_of}
 use Rattle.lockstep_replay.specs.Tasks.{task_of}
-use Rattle.every_secret.specs.Bounds.{found_of, judged}
+use Rattle.every_secret.specs.Bounds.{judged}
+use Rattle.every_secret.specs.Finding.{found_by}
 use Rattle.every_secret.specs.Judging.{Judges}
 use Rattle.every_secret.specs.Orders.{later}
 use Rattle.every_secret.specs.Paths.{tree_of}
@@ -16,10 +17,10 @@ returns-in-Unclear-clause-steps g c = λ rules answers untaken zeros_are opens.
     let asker = MaskedReplay rules (task_of (picture_of walks.image.now) walks.public.now walks.marked.now.regions.items
     (cut_picture walks.cut.now)) (record { budget = walks.budget; turns = walks.turns }) in
     let path = c.in_ok-walked.walked in
-    let walked = is-walked c.args.limit (found_of c.args.found) asker c.args.bits path.bits path.end
+    let walked = is-walked c.args.limit (found_by c.args.found) asker c.args.bits path.bits path.end
     c.in_ok-walked.ensures.longer (c.in_ok-walked.ensures.end rules answers untaken zeros_are) opens in
     walked.judged_is
-    ∙ subst (λ j. Judges j path.bits.bits path.end (found_of c.args.found)) c.in-Unclear.is c.in_ok-why.ensures.judges
+    ∙ subst (λ j. Judges j path.bits.bits path.end (found_by c.args.found)) c.in-Unclear.is c.in_ok-why.ensures.judges
     c.args.limit (later (tree_of asker) path.bits.bits)
     (λ next. judged c.args.limit next (later (tree_of asker) path.bits.bits))
 
@@ -29,12 +30,12 @@ returns-in_ok-step-in-Found-clause-steps g c = λ rules answers untaken zeros_ar
     let asker = MaskedReplay rules (task_of (picture_of walks.image.now) walks.public.now walks.marked.now.regions.items
     (cut_picture walks.cut.now)) (record { budget = walks.budget; turns = walks.turns }) in
     let path = c.in_ok-walked.walked in
-    let walked = is-walked c.args.limit (found_of c.args.found) asker c.args.bits path.bits path.end
+    let walked = is-walked c.args.limit (found_by c.args.found) asker c.args.bits path.bits path.end
     c.in_ok-walked.ensures.longer (c.in_ok-walked.ensures.end rules answers untaken zeros_are) opens in
-    steps-join c.in_ok-step-in-Found.step c.args.limit (found_of c.args.found) (found_of c.in-Found.next) (tree_of asker)
+    steps-join c.in_ok-step-in-Found.step c.args.limit (found_by c.args.found) (found_by c.in-Found.next) (tree_of asker)
     c.args.bits.bits path.bits.bits path.end
     (walked.judged_is
-    ∙ subst (λ j. Judges j path.bits.bits path.end (found_of c.args.found)) c.in-Found.is c.in_ok-why.ensures.judges
+    ∙ subst (λ j. Judges j path.bits.bits path.end (found_by c.args.found)) c.in-Found.is c.in_ok-why.ensures.judges
     c.args.limit (later (tree_of asker) path.bits.bits)
     (λ next. judged c.args.limit next (later (tree_of asker) path.bits.bits)))
     (c.in_ok-step-in-Found.ensures.steps (tree_of asker) path.end walked.is_path)

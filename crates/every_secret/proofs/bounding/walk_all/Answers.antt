@@ -2,7 +2,8 @@ use Rattle.std.proofs.Common.{ap, arith}
 use Rattle.cut_file.specs.Pictures.{picture_of as cut_picture}
 use Rattle.elf32_loader.specs.Images.{picture_of}
 use Rattle.lockstep_replay.specs.Tasks.{task_of}
-use Rattle.every_secret.specs.Bounds.{Found, found_of}
+use Rattle.every_secret.specs.Bounds.{Found}
+use Rattle.every_secret.specs.Finding.{found_by}
 use Rattle.every_secret.specs.Replays.{MaskedReplay}
 use Rattle.every_secret.proofs.SteppedPaths.{begins-all}
 use Rattle.every_secret.proofs.bounding.walk_all.Goals as goal
@@ -19,6 +20,6 @@ loop-init g c =
       on = λ rules answers zeros_are.
           begins-all c.args.limit (MaskedReplay rules (task_of (picture_of walks.image.now) walks.public.now
           walks.marked.now.regions.items (cut_picture walks.cut.now))
-          (record { budget = walks.budget; turns = walks.turns })) (found_of c.nothing-found.result) c.in_ok-bits.bits.bits
+          (record { budget = walks.budget; turns = walks.turns })) (found_by c.nothing-found.result) c.in_ok-bits.bits.bits
           c.nothing-found.ensures c.in_ok-bits.ensures.empty;
     }

@@ -3,7 +3,8 @@ use Rattle.cut_file.specs.Pictures.{picture_of as cut_picture}
 use Rattle.elf32_loader.specs.Images.{picture_of}
 use Rattle.lockstep_replay.specs.Tasks.{task_of}
 use Rattle.rv32im_machine.specs.Start.{zeros}
-use Rattle.every_secret.specs.Bounds.{found_of, judged, nothing_found}
+use Rattle.every_secret.specs.Bounds.{judged, nothing_found}
+use Rattle.every_secret.specs.Finding.{found_by}
 use Rattle.every_secret.specs.Orders.{Opens}
 use Rattle.every_secret.specs.Paths.{Paths, tree_of}
 use Rattle.every_secret.specs.Replays.{MaskedReplay}
@@ -22,7 +23,7 @@ invariant-loop g l = record {
       (judged l.limit nothing_found (Paths (MaskedReplay rules (task_of (picture_of l.walks.image.now)
       l.walks.public.now l.walks.marked.now.regions.items (cut_picture l.walks.cut.now))
       (record { budget = l.walks.budget; turns = l.walks.turns })))
-      ≡ judged_from l.limit (found_of l.found) (tree_of (MaskedReplay rules (task_of (picture_of l.walks.image.now)
+      ≡ judged_from l.limit (found_by l.found) (tree_of (MaskedReplay rules (task_of (picture_of l.walks.image.now)
       l.walks.public.now l.walks.marked.now.regions.items (cut_picture l.walks.cut.now))
       (record { budget = l.walks.budget; turns = l.walks.turns }))) l.bits.bits)
       × Opens (tree_of (MaskedReplay rules (task_of (picture_of l.walks.image.now) l.walks.public.now
