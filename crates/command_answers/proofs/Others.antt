@@ -75,3 +75,12 @@ within-behind a b rest (x ∷ (y ∷ files)) within =
 pub is_some-mapped : {A B : Type 0} (f : A → B) (x : Option A) → is_some (option_map f x) ≡ is_some x
 is_some-mapped f None = refl
 is_some-mapped f (Some a) = refl
+
+pub within-behind-three : (a b d : Want) (rest : List Want) (files : List (List ℕ)) → AreWithin (a ∷ b ∷ d ∷ rest) files →
+    AreWithin rest (take (length files - 3) (drop 3 files))
+within-behind-three a b d rest [] within = absurd within
+within-behind-three a b d rest (x ∷ []) within = absurd within.1
+within-behind-three a b d rest (x ∷ (y ∷ [])) within = absurd within.1.1
+within-behind-three a b d rest (x ∷ (y ∷ (z ∷ files))) within =
+    let same : take (length (x ∷ (y ∷ (z ∷ files))) - 3) files ≡ files = grind (arith, common_steps, take-length files) in
+    subst (λ others. AreWithin rest others) (sym same) within.1.1.1

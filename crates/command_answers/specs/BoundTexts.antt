@@ -27,12 +27,16 @@ mask_text free pattern =
     if free == 0 then []
     else codes " mask " ++ (hex_bytes pattern.byte_masks ++ (codes " " ++ encode_lower (pattern.status_mask ∷ [])))
 
+-- the end of its line
+abbrev pub status_text : ℕ → Pattern → List ℕ
+status_text free pattern =
+    codes " status " ++ (decimal pattern.status ++ (mask_text free pattern ++ codes "\n"))
+
 -- the pattern with this number
 abbrev pub pattern_line : ℕ → Pattern → List ℕ
 pattern_line number pattern =
     codes "output " ++ (decimal number ++ (codes " free " ++ (decimal (free_bits pattern) ++ (codes " bytes "
-    ++ (hex_bytes pattern.bytes ++ (codes " status " ++ (decimal pattern.status
-    ++ (mask_text (free_bits pattern) pattern ++ codes "\n"))))))))
+    ++ (hex_bytes pattern.bytes ++ status_text (free_bits pattern) pattern)))))
 
 abbrev pub pattern_lines : ℕ → List Pattern → List ℕ
 pattern_lines number [] = []
@@ -52,10 +56,15 @@ listing listed found = if listed then pattern_lines 1 found.patterns ++ stop_lin
 abbrev pub count_text : ℕ → List ℕ
 count_text count = if nat_lt count (2 ^ 64) then decimal count else codes "-"
 
+-- paths, stops and outputs
+abbrev pub paths_text : Found → List ℕ
+paths_text found =
+    codes " paths " ++ (decimal found.paths ++ (codes " stopped " ++ (decimal found.stopped ++ (codes " outputs "
+    ++ count_text (output_count found.patterns)))))
+
 -- the bound: the length of the secrets, how many regions are listed, paths, stops and outputs, and for how many outputs
 -- the bits suffice
 abbrev pub bounded_line : ℕ → ℕ → Found → ℕ → List ℕ
 bounded_line secret_length regions found bits =
-    codes "bounded secret " ++ (decimal secret_length ++ (codes " regions " ++ (decimal regions ++ (codes " paths "
-    ++ (decimal found.paths ++ (codes " stopped " ++ (decimal found.stopped ++ (codes " outputs "
-    ++ (count_text (output_count found.patterns) ++ (codes " bits " ++ (decimal bits ++ codes "\n")))))))))))
+    codes "bounded secret " ++ (decimal secret_length ++ (codes " regions " ++ (decimal regions ++ (paths_text found
+    ++ (codes " bits " ++ (decimal bits ++ codes "\n"))))))

@@ -6,12 +6,15 @@ ghost use Rattle.every_secret.specs.Bounds.{IsLeastPower, found_of, free_bits as
 ghost use Rattle.command_answers.specs.BoundTexts.{bounded_line as bounded_line_of, count_text as count_text_of};
 ghost use Rattle.command_answers.specs.BoundTexts.{hex_bytes as hex_bytes_of, listing as listing_of};
 ghost use Rattle.command_answers.specs.BoundTexts.{mask_text as mask_text_of, path_text as path_text_of};
+ghost use Rattle.command_answers.specs.BoundTexts.{paths_text as paths_text_of, status_text as status_text_of};
 ghost use Rattle.command_answers.specs.BoundTexts.{pattern_line as pattern_line_of, pattern_lines as pattern_lines_of};
 ghost use Rattle.command_answers.specs.BoundTexts.{stop_line as stop_line_of, unclear_line as unclear_line_of};
 
 use crate::texts::next;
 use crossing_bits::Bits;
-use every_secret::{Bounded, Pattern, StoppedPath, UnclearWhy, free_bits, output_bits, output_count};
+use every_secret::{
+    Bounded, Pattern, StoppedPath, UnclearWhy, free_bits, output_bits, output_count,
+};
 use flow_base::{Bytes, List, NoMemory};
 use std::alloc::Global;
 
@@ -53,8 +56,18 @@ pub fn unclear_line(alloc: Global, bits: &Bits, why: UnclearWhy) -> Result<Bytes
     Ok(Bytes::from_vec(text))
 }
 
+/// A number of bits in 64; the error is want of memory, which is answered too where there are more.
+fn counted(bits: u128) -> Result<u64, NoMemory>
+    ensures { IfOk result (λ count. count ≡ bits) }
+{
+    if bits >= 1 << 64 {
+        return Err(NoMemory);
+    }
+    Ok(bits as u64)
+}
+
 /// The masks of a pattern with so many free bits; nothing where it has none.
-fn mask_text(alloc: Global, free: u128, pattern: &Pattern) -> Result<Bytes, NoMemory>
+fn mask_text(alloc: Global, free: u64, pattern: &Pattern) -> Result<Bytes, NoMemory>
     ensures { IfOk result (λ text. text ≡ mask_text_of free pattern.now) }
 {
     if free == 0 {
@@ -71,22 +84,31 @@ fn mask_text(alloc: Global, free: u128, pattern: &Pattern) -> Result<Bytes, NoMe
     Ok(Bytes::from_vec(text))
 }
 
+/// The end of the line of a pattern with so many free bits.
+fn status_text(alloc: Global, free: u64, pattern: &Pattern) -> Result<Bytes, NoMemory>
+    ensures { IfOk result (λ text. text ≡ status_text_of free pattern.now) }
+{
+    let status = pattern.status;
+    let masks = mask_text(alloc, free, pattern)?;
+    let head = format!(in alloc; " status {status}")?;
+    let tail = format!(in alloc; "\n")?;
+    let mut text = head.into_bytes();
+    text.extend_from_slice(masks.as_slice())?;
+    text.extend_from_slice(tail.as_bytes())?;
+    Ok(Bytes::from_vec(text))
+}
+
 /// The line of the pattern with a number.
 fn pattern_line(alloc: Global, number: u32, pattern: &Pattern) -> Result<Bytes, NoMemory>
     ensures { IfOk result (λ text. text ≡ pattern_line_of number pattern.now) }
 {
-    let free = free_bits(pattern);
-    let status = pattern.status;
+    let free = counted(free_bits(pattern))?;
     let bytes = hex_bytes(alloc, pattern.bytes.as_slice())?;
-    let masks = mask_text(alloc, free, pattern)?;
+    let tail = status_text(alloc, free, pattern)?;
     let head = format!(in alloc; "output {number} free {free} bytes ")?;
-    let middle = format!(in alloc; " status {status}")?;
-    let tail = format!(in alloc; "\n")?;
     let mut text = head.into_bytes();
     text.extend_from_slice(bytes.as_slice())?;
-    text.extend_from_slice(middle.as_bytes())?;
-    text.extend_from_slice(masks.as_slice())?;
-    text.extend_from_slice(tail.as_bytes())?;
+    text.extend_from_slice(tail.as_slice())?;
     Ok(Bytes::from_vec(text))
 }
 
@@ -154,6 +176,38 @@ fn count_text(alloc: Global, patterns: &[Pattern]) -> Result<Bytes, NoMemory>
     }
 }
 
+/// How many paths there are, how many of them stop, and for how many outputs the patterns stand.
+fn paths_text(alloc: Global, found: &Bounded) -> Result<Bytes, NoMemory>
+    ensures { IfOk result (λ text. text ≡ paths_text_of (found_of found.now)) }
+{
+    let paths = found.paths;
+    let stopped = found.stopped;
+    let outputs = count_text(alloc, found.patterns.as_slice())?;
+    let head = format!(in alloc; " paths {paths} stopped {stopped} outputs ")?;
+    let mut text = head.into_bytes();
+    text.extend_from_slice(outputs.as_slice())?;
+    Ok(Bytes::from_vec(text))
+}
+
+/// The line of a bound, where so many bits suffice for the outputs.
+fn bounded_text(
+    alloc: Global,
+    secret_length: u32,
+    regions: usize,
+    found: &Bounded,
+    bits: u64,
+) -> Result<Bytes, NoMemory>
+    ensures { IfOk result (λ text. text ≡ bounded_line_of secret_length regions (found_of found.now) bits) }
+{
+    let paths = paths_text(alloc, found)?;
+    let head = format!(in alloc; "bounded secret {secret_length} regions {regions}")?;
+    let tail = format!(in alloc; " bits {bits}\n")?;
+    let mut text = head.into_bytes();
+    text.extend_from_slice(paths.as_slice())?;
+    text.extend_from_slice(tail.as_bytes())?;
+    Ok(Bytes::from_vec(text))
+}
+
 /// The line of a bound.
 pub fn bounded_line(
     alloc: Global,
@@ -164,17 +218,7 @@ pub fn bounded_line(
     ensures { IfOk result (λ text. (bits : ℕ) × IsLeastPower (output_count_of found.now.patterns) bits
         × (text ≡ bounded_line_of secret_length regions (found_of found.now) bits)) }
 {
-    let patterns = found.patterns.as_slice();
-    let paths = found.paths;
-    let stopped = found.stopped;
-    let outputs = count_text(alloc, patterns)?;
-    let bits = output_bits(alloc, patterns)?;
-    let head = format!(
-        in alloc; "bounded secret {secret_length} regions {regions} paths {paths} stopped {stopped} outputs "
-    )?;
-    let tail = format!(in alloc; " bits {bits}\n")?;
-    let mut text = head.into_bytes();
-    text.extend_from_slice(outputs.as_slice())?;
-    text.extend_from_slice(tail.as_bytes())?;
-    Ok(Bytes::from_vec(text))
+    let bits = counted(output_bits(alloc, found.patterns.as_slice())?)?;
+    let text = bounded_text(alloc, secret_length, regions, found, bits)?;
+    Ok(text)
 }

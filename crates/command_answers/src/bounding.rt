@@ -13,9 +13,7 @@ use crate::replies::Reply;
 use crate::statuses::Status;
 use crate::tasks::AllSecretsTask;
 use crossing_bits::Bits;
-use every_secret::{
-    BoundVerdict, Bounded, UnclearWhy, bound, tables_are_sound, tables_have_rules,
-};
+use every_secret::{BoundVerdict, Bounded, UnclearWhy, bound, tables_are_sound, tables_have_rules};
 use flow_base::{Bytes, NoMemory};
 use std::alloc::Global;
 use transfer_rules::RuleBook;
@@ -81,11 +79,7 @@ fn unclear_reply(
 }
 
 /// The reply to all secrets whose outputs are to be bounded.
-pub fn bound_all(
-    alloc: Global,
-    all: &AllSecretsTask,
-    books: &[RuleBook],
-) -> Result<Reply, NoMemory>
+pub fn bound_all(alloc: Global, all: &AllSecretsTask, books: &[RuleBook]) -> Result<Reply, NoMemory>
     requires books { map (λ book. book.table) books.now ≡ 1 ∷ 2 ∷ [] }
     requires bounded { IsBoundedAll all.now }
     ensures { IfOk result (λ reply. AnswersAllSecrets (all_secrets_in all.now) (Fine reply)) }

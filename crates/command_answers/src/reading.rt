@@ -22,7 +22,9 @@ ghost use Rattle.command_answers.specs.declared.kinds.FileKind.TheVariants as ki
 ghost use Rattle.command_answers.specs.declared.refusals.Refusal.TheVariants.{Memory};
 
 use crate::guests::{Guest, GuestFiles};
-use crate::layouts::{files_of_all_secrets, files_of_check, files_of_many_runs, files_of_run, one_file};
+use crate::layouts::{
+    files_of_all_secrets, files_of_check, files_of_many_runs, files_of_run, one_file,
+};
 use crate::refusals::Refusal;
 use crate::tasks::{AllSecretsTask, CheckTask, ManyRunsTask, RunTask, Task};
 use command_words::{AllSecretsWords, CheckWords, CommandWords, ManyRunsWords, RunWords};

@@ -98,7 +98,8 @@ fn judged<'a>(
 
 /// The form of `bound`.
 fn bound<'a>(alloc: Global) -> Result<Command<'a>, AllocError> {
-    let about = "Bound the outputs of PROG whatever the secret is, by walking all that can cross a cut";
+    let about =
+        "Bound the outputs of PROG whatever the secret is, by walking all that can cross a cut";
     let budget = word(
         alloc,
         "BUDGET",

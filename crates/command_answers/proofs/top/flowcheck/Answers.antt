@@ -1,5 +1,6 @@
-use Rattle.std.proofs.Common.{map, string_bytes}
+use Rattle.std.proofs.Common.{◌≡◌, ap, arith, map, string_bytes}
 use Rattle.command_answers.specs.Replies.{reply_of}
+use Rattle.command_answers.specs.Statuses.{number_of}
 use Rattle.command_answers.proofs.WholeReplies.{faults_put, is_reply, put_part, put_whole}
 use Rattle.command_answers.proofs.top.flowcheck.Goals as goal
 
@@ -12,6 +13,16 @@ returns-in-Ok-put-clause-reply g c = λ eight.
           (g.K.Sink.told c.put.new.self) c.in-Ok.ensures.1 c.number-in-Ok-put.ensures
           (rw c.as_slice-2.ensures at c.in-Ok-put.ensures.puts),
     )
+
+pub returns-in-Ok-put-clause-memory : goal.returns-in-Ok-put-clause-memory
+returns-in-Ok-put-clause-memory g c = λ eight.
+    let answers = rw c.as_slice.ensures.value at c.answer.ensures.answers c.in-Ok.ensures.0 in
+    let reply = is_reply (g.F.Files.told c.args.files.now) (map string_bytes c.args.words.items) c.answer.result answers in
+    let low = reply.low in
+    let same : number_of c.in-Ok.reply.status ≡ (reply_of c.answer.result).status =
+    ap (λ r. number_of r.status) c.in-Ok.ensures.1 in
+    let number = c.number-in-Ok-put.ensures in
+    absurd (omega (arith, low, same, number, eight))
 
 pub returns-in-Ok-put-clause-loads : goal.returns-in-Ok-put-clause-loads
 returns-in-Ok-put-clause-loads g c = λ eight.
