@@ -1,0 +1,116 @@
+"""Looks for a cut with which `bound` says all outputs that a program can have, whatever the secret is.
+
+Call: bound.py PROG PUBLIC LENGTH|SECRET... [--regions FILE] [--turns N] [--rules N] [--paths N] [--rounds N]
+               [--output FILE] [--flowcheck COMMAND]
+
+It begins with the cut of the secrets, as `measure` or `measure-all` writes it; or of a LENGTH in bytes with a cut that
+has no point and skips each region of the file. Where `bound` is unclear at a point, the point gets a line, or what its
+value is made of where that has fewer bits; where the budget is too small, it is raised. So it goes on until `bound`
+answers, in at most so many rounds. Where the cut of the secrets comes to no answer, it begins again without a point.
+
+  --rounds N           at most so many calls of `bound` from each beginning; 100 without it
+  --output FILE        the file of the cut; `bound.cut` without it
+  --regions, --turns, --rules, --paths  as of `bound`
+  --flowcheck COMMAND  the program; without it crates/flowcheck/out/flowcheck, else `flowcheck`, else the model
+
+Prints the rounds, then in words what is bounded, or why not and what to change. The status is 0 where it is bounded."""
+import argparse
+import os
+import sys
+
+HERE = os.path.dirname(os.path.abspath(__file__))
+sys.path[:0] = [os.path.join(HERE, "explain"), os.path.join(HERE, "model")]
+
+from answering import Program
+from bound_words import bounded_lines, unclear_lines
+from bounding import Bounding, NoBound, Search
+from elf_symbols import ProgramFile
+from refusals import program_fault
+from run_facts import Inputs, read
+from source_lines import Places
+
+MOST_LENGTH = 65_536
+OPTIONS = ("regions", "turns", "rules", "paths")
+
+
+def arguments():
+    """The words of the command line."""
+    parser = argparse.ArgumentParser(
+        description=__doc__, usage=argparse.SUPPRESS, formatter_class=argparse.RawDescriptionHelpFormatter
+    )
+    parser.add_argument("program")
+    parser.add_argument("public")
+    parser.add_argument("secrets", nargs="+")
+    for name in OPTIONS:
+        parser.add_argument(f"--{name}")
+    parser.add_argument("--rounds", type=int, default=100)
+    parser.add_argument("--output", default="bound.cut")
+    parser.add_argument("--flowcheck")
+    return parser.parse_intermixed_args()
+
+
+def length_of(secrets):
+    """The length that stands for the secrets, or None."""
+    is_length = len(secrets) == 1 and secrets[0].isdigit() and not os.path.exists(secrets[0])
+    return int(secrets[0]) if is_length and int(secrets[0]) <= MOST_LENGTH else None
+
+
+def beginnings(bounding, secrets):
+    """The cuts to begin with, each with a name and the number that was measured."""
+    length = length_of(secrets)
+    if length is not None:
+        yield "without a point", bounding.empty(length), None
+        return
+    measured = bounding.measured(secrets)
+    yield f"with the cut of {len(secrets)} secret{'s' if len(secrets) > 1 else ''}", measured, measured.bits
+    empty = bounding.empty(measured.secret_length)
+    empty.skip = measured.skip
+    yield "without a point", empty, measured.bits
+
+
+def find(bounding, words, tell):
+    """The first answer that is bounded, or else the last answer of the first beginning with its walk; and the number
+    that was measured."""
+    first = None
+    for name, cut, bits in beginnings(bounding, words.secrets):
+        tell(f"Begins {name}.")
+        answer, walk = Search(bounding, words.rounds, lambda text: tell("    " + text)).search(cut)
+        if answer.is_bounded:
+            return answer, None, bits
+        tell(f"    unclear: {answer.reason}")
+        first = first or (answer, walk, bits)
+    return first
+
+
+def command(words, answer, options):
+    """The words that ask again."""
+    return ["flowcheck", "bound", words.program, words.public, words.output, str(answer.budget), *options, "--list"]
+
+
+def main():
+    """Searches, writes the cut, and says what was found."""
+    words = arguments()
+    options = [word for name in OPTIONS if getattr(words, name) for word in (f"--{name}", getattr(words, name))]
+    try:
+        file = read(words.program)
+        if program_fault(file):
+            raise NoBound(f"refused 3 program {program_fault(file)}")
+        program, inputs = ProgramFile(file), Inputs(words.program, words.public, None, options)
+        bounding = Bounding(Program(words.flowcheck), inputs, program)
+        answer, walk, bits = find(bounding, words, lambda text: print(text, flush=True))
+    except NoBound as fault:
+        raise SystemExit(str(fault)) from None
+    except OSError as fault:
+        raise SystemExit(f"{fault.filename}: {fault.strerror}") from None
+    with open(words.output, "w", encoding="utf-8") as out:
+        out.write(answer.cut.text())
+    again = command(words, answer, options)
+    if answer.is_bounded:
+        print("\n".join(bounded_lines(answer, words.public, bounding.turns, bits, again)))
+        return 0
+    print("\n".join(unclear_lines(answer, walk, program, Places(words.program, program), again)))
+    return 1
+
+
+if __name__ == "__main__":
+    sys.exit(main())

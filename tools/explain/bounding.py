@@ -1,0 +1,175 @@
+"""Cuts with which `bound` answers: each is asked about, gets the points that it lacks, and is asked about again."""
+import re
+import tempfile
+from collections import Counter
+
+from bounds import Task
+from cuts import Cut, point_order, read_cut
+from guest import shown
+from run_facts import read
+from verdicts import MOST_BUDGET, USUAL_TURNS
+from walk_tracing import traced
+
+USUAL_PATHS = 1 << 16
+LINE = re.compile(r"output \d+ free (\d+) bytes (\S+) status (\d+)(?: mask (\S+) (\S+))?")
+
+
+class NoBound(Exception):
+    """Nothing can be asked; the text is the program's."""
+
+
+class Pattern:
+    """A line of the list: the bytes and the status, and the masks of the bits that are free in them."""
+
+    def __init__(self, line):
+        free, written, status, masks, mask = LINE.fullmatch(line).groups()
+        self.free, self.written, self.status = int(free), self.bytes_of(written), int(status)
+        self.masks = self.bytes_of(masks) if masks else bytes(len(self.written))
+        self.status_mask = int(mask or "0", 16)
+
+    @staticmethod
+    def bytes_of(text):
+        """Bytes in hexadecimal; a dash is none."""
+        return b"" if text == "-" else bytes.fromhex(text)
+
+    def holds(self, written, status):
+        """Whether it stands for an output."""
+        if len(written) != len(self.written) or (status ^ self.status) & ~self.status_mask:
+            return False
+        return all(not (one ^ other) & ~mask for one, other, mask in zip(written, self.written, self.masks))
+
+    def text(self):
+        """The bytes as they are written in C, with a question mark for each that has free bits."""
+        shown_bytes = "".join("?" if mask else byte_text(byte) for byte, mask in zip(self.written, self.masks))
+        status = "?" if self.status_mask else self.status
+        return f'"{shown_bytes}" status {status}' + (f", {self.free} bits free" if self.free else "")
+
+
+def byte_text(byte):
+    """A byte as it is written in C."""
+    named = {10: "\\n", 9: "\\t", 34: '\\"', 92: "\\\\"}
+    return named.get(byte) or (chr(byte) if 32 <= byte < 127 else f"\\x{byte:02x}")
+
+
+class Answer:
+    """What `bound` has answered about a cut: numbers and patterns where it is bounded, else the reason."""
+
+    def __init__(self, text, cut, budget):
+        self.cut, self.budget, self.line = cut, budget, text.rstrip("\n").split("\n")[-1]
+        self.patterns = [Pattern(line) for line in text.split("\n") if line.startswith("output ")]
+        self.stopped_line = next((line for line in text.split("\n") if line.startswith("stopped ")), None)
+        words = self.line.split()
+        self.is_bounded = words[0] == "bounded"
+        self.reason = None if self.is_bounded else " ".join(words[5:])
+        if self.is_bounded:
+            pairs = zip(words[1::2], words[2::2])
+            self.numbers = {name: None if number == "-" else int(number) for name, number in pairs}
+
+    def is_of_all(self):
+        """Whether it is said of all secrets: there is no region and no path stopped."""
+        return self.is_bounded and not self.numbers["regions"] and not self.numbers["stopped"]
+
+
+class Bounding:
+    """The asking about one program on its public input. `options` are words of `bound`; `inputs` names the files."""
+
+    def __init__(self, asked, inputs, program):
+        self.asked, self.inputs, self.program, self.regions = asked, inputs, program, inputs.regions()
+        self.public = read(inputs.public)
+        numbers = (("--rules", 1), ("--turns", USUAL_TURNS), ("--paths", USUAL_PATHS))
+        self.table, self.turns, self.paths = (int(inputs.option(name) or usual) for name, usual in numbers)
+
+    def answer(self, cut, budget):
+        """What `bound` answers about a cut."""
+        with tempfile.NamedTemporaryFile("w", suffix=".cut") as file:
+            file.write(cut.text())
+            file.flush()
+            words = ["bound", self.inputs.program, self.inputs.public, file.name, str(budget)]
+            status, text = self.asked.answer([*words, *self.inputs.options, "--list"])
+        if status not in (0, 1) or not text.startswith(("output", "stopped", "bounded", "unclear")):
+            raise NoBound(text.strip() or f"status {status}")
+        return Answer(text, cut, budget)
+
+    def walk(self, answer):
+        """The walk of the path that is unclear, by the model, with origins."""
+        limits = answer.budget, self.turns, self.paths
+        task = Task(self.program.image, self.public, self.regions, answer.cut, self.table, *limits)
+        return traced(task, answer.line)
+
+    def measured(self, secrets):
+        """The cut of some secrets."""
+        words = [self.inputs.program, self.inputs.public, *secrets, *self.inputs.without("--paths")]
+        status, text = self.asked.answer(["measure" if len(secrets) == 1 else "measure-all", *words])
+        if status:
+            raise NoBound(text.strip() or f"status {status}")
+        return read_cut(text.encode())
+
+    def empty(self, length):
+        """The cut of secrets of a length that has no point, and skips each region."""
+        return Cut(length, 0, [region.number for region in self.regions])
+
+
+class Search:
+    """A search for a cut that begins with one and gives it what it lacks, in some rounds. `tell` is told of each."""
+
+    def __init__(self, bounding, rounds, tell):
+        self.bounding, self.rounds, self.tell, self.asked = bounding, rounds, tell, 0
+
+    def search(self, cut):
+        """The last answer, and the walk of its path where it is unclear."""
+        cut, budget, least, raised = self.copied(cut), cut.bits, cut.bits, 0
+        for _ in range(self.rounds):
+            answer, self.asked = self.bounding.answer(cut, budget), self.asked + 1
+            if answer.is_bounded:
+                return self.with_least(answer, least), None
+            words = answer.reason.split()
+            if words[0] == "budget" and int(words[3]) <= MOST_BUDGET:
+                least, raised = int(words[3]), raised + 1
+                budget = min(max(least, budget + (1 << raised - 1)), MOST_BUDGET)
+                self.tell(f"{answer.reason}: budget {budget}")
+                continue
+            walk = self.bounding.walk(answer)
+            if walk.unclear != answer.reason and words[0] not in ("paths", "outputs"):
+                raise NoBound(f"the model in tools/model says another thing, which is a fault: {walk.unclear}")
+            lines = self.added(cut, walk.missing())
+            if not lines:
+                return answer, walk
+            self.tell(f"{answer.reason}: {', '.join(lines)}")
+        return answer, self.bounding.walk(answer)
+
+    @staticmethod
+    def copied(cut):
+        """A cut of its own with the same lines."""
+        return Cut(cut.secret_length, cut.bits, cut.skip, dict(cut.points), cut.version)
+
+    def with_least(self, answer, least):
+        """The answer with the least budget from one on; the budget becomes the number of the cut."""
+        answer.cut.bits = answer.budget
+        for _ in range(self.rounds):
+            if least >= answer.budget:
+                break
+            lower, self.asked = self.bounding.answer(self.copied(answer.cut), least), self.asked + 1
+            if lower.is_bounded:
+                lower.cut.bits = least
+                return lower
+            least = int(lower.reason.split()[3])
+        return answer
+
+    @staticmethod
+    def added(cut, missing):
+        """Adds points to a cut, each for all visits; the lines that it has now and had not."""
+        lines = []
+        for point in sorted(missing, key=point_order):
+            listed = cut.points.get(point, ([], [(1, 0)]))
+            masks = missing[point]
+            for _, mask in sum(listed, []):
+                masks |= mask
+            if listed != ([], [(1, masks)]):
+                cut.points[point] = [], [(1, masks)]
+                lines.append(f"point {point[0]} {shown(point[1])} {point[2]} rest {shown(masks)}")
+        return lines
+
+
+def choices_by_point(walk):
+    """How many choices of a path were made at each point, the most first."""
+    return Counter(point for point, _ in walk.places).most_common()

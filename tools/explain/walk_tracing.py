@@ -1,0 +1,152 @@
+"""A walk of `bound` along one path, by the model, that keeps where its choices were made and what the secret bits of
+each register and byte are made of: the points with the fewest bits that would all have to cross."""
+from bounds import Walk
+from cuts import slot_width
+from instructions import ALL, WIDTHS, decode
+
+DECIDED, ARGUMENTS = ("de", "ou", "st"), {"nr": 17, "a0": 10, "a1": 11, "a2": 12}
+
+
+def bits_of(origin):
+    """How many bits an origin has; it is a mask for each of some points."""
+    return sum(mask.bit_count() for mask in origin.values())
+
+
+def united(origins):
+    """Several origins together."""
+    union = {}
+    for origin in origins:
+        for point, mask in origin.items():
+            union[point] = union.get(point, 0) | mask
+    return union
+
+
+class Passed:
+    """What passed at a point: the value that went on, and the mask that was left."""
+
+    def __init__(self, point, value, left):
+        self.point, self.value, self.left = point, value, left
+
+    def origin(self, before):
+        """Its own point, or what it is made of where that has fewer bits."""
+        if not self.left:
+            return {}
+        own = {self.point: self.left & slot_width(self.point[2])}
+        return before if before and bits_of(before) < bits_of(own) else own
+
+
+class TracedWalk(Walk):
+    """A walk that keeps its origins, and for each choice the point and the number of its visit. `begin` is where the
+    last turn began, `kind` what it was, and `made` how many there were."""
+
+    def __init__(self, task, path):
+        super().__init__(task, path)
+        self.made, self.begin, self.kind, self.places = 0, self.guest.pc, self.guest.kind(), []
+        self.passed, self.starts, self.at_entry, self.counts = [], [], [], {}
+        self.registers, self.bytes = [{}] * 32, {}
+
+    def pass_visit(self, visit, mask):
+        """What goes on at a visit, and what is left of its mask; both are kept."""
+        before, point = len(self.choices), visit[:3]
+        self.counts[point] = self.counts.get(point, 0) + 1
+        value, left = super().pass_visit(visit, mask)
+        self.places += [(point, self.counts[point])] * (len(self.choices) - before)
+        self.passed.append(Passed(point, value, left))
+        return value, left
+
+    def make_turn(self):
+        """Makes one turn, and follows it with origins."""
+        guest, self.begin, self.kind = self.guest, self.guest.pc, self.guest.kind()
+        region = guest.entered or guest.by_enter.get(guest.pc)
+        self.passed, self.made = [], self.made + 1
+        if self.kind == "enter":
+            registers = guest.registers
+            self.starts = [(registers[base] if base else 0) + offset & ALL for base, offset, _ in region.ranges]
+        instruction = decode(guest.word(guest.pc, 4)) if self.kind == "step" else None
+        super().make_turn()
+        if self.ending:
+            return
+        if self.kind == "enter" and guest.entered:
+            self.at_entry = list(self.registers)
+        elif self.kind != "step":
+            self.follow_outputs(region, self.kind == "leave")
+        elif instruction:
+            self.follow(instruction)
+
+    def follow_outputs(self, region, is_left):
+        """The origins behind a leave, or a skip, at which nothing is known of what is made inside."""
+        for number in region.keep if is_left else []:
+            self.registers[number] = self.at_entry[number]
+        passed = iter(self.passed)
+        for number in region.outs:
+            self.registers[number] = next(passed).origin(self.registers[number] if is_left else {})
+        for start, (_, _, length) in zip(self.starts, region.ranges):
+            for address in range(start, start + length):
+                self.bytes[address] = next(passed).origin(self.bytes.get(address, {}) if is_left else {})
+
+    def at(self, slot):
+        """What passed at a slot in this turn."""
+        return next(passed for passed in self.passed if passed.point[2] == slot)
+
+    def follow(self, instruction):
+        """The origins behind an instruction."""
+        form, target = instruction.form, instruction.destination
+        if form in ("load", "store"):
+            first = self.at("ad").value
+            addresses = range(first, first + WIDTHS[instruction.name])
+        if form == "store":
+            for address in addresses:
+                self.bytes[address] = self.registers[instruction.second] if self.masks.byte(address) else {}
+        elif form == "call":
+            self.follow_call()
+        elif form == "load":
+            before = united(self.bytes.get(address, {}) for address in addresses)
+            self.set_register(target, self.at("rs").origin(before))
+        elif form in ("immediate", "register"):
+            used = [instruction.first] + [instruction.second] * (form == "register")
+            self.set_register(target, self.at("rs").origin(united(self.registers[number] for number in used)))
+        elif form not in ("branch", "fence", "breakpoint"):
+            self.set_register(target, {})
+
+    def set_register(self, number, origin):
+        """Keeps the origin of a register."""
+        self.registers[number] = origin if number else {}
+
+    def follow_call(self):
+        """The origins of the bytes that a call has read; its answer is public."""
+        read = [passed for passed in self.passed if passed.point[2] == "in"]
+        for index, passed in enumerate(read):
+            self.bytes[self.at("a1").value + index] = passed.origin({})
+        self.set_register(10, {})
+
+    def missing(self):
+        """The points, with masks, at which what was unclear would have to cross; none for another reason."""
+        words = (self.unclear or "").split()
+        if words[:1] == ["left"]:
+            return self.missing_at((int(words[1]), int(words[2], 16), words[3]), int(words[5], 16))
+        if words[:1] == ["secret-code"]:
+            return united(self.bytes.get(int(words[1], 16) + index, {}) for index in range(4))
+        return self.registers[int(words[3][1:])] if words[2:3] == ["base"] else {}
+
+    def missing_at(self, point, mask):
+        """Those of a slot: itself, or of an address or an argument what it is made of where that has fewer bits."""
+        own, slot = {point: mask}, point[2]
+        if slot in DECIDED:
+            return own
+        number = ARGUMENTS[slot] if slot in ARGUMENTS else decode(self.guest.word(self.begin, 4)).first
+        before = self.registers[number]
+        return before if before and bits_of(before) < bits_of(own) else own
+
+
+def path_of(text):
+    """The choices of the path that a line of `bound` names."""
+    words = text.split()
+    place = words.index("path")
+    packed, count = words[place + 1], int(words[place + 3])
+    data = b"" if packed == "-" else bytes.fromhex(packed)
+    return [data[index // 8] >> index % 8 & 1 for index in range(count)]
+
+
+def traced(task, text):
+    """The walk of the path that a line of `bound` names."""
+    return TracedWalk(task, path_of(text)).run()
