@@ -6,9 +6,10 @@ Call: bound.py PROG PUBLIC LENGTH|SECRET... [--regions FILE] [--turns N] [--rule
 It begins with the cut of the secrets, as `measure` or `measure-all` writes it; or of a LENGTH in bytes with a cut that
 has no point and skips each region of the file. Where `bound` is unclear at a point, the point gets a line, or what its
 value is made of where that has fewer bits; where the budget is too small, it is raised. So it goes on until `bound`
-answers, in at most so many rounds. Where the cut of the secrets comes to no answer, it begins again without a point.
+answers, in at most so many rounds. Where the cut of the secrets comes to no answer with 1,024 paths, or to more bits
+than were measured, it begins again without a point, and at last with as many paths as are allowed.
 
-  --rounds N           at most so many calls of `bound` from each beginning; 100 without it
+  --rounds N           at most so many calls of `bound` from a beginning; 100 without it
   --output FILE        the file of the cut; `bound.cut` without it
   --regions, --turns, --rules, --paths  as of `bound`
   --flowcheck COMMAND  the program; without it crates/flowcheck/out/flowcheck, else `flowcheck`, else the model
@@ -23,7 +24,7 @@ sys.path[:0] = [os.path.join(HERE, "explain"), os.path.join(HERE, "model")]
 
 from answering import Program
 from bound_words import bounded_lines, unclear_lines
-from bounding import Bounding, NoBound, Search
+from bounding import Bounding, NoBound, found
 from elf_symbols import ProgramFile
 from refusals import program_fault
 from run_facts import Inputs, read
@@ -55,31 +56,13 @@ def length_of(secrets):
     return int(secrets[0]) if is_length and int(secrets[0]) <= MOST_LENGTH else None
 
 
-def beginnings(bounding, secrets):
-    """The cuts to begin with, each with a name and the number that was measured."""
-    length = length_of(secrets)
-    if length is not None:
-        yield "without a point", bounding.empty(length), None
-        return
-    measured = bounding.measured(secrets)
-    yield f"with the cut of {len(secrets)} secret{'s' if len(secrets) > 1 else ''}", measured, measured.bits
-    empty = bounding.empty(measured.secret_length)
-    empty.skip = measured.skip
-    yield "without a point", empty, measured.bits
-
-
 def find(bounding, words, tell):
-    """The first answer that is bounded, or else the last answer of the first beginning with its walk; and the number
-    that was measured."""
-    first = None
-    for name, cut, bits in beginnings(bounding, words.secrets):
-        tell(f"Begins {name}.")
-        answer, walk = Search(bounding, words.rounds, lambda text: tell("    " + text)).search(cut)
-        if answer.is_bounded:
-            return answer, None, bits
-        tell(f"    unclear: {answer.reason}")
-        first = first or (answer, walk, bits)
-    return first
+    """The answer with its walk, and the number that was measured."""
+    length = length_of(words.secrets)
+    measured = length is None
+    beginnings = bounding.beginnings(words.secrets) if measured else [("without a point", bounding.empty(length))]
+    bits = beginnings[0][1].bits if measured else None
+    return *found(bounding, beginnings, words.rounds, bits, tell), bits
 
 
 def command(words, answer, options):

@@ -13,11 +13,12 @@ WAYS = (
     "tools/regions.py or tools/enclose.py, so that its result alone crosses."
 )
 VALUES = (
-    "Each bit that crosses here is a choice. Mask the value where fewer bits do. At a written byte (`ou`) bits are free "
-    "and no choice, so let them cross there where nothing is decided by them."
+    "Each bit that crosses here is a choice. Mask the value where fewer bits do. At a written byte, slot ou, bits are "
+    "free and no choice, so let them cross there where nothing is decided by them."
 )
 OUTPUTS = "Give the result of the region fewer bits, as by a mask behind the call."
 ADVICE = {
+    "left": "The walk decides by this slot, or shows it, and some of its bits may differ and have not crossed.",
     "paths": "With as many paths as --paths allows one is left. It may be up to 1048576.",
     "outputs": "The different outputs have too many bytes together. Write less, or let the bits cross where they are "
     "written, where bits are free.",
@@ -26,6 +27,12 @@ ADVICE = {
     "base": "A range of the region begins where the secret says. Declare the whole of what may be written, with a base "
     "that is public, or leave the region at a place where the register is public.",
 }
+
+
+def reason_kind(reason):
+    """The word for why it is unclear, by which the advice is found."""
+    words = reason.split()
+    return "base" if words[2:3] == ["base"] else words[0]
 
 
 def secret_words(length):
@@ -107,9 +114,8 @@ def advice_at(point):
 def unclear_lines(answer, walk, program, places, again):
     """Why it is unclear, and what to change, as lines."""
     words, length = answer.reason.split(), answer.cut.secret_length
-    kind = words[0] if words[0] in ADVICE else "base" if words[2:3] == ["base"] else "left"
-    lines = ["", f"Nothing is known of all secrets of {length:,} bytes: unclear {answer.reason}."]
-    lines += [ADVICE[kind]] if kind in ADVICE else []
+    kind, plural = reason_kind(answer.reason), f"{length:,} byte{'' if length == 1 else 's'}"
+    lines = ["", f"Nothing is known of all secrets of {plural}: unclear {answer.reason}.", ADVICE[kind]]
     if kind == "left":
         point = int(words[1]), int(words[2], 16), words[3]
         lines += ["The rounds are over. It stands at", "    " + point_words(point, program, places)]

@@ -10,7 +10,7 @@ from run_facts import read
 from verdicts import MOST_BUDGET, USUAL_TURNS
 from walk_tracing import traced
 
-USUAL_PATHS = 1 << 16
+USUAL_PATHS, FEW_PATHS = 1 << 16, 1 << 10
 LINE = re.compile(r"output \d+ free (\d+) bytes (\S+) status (\d+)(?: mask (\S+) (\S+))?")
 
 
@@ -38,11 +38,19 @@ class Pattern:
             return False
         return all(not (one ^ other) & ~mask for one, other, mask in zip(written, self.written, self.masks))
 
-    def text(self):
+    def bytes_text(self):
         """The bytes as they are written in C, with a question mark for each that has free bits."""
-        shown_bytes = "".join("?" if mask else byte_text(byte) for byte, mask in zip(self.written, self.masks))
-        status = "?" if self.status_mask else self.status
-        return f'"{shown_bytes}" status {status}' + (f", {self.free} bits free" if self.free else "")
+        written = "".join("?" if mask else byte_text(byte) for byte, mask in zip(self.written, self.masks))
+        return f'"{written}"'
+
+    def status_text(self):
+        """The status, or a question mark where it has free bits."""
+        return "?" if self.status_mask else str(self.status)
+
+    def text(self):
+        """Both together."""
+        free = f", {self.free} bit{'s' * (self.free > 1)} free" if self.free else ""
+        return f"{self.bytes_text()} status {self.status_text()}{free}"
 
 
 def byte_text(byte):
@@ -65,6 +73,10 @@ class Answer:
             pairs = zip(words[1::2], words[2::2])
             self.numbers = {name: None if number == "-" else int(number) for name, number in pairs}
 
+    def is_waiting(self):
+        """Whether it may be bounded with more paths."""
+        return not self.is_bounded and self.reason.startswith("paths ")
+
     def is_of_all(self):
         """Whether it is said of all secrets: there is no region and no path stopped."""
         return self.is_bounded and not self.numbers["regions"] and not self.numbers["stopped"]
@@ -79,16 +91,24 @@ class Bounding:
         numbers = (("--rules", 1), ("--turns", USUAL_TURNS), ("--paths", USUAL_PATHS))
         self.table, self.turns, self.paths = (int(inputs.option(name) or usual) for name, usual in numbers)
 
-    def answer(self, cut, budget):
-        """What `bound` answers about a cut."""
+    def answer(self, cut, budget, paths=None):
+        """What `bound` answers about a cut, with as many paths as are allowed or fewer."""
+        options = [*self.inputs.without("--paths"), "--paths", str(paths or self.paths), "--list"]
         with tempfile.NamedTemporaryFile("w", suffix=".cut") as file:
             file.write(cut.text())
             file.flush()
             words = ["bound", self.inputs.program, self.inputs.public, file.name, str(budget)]
-            status, text = self.asked.answer([*words, *self.inputs.options, "--list"])
+            status, text = self.asked.answer([*words, *options])
         if status not in (0, 1) or not text.startswith(("output", "stopped", "bounded", "unclear")):
             raise NoBound(text.strip() or f"status {status}")
         return Answer(text, cut, budget)
+
+    def beginnings(self, secrets):
+        """The cut of some secrets and the empty one that skips the same regions, with their names."""
+        measured = self.measured(secrets)
+        empty = Cut(measured.secret_length, 0, measured.skip)
+        name = f"with the cut of {len(secrets)} secret{'s' * (len(secrets) > 1)}"
+        return [(name, measured), ("without a point", empty)]
 
     def walk(self, answer):
         """The walk of the path that is unclear, by the model, with origins."""
@@ -110,16 +130,17 @@ class Bounding:
 
 
 class Search:
-    """A search for a cut that begins with one and gives it what it lacks, in some rounds. `tell` is told of each."""
+    """A search for a cut that begins with one and gives it what it lacks, in some rounds and with so many paths. `tell`
+    is told of each."""
 
-    def __init__(self, bounding, rounds, tell):
-        self.bounding, self.rounds, self.tell, self.asked = bounding, rounds, tell, 0
+    def __init__(self, bounding, rounds, paths, tell):
+        self.bounding, self.rounds, self.paths, self.tell = bounding, rounds, paths, tell
 
     def search(self, cut):
         """The last answer, and the walk of its path where it is unclear."""
         cut, budget, least, raised = self.copied(cut), cut.bits, cut.bits, 0
         for _ in range(self.rounds):
-            answer, self.asked = self.bounding.answer(cut, budget), self.asked + 1
+            answer = self.bounding.answer(cut, budget, self.paths)
             if answer.is_bounded:
                 return self.with_least(answer, least), None
             words = answer.reason.split()
@@ -148,7 +169,7 @@ class Search:
         for _ in range(self.rounds):
             if least >= answer.budget:
                 break
-            lower, self.asked = self.bounding.answer(self.copied(answer.cut), least), self.asked + 1
+            lower = self.bounding.answer(self.copied(answer.cut), least, self.paths)
             if lower.is_bounded:
                 lower.cut.bits = least
                 return lower
@@ -170,6 +191,28 @@ class Search:
         return lines
 
 
+def found(bounding, beginnings, rounds, measured, tell):
+    """The best answer with its walk. Each beginning is tried with few paths, and then with as many as are allowed; an
+    answer is taken at once where it has no more bits than were measured, else the one with the fewest."""
+    best, last = None, {}
+    for paths in sorted({min(FEW_PATHS, bounding.paths), bounding.paths}):
+        for name, cut in beginnings:
+            begun = last[name][0].cut if name in last else cut
+            if name in last and not last[name][0].is_waiting():
+                continue
+            tell(f"Begins {name}, with at most {paths:,} paths.")
+            last[name] = answer, walk = Search(bounding, rounds, paths, lambda text: tell("    " + text)).search(begun)
+            if not answer.is_bounded:
+                answer.cut.bits = answer.budget
+                tell(f"    unclear: {answer.reason}")
+                continue
+            tell(f"    {answer.line}")
+            if measured is None or answer.numbers["bits"] <= measured:
+                return answer, walk
+            best = best if best and best[0].numbers["bits"] <= answer.numbers["bits"] else (answer, walk)
+    return best or last[beginnings[0][0]]
+
+
 def choices_by_point(walk):
     """How many choices of a path were made at each point, the most first."""
-    return Counter(point for point, _ in walk.places).most_common()
+    return Counter(point for point, _, _ in walk.places).most_common()

@@ -1,7 +1,7 @@
 """A walk of `bound` along one path, by the model, that keeps where its choices were made and what the secret bits of
 each register and byte are made of: the points with the fewest bits that would all have to cross."""
 from bounds import Walk
-from cuts import slot_width
+from cuts import places_of, slot_width
 from instructions import ALL, WIDTHS, decode
 
 DECIDED, ARGUMENTS = ("de", "ou", "st"), {"nr": 17, "a0": 10, "a1": 11, "a2": 12}
@@ -36,8 +36,8 @@ class Passed:
 
 
 class TracedWalk(Walk):
-    """A walk that keeps its origins, and for each choice the point and the number of its visit. `begin` is where the
-    last turn began, `kind` what it was, and `made` how many there were."""
+    """A walk that keeps its origins, and for each choice the point, the number of its visit and the bit. `begin` is
+    where the last turn began, `kind` what it was, and `made` how many there were."""
 
     def __init__(self, task, path):
         super().__init__(task, path)
@@ -47,10 +47,11 @@ class TracedWalk(Walk):
 
     def pass_visit(self, visit, mask):
         """What goes on at a visit, and what is left of its mask; both are kept."""
-        before, point = len(self.choices), visit[:3]
-        self.counts[point] = self.counts.get(point, 0) + 1
+        point = visit[:3]
+        number = self.counts[point] = self.counts.get(point, 0) + 1
+        if point[2] not in ("ou", "st"):
+            self.places += [(point, number, bit) for bit in places_of(self.task.cut.mask_at(point, number) & mask)]
         value, left = super().pass_visit(visit, mask)
-        self.places += [(point, self.counts[point])] * (len(self.choices) - before)
         self.passed.append(Passed(point, value, left))
         return value, left
 
