@@ -3,10 +3,13 @@
 Call: explain.py PROG PUBLIC SECRET... [--turns N] [--regions FILE] [--rules N]
       explain.py PROG PUBLIC --check CUT BUDGET SECRET [--turns N] [--regions FILE]
       explain.py PROG PUBLIC --taint CUT BUDGET SECRET [--turns N] [--regions FILE] [--rules N]
+      explain.py PROG PUBLIC --bound CUT BUDGET [SECRET] [--turns N] [--regions FILE] [--rules N] [--paths N]
 
 The first form measures a run, or several together, with one cut, and what crosses at it in each. The second says of a
 secret that `check` rejects where and why, and the third of one that is unclear to `taint`, with the lines of a cut that
-would clear it. Each writes one HTML file, which needs nothing beside it, or with --text a text for the terminal.
+would clear it. The fourth has all outputs that there can be, whatever the secret is, with the choices that lead to them
+where there are few, and beside them what is measured of a secret that is named. Each writes one HTML file, which needs
+nothing beside it, or with --text a text for the terminal.
 
   --output FILE        the file of the page; without it `explain.html`, and `-` is standard output
   --text               a text on standard output
@@ -23,6 +26,8 @@ HERE = os.path.dirname(os.path.abspath(__file__))
 sys.path[:0] = [os.path.join(HERE, "explain"), os.path.join(HERE, "model")]
 
 from answering import Program
+from bound_page import bound_page, bounded_of
+from bounding import NoBound
 from document import html_page, text_page
 from elf_symbols import ProgramFile
 from many_page import many_page
@@ -47,15 +52,20 @@ def arguments():
     parser.add_argument("secret", nargs="*")
     for name in ("--check", "--taint"):
         parser.add_argument(name, nargs=3, metavar=("CUT", "BUDGET", "SECRET"))
-    for name in ("--turns", "--regions", "--rules"):
+    parser.add_argument("--bound", nargs="+", metavar=("CUT", "BUDGET"))
+    for name in ("--turns", "--regions", "--rules", "--paths"):
         parser.add_argument(name)
     parser.add_argument("--output", default="explain.html")
     parser.add_argument("--text", action="store_true")
     parser.add_argument("--source", action="append", default=[])
     parser.add_argument("--flowcheck")
     words = parser.parse_args()
-    if sum(bool(given) for given in (words.secret, words.check, words.taint)) != 1:
-        parser.error("name secrets, or --check CUT BUDGET SECRET, or --taint CUT BUDGET SECRET")
+    if sum(bool(given) for given in (words.secret, words.check, words.taint, words.bound)) != 1:
+        parser.error("name secrets, or --check or --taint CUT BUDGET SECRET, or --bound CUT BUDGET [SECRET]")
+    if words.bound and (len(words.bound) not in (2, 3) or not words.bound[1].isdigit()):
+        parser.error("--bound takes CUT BUDGET, and perhaps SECRET")
+    if words.paths and not words.bound:
+        parser.error("--paths is an option of --bound")
     if words.check and words.rules:
         parser.error("--rules is no option of a check")
     return words
@@ -68,7 +78,7 @@ def page(words):
         raise SystemExit(f"refused 3 program {program_fault(file)}")
     program, asked = ProgramFile(file), Program(words.flowcheck)
     places = Places(words.program, program, words.source)
-    options = [(name, getattr(words, name)) for name in ("turns", "regions", "rules")]
+    options = [(name, getattr(words, name)) for name in ("turns", "regions", "rules", "paths")]
     flat = [word for name, value in options if value for word in (f"--{name}", value)]
     if words.check or words.taint:
         cut, budget, secret = words.check or words.taint
@@ -76,6 +86,8 @@ def page(words):
         if words.taint:
             return taint_page(Tainting(*named), program, places)
         return rejection_page(Rejection(*named), program, places)
+    if words.bound:
+        return bound_page(bounded_of(asked, words, flat, program), program, places)
     inputs = Inputs(words.program, words.public, words.secret[0], flat)
     try:
         if len(words.secret) > 1:
@@ -90,6 +102,8 @@ def main():
     words = arguments()
     try:
         title, sections = page(words)
+    except NoBound as refusal:
+        raise SystemExit(str(refusal)) from None
     except OSError as fault:
         raise SystemExit(f"{fault.filename}: {fault.strerror}") from None
     if words.text:

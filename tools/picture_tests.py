@@ -21,9 +21,12 @@ sys.path.insert(0, HERE)
 
 import explain
 from answering import Program
+from bound_page import MOST_OUTPUTS, Bounded, bound_page
+from compare_bounds import bound_trial
 from compare_manys import many_trial
 from compare_taints import taint_trial
 from cuts import read_cut
+from decision_tree import DecisionTree
 from document import html_page, text_page
 from elf_symbols import ProgramFile
 from faults_of_text import cut_text_fault, regions_text_fault
@@ -119,7 +122,8 @@ class Tests:
 
     def words(self, *plain, **options):
         """The words of explain.py."""
-        usual = {"turns": None, "regions": None, "rules": None, "check": None, "taint": None, "source": []}
+        named = ("turns", "regions", "rules", "paths", "check", "taint", "bound")
+        usual = dict.fromkeys(named) | {"source": []}
         program, public, *secret = plain
         given = {"program": program, "public": public, "secret": secret, "flowcheck": self.program}
         return argparse.Namespace(**(usual | given | options))
@@ -231,6 +235,41 @@ class Tests:
         if self.done.get(f"shown taint {kind}", 0) < 2:
             self.done[f"shown taint {kind}"] = self.done.get(f"shown taint {kind}", 0) + 1
             self.pages.append((f"taint {what}", page))
+
+    def test_bounds(self):
+        """Pages of random bounds: the line must be that of `bound`, and the outputs as many as its list has."""
+        for seed in range(1, self.count + 1, 2):
+            files, words = bound_trial(seed)
+            self.write(files)
+            named = dict(re.findall(r"--(turns|regions|rules|paths)[= ](\S+)", " ".join(words)))
+            options = {name: self.path(value) if name == "regions" else value for name, value in named.items()}
+            flat = [word for name, value in options.items() for word in (f"--{name}", value)]
+            self.bound(f"seed {seed}", words[4], flat)
+
+    def bound(self, what, budget, options):
+        """Makes the page of one bound. Its tree must have a leaf for each path."""
+        program, asked = ProgramFile(explain.read(self.path("program"))), Program(self.program)
+        inputs = Inputs(self.path("program"), self.path("public"), None, options)
+        seen = Bounded(asked, inputs, [self.path("cut"), budget], program)
+        places = Places(self.path("program"), program)
+        title, sections = bound_page(seen, program, places)
+        text, page = text_page(title, sections), html_page(title, sections)
+        words = ["bound", inputs.program, inputs.public, self.path("cut"), budget, *options, "--list"]
+        lines = asked.answer(words)[1].split("\n")
+        listed = min(MOST_OUTPUTS, sum(line.startswith("output ") for line in lines))
+        is_told = "".join(lines[-2].split()) in "".join(text.split())
+        self.expect(f"bounds: {what}", is_told and page.count("data-output=") == listed, f"{lines[-2]} {listed}")
+        if seen.walk:
+            is_same = seen.walk.unclear == seen.answer.reason or seen.answer.reason.startswith(("paths", "outputs"))
+            self.expect(f"walks: {what}", is_same, f"{seen.answer.reason} | {seen.walk.unclear}")
+        elif seen.walks and len(seen.walks) > 1:
+            tree = DecisionTree(seen.walks, seen.answer.patterns, program, places).lines()
+            leaves = sum("-> output " in line or "-> stops" in line for line in tree)
+            self.expect(f"trees: {what}", leaves == len(seen.walks), "\n".join(tree))
+        kind = "unclear" if seen.walk else "bounded"
+        self.done[f"bounds told: {kind}"] = self.done.get(f"bounds told: {kind}", 0) + 1
+        if self.done[f"bounds told: {kind}"] <= 3:
+            self.pages.append((f"bound {what}", page))
 
     def test_manys(self):
         """Pages of several random runs under one cut: what crosses in each must be what `check` says."""

@@ -1,0 +1,171 @@
+"""The page of `bound`: all outputs that a program can have, whatever the secret is, with the choices that lead to them;
+or why that is unclear, and what to change."""
+import shlex
+from collections import Counter
+from os.path import basename as base
+
+from bound_words import ADVICE, FREE_WORDS, advice_at, claim, numbers_words, reason_kind
+from bounding import Bounding, choices_by_point
+from bounds import Task
+from cuts import read_cut
+from decision_tree import MOST_LINES, MOST_PATHS, DecisionTree, TooMany, address_words, walks_of
+from document import Commands, Section, Table, Words
+from faults_of_text import cut_text_fault
+from guest import shown
+from instruction_text import instruction_text, slot_words
+from pieces_of_code import Marks, listing_blocks, source_blocks
+from rejection_page import KINDS, lines_table, point_text
+from run_facts import Inputs, read
+
+MOST_OUTPUTS, TREE = 50, "The decisions"
+NOT_SAID = (
+    "It is said for this public input, and for secrets of this length. It is not said of time, and not of how likely a "
+    "secret is. A listed output need not be that of a secret."
+)
+
+
+class Bounded:
+    """What `bound` answers about a cut, beside what is measured of a secret where one is named."""
+
+    def __init__(self, asked, inputs, named, program):
+        self.inputs, self.cut_name, self.budget, self.program = inputs, named[0], int(named[1]), program
+        fault = cut_text_fault(read(self.cut_name))
+        if fault:
+            raise SystemExit("\n".join(fault.lines(self.cut_name)))
+        self.secret, self.measured = (named + [None])[2], None
+        self.bounding = Bounding(asked, inputs, program)
+        self.cut = read_cut(read(self.cut_name))
+        self.answer = self.bounding.answer(self.cut, self.budget)
+        if self.secret:
+            self.measured = self.bounding.measured([self.secret]).bits
+        self.walks, self.walk = None, None
+        if self.answer.is_bounded:
+            self.walks = self.all_walks()
+        else:
+            self.walk = self.bounding.walk(self.answer)
+
+    def all_walks(self):
+        """The walks of all paths by the model; None where there are many, or the model says another thing."""
+        if self.answer.numbers["paths"] > MOST_PATHS:
+            return None
+        limits = self.budget, self.bounding.turns, self.bounding.paths
+        named = self.program.image, self.bounding.public, self.bounding.regions, self.cut, self.bounding.table
+        try:
+            walks = walks_of(Task(*named, *limits))
+        except TooMany:
+            return None
+        return walks if len(walks) == self.answer.numbers["paths"] else None
+
+    def choices(self):
+        """How many choices were made at each point: in all walks the most, or in the walk that is unclear."""
+        if self.walk:
+            return dict(choices_by_point(self.walk))
+        most = {}
+        for walk in self.walks or []:
+            for point, count in Counter(place[0] for place in walk.places).items():
+                most[point] = max(most.get(point, 0), count)
+        return most
+
+
+def claim_section(bounded):
+    """The answer in words."""
+    answer, turns = bounded.answer, bounded.bounding.turns
+    if answer.is_bounded:
+        bits = answer.numbers["bits"]
+        blocks = [Words(claim(answer, turns), "number", bits), Words(numbers_words(answer, bounded.measured))]
+        return Section("", *blocks, Words(answer.line, "dim"), Words(NOT_SAID, "dim"))
+    kind, length = reason_kind(answer.reason), answer.cut.secret_length
+    plural = f"{length:,} byte{'' if length == 1 else 's'}"
+    blocks = [Words(f"Nothing is known of all secrets of {plural}: {answer.line}", "number")]
+    return Section("", *blocks, Words(ADVICE[kind]))
+
+
+def outputs_section(bounded):
+    """The outputs that there can be."""
+    patterns = bounded.answer.patterns
+    if not patterns:
+        return None
+    rows = [[str(number), pattern.bytes_text(), pattern.status_text(), str(pattern.free)]
+            for number, pattern in enumerate(patterns[:MOST_OUTPUTS], 1)]
+    table = Table(["Output", "Bytes", "Status", "Free bits"], rows, [{"data-output": row[0]} for row in rows], "points")
+    blocks = [Words(FREE_WORDS, "dim")] if any(pattern.free for pattern in patterns) else []
+    more = len(patterns) - MOST_OUTPUTS
+    blocks += [Words(f"{more:,} more are not shown.", "dim")] if more > 0 else []
+    stopped = bounded.answer.stopped_line
+    blocks += [Words(f"The first path that stops: {stopped}")] if stopped else []
+    return Section("All outputs that there can be", table, *blocks)
+
+
+def tree_section(bounded, places):
+    """The decisions as a tree, where it is small."""
+    if not bounded.walks or len(bounded.walks) == 1:
+        return None
+    lines = DecisionTree(bounded.walks, bounded.answer.patterns, bounded.program, places).lines()
+    told = "By the model in tools/model: each bit that crosses, as far as it can differ, and where its ways lead."
+    key = Words(told, "dim")
+    if len(lines) > MOST_LINES:
+        return Section(TREE, Words(f"The tree has {len(lines):,} lines, too many to be shown.", "dim"))
+    return Section(TREE, key, Commands(lines, "tree"))
+
+
+def where_section(bounded, program, places):
+    """Where it is unclear, and what would have to cross there."""
+    walk = bounded.walk
+    if walk is None or reason_kind(bounded.answer.reason) not in ("left", "base", "secret-code"):
+        return None
+    address = walk.begin
+    instruction = program.instruction(address)
+    text = instruction_text(instruction, address) if walk.kind == "step" else KINDS[walk.kind]
+    words = f"It is turn {walk.made:,} of the walk, at {shown(address)}, {text}, {places.at(address).text()}."
+    blocks = [Words(words), Words(places.line_of(places.at(address)).strip() or "No line of a source is known.", "dim")]
+    missing = sorted(walk.missing().items(), key=lambda item: item[0][:2])
+    if missing:
+        blocks += [Words("These lines of the cut would let it cross; tools/bound.py adds such lines by itself:")]
+        blocks.append(lines_table([point_text(*line, places) for line in missing]))
+    return Section("Where", *blocks)
+
+
+def choices_section(bounded, program, places):
+    """The points of the cut, with the choices at each."""
+    counted, walk = bounded.choices(), bounded.walk
+    points = list(bounded.cut.points)
+    if not points:
+        return None
+    rows = []
+    for point in points:
+        place = places.at(point[1])
+        text = f"{shown(point[1])} {instruction_text(program.instruction(point[1]), point[1])}"
+        number = str(counted.get(point, 0)) if walk or bounded.walks else "-"
+        row = [number, address_words(point), place.text(), text, slot_words(point[2])]
+        rows.append([*row, places.line_of(place).strip() or "-"])
+    blocks = [Table(["Choices", "Point", "Place", "Instruction", "What passes", "Source"], rows, None, "points")]
+    if walk and counted:
+        blocks.append(Words(advice_at(max(counted, key=counted.get))))
+    told = "Choices of the path that is unclear." if walk else "The most choices of a path."
+    told = told if walk or bounded.walks else "There are many paths, so that their choices are not counted."
+    return Section("Where bits cross", Words(told, "dim"), *blocks)
+
+
+def bound_page(bounded, program, places):
+    """The title and the sections of the page."""
+    inputs, answer = bounded.inputs, bounded.answer
+    name = base(inputs.program)
+    word = "All outputs" if answer.is_bounded else "No bound for the outputs"
+    sections = [claim_section(bounded), outputs_section(bounded), tree_section(bounded, places),
+                where_section(bounded, program, places), choices_section(bounded, program, places)]
+    choices = {}
+    for point, count in bounded.choices().items():
+        choices[point[1]] = choices.get(point[1], 0) + count
+    cut = {point[1] for point in bounded.cut.points}
+    marks = Marks({}, cut | set(choices), None if answer.is_bounded else bounded.walk.begin)
+    sections.append(Section("The source", Words("Marked: where bits cross.", "dim"), *source_blocks(places, marks)))
+    sections.append(Section("The listing", *listing_blocks(program, places, marks)))
+    again = ["flowcheck", "bound", inputs.program, inputs.public, bounded.cut_name, str(bounded.budget)]
+    lines = [shlex.join([*again, *inputs.options, "--list"])]
+    sections.append(Section("Ask again", Commands(lines)))
+    return f"{word} of {name}", [section for section in sections if section]
+
+
+def bounded_of(asked, words, options, program):
+    """What the words of the command line ask about."""
+    return Bounded(asked, Inputs(words.program, words.public, None, options), words.bound, program)
