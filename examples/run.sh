@@ -6,7 +6,7 @@
 set -e
 cd "$(dirname "$0")"
 for compiler in ${*:-gcc clang}; do
-    for story in password redactor auction; do
+    for story in password redactor auction bound; do
         python3 run_story.py "$compiler" "$story"
     done
 done
