@@ -1,18 +1,18 @@
 #!/usr/bin/env python3
-"""Bounds the outputs of the guests of examples/ and of two of guests/, and tries other secrets.
+"""Bounds the outputs of the guests of examples/ and of three of guests/, and tries other secrets.
 
 Call: bound_table.py [--others N] [--seed N] [--guest NAME...] [--compiler NAME] [--paths N] [--flowcheck COMMAND]
 
-Of each guest it measures a secret, and looks for a cut as bound.py does, beginning with the measured one. The auction
-`sealed` and the `median` have regions, which regions.py writes of some secrets. Then N other secrets (1,000 without the
-option) are drawn by the seed (1 without it): half of them as the guest expects them, half of any bytes. Each is run by
-`qemu-riscv32` (Debian qemu-user), and its output is looked for among those of the list. The model runs what qemu does
-not load, the guest of examples/bit, and all where qemu is not there.
+Of each guest it measures a secret, and looks for a cut as bound.py does, beginning with the measured one. The last four
+have a region each, which regions.py writes of some secrets. Then N other secrets (1,000 without the option) are drawn
+by the seed (1 without it): half of them as the guest expects them, half of any bytes. Each is run by `qemu-riscv32`
+(Debian qemu-user), and its output is looked for among those of the list. The model runs what qemu does not load, the
+guest of examples/bit, and all where qemu is not there.
 
 Prints the table of docs/GUIDE.md: the bytes of the secret, the bits that were measured of one secret, the regions, the
 paths, the outputs and their bits, the seconds of the last call of `bound`, and how many of the others have a listed
-output. The program is the option, or the built one, or the model. The status is 1 where an output is not listed, unless
-the run of its secret may break a region or stop, which `check` says."""
+output. The program is the option, or the built one, or the model. The status is 1 where an output is not listed; with a
+region it may be that of a run that breaks it, which `check` says."""
 import argparse
 import concurrent.futures
 import os
@@ -30,7 +30,7 @@ sys.path[:0] = [os.path.join(HERE, "explain"), os.path.join(HERE, "model"), HERE
 from answering import Program
 from bounding import Bounding, found
 from elf_symbols import ProgramFile
-from how_many_runs import SMALL, auctions, content, names, passwords
+from how_many_runs import SMALL, auctions, contacts, content, names, passwords, readings
 from run_facts import Inputs, read
 from verdicts import real_run
 
@@ -75,6 +75,8 @@ GUESTS = [
     ("open", "examples/auction/open.c", content("examples/auction/lowest"), auctions, None),
     ("sealed", "examples/auction/sealed.c", content("examples/auction/lowest"), auctions, "settle"),
     ("median", "tools/guests/median.c", b"", any_bytes(15), "median.c:7-13"),
+    ("warning", "tools/guests/warning.c", b"", readings, "score"),
+    ("contacts", "tools/guests/contacts.c", bytes([2, 5, 6, 9, 12, 16, 21, 28]), contacts, "shared"),
 ]
 
 

@@ -89,7 +89,10 @@ class Bounding:
         self.asked, self.inputs, self.program, self.regions = asked, inputs, program, inputs.regions()
         self.public = read(inputs.public)
         numbers = (("--rules", 1), ("--turns", USUAL_TURNS), ("--paths", USUAL_PATHS))
-        self.table, self.turns, self.paths = (int(inputs.option(name) or usual) for name, usual in numbers)
+        words = [inputs.option(name) or str(usual) for name, usual in numbers]
+        if not all(word.isdigit() for word in words):
+            raise NoBound("refused 2 usage")
+        self.table, self.turns, self.paths = map(int, words)
 
     def answer(self, cut, budget, paths=None):
         """What `bound` answers about a cut, with as many paths as are allowed or fewer."""
@@ -104,11 +107,12 @@ class Bounding:
         return Answer(text, cut, budget)
 
     def beginnings(self, secrets):
-        """The cut of some secrets and the empty one that skips the same regions, with their names."""
+        """The cut of some secrets, the one without a point that skips the same regions, and the one that skips all."""
         measured = self.measured(secrets)
-        empty = Cut(measured.secret_length, 0, measured.skip)
         name = f"with the cut of {len(secrets)} secret{'s' * (len(secrets) > 1)}"
-        return [(name, measured), ("without a point", empty)]
+        made = [(name, measured), ("without a point", Cut(measured.secret_length, 0, measured.skip))]
+        empty = self.empty(measured.secret_length)
+        return made + [("without a point, past each region", empty)] * (empty.skip != measured.skip)
 
     def walk(self, answer):
         """The walk of the path that is unclear, by the model, with origins."""
