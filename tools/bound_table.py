@@ -74,7 +74,7 @@ GUESTS = [
     ("battleship", "examples/bound/battleship.c", content("examples/bound/shots"), any_bytes(8), None),
     ("open", "examples/auction/open.c", content("examples/auction/lowest"), auctions, None),
     ("sealed", "examples/auction/sealed.c", content("examples/auction/lowest"), auctions, "settle"),
-    ("median", "tools/guests/median.c", b"", any_bytes(15), "median.c:7-13"),
+    ("median", "tools/guests/median.c", b"", any_bytes(15), "median.c:10-15"),
     ("warning", "tools/guests/warning.c", b"", readings, "score"),
     ("contacts", "tools/guests/contacts.c", bytes([2, 5, 6, 9, 12, 16, 21, 28]), contacts, "shared"),
 ]
