@@ -142,7 +142,8 @@ class Search:
 
     def search(self, cut):
         """The last answer, and the walk of its path where it is unclear."""
-        cut, budget, least, raised = self.copied(cut), cut.bits, cut.bits, 0
+        cut, least, raised = self.copied(cut), min(cut.bits, MOST_BUDGET), 0
+        budget = least
         for _ in range(self.rounds):
             answer = self.bounding.answer(cut, budget, self.paths)
             if answer.is_bounded:
