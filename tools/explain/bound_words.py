@@ -52,7 +52,7 @@ def claim(answer, turns):
     """What a bounded answer says of secrets."""
     numbers, length = answer.numbers, answer.cut.secret_length
     if numbers["outputs"] == 0:
-        return "No run of a secret that breaks no region exits: no path of the walk does."
+        return f"No run of a secret exits within {turns:,} turns and breaks no region: no path exits."
     if answer.is_of_all():
         return f"Whatever {secret_words(length)}, the output is {count_words(numbers)}."
     plural = f"of {length:,} byte{'' if length == 1 else 's'}"
