@@ -72,10 +72,10 @@ def numbers_words(answer, bits):
 def paths_words(numbers):
     """How many paths there are, and how many stop."""
     paths, stopped = numbers["paths"], numbers["stopped"]
-    told = "one path" if paths == 1 else f"{paths:,} paths"
-    if stopped:
-        return told + f", of which {stopped:,} stop{'s' * (stopped == 1)}"
-    return told + (", none of which stops" if paths > 1 else "")
+    if paths == 1:
+        return "one path, which stops" if stopped else "one path"
+    ended = f"of which {stopped:,} stop{'s' * (stopped == 1)}" if stopped else "none of which stops"
+    return f"{paths:,} paths, {ended}"
 
 
 def output_lines(patterns, most):

@@ -8,7 +8,8 @@ guest is bounded, random secrets of the cut's length are tried, 50 without the o
 model of `check` and have an output of the list, or its run must be stopped, break a region or not exit. Without regions
 and stops each must be accepted. The number of outputs must be within the budget.
 
-With an executable, its `bound` must answer as the model does, and its `check` of the same secrets.
+With an executable, its `bound` must answer as the model does, also where a bounded guest's cut lacks one of its points,
+and its `check` of the same secrets.
 
 Prints what the trials had, and last how many agree and differ. The files and words of those that differ are kept in a
 folder that is named; then the status is 1."""
@@ -23,7 +24,7 @@ from answers import USUAL_PATHS, read_words
 from bounds import Bounds, Task, stands_for
 from compare_measures import Folder, family, keep
 from compare_taints import spoilt
-from cuts import Cut, read_cut, read_regions, slot_order
+from cuts import Cut, point_order, read_cut, read_regions, slot_order
 from guest import Image
 from kept_guests import kept_trials
 from manys import Many
@@ -103,6 +104,25 @@ def bound_trial(seed):
     return files, ["bound", "program", "public", "cut", str(budget), *spelled(dice, options), *flags]
 
 
+def kind_of(bounds):
+    """The kind of an answer, without numbers."""
+    if not bounds.unclear:
+        return "bounded"
+    reason = bounds.unclear.split()[4:]
+    word = {"left": reason[3:4], "region": reason[2:3]}.get(reason[0], [])
+    return " ".join(["unclear", reason[0], *word])
+
+
+def lacking(seed, files, task):
+    """The files of a trial whose cut lacks one of its points; None where it has none."""
+    points = dict(task.cut.points)
+    if not points:
+        return None
+    del points[random.Random(f"lacking {seed}").choice(sorted(points, key=point_order))]
+    cut = Cut(task.cut.secret_length, task.cut.bits, task.cut.skip, points, task.cut.version)
+    return files | {"cut": cut.text().encode()}
+
+
 class Comparison:
     """A comparison of trials."""
 
@@ -112,12 +132,9 @@ class Comparison:
 
     def count(self, bounds):
         """Counts the answer of a trial."""
-        task, kind = bounds.task, "bounded"
-        if bounds.unclear:
-            reason = bounds.unclear.split()[4:]
-            word = {"left": reason[3:4], "region": reason[2:3]}.get(reason[0], [])
-            kind = " ".join(["unclear", reason[0], *word])
-        else:
+        task = bounds.task
+        self.counts[kind_of(bounds)] += 1
+        if not bounds.unclear:
             self.slots.update({family(point[2]) for point in task.cut.points})
             self.counts[f"bounded by table {task.table}"] += 1
             self.counts["bounded by several paths"] += bounds.paths > 1
@@ -129,7 +146,6 @@ class Comparison:
             self.counts["bounded with a skipped region"] += bool(set(task.cut.skip) & {
                 region.number for region in task.regions})
             self.counts["bounded without regions and stops"] += not task.regions and not bounds.stopped
-        self.counts[kind] += 1
 
     def secret_wrongs(self, bounds, secret, judged, real):
         """What is wrong with a secret of a bounded guest."""
@@ -192,6 +208,11 @@ class Comparison:
             texts, secrets, judgements = self.bounded_wrongs(name, bounds)
         if self.words.executable:
             texts += self.program_wrongs(files, words, bounds, secrets, judgements)
+        without = None if bounds.unclear else lacking(name, files, bounds.task)
+        if without:
+            less = Bounds(task_of(without, words))
+            self.counts[f"without a point: {kind_of(less)}"] += 1
+            texts += self.program_wrongs(without, words, less, [], []) if self.words.executable else []
         if texts:
             self.differing += 1
             self.folder = self.folder or pathlib.Path(tempfile.mkdtemp(prefix="flowcheck-bounds-"))
