@@ -17,6 +17,7 @@ pub mod OneLearning
 pub mod CutTexts
 pub mod OneUnion
 pub mod OneBound
+pub mod TableRules
 pub mod OneReply
 pub mod CompleteReplies
 pub mod HeldFiles
