@@ -2,9 +2,9 @@
 """wrong_bounds.py [--first SEED] [--count N]
 
 Makes N trials of `bound` (100 without the option) from this seed (1) on, those with cuts that lack a point, and those
-that were made by hand, with models that are wrong in one thing each. Prints for each in how many trials the answer is another than that of the right model,
-and in how many of them the secrets that compare_bounds.py tries refute it without the right model. Last it prints how
-many wrong models were told apart. Python 3 only."""
+that were made by hand, with models that are wrong in one thing each. Prints for each in how many trials the answer is
+another than that of the right model, and in how many of them the secrets that compare_bounds.py tries refute it without
+the right model. Last it prints how many wrong models were told apart. Python 3 only."""
 import argparse
 import collections
 import random
@@ -129,11 +129,11 @@ WRONG = [
     ("the first choice is always 0", lambda: patch.object(Walk, "choose", choose_first)),
     ("the highest bit is chosen first", lambda: patch.object(bounds, "places_of", lambda mask: places_of(mask)[::-1])),
     ("one path alone is walked", lambda: patch.object(bounds, "behind", lambda choices: None)),
-    ("a load has the mask of one byte", lambda: patch.object(TurnMasks, "load", load_one)),
-    ("a store changes the mask of one byte", lambda: patch.object(TurnMasks, "store", store_one)),
+    ("a load has the mask of one byte", lambda: patch.dict(bounds.FORMS, {"load": load_one})),
+    ("a store changes the mask of one byte", lambda: patch.dict(bounds.FORMS, {"store": store_one})),
     ("operands go on with the masks of their registers", lambda: patch.object(TurnMasks, "use", use_uncleared)),
     ("a public read leaves masks", lambda: patch.object(TurnMasks, "transfer", transfer_public)),
-    ("the answer of a call has a mask", lambda: patch.object(TurnMasks, "call", call_kept)),
+    ("the answer of a call has a mask", lambda: patch.dict(bounds.FORMS, {"call": call_kept})),
     ("code is not looked at", lambda: patch.object(TurnMasks, "look_at_code", lambda self: None)),
     ("bases are not looked at", lambda: patch.object(TurnMasks, "look_at_bases", lambda self, region: None)),
     ("free bits are not counted", lambda: patch.object(bounds, "free_bits", lambda pattern: 0)),
