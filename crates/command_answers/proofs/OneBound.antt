@@ -1,11 +1,10 @@
 -- A bound is one, and so are its number of outputs and the bits that suffice for them: so the answers to `bound` are one.
-use Rattle.std.proofs.Common.{◌≡◌, ◌∙◌, ◌≤◌, ℕ, Ok, refl, sym, ap, subst, arith}
+use Rattle.std.proofs.Common.{◌≡◌, ◌∙◌, ℕ, Ok, refl, sym, ap, arith}
 use Rattle.every_secret.specs.Bounds.{Answer as BoundAnswer, Found, IsBounded, IsLeastPower, IsUnclear}
-use Rattle.command_answers.specs.declared.replies.Reply.{Reply}
 use Rattle.command_answers.specs.declared.statuses.Status.TheVariants.{Done}
 use Rattle.command_answers.specs.AllSecrets.{AllSecretsTask, AnswersAllSecrets, AnswersBound, bound_of, bounded_text}
 use Rattle.command_answers.specs.Answers.{Answer}
-use Rattle.command_answers.specs.ReplyLaws.{CompletesBound, HasBound}
+use Rattle.command_answers.specs.ReplyLaws.{CompletesBound}
 use Rattle.command_answers.proofs.Readings.{status_of}
 
 one-power : (outputs a b : ℕ) → IsLeastPower outputs a → IsLeastPower outputs b → a ≡ b

@@ -4,9 +4,10 @@ ghost use Rattle.command_answers.specs.Statuses.{number_of};
 /// What a command line is answered by, beside its text.
 #[derive(Clone, Copy, Debug, PartialEq, Eq)]
 pub enum Status {
-    /// The command is done; of secrets, all are accepted or clean; of a certificate, it is verified.
+    /// The command is done; of secrets, all are accepted or clean; of a bound, it is known; of a certificate, it is
+    /// verified.
     Done,
-    /// Some secret is rejected or unclear, or the certificate is rejected.
+    /// Some secret is rejected or unclear, a path of a bound is unclear, or the certificate is rejected.
     Rejected,
     /// The words are no command line.
     Usage,
