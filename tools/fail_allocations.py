@@ -105,7 +105,6 @@ def command_lines():
     for name in "low", "branch", "count", "table":
         yield 0, ["check", name, "none", f"{name}.cut", "64", "secret"]
         yield 0, ["taint", name, "none", f"{name}.cut", "64", "secret"]
-        yield 0, ["bound", name, "none", f"{name}.cut", "64", "--list"]
         yield 0, ["measure-all", name, "none", "secret", "other"]
         for words in ["measure"], ["graph"], ["report"]:
             yield 0, [*words, name, "none", "secret"]
@@ -127,6 +126,8 @@ def command_lines():
     yield 0, ["trial", "6"]
     yield 1, ["check", "branch", "none", "no_cut", "0", "secret", "other"]
     yield 1, ["taint", "branch", "none", "no_cut", "0", "secret", "other"]
+    for name in "low", "branch":
+        yield 0, ["bound", name, "none", f"{name}.cut", "64", "--list"]
     yield 1, ["bound", "branch", "none", "no_cut", "0"]
     yield 1, ["bound", "low", "none", "low.cut", "64", "--paths", "1"]
     yield 2, ["measure", "low", "none"]
