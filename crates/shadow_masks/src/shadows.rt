@@ -64,6 +64,18 @@ fn no_pages(alloc: Global, count: usize) -> Result<Vec<Option<Page>>, NoMemory>
     Ok(pages)
 }
 
+/// Gives back each page that was made.
+fn give_back_pages(pages: &mut Vec<Option<Page>>)
+    ensures length { length pages.new.items ≡ length pages.old.items }
+    ensures none { (number : ℕ) → page_at pages.new.items number ≡ None }
+{
+    for number in 0..pages.len() {
+        if pages[number].is_some() {
+            pages[number] = None;
+        }
+    }
+}
+
 impl Shadow {
     /// All labels clean, those that are kept too, of a guest whose memory begins at an address and ends at 2^32 or
     /// below. Its error is want of memory.
@@ -78,6 +90,24 @@ impl Shadow {
             pages: no_pages(alloc, 4096)?,
             alloc,
         })
+    }
+
+    /// The same in the place of another, whose pages are given back. It takes no memory, and no more time than a look
+    /// at the place of each page and the pages that were made.
+    pub fn new_in(place: Shadow, base: u32) -> Shadow
+        requires { base + memory_size ≤ 2 ^ 32 }
+        ensures { IsNew base result }
+    {
+        let Shadow { pages, alloc, .. } = place;
+        let mut pages = pages;
+        give_back_pages(&mut pages);
+        Shadow {
+            registers: clean_labels(),
+            kept: clean_labels(),
+            base,
+            pages,
+            alloc,
+        }
     }
 
     /// Whether each of `count` bytes from an address on is one of guest memory; no bytes are inside anywhere.
