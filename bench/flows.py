@@ -1,7 +1,7 @@
 #!/usr/bin/env python3
 """flows.py PROGRAM [POINTS LINKS]
 
-Times the maximum flow of the built program flow_tables beside a plain Dinic in C++ and two solvers of Boost
+Times the maximum flow of the built program flow_rows beside a plain Dinic in C++ and two solvers of Boost
 (Boykov-Kolmogorov and push-relabel), on four kinds of graphs: random; local and forward, as runs make them; one chain;
 wide layers. The seconds are those of the solving alone: of PROGRAM, those of the whole command less those of a command
 that reads the same line with one more word, which makes it no graph. All four must find one value.
@@ -58,7 +58,7 @@ def main():
     program = str(pathlib.Path(sys.argv[1]).resolve())
     points, links = (int(word) for word in sys.argv[2:]) if len(sys.argv) == 4 else (65_536, 960_000)
     source = pathlib.Path(__file__).with_name("flows.cpp")
-    print(f"{'graph':10}{'links':>10}{'flow_tables':>13}{'dinic':>9}{'boykov-kolmogorov':>19}{'push-relabel':>14}")
+    print(f"{'graph':10}{'links':>10}{'flow_rows':>13}{'dinic':>9}{'boykov-kolmogorov':>19}{'push-relabel':>14}")
     with tempfile.TemporaryDirectory() as folder:
         peer = f"{folder}/flows"
         subprocess.run(["g++", "-O2", "-o", peer, str(source)], check=True)

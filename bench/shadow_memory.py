@@ -1,7 +1,7 @@
 #!/usr/bin/env python3
 """shadow_memory.py EXECUTABLE
 
-Measures the memory of a shadow by the pages that are at work in it: runs crates/shadow_runs on lines that label
+Measures the memory of a shadow by the pages that are at work in it: runs crates/shadow_rows on lines that label
 nothing, one byte in so many pages, many points in one page, and all of guest memory with one point, and then clear it.
 Prints for each the memory of the program's own (heap, stack and data; nothing of it is shared with other programs)
 once it has answered the last line, what that is for each page at work above a shadow of which nothing is labelled, and

@@ -3,7 +3,7 @@
 
 Prints on how many definitions of specs/ a statement stands, in how many files, and how many lines these have, and the
 same of the types of src/: what is read to know what it says. A NAME is a definition, as
-`lockstep_replay.specs.Acceptance.Accept`, or the contract of a function, as `command_answers::flowcheck`: all of its
+`lockstep_replay.specs.Acceptance.Accept`, or the contract of a function, as `commands::flowcheck`: all of its
 `requires` and `ensures`. Of several names the last line says it of all together. `--list` names what is counted.
 
 It reads the crates of the folder in which it is called. A definition stands on what its signature and its body name,

@@ -185,7 +185,7 @@ class Corpus:
         examples = HERE.parent / "examples"
         self.sources = [path.read_bytes() for path in examples.rglob("*.s")]
         self.lines = [line.split(" -> ")[0] for line in
-                      (HERE.parent / "crates" / "assembler_words" / "stdin").read_text().splitlines()]
+                      (HERE.parent / "crates" / "asm_rows" / "stdin").read_text().splitlines()]
         self.certificates = []
 
     def trial(self, dice, seed):

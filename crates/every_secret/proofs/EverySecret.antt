@@ -4,7 +4,7 @@ use Rattle.std.proofs.Common.{refl, sym, ap, ap₂, subst, ◌∙◌, arith}
 use Rattle.std.specs.Prelude.{◌==◌, if◌then◌else◌}
 use Rattle.std.specs.List.{AllByRecursion}
 use Rattle.crossing_bits.specs.Askers.{AllDifferent, Asker}
-use Rattle.covered_runs.specs.MeasuredLaws.{AreInputs}
+use Rattle.acceptance_law.specs.MeasuredLaws.{AreInputs}
 use Rattle.cut_file.specs.Cuts.{CutPicture, is_valid as is_valid_cut}
 use Rattle.elf32_loader.specs.Pictures.{Picture}
 use Rattle.enclosure_regions.specs.declared.region_parts.Region.{Region}

@@ -10,7 +10,7 @@ use Rattle.flow_base.specs.Words.{Agree, bits_under, patched}
 use Rattle.crossing_bits.proofs.Places.{agree_law, patched_bound}
 use Rattle.transfer_rules.specs.Table1.{flipped}
 use Rattle.transfer_rules.proofs.BitRules.{bit_flipped}
-use Rattle.covered_runs.proofs.AgreeOutsideMask.{agree_width, patched_uncrossed}
+use Rattle.acceptance_law.proofs.AgreeOutsideMask.{agree_width, patched_uncrossed}
 
 -- at a bit that crosses it is that of the value whose bits cross
 taken_bit : (c r y i : ℕ) → r < 2 ^ 32 → y < 2 ^ 32 → c < 2 ^ 32 → i < 32 → bit_at c i ≡ 1 →

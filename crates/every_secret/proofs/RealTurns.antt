@@ -23,8 +23,8 @@ use Rattle.lockstep_replay.specs.Crossing.{crossing, crossing_of, crossing_unles
 use Rattle.lockstep_replay.specs.Tasks.{Task, common_of, enclosed_of, real_of, real_start}
 use Rattle.lockstep_replay.proofs.RunsGrow.{common_exposed, real_next}
 use Rattle.lockstep_replay.proofs.Stillness.{real_later, unbroken_before}
-use Rattle.covered_runs.proofs.RunFacts.{kind_setting, state_parts}
-use Rattle.covered_runs.proofs.StepsKeepStanding.{state_of}
+use Rattle.acceptance_law.proofs.RunFacts.{kind_setting, state_parts}
+use Rattle.acceptance_law.proofs.StepsKeepStanding.{state_of}
 
 -- ---- regions that are listed
 

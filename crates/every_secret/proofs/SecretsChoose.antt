@@ -24,13 +24,13 @@ use Rattle.replay_machine.specs.Runs.{Replay, replay_fresh}
 use Rattle.lockstep_replay.specs.Crossing.{cross_after}
 use Rattle.lockstep_replay.specs.Tasks.{Limits, Task, real_of, real_start, replay_start, task_of}
 use Rattle.shadow_masks.specs.Writes.{default_map}
-use Rattle.covered_runs.specs.Proper.{AreBytes}
-use Rattle.covered_runs.specs.ProperLaws.{ProperTurnsLaw}
-use Rattle.covered_runs.proofs.CoveredRunAccepted.{length_zeros, zero_bytes}
-use Rattle.covered_runs.proofs.ProperRows.{proper_law}
-use Rattle.covered_runs.proofs.ProperStarts.{guest_start_law}
-use Rattle.covered_runs.proofs.StepsKeepStanding.{state_of}
-use Rattle.covered_runs.proofs.TurnKinds.{enters_outside, inside_turn, leaves_inside, numbered_id, numbered_rules, steps_inside}
+use Rattle.acceptance_law.specs.Proper.{AreBytes}
+use Rattle.acceptance_law.specs.ProperLaws.{ProperTurnsLaw}
+use Rattle.acceptance_law.proofs.CoveredRunAccepted.{length_zeros, zero_bytes}
+use Rattle.acceptance_law.proofs.ProperRows.{proper_law}
+use Rattle.acceptance_law.proofs.ProperStarts.{guest_start_law}
+use Rattle.acceptance_law.proofs.StepsKeepStanding.{state_of}
+use Rattle.acceptance_law.proofs.TurnKinds.{enters_outside, inside_turn, leaves_inside, numbered_id, numbered_rules, steps_inside}
 use Rattle.masked_turns.proofs.CutNumbers.{small_masks, valid_skip}
 use Rattle.masked_turns.proofs.OutsideMasks.{AreSmall}
 use Rattle.masked_turns.proofs.RunsBegin.{begins_beside}

@@ -25,15 +25,15 @@ use Rattle.shadow_masks.specs.Labels.{clean}
 use Rattle.shadow_masks.specs.Shades.{is_listed}
 use Rattle.shadow_masks.specs.Writes.{LabelMap, Save, after}
 use Rattle.run_labels.specs.TurnLabels.{TurnLabels, at_start, label_at, put_label, restore_labels}
-use Rattle.covered_runs.specs.Proper.{place_limit}
-use Rattle.covered_runs.proofs.Entering.{SameStarts}
-use Rattle.covered_runs.proofs.Leaving.{KeptBeside, kept_same, outputs_are, put_back, restored_beside, same_outputs}
-use Rattle.covered_runs.proofs.Leaving.{zero_unlisted}
-use Rattle.covered_runs.proofs.Outputs.{IsAmong, OfByte, OfRegister, Output, Waits, given, output_place}
-use Rattle.covered_runs.proofs.RegionOutputsPass.{Waiting, gives_given, outputs_of, register_outputs, waiting_of}
-use Rattle.covered_runs.proofs.Skipping.{cleared, cleared_among, cleared_kept, skip_zeroed, zeroed, zeroed_replayed}
-use Rattle.covered_runs.proofs.SkipsKeepRelation.{SkippedTo, skip_waiting}
-use Rattle.covered_runs.proofs.WritesKeepRelation.{Beside, put_label_kept, put_label_limits}
+use Rattle.acceptance_law.specs.Proper.{place_limit}
+use Rattle.acceptance_law.proofs.Entering.{SameStarts}
+use Rattle.acceptance_law.proofs.Leaving.{KeptBeside, kept_same, outputs_are, put_back, restored_beside, same_outputs}
+use Rattle.acceptance_law.proofs.Leaving.{zero_unlisted}
+use Rattle.acceptance_law.proofs.Outputs.{IsAmong, OfByte, OfRegister, Output, Waits, given, output_place}
+use Rattle.acceptance_law.proofs.RegionOutputsPass.{Waiting, gives_given, outputs_of, register_outputs, waiting_of}
+use Rattle.acceptance_law.proofs.Skipping.{cleared, cleared_among, cleared_kept, skip_zeroed, zeroed, zeroed_replayed}
+use Rattle.acceptance_law.proofs.SkipsKeepRelation.{SkippedTo, skip_waiting}
+use Rattle.acceptance_law.proofs.WritesKeepRelation.{Beside, put_label_kept, put_label_limits}
 use Rattle.masked_turns.specs.Clearing.{Cutting}
 use Rattle.masked_turns.proofs.OutsideMasks.{AreSmall, everything}
 use Rattle.every_secret.specs.Masked.{Reached, masked}

@@ -22,16 +22,16 @@ use Rattle.run_labels.specs.TurnLabels.{TurnLabels, label_at, put_label}
 use Rattle.shadow_masks.specs.Pages.{label_of}
 use Rattle.shadow_masks.specs.Points.{nowhere}
 use Rattle.transfer_rules.specs.Table1.{flipped}
-use Rattle.covered_runs.specs.Proper.{place_limit}
-use Rattle.covered_runs.proofs.AgreeOutsideMask.{patched_uncrossed}
-use Rattle.covered_runs.proofs.Outputs.{Output, OfRegister, OfByte, output_place, output_slot, IsOutput, AreOutputs, given}
-use Rattle.covered_runs.proofs.Outputs.{waits_put}
-use Rattle.covered_runs.proofs.Passings.{patched_slot, slot_agree, slot_word}
-use Rattle.covered_runs.proofs.RegionOutputsPass.{Waiting, beside_of, is_place, output_width}
-use Rattle.covered_runs.proofs.Turns.{feed_bits, label_of_limit}
-use Rattle.covered_runs.proofs.WritesKeepRelation.{Beside, fresh_beside, put_beside, put_kept, put_limits, put_label_limits}
-use Rattle.covered_runs.proofs.WritesKeepRelation.{put_label_kept}
-use Rattle.covered_runs.proofs.WritesKeepRelation.{put_memory, put_registers}
+use Rattle.acceptance_law.specs.Proper.{place_limit}
+use Rattle.acceptance_law.proofs.AgreeOutsideMask.{patched_uncrossed}
+use Rattle.acceptance_law.proofs.Outputs.{Output, OfRegister, OfByte, output_place, output_slot, IsOutput, AreOutputs, given}
+use Rattle.acceptance_law.proofs.Outputs.{waits_put}
+use Rattle.acceptance_law.proofs.Passings.{patched_slot, slot_agree, slot_word}
+use Rattle.acceptance_law.proofs.RegionOutputsPass.{Waiting, beside_of, is_place, output_width}
+use Rattle.acceptance_law.proofs.Turns.{feed_bits, label_of_limit}
+use Rattle.acceptance_law.proofs.WritesKeepRelation.{Beside, fresh_beside, put_beside, put_kept, put_limits, put_label_limits}
+use Rattle.acceptance_law.proofs.WritesKeepRelation.{put_label_kept}
+use Rattle.acceptance_law.proofs.WritesKeepRelation.{put_memory, put_registers}
 use Rattle.masked_turns.specs.Clearing.{Cutting, output_mask, uncrossed}
 use Rattle.masked_turns.proofs.OutsideMasks.{AreSmall, close_of, everything}
 use Rattle.every_secret.specs.declared.shown.Shown.TheVariants.{Nothing}

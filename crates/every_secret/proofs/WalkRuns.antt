@@ -28,10 +28,10 @@ use Rattle.lockstep_replay.proofs.RunsGrow.{IsAt, at_enclosed, common_enclosed, 
 use Rattle.lockstep_replay.proofs.RunsGrow.{cross_next, fed_next}
 use Rattle.shadow_masks.specs.Writes.{LabelMap}
 use Rattle.run_labels.specs.Runs.{stopped_fault}
-use Rattle.covered_runs.specs.Proper.{AreBytes}
-use Rattle.covered_runs.specs.ProperLaws.{ProperTurnsLaw}
-use Rattle.covered_runs.proofs.CoveredRunAccepted.{end_alike, same_fed}
-use Rattle.covered_runs.proofs.StepsKeepStanding.{placed, state_of}
+use Rattle.acceptance_law.specs.Proper.{AreBytes}
+use Rattle.acceptance_law.specs.ProperLaws.{ProperTurnsLaw}
+use Rattle.acceptance_law.proofs.CoveredRunAccepted.{end_alike, same_fed}
+use Rattle.acceptance_law.proofs.StepsKeepStanding.{placed, state_of}
 use Rattle.masked_turns.proofs.OutsideMasks.{AreSmall}
 use Rattle.every_secret.specs.declared.path_ends.PathEnd.{PathEnd}
 use Rattle.every_secret.specs.declared.path_ends.PathEnd.TheVariants.{Exits, Stops, Unclear}

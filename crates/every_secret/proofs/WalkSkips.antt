@@ -26,17 +26,17 @@ use Rattle.lockstep_replay.specs.Crossing.{crossing}
 use Rattle.lockstep_replay.specs.Tasks.{Task}
 use Rattle.shadow_masks.specs.Writes.{LabelMap, Save, after}
 use Rattle.run_labels.specs.TurnLabels.{at_start}
-use Rattle.covered_runs.specs.Proper.{AreBytes, IsGuest, IsProper}
-use Rattle.covered_runs.specs.ProperLaws.{ProperTurnsLaw}
-use Rattle.covered_runs.proofs.Entering.{SameStarts, entry_end, outside_same}
-use Rattle.covered_runs.proofs.RegionTurns.{leave_end, left_break, left_region, ranges_unbroken}
-use Rattle.covered_runs.proofs.SkippedTurns.{entered_break, entered_mode, entered_to, region_of_entered, same_control}
-use Rattle.covered_runs.proofs.SkippedTurns.{same_inside_later, same_inside_refl}
-use Rattle.covered_runs.proofs.QuietInsideRegions.{SameInside, step_quiet}
-use Rattle.covered_runs.proofs.Unchanged.{declared}
-use Rattle.covered_runs.proofs.SkipsKeepRelation.{SkippedTo}
-use Rattle.covered_runs.proofs.StepsKeepStanding.{HasRules, placed, state_of}
-use Rattle.covered_runs.proofs.WritesKeepRelation.{Beside}
+use Rattle.acceptance_law.specs.Proper.{AreBytes, IsGuest, IsProper}
+use Rattle.acceptance_law.specs.ProperLaws.{ProperTurnsLaw}
+use Rattle.acceptance_law.proofs.Entering.{SameStarts, entry_end, outside_same}
+use Rattle.acceptance_law.proofs.RegionTurns.{leave_end, left_break, left_region, ranges_unbroken}
+use Rattle.acceptance_law.proofs.SkippedTurns.{entered_break, entered_mode, entered_to, region_of_entered, same_control}
+use Rattle.acceptance_law.proofs.SkippedTurns.{same_inside_later, same_inside_refl}
+use Rattle.acceptance_law.proofs.QuietInsideRegions.{SameInside, step_quiet}
+use Rattle.acceptance_law.proofs.Unchanged.{declared}
+use Rattle.acceptance_law.proofs.SkipsKeepRelation.{SkippedTo}
+use Rattle.acceptance_law.proofs.StepsKeepStanding.{HasRules, placed, state_of}
+use Rattle.acceptance_law.proofs.WritesKeepRelation.{Beside}
 use Rattle.masked_turns.proofs.GuestStates.{guest_within}
 use Rattle.masked_turns.proofs.OutsideMasks.{AreSmall, everything}
 use Rattle.masked_turns.proofs.RegionsKeepStanding.{stands_left}

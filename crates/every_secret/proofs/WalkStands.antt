@@ -28,15 +28,15 @@ use Rattle.lockstep_replay.specs.Tasks.{Task}
 use Rattle.lockstep_replay.specs.Verdicts.{counted_bits}
 use Rattle.shadow_masks.specs.Writes.{LabelMap, Save, after}
 use Rattle.run_labels.specs.TurnLabels.{at_start}
-use Rattle.covered_runs.specs.Proper.{AreBytes, IsGuest, IsProper}
-use Rattle.covered_runs.specs.ProperLaws.{ProperTurnsLaw}
-use Rattle.covered_runs.proofs.StepsKeepStanding.{HasRules, InsideBeside, Stands, kept_moved, placed, state_of}
-use Rattle.covered_runs.proofs.Entering.{SameStarts, entry_crossing, entry_end, entry_passed, entry_replayed, outside_same}
-use Rattle.covered_runs.proofs.RegionTurns.{leave_end, left_break, left_region, ranges_unbroken}
+use Rattle.acceptance_law.specs.Proper.{AreBytes, IsGuest, IsProper}
+use Rattle.acceptance_law.specs.ProperLaws.{ProperTurnsLaw}
+use Rattle.acceptance_law.proofs.StepsKeepStanding.{HasRules, InsideBeside, Stands, kept_moved, placed, state_of}
+use Rattle.acceptance_law.proofs.Entering.{SameStarts, entry_crossing, entry_end, entry_passed, entry_replayed, outside_same}
+use Rattle.acceptance_law.proofs.RegionTurns.{leave_end, left_break, left_region, ranges_unbroken}
 use Rattle.masked_turns.specs.declared.uses.SecretLook.TheVariants.{BaseRegister}
 use Rattle.masked_turns.specs.Clearing.{Cutting}
-use Rattle.covered_runs.proofs.Unchanged.{EndsProper}
-use Rattle.covered_runs.proofs.WritesKeepRelation.{Beside, close_equal}
+use Rattle.acceptance_law.proofs.Unchanged.{EndsProper}
+use Rattle.acceptance_law.proofs.WritesKeepRelation.{Beside, close_equal}
 use Rattle.masked_turns.proofs.GuestStates.{guest_within}
 use Rattle.masked_turns.proofs.OutsideMasks.{AreSmall, everything}
 use Rattle.masked_turns.proofs.RegionsKeepStanding.{stands_entered, stands_left}

@@ -9,7 +9,7 @@ use Rattle.flow_base.specs.Words.{patched}
 use Rattle.crossing_bits.specs.Askers.{Asker, Over, then_ask}
 use Rattle.cut_file.specs.declared.points.CutPoint.{CutPoint}
 use Rattle.cut_file.specs.Masks.{MaskAt, listed_mask, mask_of}
-use Rattle.covered_runs.proofs.Passings.{slot_word}
+use Rattle.acceptance_law.proofs.Passings.{slot_word}
 use Rattle.lockstep_replay.specs.Tasks.{Limits, Task, replay_start}
 use Rattle.masked_turns.specs.Clearing.{Cutting, crossing_at, passing_mask}
 use Rattle.masked_turns.specs.Deciding.{left_at}

@@ -5,7 +5,7 @@ use Rattle.cut_file.specs.Cuts.{CutPicture, is_valid as is_valid_cut}
 use Rattle.elf32_loader.specs.Pictures.{Picture}
 use Rattle.enclosure_regions.specs.declared.region_parts.Region.{Region}
 use Rattle.flow_base.specs.declared.outputs.Output.{Output}
-use Rattle.covered_runs.specs.MeasuredLaws.{AreInputs}
+use Rattle.acceptance_law.specs.MeasuredLaws.{AreInputs}
 use Rattle.lockstep_replay.specs.Acceptance.{Accept, HasExited}
 use Rattle.lockstep_replay.specs.Tasks.{Limits, Task, real_of, task_of}
 use Rattle.every_secret.specs.declared.path_ends.PathEnd.{PathEnd}

@@ -10,7 +10,7 @@ ghost use Rattle.every_secret.specs.Rules.{AnswerAs, AreSoundRules, Rules};
 use crate::afresh::Walks;
 use crate::bounding::walk_all;
 use crate::verdicts::BoundVerdict;
-use covered_runs::{tell_cut, tell_inputs};
+use acceptance_law::{tell_cut, tell_inputs};
 use cut_file::Cut;
 use elf32_loader::Image;
 use enclosure_regions::{Regions, copy_regions};

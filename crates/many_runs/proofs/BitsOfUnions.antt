@@ -14,7 +14,7 @@ use Rattle.flow_base.specs.Words.{bit_count, count_below}
 use Rattle.flow_graph.specs.declared.events.Event.{Event}
 use Rattle.flow_graph.specs.declared.events.Event.TheVariants.{Pass, Link, FromSecret, Implicit, Out}
 use Rattle.flow_graph.specs.EventGraphs.{bits_at, has_passed, passed}
-use Rattle.covered_runs.specs.RunCuts.{mask_at_event, visit_masks}
+use Rattle.acceptance_law.specs.RunCuts.{mask_at_event, visit_masks}
 use Rattle.many_runs.specs.Uniting.{joined, joined_masks}
 
 -- ---- the bits of a union

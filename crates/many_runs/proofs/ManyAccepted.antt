@@ -14,14 +14,14 @@ use Rattle.flow_graph.specs.declared.events.Event.{Event}
 use Rattle.lockstep_replay.specs.Acceptance.{Accept}
 use Rattle.lockstep_replay.specs.Tasks.{task_of}
 use Rattle.region_machine.specs.Starts.{guest}
-use Rattle.covered_runs.specs.ClosedEvents.{AreProperEvents}
-use Rattle.covered_runs.specs.MeasuredLaws.{AreInputs, IsWholeRun}
-use Rattle.covered_runs.specs.RunCuts.{IsCutOf, names_point}
-use Rattle.covered_runs.specs.Sides.{named_side}
-use Rattle.covered_runs.proofs.CutMeasured.{valid-slots}
-use Rattle.covered_runs.proofs.CutVisits.{like-itself, mask-missing}
-use Rattle.covered_runs.proofs.ProperRuns.{proper_events_law}
-use Rattle.covered_runs.proofs.ProperStarts.{guest_start_law}
+use Rattle.acceptance_law.specs.ClosedEvents.{AreProperEvents}
+use Rattle.acceptance_law.specs.MeasuredLaws.{AreInputs, IsWholeRun}
+use Rattle.acceptance_law.specs.RunCuts.{IsCutOf, names_point}
+use Rattle.acceptance_law.specs.Sides.{named_side}
+use Rattle.acceptance_law.proofs.CutMeasured.{valid-slots}
+use Rattle.acceptance_law.proofs.CutVisits.{like-itself, mask-missing}
+use Rattle.acceptance_law.proofs.ProperRuns.{proper_events_law}
+use Rattle.acceptance_law.proofs.ProperStarts.{guest_start_law}
 use Rattle.many_runs.specs.declared.many.Many.{Many}
 use Rattle.many_runs.specs.Accepting.{AreAcceptedByFolds, AreAcceptedByTheCut, IsAcceptedBy}
 use Rattle.many_runs.specs.Measures.{AreRunsOn, HaveLength, MeasuresAll, Setup, first_length}

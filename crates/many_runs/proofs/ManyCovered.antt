@@ -28,19 +28,19 @@ use Rattle.region_machine.proofs.Stillness.{IsOver}
 use Rattle.replay_machine.specs.Runs.{Masks}
 use Rattle.rv32im_machine.specs.declared.stepping.Stepped.{Stepped}
 use Rattle.rv32im_machine.specs.declared.stepping.Stepped.TheVariants.{Ran, Exited, Stopped}
-use Rattle.covered_runs.specs.ClosedEvents.{AreProperEvents, IsClosedFor, IsClosedLink, IsProperEvent}
-use Rattle.covered_runs.specs.Covers.{AreContained, IsContained, IsWithin, past_after}
-use Rattle.covered_runs.specs.Laws.{IsMeasured}
-use Rattle.covered_runs.specs.MeasuredLaws.{AreInputs, IsWholeRun, labelled_run}
-use Rattle.covered_runs.specs.RunCuts.{IsCutOf, is_inner, visit_masks}
-use Rattle.covered_runs.specs.Sides.{NamedSide, is_split, named_side}
-use Rattle.covered_runs.proofs.CoveredRuns.{covered_law}
-use Rattle.covered_runs.proofs.CutVisits.{Counts, IsLike, counts-more, visit_masks-append}
-use Rattle.covered_runs.proofs.GraphEvents.{same-itself}
-use Rattle.covered_runs.proofs.GraphSides.{side-closed, side-outside}
+use Rattle.acceptance_law.specs.ClosedEvents.{AreProperEvents, IsClosedFor, IsClosedLink, IsProperEvent}
+use Rattle.acceptance_law.specs.Covers.{AreContained, IsContained, IsWithin, past_after}
+use Rattle.acceptance_law.specs.Laws.{IsMeasured}
+use Rattle.acceptance_law.specs.MeasuredLaws.{AreInputs, IsWholeRun, labelled_run}
+use Rattle.acceptance_law.specs.RunCuts.{IsCutOf, is_inner, visit_masks}
+use Rattle.acceptance_law.specs.Sides.{NamedSide, is_split, named_side}
+use Rattle.acceptance_law.proofs.CoveredRuns.{covered_law}
+use Rattle.acceptance_law.proofs.CutVisits.{Counts, IsLike, counts-more, visit_masks-append}
+use Rattle.acceptance_law.proofs.GraphEvents.{same-itself}
+use Rattle.acceptance_law.proofs.GraphSides.{side-closed, side-outside}
 use Rattle.many_runs.specs.Uniting.{IsUnited, joined_masks}
-use Rattle.covered_runs.proofs.ProperRuns.{proper_events_law}
-use Rattle.covered_runs.proofs.ProperStarts.{guest_start_law}
+use Rattle.acceptance_law.proofs.ProperRuns.{proper_events_law}
+use Rattle.acceptance_law.proofs.ProperStarts.{guest_start_law}
 use Rattle.many_runs.proofs.MasksOfRuns.{IsPartOf, joined-fits}
 use Rattle.many_runs.proofs.PastBits.{cross-bits}
 use Rattle.many_runs.proofs.RunPasts.{runs-beside}

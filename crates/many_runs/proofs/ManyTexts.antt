@@ -6,10 +6,10 @@ use Rattle.cut_file.proofs.TextLengths.{text-short}
 use Rattle.cut_file.specs.Cuts.{CutPicture, is_valid}
 use Rattle.cut_file.specs.Pictures.{picture_of}
 use Rattle.cut_file.specs.TextLengths.{byte_bound, listed_runs}
-use Rattle.covered_runs.specs.RunCuts.{IsCutOf}
-use Rattle.covered_runs.specs.RunLaws.{HasFewRuns}
-use Rattle.covered_runs.specs.Sides.{named_side}
-use Rattle.covered_runs.proofs.FewRuns.{few_runs_law}
+use Rattle.acceptance_law.specs.RunCuts.{IsCutOf}
+use Rattle.acceptance_law.specs.RunLaws.{HasFewRuns}
+use Rattle.acceptance_law.specs.Sides.{named_side}
+use Rattle.acceptance_law.proofs.FewRuns.{few_runs_law}
 use Rattle.measuring.proofs.ShortTexts.{skip-few}
 use Rattle.many_runs.specs.declared.many.Many.{Many}
 use Rattle.many_runs.specs.Accepting.{HasShortText}

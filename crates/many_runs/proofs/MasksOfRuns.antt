@@ -21,10 +21,10 @@ use Rattle.flow_graph.specs.declared.events.Event.{Event}
 use Rattle.flow_graph.specs.declared.events.Event.TheVariants.{Pass, Link, FromSecret, Implicit, Out}
 use Rattle.flow_graph.specs.declared.named_links.NamedLink.{NamedLink}
 use Rattle.flow_graph.specs.EventGraphs.{is_among, named_links}
-use Rattle.covered_runs.specs.ClosedEvents.{AreProperEvents}
-use Rattle.covered_runs.specs.Covers.{IsWithin}
-use Rattle.covered_runs.specs.RunCuts.{visit_masks}
-use Rattle.covered_runs.proofs.GraphEvents.{all-append, all_more}
+use Rattle.acceptance_law.specs.ClosedEvents.{AreProperEvents}
+use Rattle.acceptance_law.specs.Covers.{IsWithin}
+use Rattle.acceptance_law.specs.RunCuts.{visit_masks}
+use Rattle.acceptance_law.proofs.GraphEvents.{all-append, all_more}
 use Rattle.many_runs.specs.Uniting.{all_links, joined, joined_masks}
 
 -- ---- at each visit

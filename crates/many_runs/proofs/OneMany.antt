@@ -1,8 +1,8 @@
 -- Where the table decides, several runs have one measure, but for the flow, or one cause not to be measured.
 use Rattle.std.proofs.Common.{◌≡◌, ◌≢◌, ℕ, ◌+◌, ◌≤◌, ◌∷◌, [], List, length, refl, sym, ap, ap₂, ◌∙◌, subst, arith}
 use Rattle.std.specs.List.{AllByRecursion}
-use Rattle.covered_runs.specs.Sides.{named_side}
-use Rattle.covered_runs.proofs.GraphEvents.{all-parts}
+use Rattle.acceptance_law.specs.Sides.{named_side}
+use Rattle.acceptance_law.proofs.GraphEvents.{all-parts}
 use Rattle.cut_file.specs.Pictures.{picture_of}
 use Rattle.flow_graph.specs.declared.events.Event.{Event}
 use Rattle.flow_graph.specs.declared.graphs.Graph.{Graph}

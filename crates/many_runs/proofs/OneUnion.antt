@@ -2,8 +2,8 @@
 use Rattle.std.proofs.Common.{◌≡◌, ◌≢◌, ℕ, ◌≤◌, ◌^◌, ◌==◌, ◌∷◌, [], not, List, length, refl, sym, ap, ◌∙◌}
 use Rattle.std.proofs.Common.{subst, inl, inr, arith}
 use Rattle.std.specs.List.{AllByRecursion, sum_by}
-use Rattle.covered_runs.specs.RunCuts.{HasVisitMasks, IsCutOf, united, visit_masks}
-use Rattle.covered_runs.specs.Sides.{NamedSide}
+use Rattle.acceptance_law.specs.RunCuts.{HasVisitMasks, IsCutOf, united, visit_masks}
+use Rattle.acceptance_law.specs.Sides.{NamedSide}
 use Rattle.cut_file.specs.declared.points.CutPoint.{CutPoint}
 use Rattle.cut_file.specs.declared.points.Run.{Run}
 use Rattle.cut_file.specs.Cuts.{CutPicture}

@@ -28,7 +28,7 @@ use Rattle.std.proofs.lemmas.List.Folds.{list_any-append}
 use Rattle.flow_base.specs.declared.points.Point.{Point}
 use Rattle.flow_graph.specs.declared.named_links.NamedLink.{NamedLink}
 use Rattle.flow_graph.specs.EventGraphs.{is_among, named_links}
-use Rattle.covered_runs.specs.RunCuts.{visit_masks}
+use Rattle.acceptance_law.specs.RunCuts.{visit_masks}
 
 pub exit-exceeds : (table : ℕ) (regions : List Region) (start : LabelledRun) (limit : ℕ) (exit : Exit) →
     HasEnded table regions start limit exit → exit.recording.collapse.is_full ≡ true →

@@ -20,12 +20,12 @@ use Rattle.run_labels.specs.Runs.{IsUnrefused, broken_fault, enclosing, next_wal
 use Rattle.run_labels.specs.TurnLabels.{TurnLabels, at_start}
 use Rattle.rv32im_machine.specs.Folds.{real_end}
 use Rattle.rv32im_machine.specs.Language.{Walk}
-use Rattle.covered_runs.specs.ClosedEvents.{AreProperEvents, IsProperEvent}
-use Rattle.covered_runs.specs.RunCuts.{visit_masks}
-use Rattle.covered_runs.proofs.CutVisits.{visit_masks-append}
-use Rattle.covered_runs.proofs.GraphEvents.{all-parts}
-use Rattle.covered_runs.proofs.PastsOfEvents.{events_past, pasts}
-use Rattle.covered_runs.proofs.Turns.{first-none}
+use Rattle.acceptance_law.specs.ClosedEvents.{AreProperEvents, IsProperEvent}
+use Rattle.acceptance_law.specs.RunCuts.{visit_masks}
+use Rattle.acceptance_law.proofs.CutVisits.{visit_masks-append}
+use Rattle.acceptance_law.proofs.GraphEvents.{all-parts}
+use Rattle.acceptance_law.proofs.PastsOfEvents.{events_past, pasts}
+use Rattle.acceptance_law.proofs.Turns.{first-none}
 
 -- ---- the visits of events
 

@@ -11,7 +11,7 @@ use Rattle.flow_graph.specs.declared.named_links.NamedEnd.TheVariants.{Source, A
 use Rattle.flow_graph.specs.declared.named_links.NamedLink.{NamedLink}
 use Rattle.flow_graph.specs.EventGraphs.{is_among, link_cmp}
 use Rattle.flow_graph.proofs.LinksByIndex.{named_end_cmp}
-use Rattle.covered_runs.proofs.GraphSides.{link-itself}
+use Rattle.acceptance_law.proofs.GraphSides.{link-itself}
 
 end-one : (s t : NamedEnd) → named_end_cmp s t ≡ Equal → s ≡ t
 end-one Source Source e = refl

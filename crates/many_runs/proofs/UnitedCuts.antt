@@ -23,11 +23,11 @@ use Rattle.flow_graph.proofs.MaskBitCounts.{bit_count-zero}
 use Rattle.max_flow.specs.declared.answers.Half.{Half}
 use Rattle.max_flow.specs.Flows.{IsSideOf, has_first, side_capacity}
 use Rattle.replay_machine.specs.Runs.{Masks, mask_at, times_passed}
-use Rattle.covered_runs.specs.RunCuts.{mask_at_event, HasVisitMasks, IsCutOf, is_inner, names_point, visit_masks}
-use Rattle.covered_runs.specs.Sides.{NamedSide, halves_at, is_split, named_side}
-use Rattle.covered_runs.proofs.CutVisits.{IsLike, like-exact}
-use Rattle.covered_runs.proofs.GraphCapacities.{capacity_law}
-use Rattle.covered_runs.proofs.PastsOfEvents.{pasts}
+use Rattle.acceptance_law.specs.RunCuts.{mask_at_event, HasVisitMasks, IsCutOf, is_inner, names_point, visit_masks}
+use Rattle.acceptance_law.specs.Sides.{NamedSide, halves_at, is_split, named_side}
+use Rattle.acceptance_law.proofs.CutVisits.{IsLike, like-exact}
+use Rattle.acceptance_law.proofs.GraphCapacities.{capacity_law}
+use Rattle.acceptance_law.proofs.PastsOfEvents.{pasts}
 use Rattle.many_runs.proofs.BitsOfUnions.{visit-bits}
 use Rattle.many_runs.proofs.PastBits.{past-more, past-none, past_bits}
 use Rattle.many_runs.proofs.RunPasts.{HaveSlots, times-pasts}

@@ -20,9 +20,9 @@ use Rattle.flow_graph.specs.Keeping.{is_known, is_sound, is_there, may_lead}
 use Rattle.flow_graph.specs.Keeping.{Keeps as KeepsGraph}
 use Rattle.flow_graph.proofs.KeptAfterEvent.{known-same}
 use Rattle.flow_graph.proofs.KeptAfterEvent.{all_more as sound_more}
-use Rattle.covered_runs.specs.RunCuts.{visit_masks}
-use Rattle.covered_runs.proofs.CutVisits.{visit_masks-append}
-use Rattle.covered_runs.proofs.GraphEvents.{all-append}
+use Rattle.acceptance_law.specs.RunCuts.{visit_masks}
+use Rattle.acceptance_law.proofs.CutVisits.{visit_masks-append}
+use Rattle.acceptance_law.proofs.GraphEvents.{all-append}
 use Rattle.measuring.specs.declared.recordings.Recording.{Recording}
 use Rattle.many_runs.specs.Joining.{event_between, link_events, passes, passes_at, recorded_links, recorded_masks}
 use Rattle.many_runs.specs.Recordings.{AllKeep, Keeps}

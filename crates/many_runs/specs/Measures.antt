@@ -1,8 +1,8 @@
 -- What is measured of several runs together.
 use Rattle.std.specs.Prelude.{◌≡◌, ◌≤◌, ℕ, List, [], ◌∷◌, length}
 use Rattle.std.specs.List.{AllByRecursion}
-use Rattle.covered_runs.specs.RunCuts.{IsCutOf}
-use Rattle.covered_runs.specs.Sides.{named_side}
+use Rattle.acceptance_law.specs.RunCuts.{IsCutOf}
+use Rattle.acceptance_law.specs.Sides.{named_side}
 use Rattle.cut_file.specs.Pictures.{picture_of}
 use Rattle.elf32_loader.specs.Pictures.{Picture}
 use Rattle.enclosure_regions.specs.declared.region_parts.Region.{Region}

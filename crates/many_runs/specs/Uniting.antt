@@ -4,7 +4,7 @@ use Rattle.flow_base.specs.declared.points.Point.{Point}
 use Rattle.flow_graph.specs.declared.events.Event.{Event}
 use Rattle.flow_graph.specs.declared.named_links.NamedLink.{NamedLink}
 use Rattle.flow_graph.specs.EventGraphs.{is_among, named_links}
-use Rattle.covered_runs.specs.RunCuts.{visit_masks}
+use Rattle.acceptance_law.specs.RunCuts.{visit_masks}
 
 -- the masks of a point in two runs, visit by visit: the bits that either has, and where the one has no visit any more,
 -- those of the other

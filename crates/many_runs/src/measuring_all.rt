@@ -1,6 +1,6 @@
 ghost use Rattle.std.specs.Prelude.{◌≡◌, ◌<◌, ◌≤◌, IfErr, IfOk, length, true};
 ghost use Rattle.std.specs.List.{AllByRecursion, list_all};
-ghost use Rattle.covered_runs.specs.MeasuredLaws.{AreInputs};
+ghost use Rattle.acceptance_law.specs.MeasuredLaws.{AreInputs};
 ghost use Rattle.elf32_loader.specs.Images.{picture_of};
 ghost use Rattle.many_runs.specs.Accepting.{AreAcceptedByFolds, AreAcceptedByTheCut, HasShortText};
 ghost use Rattle.many_runs.specs.Causes.{HasManyCause};
@@ -12,7 +12,7 @@ use crate::following_all::{common_length, record_runs};
 use crate::many::Many;
 use crate::uniting::unite;
 use crate::weighing_all::weigh_all;
-use covered_runs::tell_inputs;
+use acceptance_law::tell_inputs;
 use elf32_loader::Image;
 use enclosure_regions::Regions;
 use flow_base::Bytes;

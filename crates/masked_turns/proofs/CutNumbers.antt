@@ -11,7 +11,7 @@ use Rattle.cut_file.specs.Cuts.{is_version, is_word}
 use Rattle.cut_file.specs.declared.points.CutPoint.{CutPoint}
 use Rattle.cut_file.specs.Masks.{MaskAt, listed_mask, mask_of}
 use Rattle.enclosure_regions.specs.Regions.{stands_in}
-use Rattle.covered_runs.proofs.Passings.{slot_word}
+use Rattle.acceptance_law.proofs.Passings.{slot_word}
 use Rattle.masked_turns.proofs.OutsideMasks.{AreSmall}
 
 pub small_masks : (points : List CutPoint) → AreSmall (MaskAt points)

@@ -5,8 +5,8 @@ use Rattle.rv32im_machine.specs.declared.language.Place.{Place}
 use Rattle.rv32im_machine.specs.declared.language.Place.TheVariants.{Byte, Register}
 use Rattle.rv32im_machine.specs.Language.{at_place, none_held}
 use Rattle.rv32im_machine.specs.State.{Control, Setting, Store}
-use Rattle.covered_runs.specs.Proper.{AreBytes, IsGuest, place_limit}
-use Rattle.covered_runs.proofs.StepsKeepStanding.{state_of}
+use Rattle.acceptance_law.specs.Proper.{AreBytes, IsGuest, place_limit}
+use Rattle.acceptance_law.proofs.StepsKeepStanding.{state_of}
 
 pub guest_within : (setting : Setting) (secret : List ℕ) (control : Control) (store : Store) → AreBytes secret →
     AreBytes setting.public_input → setting.start_break < 2 ^ 32 → control.current_break < 2 ^ 32 →

@@ -9,9 +9,9 @@ use Rattle.rv32im_machine.specs.State.{Store, byte_of}
 use Rattle.rv32im_machine.specs.Language.{Held, seen_value}
 use Rattle.run_labels.specs.Masks.{byte_mask}
 use Rattle.run_labels.specs.TurnLabels.{TurnLabels}
-use Rattle.covered_runs.specs.Proper.{IsLook}
-use Rattle.covered_runs.specs.Sides.{NamedSide}
-use Rattle.covered_runs.proofs.WritesKeepRelation.{Beside, close_equal}
+use Rattle.acceptance_law.specs.Proper.{IsLook}
+use Rattle.acceptance_law.specs.Sides.{NamedSide}
+use Rattle.acceptance_law.proofs.WritesKeepRelation.{Beside, close_equal}
 use Rattle.masked_turns.specs.declared.uses.SecretLook.{SecretLook}
 use Rattle.masked_turns.specs.declared.uses.SecretLook.TheVariants.{Code, BaseRegister}
 use Rattle.masked_turns.specs.Looking.{first_look, look_at}

@@ -9,10 +9,10 @@ use Rattle.rv32im_machine.specs.State.{Setting, Store}
 use Rattle.run_labels.specs.Masks.{moved_label}
 use Rattle.run_labels.specs.TurnLabels.{TurnLabels, label_at, put_label}
 use Rattle.shadow_masks.specs.Labels.{clean}
-use Rattle.covered_runs.specs.Proper.{IsMove}
-use Rattle.covered_runs.proofs.Turns.{label_of_limit}
-use Rattle.covered_runs.proofs.TurnsKeepRelation.{copied_close}
-use Rattle.covered_runs.proofs.WritesKeepRelation.{Beside, close_refl, put_beside}
+use Rattle.acceptance_law.specs.Proper.{IsMove}
+use Rattle.acceptance_law.proofs.Turns.{label_of_limit}
+use Rattle.acceptance_law.proofs.TurnsKeepRelation.{copied_close}
+use Rattle.acceptance_law.proofs.WritesKeepRelation.{Beside, close_refl, put_beside}
 use Rattle.masked_turns.proofs.OutsideMasks.{everything}
 
 module _ (setting : Setting) (secret other : List ℕ) where

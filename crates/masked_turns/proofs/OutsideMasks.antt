@@ -8,8 +8,8 @@ use Rattle.rv32im_machine.specs.declared.language.Aim.TheVariants.{Decide}
 use Rattle.replay_machine.specs.Runs.{Masks}
 use Rattle.shadow_masks.specs.Pages.{label_of}
 use Rattle.shadow_masks.specs.Points.{nowhere}
-use Rattle.covered_runs.specs.Sides.{NamedSide}
-use Rattle.covered_runs.proofs.WritesKeepRelation.{Close, close_label_of}
+use Rattle.acceptance_law.specs.Sides.{NamedSide}
+use Rattle.acceptance_law.proofs.WritesKeepRelation.{Close, close_label_of}
 use Rattle.masked_turns.specs.declared.uses.LeftBits.{LeftBits}
 use Rattle.masked_turns.specs.Deciding.{left_at}
 

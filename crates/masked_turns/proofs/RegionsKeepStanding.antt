@@ -12,11 +12,11 @@ use Rattle.region_machine.specs.Enclosures.{region_numbered}
 use Rattle.region_machine.proofs.RangesStayInside.{inside_at_entry}
 use Rattle.shadow_masks.specs.Writes.{LabelMap, Save, after}
 use Rattle.run_labels.specs.TurnLabels.{at_start}
-use Rattle.covered_runs.proofs.Entering.{SameStarts}
-use Rattle.covered_runs.proofs.RegionTurns.{entered_region, saved_beside, saved_inside, saved_kept, some_same}
-use Rattle.covered_runs.proofs.SkippedTurns.{entered_break}
-use Rattle.covered_runs.proofs.StepsKeepStanding.{InsideBeside, Stands}
-use Rattle.covered_runs.proofs.WritesKeepRelation.{Beside}
+use Rattle.acceptance_law.proofs.Entering.{SameStarts}
+use Rattle.acceptance_law.proofs.RegionTurns.{entered_region, saved_beside, saved_inside, saved_kept, some_same}
+use Rattle.acceptance_law.proofs.SkippedTurns.{entered_break}
+use Rattle.acceptance_law.proofs.StepsKeepStanding.{InsideBeside, Stands}
+use Rattle.acceptance_law.proofs.WritesKeepRelation.{Beside}
 use Rattle.masked_turns.proofs.OutsideMasks.{everything}
 
 module _ (skip : List ℕ) (regions : List Region) (base : ℕ) where

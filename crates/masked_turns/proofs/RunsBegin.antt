@@ -9,9 +9,9 @@ use Rattle.rv32im_machine.specs.State.{State}
 use Rattle.region_machine.specs.Enclosures.{region_numbered}
 use Rattle.shadow_masks.specs.Writes.{default_map}
 use Rattle.run_labels.specs.TurnLabels.{at_start, label_at}
-use Rattle.covered_runs.specs.Proper.{IsGuest, IsPlace, place_limit}
-use Rattle.covered_runs.proofs.StepsKeepStanding.{Stands}
-use Rattle.covered_runs.proofs.WritesKeepRelation.{Close, close_refl}
+use Rattle.acceptance_law.specs.Proper.{IsGuest, IsPlace, place_limit}
+use Rattle.acceptance_law.proofs.StepsKeepStanding.{Stands}
+use Rattle.acceptance_law.proofs.WritesKeepRelation.{Close, close_refl}
 use Rattle.masked_turns.proofs.OutsideMasks.{everything}
 
 module _ (skip : List ℕ) (regions : List Region) (state : State) (is : IsGuest state)

@@ -16,12 +16,12 @@ use Rattle.shadow_masks.specs.Labels.{clean}
 use Rattle.shadow_masks.specs.Writes.{default_map}
 use Rattle.run_labels.specs.Masks.{answers_after, moved_label}
 use Rattle.run_labels.specs.TurnLabels.{TurnLabels, at_start, put_label}
-use Rattle.covered_runs.specs.Proper.{AreBytes, IsPlace, place_limit, IsProper}
-use Rattle.covered_runs.proofs.WritesKeepRelation.{put_limits, put_registers, put_memory, put_kept, put_label_kept, not_alike}
-use Rattle.covered_runs.proofs.Passings.{slot_word, made_fits}
-use Rattle.covered_runs.proofs.Turns.{seen_word}
-use Rattle.covered_runs.proofs.Unchanged.{EndsProper, declared, first-unbroken, may_write, put_other}
-use Rattle.covered_runs.proofs.Unchanged.{start_limits, move_limit, move_place}
+use Rattle.acceptance_law.specs.Proper.{AreBytes, IsPlace, place_limit, IsProper}
+use Rattle.acceptance_law.proofs.WritesKeepRelation.{put_limits, put_registers, put_memory, put_kept, put_label_kept, not_alike}
+use Rattle.acceptance_law.proofs.Passings.{slot_word, made_fits}
+use Rattle.acceptance_law.proofs.Turns.{seen_word}
+use Rattle.acceptance_law.proofs.Unchanged.{EndsProper, declared, first-unbroken, may_write, put_other}
+use Rattle.acceptance_law.proofs.Unchanged.{start_limits, move_limit, move_place}
 use Rattle.masked_turns.specs.Clearing.{Cutting, cleared_in}
 
 pub record StepEnds (setting : Setting) (secret : List ℕ) (number : ℕ) (store : Store) (held : Held) (walk : Walk) :

@@ -8,7 +8,7 @@ use Rattle.flow_graph.specs.declared.events.Event.{Event}
 use Rattle.flow_graph.specs.declared.events.Event.TheVariants.{Pass, Link, FromSecret, Implicit, Out}
 use Rattle.flow_graph.specs.Again.{again_events}
 use Rattle.flow_base.specs.PointOrders.{is_same}
-use Rattle.covered_runs.specs.RunCuts.{visit_masks, mask_at_event}
+use Rattle.acceptance_law.specs.RunCuts.{visit_masks, mask_at_event}
 use Rattle.hinted_map.specs.Places.{Puts}
 use Rattle.flow_base.proofs.PointEquality.{points_alike, same_tests}
 use Rattle.measuring.specs.declared.point_visits.PointVisits.{PointVisits}

@@ -12,8 +12,8 @@ use Rattle.flow_base.specs.PointOrders.{is_same}
 use Rattle.max_flow.specs.declared.answers.Half.{Half}
 use Rattle.max_flow.specs.Flows.{has_first, has_second}
 use Rattle.cut_file.specs.declared.points.CutPoint.{CutPoint}
-use Rattle.covered_runs.specs.RunCuts.{is_inner, names_point}
-use Rattle.covered_runs.specs.Sides.{halves_at}
+use Rattle.acceptance_law.specs.RunCuts.{is_inner, names_point}
+use Rattle.acceptance_law.specs.Sides.{halves_at}
 use Rattle.flow_base.proofs.PointEquality.{points_alike}
 use Rattle.measuring.specs.CutRuns.{points_of}
 use Rattle.measuring.specs.Limits.{are_points_in, is_point_in}

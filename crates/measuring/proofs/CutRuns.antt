@@ -12,7 +12,7 @@ use Rattle.cut_file.specs.Masks.{listed_masks}
 use Rattle.cut_file.proofs.Following.{all-push, is_so}
 use Rattle.flow_base.specs.declared.points.Point.{Point}
 use Rattle.std.proofs.lemmas.List.{take_all}
-use Rattle.covered_runs.specs.RunCuts.{united}
+use Rattle.acceptance_law.specs.RunCuts.{united}
 use Rattle.measuring.specs.declared.point_visits.VisitRun.{VisitRun}
 use Rattle.measuring.specs.declared.point_visits.PointVisits.{PointVisits}
 use Rattle.measuring.specs.CutRuns.{as_run, as_runs, points_of, once, united_runs}

@@ -4,8 +4,8 @@ use Rattle.std.specs.List.{AllByRecursion, list_all}
 use Rattle.std.specs.Ordering.{is_eq}
 use Rattle.std.proofs.lemmas.Bool.{and_parts, eq-eqb, eqb-true, false≢true, or_cases, or_left, or_right}
 use Rattle.std.proofs.lemmas.Cmp.{tied_itself}
-use Rattle.covered_runs.specs.RunCuts.{HasVisitMasks, IsCutOf, is_inner, names_point, united, visit_masks}
-use Rattle.covered_runs.specs.Sides.{NamedSide, is_split}
+use Rattle.acceptance_law.specs.RunCuts.{HasVisitMasks, IsCutOf, is_inner, names_point, united, visit_masks}
+use Rattle.acceptance_law.specs.Sides.{NamedSide, is_split}
 use Rattle.cut_file.specs.declared.points.CutPoint.{CutPoint}
 use Rattle.cut_file.specs.declared.points.Run.{Run}
 use Rattle.cut_file.specs.Cuts.{CutPicture, are_regions, is_point_of, is_region, is_valid, neighbours_pass, stands_before}

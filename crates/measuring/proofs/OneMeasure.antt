@@ -1,7 +1,7 @@
 -- What two measures of one run share, where the table decides: all but the flow.
 use Rattle.std.proofs.Common.{◌≡◌, ℕ, ◌<◌, ◌≤◌, List, ◌∷◌, length, sym, ap, ap₂, subst, ◌∙◌, arith, Bool}
-use Rattle.covered_runs.specs.RunCuts.{IsCutOf}
-use Rattle.covered_runs.specs.Sides.{named_side}
+use Rattle.acceptance_law.specs.RunCuts.{IsCutOf}
+use Rattle.acceptance_law.specs.Sides.{named_side}
 use Rattle.cut_file.specs.Cuts.{CutPicture}
 use Rattle.cut_file.specs.Pictures.{picture_of}
 use Rattle.cut_file.proofs.Following.{cut-valid}

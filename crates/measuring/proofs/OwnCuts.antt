@@ -10,16 +10,16 @@ use Rattle.lockstep_replay.specs.Tasks.{task_of}
 use Rattle.max_flow.specs.Flows.{side_capacity}
 use Rattle.region_machine.specs.Starts.{guest}
 use Rattle.run_labels.specs.Runs.{run_after, unlabelled}
-use Rattle.covered_runs.specs.MeasuredLaws.{AreInputs, IsWholeRun}
-use Rattle.covered_runs.specs.RunCuts.{IsCutOf}
-use Rattle.covered_runs.specs.RunLaws.{HasFewRuns}
-use Rattle.covered_runs.specs.Sides.{named_side}
-use Rattle.covered_runs.proofs.CoveredRuns.{covered_law}
-use Rattle.covered_runs.proofs.CutFolds.{folded_law}
-use Rattle.covered_runs.proofs.CutMeasured.{measured_law}
-use Rattle.covered_runs.proofs.FewRuns.{few_runs_law}
-use Rattle.covered_runs.proofs.SecretRuns.{secret_bits_law}
-use Rattle.covered_runs.proofs.SecretSides.{least_bits_law}
+use Rattle.acceptance_law.specs.MeasuredLaws.{AreInputs, IsWholeRun}
+use Rattle.acceptance_law.specs.RunCuts.{IsCutOf}
+use Rattle.acceptance_law.specs.RunLaws.{HasFewRuns}
+use Rattle.acceptance_law.specs.Sides.{named_side}
+use Rattle.acceptance_law.proofs.CoveredRuns.{covered_law}
+use Rattle.acceptance_law.proofs.CutFolds.{folded_law}
+use Rattle.acceptance_law.proofs.CutMeasured.{measured_law}
+use Rattle.acceptance_law.proofs.FewRuns.{few_runs_law}
+use Rattle.acceptance_law.proofs.SecretRuns.{secret_bits_law}
+use Rattle.acceptance_law.proofs.SecretSides.{least_bits_law}
 use Rattle.measuring.specs.declared.measured.Measured.{Measured}
 use Rattle.measuring.specs.Accepting.{HasShortText, HasSmallCut, IsAcceptedByFolds, IsAcceptedByItsCut}
 use Rattle.measuring.specs.Measures.{Measures}

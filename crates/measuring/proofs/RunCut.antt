@@ -20,8 +20,8 @@ use Rattle.flow_graph.specs.EventGraphs.{IsGraphOf, has_passed, is_relay_of, lin
 use Rattle.flow_graph.specs.EventGraphs.{names_relay, one_if, outlet_of}
 use Rattle.flow_graph.specs.Graphs.{are_relays, ascend, has_capacity, node_cmp}
 use Rattle.max_flow.specs.declared.answers.Half.{Half}
-use Rattle.covered_runs.specs.RunCuts.{HasVisitMasks, IsCutOf, united}
-use Rattle.covered_runs.specs.Sides.{named_side}
+use Rattle.acceptance_law.specs.RunCuts.{HasVisitMasks, IsCutOf, united}
+use Rattle.acceptance_law.specs.Sides.{named_side}
 use Rattle.measuring.specs.declared.kept_visits.KeptVisits.{KeptVisits}
 use Rattle.measuring.specs.CutRuns.{HasKeptMasks, once}
 use Rattle.measuring.specs.Cutting.{Makes}

@@ -9,7 +9,7 @@ use Rattle.cut_file.specs.Cuts.{neighbours_pass}
 use Rattle.cut_file.specs.Folds.{IsFold}
 use Rattle.cut_file.specs.TextLengths.{byte_bound, listed_runs}
 use Rattle.cut_file.specs.Texts.{cut_text}
-use Rattle.covered_runs.specs.RunLaws.{HasFewRuns}
+use Rattle.acceptance_law.specs.RunLaws.{HasFewRuns}
 
 -- ---- regions that ascend are not more than there are
 

@@ -1,7 +1,7 @@
 -- The measured run is accepted with the cut that was measured of it, and with the fold of that cut; the cut is
 -- small, and the texts of both are short.
 use Rattle.std.specs.Prelude.{◌≡◌, ℕ, ◌≤◌, true, length, List}
-use Rattle.covered_runs.specs.RunLaws.{HasFewRuns}
+use Rattle.acceptance_law.specs.RunLaws.{HasFewRuns}
 use Rattle.cut_file.specs.Cuts.{CutPicture, is_valid}
 use Rattle.cut_file.specs.Folds.{IsFold}
 use Rattle.cut_file.specs.Pictures.{picture_of}

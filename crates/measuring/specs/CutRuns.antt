@@ -4,7 +4,7 @@ use Rattle.flow_base.specs.declared.points.Point.{Point}
 use Rattle.cut_file.specs.declared.points.CutPoint.{CutPoint}
 use Rattle.cut_file.specs.declared.points.Run.{Run}
 use Rattle.cut_file.specs.Masks.{listed_masks}
-use Rattle.covered_runs.specs.RunCuts.{united}
+use Rattle.acceptance_law.specs.RunCuts.{united}
 use Rattle.measuring.specs.declared.kept_visits.KeptVisits.{KeptVisits}
 use Rattle.measuring.specs.declared.point_visits.VisitRun.{VisitRun}
 use Rattle.measuring.specs.Visits.{all_masks}

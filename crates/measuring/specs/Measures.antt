@@ -1,8 +1,8 @@
 -- What is measured of a run.
 use Rattle.std.specs.Prelude.{◌≡◌, ℕ, List, ◌∷◌}
 use Rattle.cut_file.specs.Pictures.{picture_of}
-use Rattle.covered_runs.specs.RunCuts.{IsCutOf}
-use Rattle.covered_runs.specs.Sides.{named_side}
+use Rattle.acceptance_law.specs.RunCuts.{IsCutOf}
+use Rattle.acceptance_law.specs.Sides.{named_side}
 use Rattle.enclosure_regions.specs.declared.region_parts.Region.{Region}
 use Rattle.flow_graph.specs.declared.events.Event.{Event}
 use Rattle.flow_graph.specs.EventGraphs.{IsGraphOf}

@@ -4,7 +4,7 @@ use Rattle.flow_base.specs.declared.points.Point.{Point}
 use Rattle.flow_graph.specs.declared.nodes.Node.{Node}
 use Rattle.max_flow.specs.declared.answers.Half.{Half}
 use Rattle.max_flow.specs.Flows.{has_first, has_second}
-use Rattle.covered_runs.specs.RunCuts.{is_inner}
+use Rattle.acceptance_law.specs.RunCuts.{is_inner}
 
 -- a region whose relay is in the side; 0 is the number of no region
 abbrev pub region_if : ℕ → Bool → List ℕ

@@ -3,7 +3,7 @@ use Rattle.std.specs.Prelude.{◌≡◌, ◌++◌, ◌∷◌, [], ℕ, cond, rep
 use Rattle.flow_base.specs.declared.points.Point.{Point}
 use Rattle.flow_graph.specs.declared.events.Event.{Event}
 use Rattle.flow_base.specs.PointOrders.{is_same}
-use Rattle.covered_runs.specs.RunCuts.{visit_masks}
+use Rattle.acceptance_law.specs.RunCuts.{visit_masks}
 use Rattle.measuring.specs.Counts.{count_of}
 use Rattle.measuring.specs.declared.kept_visits.KeptVisits.{KeptVisits}
 use Rattle.measuring.specs.KeptMasks.{kept_masks}

@@ -7,7 +7,7 @@ ghost use Rattle.measuring.specs.Measures.{HasCause, Measures};
 
 use crate::measured::Measured;
 use crate::weighing::measure_run;
-use covered_runs::tell_inputs;
+use acceptance_law::tell_inputs;
 use elf32_loader::Image;
 use enclosure_regions::Regions;
 use flow_base::Bytes;
@@ -25,9 +25,9 @@ use transfer_rules::RuleBook;
 /// does not exit within the limit, `GraphLimit` where it does and its graph exceeds a limit, and `Memory` where there is
 /// not enough. `Memory` would be answered, too, where the number of visits of a point of the cut with one mask is 2^32 or
 /// more, or the slot of a point of the cut is none that a turn passes: in no run of at most 20,000,000 turns is it so, by
-/// the laws [`runs_visit_points_seldom`](covered_runs::runs_visit_points_seldom),
-/// [`outputs_have_their_visits`](covered_runs::outputs_have_their_visits) and
-/// [`runs_pass_known_slots`](covered_runs::runs_pass_known_slots).
+/// the laws [`runs_visit_points_seldom`](acceptance_law::runs_visit_points_seldom),
+/// [`outputs_have_their_visits`](acceptance_law::outputs_have_their_visits) and
+/// [`runs_pass_known_slots`](acceptance_law::runs_pass_known_slots).
 pub fn measure(
     alloc: Global,
     image: &Image,

@@ -5,7 +5,7 @@ ghost use Rattle.std.specs.Map.{lookup};
 ghost use Rattle.flow_base.specs.PointOrders.{is_same};
 ghost use Rattle.cut_file.specs.Cuts.{are_runs, is_point, is_point_of, is_run};
 ghost use Rattle.cut_file.specs.Masks.{listed_masks};
-ghost use Rattle.covered_runs.specs.RunCuts.{united};
+ghost use Rattle.acceptance_law.specs.RunCuts.{united};
 ghost use Rattle.measuring.specs.CutRuns.{HasKeptMasks, as_run, as_runs, once, points_of, united_runs};
 ghost use Rattle.measuring.specs.KeptMasks.{masks_if_any};
 ghost use Rattle.measuring.specs.Visits.{all_masks};

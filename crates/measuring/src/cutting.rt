@@ -15,7 +15,7 @@ use std::alloc::Global;
 /// The cut of a run by the graph of its events, the visits of its points and a side with this capacity.
 /// `NoMemory` where there is not enough. It is answered too where the capacity, or the number of visits of a split
 /// point with one mask, is 2^32 or more, or a split point has a slot that no turn passes: in no run within the limits
-/// of the tool is it so, by laws of `covered_runs`.
+/// of the tool is it so, by laws of `acceptance_law`.
 pub fn cut_of(
     alloc: Global,
     secret_len: u32,

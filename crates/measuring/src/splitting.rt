@@ -2,7 +2,7 @@ ghost use Rattle.std.specs.Prelude.{◌≡◌, ◌&&◌, ◌++◌, not, true, If
 ghost use Rattle.std.specs.List.{list_all};
 ghost use Rattle.cut_file.specs.Cuts.{is_region};
 ghost use Rattle.max_flow.specs.Flows.{has_first, has_second};
-ghost use Rattle.covered_runs.specs.RunCuts.{is_inner};
+ghost use Rattle.acceptance_law.specs.RunCuts.{is_inner};
 ghost use Rattle.measuring.specs.Splits.{is_cut, point_if, region_if, skipped, split_points};
 
 use flow_base::{List, NoMemory, Point};

@@ -2,9 +2,9 @@
 //! and texts for people.
 #![tactic(auto)]
 
-use command_answers::flowcheck;
-use command_forms::{complaint, text_asked};
+use commands::flowcheck;
 use flow_base::{DiskFiles, Sink, StandardOut};
+use help_texts::{complaint, text_asked};
 use std::alloc::Global;
 use std::env;
 use std::io::ErrorKind;

@@ -22,11 +22,11 @@ use Rattle.lockstep_replay.specs.Crossing.{cross_after}
 use Rattle.lockstep_replay.specs.Tasks.{Task, Limits, Cross, enclosed_of, real_of, real_start, replay_start}
 use Rattle.run_labels.specs.Runs.{entered_number, stopped_fault}
 use Rattle.run_labels.specs.TurnLabels.{at_start}
-use Rattle.covered_runs.specs.Proper.{AreBytes, IsGuest}
-use Rattle.covered_runs.specs.ProperLaws.{ProperTurnsLaw}
-use Rattle.covered_runs.proofs.CoveredRunAccepted.{end_alike, same_fed}
-use Rattle.covered_runs.proofs.RunFacts.{SameSetting, kind_setting}
-use Rattle.covered_runs.proofs.StepsKeepStanding.{state_of}
+use Rattle.acceptance_law.specs.Proper.{AreBytes, IsGuest}
+use Rattle.acceptance_law.specs.ProperLaws.{ProperTurnsLaw}
+use Rattle.acceptance_law.proofs.CoveredRunAccepted.{end_alike, same_fed}
+use Rattle.acceptance_law.proofs.RunFacts.{SameSetting, kind_setting}
+use Rattle.acceptance_law.proofs.StepsKeepStanding.{state_of}
 use Rattle.masked_turns.specs.declared.uses.LeftBits.{LeftBits}
 use Rattle.masked_turns.specs.declared.uses.SecretLook.{SecretLook}
 use Rattle.masked_turns.proofs.OutsideMasks.{AreSmall}

@@ -8,10 +8,10 @@ use Rattle.lockstep_replay.specs.Verdicts.{Accepts}
 use Rattle.lockstep_replay.proofs.Bounds.{greater_limits_law, over_exited}
 use Rattle.lockstep_replay.proofs.Judging.{accepts_law}
 use Rattle.lockstep_replay.proofs.Stillness.{cross_later}
-use Rattle.covered_runs.proofs.CoveredRunAccepted.{length_zeros, zero_bytes}
-use Rattle.covered_runs.proofs.ProperRows.{proper_law}
-use Rattle.covered_runs.proofs.ProperStarts.{guest_start_law}
-use Rattle.covered_runs.proofs.StepsKeepStanding.{state_of}
+use Rattle.acceptance_law.proofs.CoveredRunAccepted.{length_zeros, zero_bytes}
+use Rattle.acceptance_law.proofs.ProperRows.{proper_law}
+use Rattle.acceptance_law.proofs.ProperStarts.{guest_start_law}
+use Rattle.acceptance_law.proofs.StepsKeepStanding.{state_of}
 use Rattle.masked_turns.proofs.CutNumbers.{small_masks, valid_skip}
 use Rattle.taint_check.specs.Laws.{CleanLaw}
 use Rattle.taint_check.proofs.CleanRuns.{accepted}

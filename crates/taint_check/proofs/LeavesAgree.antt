@@ -17,14 +17,14 @@ use Rattle.replay_machine.specs.Runs.{replayed}
 use Rattle.lockstep_replay.specs.Crossing.{crossing}
 use Rattle.shadow_masks.specs.Writes.{LabelMap}
 use Rattle.run_labels.specs.TurnLabels.{TurnLabels, at_start, restore_labels}
-use Rattle.covered_runs.proofs.Entering.{SameStarts}
-use Rattle.covered_runs.proofs.Leaving.{KeptBeside, kept_same, outputs_are, put_back, restored_beside, same_outputs}
-use Rattle.covered_runs.proofs.Leaving.{zero_unlisted}
-use Rattle.covered_runs.proofs.Outputs.{Output, given}
-use Rattle.covered_runs.proofs.RegionOutputsPass.{gives_given, outputs_of, register_outputs, waiting_of}
-use Rattle.covered_runs.proofs.Skipping.{zeroed, cleared, cleared_kept, skip_zeroed, zeroed_replayed}
-use Rattle.covered_runs.proofs.SkipsKeepRelation.{SkippedTo, skip_waiting}
-use Rattle.covered_runs.proofs.WritesKeepRelation.{Beside}
+use Rattle.acceptance_law.proofs.Entering.{SameStarts}
+use Rattle.acceptance_law.proofs.Leaving.{KeptBeside, kept_same, outputs_are, put_back, restored_beside, same_outputs}
+use Rattle.acceptance_law.proofs.Leaving.{zero_unlisted}
+use Rattle.acceptance_law.proofs.Outputs.{Output, given}
+use Rattle.acceptance_law.proofs.RegionOutputsPass.{gives_given, outputs_of, register_outputs, waiting_of}
+use Rattle.acceptance_law.proofs.Skipping.{zeroed, cleared, cleared_kept, skip_zeroed, zeroed_replayed}
+use Rattle.acceptance_law.proofs.SkipsKeepRelation.{SkippedTo, skip_waiting}
+use Rattle.acceptance_law.proofs.WritesKeepRelation.{Beside}
 use Rattle.masked_turns.specs.Answers.{EachCleared}
 use Rattle.masked_turns.specs.Clearing.{Cutting, cleared_in}
 use Rattle.masked_turns.specs.Deciding.{left_in}

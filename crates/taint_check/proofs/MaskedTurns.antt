@@ -18,7 +18,7 @@ use Rattle.run_labels.specs.Runs.{entered_number}
 use Rattle.run_labels.specs.TurnLabels.{at_start}
 use Rattle.shadow_masks.specs.Shades.{Shades}
 use Rattle.tracked_run.specs.Labels.{map_of}
-use Rattle.covered_runs.proofs.Entering.{entry_crossing, entry_passed}
+use Rattle.acceptance_law.proofs.Entering.{entry_crossing, entry_passed}
 use Rattle.lockstep_replay.specs.Crossing.{crossing, crossing_unless}
 use Rattle.lockstep_replay.specs.Tasks.{Task, Limits}
 use Rattle.lockstep_replay.specs.Verdicts.{counted_bits}

@@ -25,13 +25,13 @@ use Rattle.lockstep_replay.proofs.RunsGrow.{IsAt, fed_next, at_enclosed}
 use Rattle.shadow_masks.specs.Writes.{LabelMap}
 use Rattle.run_labels.specs.Runs.{entered_number, stopped_fault}
 use Rattle.run_labels.specs.TurnLabels.{at_start}
-use Rattle.covered_runs.specs.Proper.{AreBytes}
-use Rattle.covered_runs.specs.ProperLaws.{ProperTurnsLaw}
-use Rattle.covered_runs.proofs.ModeSteps.{ran_of}
-use Rattle.covered_runs.proofs.RunFacts.{SameSetting, state_parts}
-use Rattle.covered_runs.proofs.StepsKeepStanding.{state_of, placed}
-use Rattle.covered_runs.proofs.TurnKinds.{enters_outside, leaves_inside, steps_inside, inside_turn, numbered_rules}
-use Rattle.covered_runs.proofs.TurnKinds.{numbered_id}
+use Rattle.acceptance_law.specs.Proper.{AreBytes}
+use Rattle.acceptance_law.specs.ProperLaws.{ProperTurnsLaw}
+use Rattle.acceptance_law.proofs.ModeSteps.{ran_of}
+use Rattle.acceptance_law.proofs.RunFacts.{SameSetting, state_parts}
+use Rattle.acceptance_law.proofs.StepsKeepStanding.{state_of, placed}
+use Rattle.acceptance_law.proofs.TurnKinds.{enters_outside, leaves_inside, steps_inside, inside_turn, numbered_rules}
+use Rattle.acceptance_law.proofs.TurnKinds.{numbered_id}
 use Rattle.masked_turns.specs.Clearing.{Cutting, cleared_in}
 use Rattle.masked_turns.proofs.OutsideMasks.{AreSmall}
 use Rattle.taint_check.specs.Cleared.{MaskedRun, Cleared, is_hidden, leaves_skipped, labels_unless, next_masked}

@@ -24,16 +24,16 @@ use Rattle.replay_machine.specs.Runs.{Masks, replayed, replay_inside}
 use Rattle.lockstep_replay.specs.Crossing.{crossing}
 use Rattle.shadow_masks.specs.Writes.{LabelMap, after, Save}
 use Rattle.run_labels.specs.TurnLabels.{at_start}
-use Rattle.covered_runs.specs.Proper.{AreBytes, IsGuest}
-use Rattle.covered_runs.specs.ProperLaws.{ProperTurnsLaw}
-use Rattle.covered_runs.proofs.Entering.{SameStarts, outside_same, entry_end}
-use Rattle.covered_runs.proofs.QuietInsideRegions.{step_quiet}
-use Rattle.covered_runs.proofs.RegionTurns.{ranges_unbroken}
-use Rattle.covered_runs.proofs.SkippedTurns.{Skips, entered_break, entered_mode, entered_to, region_of_entered, same_control}
-use Rattle.covered_runs.proofs.SkippedTurns.{same_inside_later, same_inside_refl}
-use Rattle.covered_runs.proofs.SkipsKeepRelation.{SkippedTo}
-use Rattle.covered_runs.proofs.StepsKeepStanding.{state_of, placed, HasRules}
-use Rattle.covered_runs.proofs.Unchanged.{declared}
+use Rattle.acceptance_law.specs.Proper.{AreBytes, IsGuest}
+use Rattle.acceptance_law.specs.ProperLaws.{ProperTurnsLaw}
+use Rattle.acceptance_law.proofs.Entering.{SameStarts, outside_same, entry_end}
+use Rattle.acceptance_law.proofs.QuietInsideRegions.{step_quiet}
+use Rattle.acceptance_law.proofs.RegionTurns.{ranges_unbroken}
+use Rattle.acceptance_law.proofs.SkippedTurns.{Skips, entered_break, entered_mode, entered_to, region_of_entered, same_control}
+use Rattle.acceptance_law.proofs.SkippedTurns.{same_inside_later, same_inside_refl}
+use Rattle.acceptance_law.proofs.SkipsKeepRelation.{SkippedTo}
+use Rattle.acceptance_law.proofs.StepsKeepStanding.{state_of, placed, HasRules}
+use Rattle.acceptance_law.proofs.Unchanged.{declared}
 use Rattle.masked_turns.specs.Clearing.{cleared_in}
 use Rattle.masked_turns.proofs.GuestStates.{guest_within}
 use Rattle.masked_turns.proofs.OutsideMasks.{AreSmall, everything}

@@ -23,15 +23,15 @@ use Rattle.replay_machine.specs.Runs.{Masks, replayed, replay_turn, replay_insid
 use Rattle.lockstep_replay.specs.Crossing.{crossing}
 use Rattle.shadow_masks.specs.Writes.{LabelMap, after, Save}
 use Rattle.run_labels.specs.TurnLabels.{TurnLabels, at_start}
-use Rattle.covered_runs.specs.Proper.{AreBytes, IsGuest, IsProper}
-use Rattle.covered_runs.specs.ProperLaws.{ProperTurnsLaw}
-use Rattle.covered_runs.specs.Sides.{NamedSide}
-use Rattle.covered_runs.proofs.Entering.{SameStarts, outside_same, entry_end, entry_passed, entry_crossing, entry_replayed}
-use Rattle.covered_runs.proofs.Entering.{looks_same}
-use Rattle.covered_runs.proofs.RegionTurns.{leave_end, left_region, left_break}
-use Rattle.covered_runs.proofs.RegionTurns.{ranges_unbroken}
-use Rattle.covered_runs.proofs.StepsKeepStanding.{state_of, placed, Stands, HasRules, kept_moved, proper_turn}
-use Rattle.covered_runs.proofs.WritesKeepRelation.{Beside}
+use Rattle.acceptance_law.specs.Proper.{AreBytes, IsGuest, IsProper}
+use Rattle.acceptance_law.specs.ProperLaws.{ProperTurnsLaw}
+use Rattle.acceptance_law.specs.Sides.{NamedSide}
+use Rattle.acceptance_law.proofs.Entering.{SameStarts, outside_same, entry_end, entry_passed, entry_crossing, entry_replayed}
+use Rattle.acceptance_law.proofs.Entering.{looks_same}
+use Rattle.acceptance_law.proofs.RegionTurns.{leave_end, left_region, left_break}
+use Rattle.acceptance_law.proofs.RegionTurns.{ranges_unbroken}
+use Rattle.acceptance_law.proofs.StepsKeepStanding.{state_of, placed, Stands, HasRules, kept_moved, proper_turn}
+use Rattle.acceptance_law.proofs.WritesKeepRelation.{Beside}
 use Rattle.masked_turns.specs.Clearing.{Cutting, cleared_in}
 use Rattle.masked_turns.specs.Looking.{looked_in}
 use Rattle.masked_turns.proofs.LooksAgree.{look_same, look-none}

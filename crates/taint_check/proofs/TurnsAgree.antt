@@ -24,11 +24,11 @@ use Rattle.run_labels.specs.TurnLabels.{TurnLabels, at_start, put_label}
 use Rattle.shadow_masks.specs.Pages.{label_of}
 use Rattle.shadow_masks.specs.Points.{nowhere}
 use Rattle.transfer_rules.specs.Table1.{flipped}
-use Rattle.covered_runs.specs.Proper.{AreBytes, IsPassing, IsPut, IsProper, place_limit}
-use Rattle.covered_runs.proofs.AgreeOutsideMask.{agree_zero, patched_uncrossed}
-use Rattle.covered_runs.proofs.Passings.{made_agrees, made_fits, mask_fits, patched_slot, slot_word}
-use Rattle.covered_runs.proofs.Turns.{feed_bits, label_of_limit, seen_word}
-use Rattle.covered_runs.proofs.WritesKeepRelation.{Beside, fresh_beside, put_beside, put_kept}
+use Rattle.acceptance_law.specs.Proper.{AreBytes, IsPassing, IsPut, IsProper, place_limit}
+use Rattle.acceptance_law.proofs.AgreeOutsideMask.{agree_zero, patched_uncrossed}
+use Rattle.acceptance_law.proofs.Passings.{made_agrees, made_fits, mask_fits, patched_slot, slot_word}
+use Rattle.acceptance_law.proofs.Turns.{feed_bits, label_of_limit, seen_word}
+use Rattle.acceptance_law.proofs.WritesKeepRelation.{Beside, fresh_beside, put_beside, put_kept}
 use Rattle.masked_turns.specs.declared.uses.LeftBits.{LeftBits}
 use Rattle.masked_turns.specs.Answers.{EachCleared}
 use Rattle.masked_turns.specs.Clearing.{Cutting, cleared_in, uncrossed}

@@ -12,7 +12,7 @@ use crate::clearing::Clearing;
 use crate::turns::make_turn;
 use crate::verdicts::TaintVerdict;
 use crate::whys::TaintWhy;
-use covered_runs::{tell_cut, tell_inputs};
+use acceptance_law::{tell_cut, tell_inputs};
 use cut_file::Cut;
 use elf32_loader::Image;
 use enclosure_regions::{Regions, copy_regions};

@@ -1,7 +1,7 @@
 use Rattle.std.proofs.Common.{◌≡◌, ◌<◌, ℕ, List, true, arith, rules, sym}
 use Rattle.cut_file.specs.Cuts.{CutPicture, is_valid as is_valid_cut}
 use Rattle.cut_file.specs.Pictures.{picture_of as cut_picture}
-use Rattle.covered_runs.specs.MeasuredLaws.{AreInputs}
+use Rattle.acceptance_law.specs.MeasuredLaws.{AreInputs}
 use Rattle.elf32_loader.specs.Images.{picture_of}
 use Rattle.elf32_loader.specs.Pictures.{Picture}
 use Rattle.enclosure_regions.specs.declared.region_parts.Region.{Region}

@@ -1,6 +1,6 @@
 use Rattle.std.specs.Prelude.{length}
 use Rattle.std.specs.List.{AllByRecursion}
-use Rattle.covered_runs.specs.MeasuredLaws.{AreInputs}
+use Rattle.acceptance_law.specs.MeasuredLaws.{AreInputs}
 use Rattle.elf32_loader.specs.Images.{picture_of}
 use Rattle.many_runs.proofs.measuring_all.tell_all_inputs.Given as goal
 

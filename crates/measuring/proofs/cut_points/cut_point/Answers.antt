@@ -2,7 +2,7 @@ use Rattle.std.proofs.Common.{◌≡◌, sym, ap, ◌∙◌, arith, true}
 use Rattle.std.specs.List.{list_all}
 use Rattle.std.proofs.lemmas.Bool.{and_parts}
 use Rattle.cut_file.specs.Cuts.{is_run, neighbours_pass, have_other_masks}
-use Rattle.covered_runs.specs.RunCuts.{united}
+use Rattle.acceptance_law.specs.RunCuts.{united}
 use Rattle.measuring.specs.CutRuns.{once, united_runs}
 use Rattle.measuring.proofs.CutRuns.{point_valid, united-runs}
 use Rattle.measuring.proofs.cut_points.cut_point.Goals as goal

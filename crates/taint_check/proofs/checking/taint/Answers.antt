@@ -5,7 +5,7 @@ use Rattle.cut_file.specs.Pictures.{picture_of as cut_picture}
 use Rattle.elf32_loader.specs.Images.{picture_of}
 use Rattle.elf32_loader.specs.Pictures.{Picture}
 use Rattle.enclosure_regions.specs.declared.region_parts.Region.{Region}
-use Rattle.covered_runs.specs.MeasuredLaws.{AreInputs}
+use Rattle.acceptance_law.specs.MeasuredLaws.{AreInputs}
 use Rattle.lockstep_replay.specs.Tasks.{Limits, task_of}
 use Rattle.taint_check.specs.Laws.{IsAcceptedIfClean}
 use Rattle.taint_check.specs.Tainted.{Finding, IsClean, IsUnclear, IsVerdict, finding_of}

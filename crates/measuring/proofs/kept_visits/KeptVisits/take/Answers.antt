@@ -1,7 +1,7 @@
 use Rattle.std.proofs.Common.{◌++◌, sym, ap, ◌∙◌}
 use Rattle.std.proofs.lemmas.List.{append-nil}
 use Rattle.std.proofs.lemmas.Result.{on_ok_weaker}
-use Rattle.covered_runs.specs.RunCuts.{mask_at_event}
+use Rattle.acceptance_law.specs.RunCuts.{mask_at_event}
 use Rattle.measuring.specs.Visits.{all_masks}
 use Rattle.measuring.proofs.AddedVisits.{takes, no_mask}
 use Rattle.measuring.proofs.kept_visits.KeptVisits.take.Goals as goal

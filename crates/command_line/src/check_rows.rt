@@ -1,0 +1,58 @@
+ghost use Rattle.std.specs.Prelude.{◌≡◌, None, Ok, IfOk, IfSome, IsTrue, map};
+ghost use Rattle.command_line.specs.CommandLines.{Check, IsCheck, is_known};
+ghost use Rattle.command_line.specs.Words.{check_of, parts_in};
+
+use crate::checks::CheckWords;
+use crate::guests::GuestWords;
+use crate::judgings::Judging;
+use crate::limits::Limits;
+use crate::numbers::{number_of, turns_of};
+use crate::option_words::{are_taken, value_of};
+use crate::parts::Parts;
+use flow_base::{List, NoMemory};
+use std::alloc::Global;
+
+pub(crate) const HIGHEST_BUDGET: u32 = 1_048_576;
+
+/// The secrets that the words behind a command name, to be judged so; none but these options may stand there. None exactly
+/// where they name none.
+pub fn check_words<'a>(
+    alloc: Global,
+    parts: &Parts<'a>,
+    allowed: &[&str],
+    judging: Judging,
+) -> Result<Option<CheckWords<'a>>, NoMemory>
+    requires { IsTrue (is_known judging) }
+    ensures is { IfOk result (λ found. IfSome found (λ check. IsCheck (map (λ name. name.now) allowed.now) judging
+        (parts_in parts.now) (check_of check))) }
+    ensures none { result ≡ Ok None → (check : Check) → ¬ IsCheck (map (λ name. name.now) allowed.now) judging
+        (parts_in parts.now) check }
+{
+    let [program, public_input, cut, budget, secrets @ ..] = parts.plain.as_slice() else {
+        return Ok(None);
+    };
+    if secrets.is_empty() || secrets.len() > 64 {
+        return Ok(None);
+    }
+    let options = parts.options.as_slice();
+    if !are_taken(options, allowed, &[]) {
+        return Ok(None);
+    }
+    let Some(budget) = number_of(alloc, budget, 0, HIGHEST_BUDGET)? else {
+        return Ok(None);
+    };
+    let Some(turns) = turns_of(alloc, value_of(options, "--turns"))? else {
+        return Ok(None);
+    };
+    Ok(Some(CheckWords {
+        guest: GuestWords {
+            program: *program,
+            public_input: *public_input,
+            regions: value_of(options, "--regions"),
+        },
+        cut: *cut,
+        secrets: List::from_vec(secrets.to_vec(alloc)?),
+        limits: Limits { budget, turns },
+        judging,
+    }))
+}

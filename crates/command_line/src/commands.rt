@@ -1,0 +1,293 @@
+ghost use Rattle.std.specs.Prelude.{◌≡◌, ◌∷◌, [], ℕ, List as Seq, None, Ok, map, string_bytes};
+ghost use Rattle.std.specs.Prelude.{IfNone, IfOk, IfSome};
+ghost use Rattle.command_line.specs.CommandLines.{Command, Fits, IsCommand, IsNoCommand, IsOneFile, IsTrial};
+ghost use Rattle.command_line.specs.Words.{command_of, parts_in};
+ghost use Rattle.command_line.specs.declared.names.CommandName.TheVariants as names;
+
+use crate::all_secrets::AllSecretsWords;
+use crate::all_secrets_rows::all_secrets_words;
+use crate::check_rows::check_words;
+use crate::checks::CheckWords;
+use crate::judgings::Judging;
+use crate::learn_rows::learn_words;
+use crate::names::CommandName;
+use crate::numbers::{choice_of, number_of};
+use crate::option_words::{has_option, value_of};
+use crate::parts::{Parts, parts_of};
+use crate::run_rows::{many_runs_words, run_words};
+use crate::runs::{ManyRunsWords, RunWords};
+use crate::tellings::Telling;
+use flow_base::NoMemory;
+use std::alloc::Global;
+
+/// The words of a command.
+#[derive(Drop)]
+pub enum CommandWords<'a> {
+    /// `check PROG PUBLIC CUT BUDGET SECRET.. [--turns N] [--regions FILE]`, or `taint`, which may have `--rules N`, in
+    /// place of `check`
+    Check(CheckWords<'a>),
+    /// `bound PROG PUBLIC CUT BUDGET [--turns N] [--regions FILE] [--rules N] [--paths N] [--list]`
+    Bound(AllSecretsWords<'a>),
+    /// `measure PROG PUBLIC SECRET [--turns N] [--regions FILE] [--rules N] [--cut N]`; `graph` or `report`, which may
+    /// have `--json`, in place of `measure` and without `--cut`; `learn PROG PUBLIC SECRET FILE [--turns N]`
+    Tell {
+        /// What is told of the run.
+        telling: Telling,
+        /// The run.
+        run: RunWords<'a>,
+    },
+    /// `measure-all PROG PUBLIC SECRET.. [--turns N] [--regions FILE] [--rules N] [--cut N]`
+    MeasureAll {
+        /// The version of the text of the cut: 1 or 2.
+        version: u32,
+        /// The runs.
+        runs: ManyRunsWords<'a>,
+    },
+    /// `asm SOURCE`
+    Assemble {
+        source: &'a str,
+    },
+    /// `list PROG`
+    List {
+        program: &'a str,
+    },
+    /// `verify CERT`
+    Verify {
+        certificate: &'a str,
+    },
+    /// `migrate CUT`
+    Migrate {
+        cut: &'a str,
+    },
+    /// `trial N`
+    Trial {
+        number: u32,
+    },
+}
+
+/// The file that the words behind a command of one file name; None exactly where they name none.
+fn file_word<'a>(parts: &Parts<'a>) -> Option<&'a str>
+    ensures is { IfSome result (λ file. IsOneFile (parts_in parts.now) file.now) }
+    ensures none { IfNone result ((file : Seq ℕ) → ¬ IsOneFile (parts_in parts.now) file) }
+{
+    if !parts.options.as_slice().is_empty() {
+        return None;
+    }
+    match parts.plain.as_slice() {
+        [file] => Some(*file),
+        _ => None,
+    }
+}
+
+/// The check that the words behind `check` name; None exactly where they name none.
+fn check_row<'a>(alloc: Global, parts: &Parts<'a>) -> Result<Option<CommandWords<'a>>, NoMemory>
+    ensures is { IfOk result (λ found. IfSome found (λ command. Fits names.Check (parts_in parts.now) (command_of
+        command))) }
+    ensures none { result ≡ Ok None → (command : Command) → ¬ Fits names.Check (parts_in parts.now) command }
+{
+    let allowed = ["--turns", "--regions"];
+    let Some(check) = check_words(alloc, parts, &allowed, Judging::Replay)? else {
+        return Ok(None);
+    };
+    Ok(Some(CommandWords::Check(check)))
+}
+
+/// The check with one machine that the words behind `taint` name; None exactly where they name none.
+fn taint_row<'a>(alloc: Global, parts: &Parts<'a>) -> Result<Option<CommandWords<'a>>, NoMemory>
+    ensures is { IfOk result (λ found. IfSome found (λ command. Fits names.Taint (parts_in parts.now) (command_of
+        command))) }
+    ensures none { result ≡ Ok None → (command : Command) → ¬ Fits names.Taint (parts_in parts.now) command }
+{
+    let Some(table) = choice_of(alloc, value_of(parts.options.as_slice(), "--rules"))? else {
+        return Ok(None);
+    };
+    let allowed = ["--rules", "--turns", "--regions"];
+    let Some(check) = check_words(alloc, parts, &allowed, Judging::Masks(table))? else {
+        return Ok(None);
+    };
+    Ok(Some(CommandWords::Check(check)))
+}
+
+/// The bound that the words behind `bound` name; None exactly where they name none.
+fn bound_row<'a>(alloc: Global, parts: &Parts<'a>) -> Result<Option<CommandWords<'a>>, NoMemory>
+    ensures is { IfOk result (λ found. IfSome found (λ command. Fits names.Bound (parts_in parts.now) (command_of
+        command))) }
+    ensures none { result ≡ Ok None → (command : Command) → ¬ Fits names.Bound (parts_in parts.now) command }
+{
+    let Some(all) = all_secrets_words(alloc, parts)? else {
+        return Ok(None);
+    };
+    Ok(Some(CommandWords::Bound(all)))
+}
+
+/// The cut of the run that the words behind `measure` name; None exactly where they name none.
+fn measure_row<'a>(alloc: Global, parts: &Parts<'a>) -> Result<Option<CommandWords<'a>>, NoMemory>
+    ensures is { IfOk result (λ found. IfSome found (λ command. Fits names.Measure (parts_in parts.now) (command_of
+        command))) }
+    ensures none { result ≡ Ok None → (command : Command) → ¬ Fits names.Measure (parts_in parts.now) command }
+{
+    let Some(version) = choice_of(alloc, value_of(parts.options.as_slice(), "--cut"))? else {
+        return Ok(None);
+    };
+    let Some(run) = run_words(
+        alloc,
+        parts,
+        &["--cut", "--turns", "--regions", "--rules"],
+        &[],
+    )?
+    else {
+        return Ok(None);
+    };
+    Ok(Some(CommandWords::Tell {
+        telling: Telling::CutText(version),
+        run,
+    }))
+}
+
+/// The cut of all the runs that the words behind `measure-all` name; None exactly where they name none.
+fn measure_all_row<'a>(
+    alloc: Global,
+    parts: &Parts<'a>,
+) -> Result<Option<CommandWords<'a>>, NoMemory>
+    ensures is { IfOk result (λ found. IfSome found (λ command. Fits names.MeasureAll (parts_in parts.now) (command_of
+        command))) }
+    ensures none { result ≡ Ok None → (command : Command) → ¬ Fits names.MeasureAll (parts_in parts.now) command }
+{
+    let Some(version) = choice_of(alloc, value_of(parts.options.as_slice(), "--cut"))? else {
+        return Ok(None);
+    };
+    let Some(runs) = many_runs_words(alloc, parts)? else {
+        return Ok(None);
+    };
+    Ok(Some(CommandWords::MeasureAll { version, runs }))
+}
+
+/// The certificate of the run that the words behind `graph` name; None exactly where they name none.
+fn graph_row<'a>(alloc: Global, parts: &Parts<'a>) -> Result<Option<CommandWords<'a>>, NoMemory>
+    ensures is { IfOk result (λ found. IfSome found (λ command. Fits names.Graph (parts_in parts.now) (command_of
+        command))) }
+    ensures none { result ≡ Ok None → (command : Command) → ¬ Fits names.Graph (parts_in parts.now) command }
+{
+    let Some(run) = run_words(alloc, parts, &["--turns", "--regions", "--rules"], &[])? else {
+        return Ok(None);
+    };
+    Ok(Some(CommandWords::Tell {
+        telling: Telling::Certificate,
+        run,
+    }))
+}
+
+/// The report of the run that the words behind `report` name; None exactly where they name none.
+fn report_row<'a>(alloc: Global, parts: &Parts<'a>) -> Result<Option<CommandWords<'a>>, NoMemory>
+    ensures is { IfOk result (λ found. IfSome found (λ command. Fits names.Report (parts_in parts.now) (command_of
+        command))) }
+    ensures none { result ≡ Ok None → (command : Command) → ¬ Fits names.Report (parts_in parts.now) command }
+{
+    let Some(run) = run_words(
+        alloc,
+        parts,
+        &["--turns", "--regions", "--rules"],
+        &["--json"],
+    )?
+    else {
+        return Ok(None);
+    };
+    let json = has_option(parts.options.as_slice(), "--json");
+    Ok(Some(CommandWords::Tell {
+        telling: Telling::Report(json),
+        run,
+    }))
+}
+
+/// The declaration of the run that the words behind `learn` name; None exactly where they name none.
+fn learn_row<'a>(alloc: Global, parts: &Parts<'a>) -> Result<Option<CommandWords<'a>>, NoMemory>
+    ensures is { IfOk result (λ found. IfSome found (λ command. Fits names.Learn (parts_in parts.now) (command_of
+        command))) }
+    ensures none { result ≡ Ok None → (command : Command) → ¬ Fits names.Learn (parts_in parts.now) command }
+{
+    let Some(run) = learn_words(alloc, parts)? else {
+        return Ok(None);
+    };
+    Ok(Some(CommandWords::Tell {
+        telling: Telling::Declaration,
+        run,
+    }))
+}
+
+/// The number that the words behind `trial` name; None exactly where they name none.
+fn trial_number(alloc: Global, parts: &Parts) -> Result<Option<u32>, NoMemory>
+    ensures is { IfOk result (λ found. IfSome found (λ number. IsTrial (parts_in parts.now) number)) }
+    ensures none { result ≡ Ok None → (number : ℕ) → ¬ IsTrial (parts_in parts.now) number }
+{
+    if !parts.options.as_slice().is_empty() {
+        return Ok(None);
+    }
+    match parts.plain.as_slice() {
+        [word] => number_of(alloc, *word, 0, u32::MAX),
+        _ => Ok(None),
+    }
+}
+
+/// The trial that the words behind `trial` name; None exactly where they name none.
+fn trial_row<'a>(alloc: Global, parts: &Parts<'a>) -> Result<Option<CommandWords<'a>>, NoMemory>
+    ensures is { IfOk result (λ found. IfSome found (λ command. Fits names.Trial (parts_in parts.now) (command_of
+        command))) }
+    ensures none { result ≡ Ok None → (command : Command) → ¬ Fits names.Trial (parts_in parts.now) command }
+{
+    let Some(number) = trial_number(alloc, parts)? else {
+        return Ok(None);
+    };
+    Ok(Some(CommandWords::Trial { number }))
+}
+
+/// The command of a name that has the words behind it; None exactly where there is none.
+fn row_of<'a>(
+    alloc: Global,
+    name: CommandName,
+    parts: &Parts<'a>,
+) -> Result<Option<CommandWords<'a>>, NoMemory>
+    ensures is { IfOk result (λ found. IfSome found (λ command. Fits name (parts_in parts.now) (command_of command))) }
+    ensures none { result ≡ Ok None → (command : Command) → ¬ Fits name (parts_in parts.now) command }
+{
+    match name {
+        CommandName::Check => check_row(alloc, parts),
+        CommandName::Taint => taint_row(alloc, parts),
+        CommandName::Bound => bound_row(alloc, parts),
+        CommandName::Measure => measure_row(alloc, parts),
+        CommandName::MeasureAll => measure_all_row(alloc, parts),
+        CommandName::Graph => graph_row(alloc, parts),
+        CommandName::Report => report_row(alloc, parts),
+        CommandName::Learn => learn_row(alloc, parts),
+        CommandName::Assemble => Ok(file_word(parts).map(|source| CommandWords::Assemble {
+            source,
+        })),
+        CommandName::List => Ok(file_word(parts).map(|program| CommandWords::List { program })),
+        CommandName::Verify => Ok(file_word(parts).map(|certificate| CommandWords::Verify {
+            certificate,
+        })),
+        CommandName::Migrate => Ok(file_word(parts).map(|cut| CommandWords::Migrate { cut })),
+        CommandName::Trial => trial_row(alloc, parts),
+    }
+}
+
+/// The command that words name; None exactly where they are no command line that is understood. Its error is want of
+/// memory.
+pub fn command_line<'a>(
+    alloc: Global,
+    words: &'a [String],
+) -> Result<Option<CommandWords<'a>>, NoMemory>
+    ensures is { IfOk result (λ found. IfSome found (λ command. IsCommand (map string_bytes words.entry.now)
+        (command_of command))) }
+    ensures none { result ≡ Ok None → IsNoCommand (map string_bytes words.entry.now) }
+{
+    let [first, others @ ..] = words else {
+        return Ok(None);
+    };
+    let Some(name) = CommandName::named_by(first.as_str()) else {
+        return Ok(None);
+    };
+    let Some(parts) = parts_of(alloc, others)? else {
+        return Ok(None);
+    };
+    row_of(alloc, name, &parts)
+}

@@ -1,0 +1,128 @@
+-- What the contract of the top call says of a reply, of what is put of it, and of the counts of faults.
+use Rattle.std.proofs.Common.{◌≡◌, ◌≢◌, ◌≤◌, ◌∙◌, inl, inr, ℕ, List, length, take, Option, option_map, Err, codes, refl, sym, ap, subst, arith}
+use Rattle.flow_base.specs.Counts.{Rose}
+use Rattle.flow_base.specs.Loads.{Told}
+use Rattle.flow_base.specs.Puts.{Taken, after_put}
+use Rattle.command_line.specs.CommandLines.{IsNoCommand}
+use Rattle.commands.specs.declared.refusals.Refusal.{Refusal}
+use Rattle.commands.specs.declared.refusals.Refusal.TheVariants.{Load, Memory, Usage}
+use Rattle.commands.specs.declared.replies.Reply.{Reply as MadeReply}
+use Rattle.commands.specs.Answers.{Answer, told}
+use Rattle.commands.specs.Clauses.{CountsFaults, IsPut, IsReply}
+use Rattle.commands.specs.Lines.{IsOneLine}
+use Rattle.commands.specs.Replies.{AnswersWords, Reply, reply_of}
+use Rattle.commands.specs.SingleLoads.{HasCause, KeepsCount}
+use Rattle.commands.specs.Statuses.{number_of}
+use Rattle.commands.proofs.FineAnswers.{command_fine}
+use Rattle.commands.proofs.Headlines.{headline_of}
+use Rattle.commands.proofs.OneLine.{literal}
+use Rattle.commands.proofs.Readings.{status_of}
+
+-- ---- the reply
+
+usage-answer : (answer : Answer) (refusal : Refusal) → answer ≡ Err refusal → refusal ≡ Usage → answer ≡ Err Usage
+usage-answer answer refusal e u = e ∙ ap (λ r. Err r) u
+
+two-low : (n : ℕ) → n ≡ 2 → n ≤ 6
+two-low n e = omega arith
+
+two-five : (n : ℕ) → n ≡ 2 → n ≡ 5 → ⊥
+two-five n e h = omega arith
+
+usage-words : (source : Option Told) (words : List (List ℕ)) (answer : Answer) → AnswersWords source words answer →
+    status_of answer ≡ 2 → IsNoCommand words
+usage-words source words answer (inl (refusal, (none, u), e)) two = none
+usage-words source words answer (inr (command, named, h)) two =
+    absurd ((command_fine source command answer h).other two)
+
+words-usage : (source : Option Told) (words : List (List ℕ)) (answer : Answer) → AnswersWords source words answer →
+    IsNoCommand words → status_of answer ≡ 2
+words-usage source words answer (inl (refusal, (none, u), e)) other = ap status_of (usage-answer answer refusal e u)
+words-usage source words answer (inr (command, named, h)) other = absurd (other command named)
+
+low-status : (source : Option Told) (words : List (List ℕ)) (answer : Answer) → AnswersWords source words answer →
+    status_of answer ≤ 6
+low-status source words answer (inl (refusal, (none, u), e)) =
+    two-low (status_of answer) (ap status_of (usage-answer answer refusal e u))
+low-status source words answer (inr (command, named, h)) = (command_fine source command answer h).low
+
+one-line : (source : Option Told) (words : List (List ℕ)) (answer : Answer) → AnswersWords source words answer →
+    2 ≤ status_of answer → IsOneLine (told answer).text
+one-line source words answer (inl (refusal, (none, u), e)) high =
+    subst (λ a. IsOneLine (told a).text) (sym (usage-answer answer refusal e u))
+    (record { line = codes "refused 2 usage"; ends = refl; one = (literal (codes "refused 2 usage") refl).none })
+one-line source words answer (inr (command, named, h)) high = (command_fine source command answer h).line high
+
+pub is_reply : (source : Option Told) (words : List (List ℕ)) (answer : Answer) → AnswersWords source words answer →
+    IsReply source words (reply_of answer)
+is_reply source words answer answers = record {
+  replies = (answer, answers, refl);
+  usage = (usage-words source words answer answers, words-usage source words answer answers);
+  low = low-status source words answer answers;
+  line = one-line source words answer answers;
+  headline = λ command. λ named. λ low. headline_of source words command answer named answers low;
+}
+
+-- ---- what is put
+
+same-told : (answer : Answer) (made : MadeReply) → made ≡ told answer →
+    record { status = number_of made.status; text = made.text } ≡ reply_of answer
+same-told answer made is = ap (λ (r : MadeReply). record { status = number_of r.status; text = r.text }) is
+
+pub put_whole : (answer : Answer) (made : MadeReply) (status : ℕ) (before now : Option Taken) → made ≡ told answer →
+    status ≡ number_of made.status → now ≡ option_map (after_put made.text) before →
+    IsPut (reply_of answer) status before now
+put_whole answer made status before now is number puts =
+    subst (λ (r : Reply). IsPut r status before now) (same-told answer made is) (inl (number, puts))
+
+pub put_part : (answer : Answer) (made : MadeReply) (status : ℕ) (before now : Option Taken) → made ≡ told answer →
+    status ≡ 7 →
+    (count : ℕ) × (count ≤ length made.text) × (now ≡ option_map (after_put (take count made.text)) before) →
+    IsPut (reply_of answer) status before now
+put_part answer made status before now is number puts =
+    subst (λ (r : Reply). IsPut r status before now) (same-told answer made is) (inr (number, puts))
+
+-- ---- counts of faults
+
+load-of : (source : Option Told) (words : List (List ℕ)) (answer : Answer) → AnswersWords source words answer →
+    status_of answer ≡ 5 → (name : List ℕ) × (answer ≡ Err (Load name))
+load-of source words answer (inl (refusal, (none, u), e)) five =
+    absurd (two-five (status_of answer) (ap status_of (usage-answer answer refusal e u)) five)
+load-of source words answer (inr (command, named, h)) five = (command_fine source command answer h).load five
+
+low-seven : (n m : ℕ) → n ≡ m → m ≤ 6 → n ≡ 7 → ⊥
+low-seven n m e low seven = omega arith
+
+pub faults_put : (source : Option Told) (words : List (List ℕ)) (answer : Answer) (made : MadeReply)
+    (status loads_before loads puts_before puts : ℕ) → AnswersWords source words answer → answer ≢ Err Memory →
+    made ≡ told answer → status ≡ number_of made.status → HasCause answer loads_before loads →
+    KeepsCount answer loads_before loads → puts ≡ puts_before →
+    CountsFaults status loads_before loads puts_before puts
+faults_put source words answer made status loads_before loads puts_before puts answers known is number cause kept same =
+    let statuses : status ≡ status_of answer = number ∙ ap (λ (r : MadeReply). number_of r.status) is in
+    record {
+      load_failed = λ five.
+          let load = load-of source words answer answers (sym statuses ∙ five) in
+          cause load.0 load.1;
+      put_failed = λ seven. absurd (low-seven status (status_of answer) statuses (low-status source words answer answers) seven);
+      puts_kept = λ other. same;
+      loads_kept = λ five. λ seven. λ eight. kept known (λ name. λ e. five (statuses ∙ ap status_of e));
+    }
+
+pub faults_unput : (status loads_before loads puts_before puts : ℕ) → status ≡ 7 → Rose puts_before puts →
+    CountsFaults status loads_before loads puts_before puts
+faults_unput status loads_before loads puts_before puts is rose = record {
+  load_failed = λ five. absurd (omega (arith, is, five));
+  put_failed = λ seven. rose;
+  puts_kept = λ other. absurd (other is);
+  loads_kept = λ five. λ seven. λ eight. absurd (seven is);
+}
+
+pub faults_unanswered : (status loads_before loads puts : ℕ) → status ≡ 8 →
+    CountsFaults status loads_before loads puts puts
+faults_unanswered status loads_before loads puts is = record {
+  load_failed = λ five. absurd (omega (arith, is, five));
+  put_failed = λ seven. absurd (omega (arith, is, seven));
+  puts_kept = λ other. refl;
+  loads_kept = λ five. λ seven. λ eight. absurd (eight is);
+}

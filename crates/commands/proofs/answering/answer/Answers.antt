@@ -1,0 +1,78 @@
+use Rattle.std.proofs.Common.{◌≡◌, Ok, Err, None, inl, inr, refl, arith}
+use Rattle.std.proofs.lemmas.Grind.{common_steps}
+use Rattle.command_line.specs.Words.{command_of}
+use Rattle.commands.specs.ReadTasks.{task_in}
+use Rattle.commands.proofs.FineAnswers.{task_blames_no_load}
+use Rattle.commands.proofs.Refusing.{err_apart, known_refusal}
+use Rattle.commands.proofs.answering.answer.Goals as goal
+
+pub returns-in_default-clause-answers : goal.returns-in_default-clause-answers
+returns-in_default-clause-answers g c = λ known.
+    let none : c.command_line.result ≡ Ok None = grind (arith, common_steps) in
+    inl (_, (c.command_line.ensures.none none, refl), refl)
+
+pub returns-in_default-clause-leaves : goal.returns-in_default-clause-leaves
+returns-in_default-clause-leaves g c = λ known.
+    let none : c.command_line.result ≡ Ok None = grind (arith, common_steps) in
+    inl (c.command_line.ensures.none none, refl)
+
+pub returns-in_err-loaded-clause-answers : goal.returns-in_err-loaded-clause-answers
+returns-in_err-loaded-clause-answers g c = λ known.
+    let refusal = c.in_err-loaded.field-0.0 in
+    let same : c.from_residual-in_err-loaded.result ≡ Err refusal = grind (arith, common_steps) in
+    let apart = known_refusal refusal c.from_residual-in_err-loaded.result same known in
+    inr (
+      command_of c.in-Some.command,
+      rw c.in-Some.is at c.in_ok-command.ensures.is,
+      inl (
+        refusal,
+        rw (c.as_slice.ensures, c.in_ok-wants.ensures) at c.in_err-loaded.ensures.loads (err_apart refusal (Err refusal) refl apart),
+        same,
+      ),
+    )
+
+pub returns-in_err-loaded-clause-leaves : goal.returns-in_err-loaded-clause-leaves
+returns-in_err-loaded-clause-leaves g c = λ known.
+    let refusal = c.in_err-loaded.field-0.0 in
+    let same : c.from_residual-in_err-loaded.result ≡ Err refusal = grind (arith, common_steps) in
+    let apart = known_refusal refusal c.from_residual-in_err-loaded.result same known in
+    inr (
+      command_of c.in-Some.command,
+      rw c.in-Some.is at c.in_ok-command.ensures.is,
+      rw (c.as_slice.ensures, c.in_ok-wants.ensures) at c.in_err-loaded.ensures.leaves (err_apart refusal (Err refusal) refl apart),
+    )
+
+pub returns-in_err-task-clause-answers : goal.returns-in_err-task-clause-answers
+returns-in_err-task-clause-answers g c = λ known.
+    let refusal = c.in_err-task.field-0.0 in
+    let same : c.from_residual-in_err-task.result ≡ Err refusal = grind (arith, common_steps) in
+    let apart = known_refusal refusal c.from_residual-in_err-task.result same known in
+    inr (
+      command_of c.in-Some.command,
+      rw c.in-Some.is at c.in_ok-command.ensures.is,
+      inr (
+        c.in_ok-loaded.loaded,
+        rw (c.as_slice.ensures, c.in_ok-wants.ensures) at c.in_ok-loaded.ensures.loads (λ e. cc),
+        inl (refusal, rw c.as_slice-2.ensures at c.in_err-task.ensures.err apart, same),
+      ),
+    )
+
+pub returns-clause-answers : goal.returns-clause-answers
+returns-clause-answers g c = λ known.
+    inr (
+      command_of c.in-Some.command,
+      rw c.in-Some.is at c.in_ok-command.ensures.is,
+      inr (
+        c.in_ok-loaded.loaded,
+        rw (c.as_slice.ensures, c.in_ok-wants.ensures) at c.in_ok-loaded.ensures.loads (λ e. cc),
+        inr (
+          task_in c.in_ok-task.task,
+          rw c.as_slice-2.ensures at c.in_ok-task.ensures.ok,
+          c.answer_task.ensures known,
+        ),
+      ),
+    )
+
+pub returns-clause-cause : goal.returns-clause-cause
+returns-clause-cause g c = λ name e.
+    absurd (task_blames_no_load (task_in c.in_ok-task.task) c.answer_task.result name (c.answer_task.ensures (λ same. cc)) e)

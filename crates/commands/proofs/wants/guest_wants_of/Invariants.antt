@@ -1,0 +1,10 @@
+use Rattle.std.proofs.Common.{◌≡◌, ◌∷◌, ◌++◌, map, drop}
+use Rattle.commands.specs.Loading.{want}
+use Rattle.commands.specs.Wants.{want_of}
+use Rattle.commands.specs.declared.kinds.FileKind.TheVariants.{Program, PublicInput}
+use Rattle.commands.proofs.wants.guest_wants_of.Given as goal
+
+abbrev pub invariant-loop-want : goal.invariant-loop-want
+invariant-loop-want l =
+    map want_of l.wants ++ map want_of (drop l.want-index l.more)
+    ≡ want l.guest.program.now Program ∷ want l.guest.public_input.now PublicInput ∷ map want_of l.more

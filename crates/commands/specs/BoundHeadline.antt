@@ -1,0 +1,49 @@
+-- The headline of a bound: what its lines say of all secrets, whatever they are.
+use Rattle.std.specs.Prelude.{◌≡◌, ℕ, List, [], ◌∷◌, Option}
+use Rattle.cut_file.specs.Cuts.{CutPicture}
+use Rattle.cut_file.specs.Texts.{CutText}
+use Rattle.flow_base.specs.Loads.{Told}
+use Rattle.every_secret.specs.AllSecrets.{AreAll}
+use Rattle.every_secret.specs.Bounds.{Answer as BoundAnswer, Found, IsBounded, IsLeastPower, IsUnclear, output_count}
+use Rattle.command_line.specs.CommandLines.{AllSecrets}
+use Rattle.commands.specs.AllSecrets.{AllSecretsTask, bound_of, bounded_text, task_in}
+use Rattle.commands.specs.BoundTexts.{unclear_line}
+use Rattle.commands.specs.Guests.{Guest, GuestFiles, IsGuest}
+use Rattle.commands.specs.Headline.{AreGuestHeld}
+use Rattle.commands.specs.Replies.{Reply}
+
+-- a bounded answer shows what is found, which tells of all secrets, with the number of its outputs and the least number
+-- of bits for that
+pub record ShowsBound (all : AllSecretsTask) (found : Found) (reply : Reply) : Type 0 where
+  pub all_secrets : AreAll (task_in all) all.limits found
+  pub bits : ℕ
+  pub least : IsLeastPower (output_count found.patterns) bits
+  pub lines : reply.text ≡ bounded_text all found bits
+  pub status_is : reply.status ≡ 0
+
+-- an answer is shown by a reply
+abbrev pub Shows : AllSecretsTask → BoundAnswer → Reply → Type 0
+Shows all (IsBounded found) reply = ShowsBound all found reply
+Shows all (IsUnclear bits why) reply = (reply.text ≡ unclear_line bits why) × (reply.status ≡ 1)
+
+-- what the words and the files name
+abbrev pub named_task : AllSecrets → Guest → CutPicture → AllSecretsTask
+named_task all guest cut = record {
+  guest = guest;
+  cut = cut;
+  limits = record { budget = all.budget; turns = all.turns };
+  table = all.table;
+  paths = all.paths;
+  listed = all.listed;
+}
+
+-- By what the file source tells, the names and limits that the words name, and the reply.
+pub record BoundHeadline (source : Option Told) (all : AllSecrets) (reply : Reply) : Type 0 where
+  pub guest_files : GuestFiles
+  pub cut_file : List ℕ
+  pub held : AreGuestHeld source all.guest (all.cut ∷ []) guest_files (cut_file ∷ [])
+  pub guest : Guest
+  pub is_guest : IsGuest guest_files guest
+  pub cut : CutPicture
+  pub is_cut : CutText cut_file cut
+  pub shows : Shows (named_task all guest cut) (bound_of (named_task all guest cut)) reply

@@ -1,0 +1,43 @@
+//! The least declaration of regions that a run needs.
+
+ghost use Rattle.std.specs.Prelude.{◌≢◌, ◌≤◌, Err, IfErr, IfOk, length};
+ghost use Rattle.commands.specs.Declarations.{AnswersLearning, IsDeclaration, IsLearnRefusal};
+ghost use Rattle.commands.specs.ReadTasks.{IsBoundedRun, guest_in};
+ghost use Rattle.commands.specs.declared.refusals.Refusal.TheVariants.{Memory};
+
+use crate::guests::Guest;
+use crate::refusals::Refusal;
+use crate::replies::Reply;
+use crate::tasks::RunTask;
+use enclosure_regions::Regions;
+use flow_base::Bytes;
+use region_learn::{learn, write_regions};
+use std::alloc::Global;
+
+/// The least declaration of a run of a guest, or why there is none.
+fn declaration(alloc: Global, guest: &Guest, secret: &Bytes, turns: u32) -> Result<Regions, Refusal>
+    requires short { length secret.now ≤ 65536 }
+    ensures ok { IfOk result (λ regions. IsDeclaration (guest_in guest.now) secret.now turns regions.items) }
+    ensures err { IfErr result (λ refusal. refusal ≢ Memory →
+        IsLearnRefusal (guest_in guest.now) secret.now turns refusal) }
+{
+    let regions = learn(
+        alloc,
+        &guest.image,
+        guest.public_input,
+        secret,
+        &guest.regions,
+        turns,
+    )?;
+    Ok(regions)
+}
+
+/// Learns the declaration of a run, and tells it as the text of a region file.
+pub fn tell_declaration(alloc: Global, run: &RunTask) -> Result<Reply, Refusal>
+    requires bounded { IsBoundedRun run.now }
+    ensures { result ≢ Err Memory → AnswersLearning (guest_in run.now.guest) run.now.secret.now run.now.turns result }
+{
+    let regions = declaration(alloc, &run.guest, run.secret, run.turns)?;
+    let text = write_regions(alloc, &regions)?;
+    Ok(Reply::done(text))
+}

@@ -1,6 +1,0 @@
-use Rattle.covered_runs.proofs.ProperRuns.{guest_turn_law, proper_events_law}
-use Rattle.covered_runs.proofs.ProperStarts.{guest_start_law}
-use Rattle.covered_runs.proofs.graph_laws.guests_stay_guests.Goals as goal
-
-pub returns : goal.returns
-returns c = record { start = guest_start_law; guests = guest_turn_law; events = proper_events_law }

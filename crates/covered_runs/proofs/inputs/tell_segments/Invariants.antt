@@ -1,9 +1,0 @@
-use Rattle.std.specs.Prelude.{length}
-use Rattle.covered_runs.specs.GuestLaws.{HasBytes}
-use Rattle.covered_runs.proofs.inputs.tell_segments.Given as goal
-
-abbrev pub invariant-loop-rest : goal.invariant-loop-rest
-invariant-loop-rest l = HasBytes l.rest → HasBytes l.segments
-
-abbrev pub decreases-loop-rest : goal.decreases-loop-rest
-decreases-loop-rest l = length l.rest

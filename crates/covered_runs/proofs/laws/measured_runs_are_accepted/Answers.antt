@@ -1,6 +1,0 @@
-use Rattle.covered_runs.proofs.CoveredRuns.{covered_law}
-use Rattle.covered_runs.proofs.CutMeasured.{measured_law}
-use Rattle.covered_runs.proofs.laws.measured_runs_are_accepted.Goals as goal
-
-pub returns : goal.returns
-returns c = record { measured = measured_law covered_law }

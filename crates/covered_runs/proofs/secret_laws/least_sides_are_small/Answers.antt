@@ -1,5 +1,0 @@
-use Rattle.covered_runs.proofs.SecretSides.{least_bits_law}
-use Rattle.covered_runs.proofs.secret_laws.least_sides_are_small.Goals as goal
-
-pub returns : goal.returns
-returns c = record { least = least_bits_law }

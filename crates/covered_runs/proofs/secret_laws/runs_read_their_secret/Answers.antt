@@ -1,5 +1,0 @@
-use Rattle.covered_runs.proofs.SecretRuns.{secret_bits_law}
-use Rattle.covered_runs.proofs.secret_laws.runs_read_their_secret.Goals as goal
-
-pub returns : goal.returns
-returns c = record { bits = secret_bits_law }

@@ -1,5 +1,0 @@
-use Rattle.covered_runs.proofs.VisitRuns.{output_visits_law}
-use Rattle.covered_runs.proofs.visit_laws.outputs_have_their_visits.Goals as goal
-
-pub returns : goal.returns
-returns c = record { visits = output_visits_law }

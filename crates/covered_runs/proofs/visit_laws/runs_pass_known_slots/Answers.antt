@@ -1,5 +1,0 @@
-use Rattle.covered_runs.proofs.VisitRuns.{known_slots_law}
-use Rattle.covered_runs.proofs.visit_laws.runs_pass_known_slots.Goals as goal
-
-pub returns : goal.returns
-returns c = record { slots = known_slots_law }

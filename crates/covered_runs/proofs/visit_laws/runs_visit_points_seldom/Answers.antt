@@ -1,5 +1,0 @@
-use Rattle.covered_runs.proofs.VisitRuns.{few_visits_law}
-use Rattle.covered_runs.proofs.visit_laws.runs_visit_points_seldom.Goals as goal
-
-pub returns : goal.returns
-returns c = record { visits = few_visits_law }
