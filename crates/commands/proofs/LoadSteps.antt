@@ -6,7 +6,7 @@ use Rattle.commands.specs.declared.refusals.Refusal.{Refusal}
 use Rattle.commands.specs.declared.refusals.Refusal.TheVariants.{Memory}
 use Rattle.commands.specs.FileLimits.{limit_of}
 use Rattle.commands.specs.Loading.{Want, load_refusal, and_file, and_load, loaded_from, after_answer, after_loads, AreWithin, IsLoadRefusal, LoadsAs, Leaves, LeavesPart}
-use Rattle.commands.specs.SingleLoads.{AnswersOne, or_refusal}
+use Rattle.commands.specs.Private.SingleLoads.{AnswersOne, or_refusal}
 
 -- ---- what a source gives for a first part of its loads, and for the others
 

@@ -8,7 +8,7 @@ use Rattle.std.proofs.lemmas.List.Sums.{list_all-from_AllPass}
 use Rattle.std.specs.List.{list_all}
 use Rattle.std.specs.Prelude.{nat_le}
 use Rattle.commands.specs.Guests.{region_wants, secret_wants}
-use Rattle.commands.specs.ReadTasks.{AreShort}
+use Rattle.commands.specs.Private.ReadTasks.{AreShort}
 use Rattle.commands.specs.Loading.{AreWithin, Want}
 
 pub short-secrets : (names files : List (List ℕ)) → AreWithin (secret_wants names) files → AreShort files

@@ -11,7 +11,7 @@ use Rattle.commands.specs.Answers.{Answer, told}
 use Rattle.commands.specs.Clauses.{CountsFaults, IsPut, IsReply}
 use Rattle.commands.specs.Lines.{IsOneLine}
 use Rattle.commands.specs.Replies.{AnswersWords, Reply, reply_of}
-use Rattle.commands.specs.SingleLoads.{HasCause, KeepsCount}
+use Rattle.commands.specs.Private.SingleLoads.{HasCause, KeepsCount}
 use Rattle.commands.specs.Statuses.{number_of}
 use Rattle.commands.proofs.FineAnswers.{command_fine}
 use Rattle.commands.proofs.Headlines.{headline_of}

@@ -5,8 +5,6 @@ pub mod Statuses
 pub mod Refusals
 pub mod Answers
 pub mod Loading
-pub mod SingleLoads
-pub mod Wants
 pub mod Texts
 pub mod Guests
 pub mod Findings
@@ -21,7 +19,6 @@ pub mod AllSecrets
 pub mod Trials
 pub mod Verifications
 pub mod Tasks
-pub mod ReadTasks
 pub mod Replies
 pub mod Headline
 pub mod CleanHeadline
@@ -30,3 +27,4 @@ pub mod LearntHeadline
 pub mod BoundHeadline
 pub mod Clauses
 pub mod ReplyLaws
+pub mod Private

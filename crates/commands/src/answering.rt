@@ -2,8 +2,8 @@
 
 ghost use Rattle.std.specs.Prelude.{◌≡◌, ◌≢◌, ◌≤◌, ◌∷◌, [], Err, map, string_bytes};
 ghost use Rattle.commands.specs.Replies.{AnswersWords, LeavesWords, LeavesWordsPart};
-ghost use Rattle.commands.specs.ReadTasks.{IsBounded, task_in};
-ghost use Rattle.commands.specs.SingleLoads.{HasCause, KeepsCount};
+ghost use Rattle.commands.specs.Private.ReadTasks.{IsBounded, task_in};
+ghost use Rattle.commands.specs.Private.SingleLoads.{HasCause, KeepsCount};
 ghost use Rattle.commands.specs.Tasks.{AnswersTask};
 ghost use Rattle.commands.specs.declared.refusals.Refusal.TheVariants.{Memory};
 

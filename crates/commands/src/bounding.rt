@@ -5,7 +5,7 @@ ghost use Rattle.every_secret.specs.AllSecrets.{AreAll, TellsAll};
 ghost use Rattle.every_secret.specs.Bounds.{IsBounded, IsUnclear, answer_of, found_of};
 ghost use Rattle.commands.specs.AllSecrets.{AnswersAllSecrets, AnswersBound, bound_of};
 ghost use Rattle.commands.specs.AllSecrets.{task_in as bound_task};
-ghost use Rattle.commands.specs.ReadTasks.{IsBoundedAll, all_secrets_in};
+ghost use Rattle.commands.specs.Private.ReadTasks.{IsBoundedAll, all_secrets_in};
 
 use crate::books::book_of;
 use crate::bound_lines::{bounded_line, listing, unclear_line};

@@ -5,7 +5,7 @@ ghost use Rattle.cut_file.specs.Pictures.{picture_of as cut_of};
 ghost use Rattle.taint_check.specs.Tainted.{Finding, IsUnclear, finding_of};
 ghost use Rattle.commands.specs.Checks.{judged_by};
 ghost use Rattle.commands.specs.Findings.{AnswersTaint, AreFindings, IsFinding};
-ghost use Rattle.commands.specs.ReadTasks.{AreShort, guest_in, limits_in};
+ghost use Rattle.commands.specs.Private.ReadTasks.{AreShort, guest_in, limits_in};
 ghost use Rattle.commands.specs.Texts.{clean_count, finding_line as finding_line_of, finding_lines};
 
 use crate::guests::Guest;

@@ -5,7 +5,7 @@ ghost use Rattle.cut_file.specs.Pictures.{picture_of as cut_of};
 ghost use Rattle.lockstep_replay.specs.Judgements.{judgement_of};
 ghost use Rattle.lockstep_replay.specs.Verdicts.{First};
 ghost use Rattle.commands.specs.Checks.{AnswersCheck, check_reply, judged_by, judgements_of};
-ghost use Rattle.commands.specs.ReadTasks.{AreShort, IsBoundedCheck, check_in, guest_in, limits_in};
+ghost use Rattle.commands.specs.Private.ReadTasks.{AreShort, IsBoundedCheck, check_in, guest_in, limits_in};
 ghost use Rattle.commands.specs.Texts.{accepted_count, verdict_lines};
 
 use crate::books::book_of;

@@ -5,7 +5,7 @@ ghost use Rattle.command_line.specs.Words.{check_of, guest_of, many_runs_of};
 ghost use Rattle.commands.specs.FileLimits.{limit_of};
 ghost use Rattle.commands.specs.Guests.{AreGuestFiles, and_others, guest_wants, region_wants, secret_wants};
 ghost use Rattle.commands.specs.Loading.{AreWithin, Want, want};
-ghost use Rattle.commands.specs.ReadTasks.{AreShort, files_in};
+ghost use Rattle.commands.specs.Private.ReadTasks.{AreShort, files_in};
 ghost use Rattle.commands.specs.declared.kinds.FileKind.TheVariants as kinds;
 
 use crate::guests::GuestFiles;

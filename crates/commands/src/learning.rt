@@ -2,7 +2,7 @@
 
 ghost use Rattle.std.specs.Prelude.{◌≢◌, ◌≤◌, Err, IfErr, IfOk, length};
 ghost use Rattle.commands.specs.Declarations.{AnswersLearning, IsDeclaration, IsLearnRefusal};
-ghost use Rattle.commands.specs.ReadTasks.{IsBoundedRun, guest_in};
+ghost use Rattle.commands.specs.Private.ReadTasks.{IsBoundedRun, guest_in};
 ghost use Rattle.commands.specs.declared.refusals.Refusal.TheVariants.{Memory};
 
 use crate::guests::Guest;

@@ -4,8 +4,8 @@ ghost use Rattle.flow_base.specs.Counts.{Rose};
 ghost use Rattle.flow_base.specs.Loads.{after_load};
 ghost use Rattle.commands.specs.FileLimits.{limit_of};
 ghost use Rattle.commands.specs.Loading.{Leaves, LeavesPart, Loads, IsLoadRefusal, load_refusal};
-ghost use Rattle.commands.specs.Wants.{want_of};
-ghost use Rattle.commands.specs.SingleLoads.{AnswersOne, HasCause, KeepsCount, Refuses};
+ghost use Rattle.commands.specs.Private.Wants.{want_of};
+ghost use Rattle.commands.specs.Private.SingleLoads.{AnswersOne, HasCause, KeepsCount, Refuses};
 ghost use Rattle.commands.specs.declared.refusals.Refusal.TheVariants.{Load, Memory};
 
 use crate::kinds::FileKind;

@@ -2,7 +2,7 @@
 
 ghost use Rattle.std.specs.Prelude.{◌≡◌, ◌≢◌, ◌∷◌, [], Err, map, IfErr, IfOk};
 ghost use Rattle.commands.specs.ManyRuns.{AnswersMany, AreMeasured, IsRunsRefusal};
-ghost use Rattle.commands.specs.ReadTasks.{AreBoundedRuns, many_runs_in};
+ghost use Rattle.commands.specs.Private.ReadTasks.{AreBoundedRuns, many_runs_in};
 ghost use Rattle.commands.specs.declared.refusals.Refusal.TheVariants.{Memory};
 
 use crate::books::book_of;

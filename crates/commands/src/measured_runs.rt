@@ -1,5 +1,5 @@
 ghost use Rattle.std.specs.Prelude.{◌≡◌, ◌≢◌, ◌∷◌, [], map, IfErr, IfOk};
-ghost use Rattle.commands.specs.ReadTasks.{IsBoundedRun, run_in};
+ghost use Rattle.commands.specs.Private.ReadTasks.{IsBoundedRun, run_in};
 ghost use Rattle.commands.specs.Runs.{IsMeasured, IsRunRefusal};
 ghost use Rattle.commands.specs.declared.refusals.Refusal.TheVariants.{Memory};
 

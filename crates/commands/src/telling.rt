@@ -1,7 +1,7 @@
 //! What is told of a run.
 
 ghost use Rattle.std.specs.Prelude.{◌≡◌, ◌≢◌, ◌∷◌, [], Err, IfOk, map};
-ghost use Rattle.commands.specs.ReadTasks.{IsBoundedRun, run_in};
+ghost use Rattle.commands.specs.Private.ReadTasks.{IsBoundedRun, run_in};
 ghost use Rattle.cut_file.specs.Pictures.{picture_of as cut_of};
 ghost use Rattle.commands.specs.CutTexts.{IsCutText};
 ghost use Rattle.commands.specs.Runs.{AnswersRun};

@@ -5,7 +5,7 @@ ghost use Rattle.flow_base.specs.declared.outputs.Output.{Output as AnOutput};
 ghost use Rattle.lockstep_replay.specs.Judgements.{judgement_of};
 ghost use Rattle.lockstep_replay.specs.Verdicts.{Accepts};
 ghost use Rattle.trial_guests.specs.Secrets.{secret_of};
-ghost use Rattle.commands.specs.ReadTasks.{guest_in};
+ghost use Rattle.commands.specs.Private.ReadTasks.{guest_in};
 ghost use Rattle.commands.specs.Runs.{AnswersRun, IsMeasured};
 ghost use Rattle.commands.specs.Trials.{TellsTrial, crossing_count, guest_of_number, run_of_number, trial_line};
 ghost use Rattle.commands.specs.declared.refusals.Refusal.TheVariants.{Memory};

@@ -5,7 +5,7 @@ ghost use Rattle.command_line.specs.Words.{command_of, guest_of};
 ghost use Rattle.commands.specs.Guests.{guest_wants, region_wants, secret_wants};
 ghost use Rattle.commands.specs.Loading.{want};
 ghost use Rattle.commands.specs.Tasks.{wants_of as wants_of_of};
-ghost use Rattle.commands.specs.Wants.{want_of};
+ghost use Rattle.commands.specs.Private.Wants.{want_of};
 
 use crate::kinds::FileKind;
 use crate::loads::Want;

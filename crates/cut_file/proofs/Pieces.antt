@@ -12,7 +12,7 @@ use Rattle.flow_base.specs.Points.{slot_text}
 use Rattle.cut_file.specs.declared.lines.Line.{Line}
 use Rattle.cut_file.specs.declared.lines.Line.TheVariants.{Version, Secret, Bits, Skip, Point, End}
 use Rattle.cut_file.specs.Texts.{cut_text, joined, line_text, lines_text, rest_text, run_text}
-use Rattle.cut_file.specs.Writing.{led, point_pieces}
+use Rattle.cut_file.specs.Private.Writing.{led, point_pieces}
 
 pub joined-led : (word : List ℕ) (words : List (List ℕ)) → joined 32 (word ∷ words) ≡ word ++ led words
 joined-led word [] = sym (append-nil word)

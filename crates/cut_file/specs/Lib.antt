@@ -7,6 +7,6 @@ pub mod Masks
 pub mod Folds
 pub mod Pictures
 pub mod Reading
-pub mod Writing
 pub mod CutLaws
 pub mod TextLengths
+pub mod Private

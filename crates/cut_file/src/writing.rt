@@ -1,6 +1,6 @@
 ghost use Rattle.std.specs.Prelude.{◌≡◌, ◌++◌, ◌∷◌, ℕ, IfOk, OnOk, map, codes, []};
 ghost use Rattle.cut_file.specs.Pictures.{picture_of};
-ghost use Rattle.cut_file.specs.Writing.{led, point_pieces};
+ghost use Rattle.cut_file.specs.Private.Writing.{led, point_pieces};
 ghost use Rattle.cut_file.specs.Texts.{CutText, lines_text, rest_text, run_text};
 ghost use Rattle.cut_file.specs.declared.lines.Line.TheVariants.{Bits, Point, Secret, Skip, Version};
 

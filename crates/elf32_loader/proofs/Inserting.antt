@@ -6,7 +6,7 @@ use Rattle.std.proofs.lemmas.Grind.{common_steps}
 use Rattle.std.proofs.lemmas.List.{take-append-drop}
 use Rattle.std.proofs.lemmas.List.Elements.{All-append, All-cons, All-drop, All-head, All-tail, All-take, Contains-append_cases, Contains-append_left, Contains-append_right}
 use Rattle.elf32_loader.specs.declared.segments.Segment.{Segment}
-use Rattle.elf32_loader.specs.Searches.{IsPlace, is_climbing}
+use Rattle.elf32_loader.specs.Private.Searches.{IsPlace, is_climbing}
 use Rattle.elf32_loader.specs.Segments.{end_of}
 
 -- two segments share no address

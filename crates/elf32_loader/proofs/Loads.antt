@@ -8,7 +8,7 @@ use Rattle.elf32_loader.specs.declared.segments.Segment.{Segment}
 use Rattle.elf32_loader.specs.FaultTable.{HasNoFault, IsFileBase, IsOutOfRange}
 use Rattle.elf32_loader.specs.Headers.{IsLoad, header_at}
 use Rattle.elf32_loader.specs.Programs.{IsLoaded}
-use Rattle.elf32_loader.specs.Searches.{AreLoads, IsPlace}
+use Rattle.elf32_loader.specs.Private.Searches.{AreLoads, IsPlace}
 use Rattle.elf32_loader.specs.Segments.{highest_end}
 use Rattle.elf32_loader.proofs.Inserting.{AreApart, all-insert, climbs-insert, contains-insert, contains-new}
 use Rattle.flow_base.specs.Guests.{memory_size}

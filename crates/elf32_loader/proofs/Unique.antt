@@ -9,7 +9,7 @@ use Rattle.elf32_loader.specs.declared.segments.Segment.{Segment}
 use Rattle.elf32_loader.specs.Headers.{header_at}
 use Rattle.elf32_loader.specs.Pictures.{Picture}
 use Rattle.elf32_loader.specs.Programs.{IsImage, IsLoaded}
-use Rattle.elf32_loader.specs.Searches.{is_climbing}
+use Rattle.elf32_loader.specs.Private.Searches.{is_climbing}
 use Rattle.elf32_loader.specs.Segments.{end_of, is_ascending}
 use Rattle.elf32_loader.proofs.Bases.{same_base}
 use Rattle.elf32_loader.proofs.Memory.{later-begins, rest-ascends}

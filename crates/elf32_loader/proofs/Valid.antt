@@ -10,7 +10,7 @@ use Rattle.elf32_loader.specs.FaultTable.{HasNoFault, IsFileBase}
 use Rattle.elf32_loader.specs.Headers.{HoldsAddress, entry_of, header_at, header_count}
 use Rattle.elf32_loader.specs.Pictures.{Picture}
 use Rattle.elf32_loader.specs.Programs.{IsImage}
-use Rattle.elf32_loader.specs.Searches.{AreLoads, is_climbing}
+use Rattle.elf32_loader.specs.Private.Searches.{AreLoads, is_climbing}
 use Rattle.elf32_loader.specs.Segments.{are_inside, end_of, highest_base, highest_end, holds, is_ascending, is_base, is_entry, is_inside, rounded_down, some_holds}
 use Rattle.flow_base.specs.Guests.{memory_size}
 use Rattle.elf32_loader.proofs.Loads.{in-range}

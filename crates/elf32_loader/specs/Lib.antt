@@ -7,4 +7,4 @@ pub mod FirstFault
 pub mod FaultTexts
 pub mod Written
 pub mod Programs
-pub mod Searches
+pub mod Private

@@ -4,7 +4,7 @@ ghost use Rattle.elf32_loader.specs.FirstFault.{IsFirstFault};
 ghost use Rattle.elf32_loader.specs.Headers.{header_count};
 ghost use Rattle.elf32_loader.specs.Images.{picture_of};
 ghost use Rattle.elf32_loader.specs.Programs.{IsImage, IsLoaded};
-ghost use Rattle.elf32_loader.specs.Searches.{AreLoads, IsPlace, IsPutIn};
+ghost use Rattle.elf32_loader.specs.Private.Searches.{AreLoads, IsPlace, IsPutIn};
 
 use crate::fields::{count_of, entry_from, load_of};
 use crate::headers::Header;

@@ -2,7 +2,7 @@ ghost use Rattle.std.specs.Prelude.{◌≡◌, ◌≢◌, ℕ, ◌+◌, ◌^◌,
 ghost use Rattle.elf32_loader.specs.FaultTable.{HasNoLoad, HasOverlap, IsDynamic, IsDynamicAt, IsEntryIn, IsLowestLoad, IsOutOfRange, IsRangeFaultAt, Overlaps};
 ghost use Rattle.elf32_loader.specs.FirstFault.{IsLeast};
 ghost use Rattle.elf32_loader.specs.Headers.{HasTable, HoldsAddress, header_count};
-ghost use Rattle.elf32_loader.specs.Searches.{FoundLowest};
+ghost use Rattle.elf32_loader.specs.Private.Searches.{FoundLowest};
 
 use crate::fields::{count_of, entry_from, header_of, load_of};
 use crate::headers::Header;

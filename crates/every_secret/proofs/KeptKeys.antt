@@ -6,7 +6,7 @@ use Rattle.std.specs.Prelude.{◌||◌, ◌&&◌, not, if◌then◌else◌}
 use Rattle.every_secret.specs.declared.kept_patterns.KeptPattern.{KeptPattern}
 use Rattle.every_secret.specs.declared.patterns.Pattern.{Pattern}
 use Rattle.every_secret.specs.Bounds.{is_same_pattern, size_of, with_pattern}
-use Rattle.every_secret.specs.KeptPatterns.{pattern_of}
+use Rattle.every_secret.specs.Private.KeptPatterns.{pattern_of}
 
 -- ---- a key that is inserted
 

@@ -21,12 +21,12 @@ use Rattle.tracked_run.specs.declared.held.Held.{Held}
 use Rattle.tracked_run.specs.Labels.{labels_of, map_of, none_held}
 use Rattle.lockstep_replay.specs.Tasks.{Task}
 use Rattle.every_secret.specs.declared.whys.UnclearWhy.TheVariants.{BaseSecret}
-use Rattle.every_secret.specs.Ends.{lengthens-none}
+use Rattle.every_secret.specs.Private.Ends.{lengthens-none}
 use Rattle.every_secret.specs.Masked.{MaskedPlace, Reached, Goes, Meets, Halts, masked}
 use Rattle.every_secret.specs.Rules.{AnswerAs, Rules}
-use Rattle.every_secret.specs.Tapes.{Arrives, EndsAt, EndsMasked, HoldsPlace, HoldsReached, Lengthens, PlaysWalk, Tape}
-use Rattle.every_secret.specs.Tapes.{TellsWalk, knowledge_of}
-use Rattle.every_secret.specs.Turning.{HoldsTurn, IsReady, Makes, MakesBy, MakesKind}
+use Rattle.every_secret.specs.Private.Tapes.{Arrives, EndsAt, EndsMasked, HoldsPlace, HoldsReached, Lengthens, PlaysWalk, Tape}
+use Rattle.every_secret.specs.Private.Tapes.{TellsWalk, knowledge_of}
+use Rattle.every_secret.specs.Private.Turning.{HoldsTurn, IsReady, Makes, MakesBy, MakesKind}
 use Rattle.every_secret.specs.Turns.{cutting_of, kind_turn, knowledge_at, masked_turn, secret_base_of, skips}
 use Rattle.every_secret.specs.Turns.{turn_from, turn_inside}
 

@@ -24,9 +24,9 @@ use Rattle.every_secret.specs.declared.whys.UnclearWhy.{UnclearWhy}
 use Rattle.every_secret.specs.Masked.{Reached, Meets, masked, unless_met, why_left, why_looked}
 use Rattle.every_secret.specs.Rules.{Rules, AnswerAs}
 use Rattle.every_secret.specs.Shown.{asked_for, shown_at}
-use Rattle.every_secret.specs.Tapes.{Arrives, EndsAt, EndsMasked, Lengthens, PlaysMasked, Rests, Tape, TellsWalk}
-use Rattle.every_secret.specs.Tapes.{knowledge_of}
-use Rattle.every_secret.specs.Visited.{IsVisited}
+use Rattle.every_secret.specs.Private.Tapes.{Arrives, EndsAt, EndsMasked, Lengthens, PlaysMasked, Rests, Tape, TellsWalk}
+use Rattle.every_secret.specs.Private.Tapes.{knowledge_of}
+use Rattle.every_secret.specs.Private.Visited.{IsVisited}
 use Rattle.every_secret.specs.Visits.{Knowledge, differing_at, known_after, left_of_mask}
 use Rattle.every_secret.proofs.Strings.{feeds-taken, lengthens-more}
 

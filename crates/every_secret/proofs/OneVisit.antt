@@ -18,8 +18,8 @@ use Rattle.every_secret.specs.declared.shown.Shown.{Shown}
 use Rattle.every_secret.specs.Masked.{why_left}
 use Rattle.every_secret.specs.Rules.{Rules, answer_to}
 use Rattle.every_secret.specs.Shown.{asked_for, byte_masks_after, shown_at, status_mask_after}
-use Rattle.every_secret.specs.Tapes.{Takes, Tape, knowledge_of}
-use Rattle.every_secret.specs.Visited.{IsVisited}
+use Rattle.every_secret.specs.Private.Tapes.{Takes, Tape, knowledge_of}
+use Rattle.every_secret.specs.Private.Visited.{IsVisited}
 use Rattle.every_secret.specs.Visits.{Knowledge, differing_at, known_after, left_of_mask}
 
 -- what goes on keeps the width of its slot

@@ -6,7 +6,7 @@ use Rattle.std.proofs.Math.Nat.{pow-suc, mul_right_comm}
 use Rattle.every_secret.specs.declared.path_ends.PathEnd.{PathEnd}
 use Rattle.every_secret.specs.declared.path_ends.PathEnd.TheVariants.{Exits, Stops, Unclear}
 use Rattle.every_secret.specs.Bounds.{free_bits}
-use Rattle.every_secret.specs.Orders.{Come, descend}
+use Rattle.every_secret.specs.Private.Orders.{Come, descend}
 use Rattle.every_secret.specs.Paths.{Fork, Leaf, Path, Tree, behind, forks, paths_of}
 
 abbrev pub end_weight : PathEnd → ℕ

@@ -8,12 +8,12 @@ use Rattle.crossing_bits.specs.Streams.{Stream, left_of}
 use Rattle.every_secret.specs.declared.path_ends.PathEnd.{PathEnd}
 use Rattle.every_secret.specs.declared.whys.UnclearWhy.TheVariants.{Paths as PathsLimit}
 use Rattle.every_secret.specs.Bounds.{Answer, Found, IsBounded, IsUnclear, after_end, judged, nothing_found, unless_many}
-use Rattle.every_secret.specs.Orders.{Come, Opens, descend, first_from, later}
+use Rattle.every_secret.specs.Private.Orders.{Come, Opens, descend, first_from, later}
 use Rattle.every_secret.specs.declared.bounding.Step.{Step}
 use Rattle.every_secret.specs.declared.bounding.Step.TheVariants.{Answered, Goes}
 use Rattle.every_secret.specs.Paths.{Path, Paths, Tree, next_string, tree_of}
-use Rattle.every_secret.specs.Stepping.{EndsPath, Steps, StepsAfter, judged_from, left_after}
-use Rattle.every_secret.specs.Tapes.{Lengthens}
+use Rattle.every_secret.specs.Private.Stepping.{EndsPath, Steps, StepsAfter, judged_from, left_after}
+use Rattle.every_secret.specs.Private.Tapes.{Lengthens}
 use Rattle.every_secret.proofs.Trees.{fed-descends, first-later, next-path, no-later, opens-none, walked-first}
 
 -- ---- behind a path

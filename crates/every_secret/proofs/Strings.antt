@@ -8,8 +8,8 @@ use Rattle.flow_base.specs.Words.{bit_count, bits_below, bits_under, count_below
 use Rattle.crossing_bits.specs.Askers.{Asker, Asks, feed}
 use Rattle.crossing_bits.proofs.Feeding.{feed_enough}
 use Rattle.crossing_bits.specs.Streams.{Stream}
-use Rattle.every_secret.specs.Ends.{lengthens-none}
-use Rattle.every_secret.specs.Tapes.{Lengthens, Takes}
+use Rattle.every_secret.specs.Private.Ends.{lengthens-none}
+use Rattle.every_secret.specs.Private.Tapes.{Lengthens, Takes}
 
 -- the beginning of what is left is not changed by what comes behind it
 take_drop_front : {A : Type 0} (n t : ℕ) (xs ys : List A) → t + n ≤ length xs →

@@ -8,7 +8,7 @@ use Rattle.flow_base.specs.Words.{bits_below, bits_under, number_of_bit}
 use Rattle.crossing_bits.specs.Askers.{Asker, Asks, Fed', Over, Short, feed}
 use Rattle.crossing_bits.proofs.Feeding.{feed_enough, feed_few, le_or_lt}
 use Rattle.every_secret.specs.declared.path_ends.PathEnd.{PathEnd}
-use Rattle.every_secret.specs.Orders.{Come, Opens, descend, first_from, later}
+use Rattle.every_secret.specs.Private.Orders.{Come, Opens, descend, first_from, later}
 use Rattle.every_secret.specs.Paths.{Fork, Leaf, Tree, behind, forks, next_or, next_string, paths_of, tree_of}
 
 pub opens-none : (tree : Tree) → Opens tree []

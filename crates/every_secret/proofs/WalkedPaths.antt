@@ -17,15 +17,15 @@ use Rattle.every_secret.specs.declared.endings.Ending.TheVariants as ending
 use Rattle.every_secret.specs.declared.stops.PathStop.TheVariants.{Guest, RangeOutside, Turns}
 use Rattle.every_secret.specs.declared.whys.UnclearWhy.{UnclearWhy}
 use Rattle.every_secret.specs.declared.whys.UnclearWhy.TheVariants.{Budget}
-use Rattle.every_secret.specs.Ends.{lengthens-none}
+use Rattle.every_secret.specs.Private.Ends.{lengthens-none}
 use Rattle.every_secret.specs.Masked.{MaskedPlace, Reached, Goes, Meets, Halts}
 use Rattle.every_secret.specs.declared.path_ends.PathEnd.{PathEnd}
 use Rattle.every_secret.specs.Replays.{ended_or, unless_exited, unless_over, unless_stopped, walked_on}
 use Rattle.every_secret.specs.Rules.{Rules}
-use Rattle.every_secret.specs.Tapes.{HoldsPlace, Lengthens, Tape}
-use Rattle.every_secret.specs.Turning.{HoldsTurn, Makes}
+use Rattle.every_secret.specs.Private.Tapes.{HoldsPlace, Lengthens, Tape}
+use Rattle.every_secret.specs.Private.Turning.{HoldsTurn, Makes}
 use Rattle.every_secret.specs.Turns.{masked_turn}
-use Rattle.every_secret.specs.Walks.{end_of, ending_after, ending_met, ending_mode, ending_within}
+use Rattle.every_secret.specs.Private.Walks.{end_of, ending_after, ending_met, ending_mode, ending_within}
 use Rattle.every_secret.proofs.MadeTurns.{placed, place-is}
 use Rattle.every_secret.proofs.Strings.{lengthens-more}
 

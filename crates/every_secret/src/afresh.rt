@@ -14,8 +14,8 @@ ghost use Rattle.shadow_masks.specs.Writes.{default_map};
 ghost use Rattle.tracked_run.specs.Labels.{map_of};
 ghost use Rattle.every_secret.specs.Replays.{MaskedReplay};
 ghost use Rattle.every_secret.specs.Rules.{AnswerAs, Rules};
-ghost use Rattle.every_secret.specs.Tapes.{Lengthens, tape_of};
-ghost use Rattle.every_secret.specs.Walks.{end_of};
+ghost use Rattle.every_secret.specs.Private.Tapes.{Lengthens, tape_of};
+ghost use Rattle.every_secret.specs.Private.Walks.{end_of};
 
 use crate::endings::Ending;
 use crate::path_ends::PathEnd;

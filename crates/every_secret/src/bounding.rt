@@ -4,13 +4,13 @@ ghost use Rattle.elf32_loader.specs.Images.{picture_of};
 ghost use Rattle.lockstep_replay.specs.Tasks.{task_of};
 ghost use Rattle.rv32im_machine.specs.Start.{zeros};
 ghost use Rattle.every_secret.specs.Bounds.{answer_of, judged, nothing_found};
-ghost use Rattle.every_secret.specs.Finding.{found_by};
-ghost use Rattle.every_secret.specs.Orders.{Opens};
+ghost use Rattle.every_secret.specs.Private.Finding.{found_by};
+ghost use Rattle.every_secret.specs.Private.Orders.{Opens};
 ghost use Rattle.every_secret.specs.declared.path_ends.PathEnd.{PathEnd as ThePathEnd};
 ghost use Rattle.every_secret.specs.Paths.{Paths, Tree, tree_of};
 ghost use Rattle.every_secret.specs.Replays.{MaskedReplay};
 ghost use Rattle.every_secret.specs.Rules.{AnswerAs, Rules};
-ghost use Rattle.every_secret.specs.Stepping.{CountsStep, EndsPath, Steps, StepsAfter};
+ghost use Rattle.every_secret.specs.Private.Stepping.{CountsStep, EndsPath, Steps, StepsAfter};
 
 use crate::afresh::{Walked, Walks, walk_afresh};
 use crate::finding::{bounded, nothing};

@@ -1,5 +1,5 @@
 ghost use Rattle.std.specs.Prelude.{◌≡◌, ◌<◌, nat_lt};
-ghost use Rattle.every_secret.specs.Walks.{ending_after, ending_met, ending_mode, ending_within};
+ghost use Rattle.every_secret.specs.Private.Walks.{ending_after, ending_met, ending_mode, ending_within};
 
 use crate::stops::PathStop;
 use crate::whys::UnclearWhy;

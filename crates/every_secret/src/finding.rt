@@ -3,7 +3,7 @@
 ghost use Rattle.std.specs.Prelude.{◌≡◌, ◌<◌, ◌≤◌, ◌+◌, ◌^◌, IfOk, option_map};
 ghost use Rattle.every_secret.specs.Bounds.{found_exit, found_of, found_stop, nothing_found};
 ghost use Rattle.every_secret.specs.Bounds.{first_stop_of, halt_of};
-ghost use Rattle.every_secret.specs.Finding.{found_by};
+ghost use Rattle.every_secret.specs.Private.Finding.{found_by};
 
 use crate::findings::Findings;
 use crate::next_strings::copied;

@@ -1,7 +1,7 @@
 ghost use Rattle.std.specs.Prelude.{◌≡◌, ◌+◌, ◌<◌, ◌≤◌, ◌^◌, IfOk};
 ghost use Rattle.every_secret.specs.declared.path_ends.PathEnd.TheVariants.{Exits, Stops};
-ghost use Rattle.every_secret.specs.Finding.{found_by};
-ghost use Rattle.every_secret.specs.Judging.{Counts, Judges};
+ghost use Rattle.every_secret.specs.Private.Finding.{found_by};
+ghost use Rattle.every_secret.specs.Private.Judging.{Counts, Judges};
 
 use crate::finding::{with_exit, with_stop};
 use crate::findings::Findings;

@@ -1,5 +1,5 @@
 ghost use Rattle.std.specs.Prelude.{◌≡◌};
-ghost use Rattle.every_secret.specs.KeptPatterns.{pattern_of};
+ghost use Rattle.every_secret.specs.Private.KeptPatterns.{pattern_of};
 
 use crate::patterns::Pattern;
 use flow_base::List;

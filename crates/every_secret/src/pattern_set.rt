@@ -2,7 +2,7 @@
 
 ghost use Rattle.std.specs.Prelude.{◌≡◌, ◌+◌, ◌-◌, ◌^◌, [], length, map, min, nat_lt, IfOk, OnOk, OnErr, if◌then◌else◌};
 ghost use Rattle.every_secret.specs.Bounds.{pattern_limit, size_of, with_pattern};
-ghost use Rattle.every_secret.specs.KeptPatterns.{pattern_of};
+ghost use Rattle.every_secret.specs.Private.KeptPatterns.{pattern_of};
 
 use crate::kept_patterns::KeptPattern;
 use crate::patterns::Pattern;
@@ -26,7 +26,7 @@ impl Model for PatternSet {
     ghost use Rattle.std.specs.Prelude.{◌≡◌, ◌-◌, ◌^◌, List as Seq, map, min};
     ghost use Rattle.every_secret.specs.declared.patterns.Pattern.{Pattern as ThePattern};
     ghost use Rattle.every_secret.specs.Bounds.{size_of};
-    ghost use Rattle.every_secret.specs.KeptPatterns.{pattern_of};
+    ghost use Rattle.every_secret.specs.Private.KeptPatterns.{pattern_of};
 
     ghost Value = { Seq ThePattern };
 

@@ -10,8 +10,8 @@ ghost use Rattle.run_labels.specs.Runs.{entered_number as number_entered};
 ghost use Rattle.lockstep_replay.specs.Tasks.{Task};
 ghost use Rattle.every_secret.specs.Masked.{MaskedPlace};
 ghost use Rattle.every_secret.specs.Rules.{AnswerAs, Rules};
-ghost use Rattle.every_secret.specs.Tapes.{HoldsPlace, Lengthens, tape_of};
-ghost use Rattle.every_secret.specs.Turning.{IsReady, Makes, MakesKind};
+ghost use Rattle.every_secret.specs.Private.Tapes.{HoldsPlace, Lengthens, tape_of};
+ghost use Rattle.every_secret.specs.Private.Turning.{IsReady, Makes, MakesKind};
 ghost use Rattle.every_secret.specs.Turns.{masked_turn, skips as is_skip};
 
 use crate::entries::{outside_at_entry, secret_base};

@@ -9,7 +9,7 @@ ghost use Rattle.tracked_run.specs.Labels.{labels_of};
 ghost use Rattle.masked_turns.specs.Clearing.{passing_mask as mask_passing};
 ghost use Rattle.every_secret.specs.Rules.{AnswerAs, Rules, answer_to};
 ghost use Rattle.every_secret.specs.Shown.{asked_for, byte_masks_after, shown_at, status_mask_after};
-ghost use Rattle.every_secret.specs.Tapes.{Takes};
+ghost use Rattle.every_secret.specs.Private.Tapes.{Takes};
 
 use crate::shown::Shown;
 use crossing_bits::{Bits, bit_count};

@@ -4,7 +4,7 @@ ghost use Rattle.rv32im_machine.specs.Language.{Passed, Walk};
 ghost use Rattle.rv32im_machine.specs.Playing.{AreSources, Goes, IsAim};
 ghost use Rattle.tracked_run.specs.Labels.{labels_of};
 ghost use Rattle.every_secret.specs.Masked.{why_left, why_looked};
-ghost use Rattle.every_secret.specs.Tapes.{PlaysWalk, tape_of};
+ghost use Rattle.every_secret.specs.Private.Tapes.{PlaysWalk, tape_of};
 
 use crate::shown::shown_of;
 use crate::visits::{note_free, passing_mask, put_in};
@@ -112,8 +112,8 @@ impl Passer for Walking<'_> {
     ghost use Rattle.std.specs.Prelude.{Some};
     ghost use Rattle.std.proofs.Common.{refl};
     ghost use Rattle.tracked_run.specs.Labels.{labels_of};
-    ghost use Rattle.every_secret.specs.Tapes.{Tape, PlaysWalk, tape_of};
-    ghost use Rattle.every_secret.specs.Ends.{masks-Ended};
+    ghost use Rattle.every_secret.specs.Private.Tapes.{Tape, PlaysWalk, tape_of};
+    ghost use Rattle.every_secret.specs.Private.Ends.{masks-Ended};
 
     type Stop = NoMemory;
 

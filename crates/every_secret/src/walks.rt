@@ -5,9 +5,9 @@ ghost use Rattle.lockstep_replay.specs.Tasks.{Limits, Task};
 ghost use Rattle.every_secret.specs.Masked.{MaskedPlace};
 ghost use Rattle.every_secret.specs.Replays.{walked_on};
 ghost use Rattle.every_secret.specs.Rules.{AnswerAs, Rules};
-ghost use Rattle.every_secret.specs.Tapes.{HoldsPlace, Lengthens, tape_of};
-ghost use Rattle.every_secret.specs.Turning.{IsReady};
-ghost use Rattle.every_secret.specs.Walks.{end_of};
+ghost use Rattle.every_secret.specs.Private.Tapes.{HoldsPlace, Lengthens, tape_of};
+ghost use Rattle.every_secret.specs.Private.Turning.{IsReady};
+ghost use Rattle.every_secret.specs.Private.Walks.{end_of};
 
 use crate::endings::{Ending, ended};
 use crate::stops::PathStop;

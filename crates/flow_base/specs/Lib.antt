@@ -6,9 +6,8 @@ pub mod Loads
 pub mod Puts
 pub mod Memory
 pub mod Room
-pub mod Reading
-pub mod Writing
 pub mod Guests
 pub mod HexWords
 pub mod RegisterNames
 pub mod TextPieces
+pub mod Private

@@ -1,6 +1,6 @@
 ghost use Rattle.std.specs.Prelude.{◌≡◌, ◌+◌, ◌^◌, ◌<◌, ◌≤◌, IfSome};
-ghost use Rattle.flow_base.specs.Reading.{KeepsLimit, IsReadOf};
-ghost use Rattle.flow_base.specs.Writing.{Writes};
+ghost use Rattle.flow_base.specs.Private.Reading.{KeepsLimit, IsReadOf};
+ghost use Rattle.flow_base.specs.Private.Writing.{Writes};
 
 use crate::lists::Bytes;
 use crate::loading::{Files, LoadFault};

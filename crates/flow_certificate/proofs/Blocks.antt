@@ -5,7 +5,7 @@ use Rattle.std.proofs.Common.{length-append}
 use Rattle.std.proofs.lemmas.List.{get_or_append_left, get_or-append_right}
 use Rattle.max_flow.specs.Networks.{at_node, sum_below}
 use Rattle.max_flow.proofs.Sums.{sum-none, sum-suc, sum_same}
-use Rattle.flow_certificate.specs.Sums.{AreAdded, AreSmall, AreZero, HaveRoom, HaveSums, brought, differ_at}
+use Rattle.flow_certificate.specs.Private.Sums.{AreAdded, AreSmall, AreZero, HaveRoom, HaveSums, brought, differ_at}
 use Rattle.flow_certificate.specs.Verdicts.{HasNone, IsFirst}
 use Rattle.flow_certificate.proofs.Counters.{brought-small}
 

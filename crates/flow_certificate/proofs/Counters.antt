@@ -4,7 +4,7 @@ use Rattle.std.proofs.Common.{length, map, get_or, slice_index, refl, ap, ◌∙
 use Rattle.flow_graph.specs.declared.ends.Arc.{Arc}
 use Rattle.max_flow.specs.Flows.{head_of, tail_of}
 use Rattle.max_flow.proofs.Sums.{sum-none, sum-suc}
-use Rattle.flow_certificate.specs.Sums.{AreAdded, AreSmall, HaveRoom, brought, given, heads_of, tails_of}
+use Rattle.flow_certificate.specs.Private.Sums.{AreAdded, AreSmall, HaveRoom, brought, given, heads_of, tails_of}
 
 pub brought-none : (keys flows : List ℕ) (node : ℕ) → brought keys flows 0 node ≡ 0
 unfolding brought

@@ -16,9 +16,9 @@ use Rattle.flow_certificate.specs.declared.lines.LinkLine.{LinkLine}
 use Rattle.flow_certificate.specs.declared.lines.PointLine.{PointLine}
 use Rattle.flow_certificate.specs.declared.lines.RelayLine.{RelayLine}
 use Rattle.flow_certificate.specs.Certificates.{Picture, arc_of, makes_graph, node_of, open_lines, region_of}
-use Rattle.flow_certificate.specs.Drafts.{Sketch, blank, is_bare, is_empty, is_nothing, is_open, is_version, lines_in}
-use Rattle.flow_certificate.specs.Drafts.{link_line_cmp, may_add_link, may_add_point, may_add_relay, may_follow}
-use Rattle.flow_certificate.specs.Drafts.{point_line_cmp, step, steps, with_link, with_point, with_relay}
+use Rattle.flow_certificate.specs.Private.Drafts.{Sketch, blank, is_bare, is_empty, is_nothing, is_open, is_version, lines_in}
+use Rattle.flow_certificate.specs.Private.Drafts.{link_line_cmp, may_add_link, may_add_point, may_add_relay, may_follow}
+use Rattle.flow_certificate.specs.Private.Drafts.{point_line_cmp, step, steps, with_link, with_point, with_relay}
 use Rattle.flow_certificate.specs.Keeping.{is_number, is_place}
 use Rattle.flow_certificate.specs.Lines.{is_line}
 use Rattle.flow_certificate.proofs.LastItems.{all-push, ascend-push, follow-map, map-append}

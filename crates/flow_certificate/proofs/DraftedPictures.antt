@@ -14,9 +14,9 @@ use Rattle.flow_certificate.specs.declared.lines.LinkLine.{LinkLine}
 use Rattle.flow_certificate.specs.declared.lines.PointLine.{PointLine}
 use Rattle.flow_certificate.specs.declared.lines.RelayLine.{RelayLine}
 use Rattle.flow_certificate.specs.Certificates.{Picture, arc_of, lines_of, makes_graph, node_of, region_of}
-use Rattle.flow_certificate.specs.Drafts.{Sketch, blank}
-use Rattle.flow_certificate.specs.Drafts.{link_line_cmp, may_follow}
-use Rattle.flow_certificate.specs.Drafts.{point_line_cmp, step, steps}
+use Rattle.flow_certificate.specs.Private.Drafts.{Sketch, blank}
+use Rattle.flow_certificate.specs.Private.Drafts.{link_line_cmp, may_follow}
+use Rattle.flow_certificate.specs.Private.Drafts.{point_line_cmp, step, steps}
 use Rattle.flow_certificate.proofs.LastItems.{all-middle, ascend-middle, follow-map, map-append}
 
 -- ---- each certificate is drafted

@@ -16,10 +16,10 @@ use Rattle.flow_certificate.specs.declared.lines.Line.{Line}
 use Rattle.flow_certificate.specs.declared.lines.Line.TheVariants.{Version, Value, Point, Relay, Link, End}
 use Rattle.flow_certificate.specs.Certificates.{BeginsWith, CertText, IsFirstFailure, Picture, is_valid, lines_of}
 use Rattle.flow_certificate.specs.Certificates.{lines_text, makes_graph, open_lines}
-use Rattle.flow_certificate.specs.Drafts.{IsDraft, blank, lines_in, sketch_of, step, steps}
-use Rattle.flow_certificate.specs.Guessing.{line_in}
+use Rattle.flow_certificate.specs.Private.Drafts.{IsDraft, blank, lines_in, sketch_of, step, steps}
+use Rattle.flow_certificate.specs.Private.Guessing.{line_in}
 use Rattle.flow_certificate.specs.Lines.{is_line, line_text}
-use Rattle.flow_certificate.specs.Reading.{IsReading, is_whole}
+use Rattle.flow_certificate.specs.Private.Reading.{IsReading, is_whole}
 use Rattle.flow_certificate.proofs.DraftedPictures.{drafted, whole}
 use Rattle.flow_certificate.proofs.Guesses.{line-found, line-own, pair-same}
 use Rattle.flow_certificate.proofs.LastItems.{all-middle, all-push}

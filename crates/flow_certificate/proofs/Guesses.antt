@@ -15,8 +15,8 @@ use Rattle.flow_base.specs.declared.points.Slot.TheVariants.{First, Second, Addr
 use Rattle.flow_base.specs.declared.points.Slot.TheVariants.{Arg1, Arg2, SecretIn, ByteOut, Status, OutReg, OutRange}
 use Rattle.flow_graph.specs.declared.ends.End.{End}
 use Rattle.flow_graph.specs.declared.ends.End.TheVariants as ends
-use Rattle.flow_certificate.specs.Guessing.{below, digit_of, digits_at, end_at, grown, is_digit, number_at, slot_at}
-use Rattle.flow_certificate.specs.Guessing.{guess, half_of, line_in, link_at, point_at, relay_at, with_line, word_at}
+use Rattle.flow_certificate.specs.Private.Guessing.{below, digit_of, digits_at, end_at, grown, is_digit, number_at, slot_at}
+use Rattle.flow_certificate.specs.Private.Guessing.{guess, half_of, line_in, link_at, point_at, relay_at, with_line, word_at}
 use Rattle.flow_certificate.specs.Keeping.{is_number, is_place, is_region}
 use Rattle.flow_certificate.specs.Lines.{half_text, inside_text, is_end, is_line, line_text, link_text, point_text}
 use Rattle.flow_certificate.specs.Lines.{relay_text}

@@ -9,7 +9,7 @@ use Rattle.flow_graph.specs.Graphs.{are_relays, ascend}
 use Rattle.flow_certificate.specs.declared.drafts.Draft.{Draft}
 use Rattle.flow_certificate.specs.declared.lines.RelayLine.{RelayLine}
 use Rattle.flow_certificate.specs.Certificates.{region_of}
-use Rattle.flow_certificate.specs.Drafts.{IsDraft, is_empty, is_open, may_add_relay, may_follow, sketch_of}
+use Rattle.flow_certificate.specs.Private.Drafts.{IsDraft, is_empty, is_open, may_add_relay, may_follow, sketch_of}
 
 pub follows-last : {A : Type 0} (cmp : A → A → Ordering) (xs : List A) (x other : A) → 0 < length xs →
     may_follow cmp xs x ≡ is_lt (cmp (get_or xs (length xs - 1) other) x)

@@ -5,7 +5,7 @@ use Rattle.std.specs.List.{list_all}
 use Rattle.std.proofs.lemmas.Bool.{and_parts}
 use Rattle.flow_certificate.specs.declared.lines.Line.{Line}
 use Rattle.flow_certificate.specs.Certificates.{CertText, Picture, lines_of, lines_text, makes_graph}
-use Rattle.flow_certificate.specs.Drafts.{Sketch, blank, steps}
+use Rattle.flow_certificate.specs.Private.Drafts.{Sketch, blank, steps}
 use Rattle.flow_certificate.specs.Lines.{is_line}
 use Rattle.flow_certificate.proofs.DraftedPictures.{drafted, whole}
 use Rattle.flow_certificate.proofs.Prefixes.{front-of, whole-longer}

@@ -5,7 +5,7 @@ use Rattle.std.specs.List.{list_all}
 use Rattle.std.proofs.lemmas.Bool.{and_parts}
 use Rattle.flow_certificate.specs.declared.lines.Line.{Line}
 use Rattle.flow_certificate.specs.Certificates.{lines_text}
-use Rattle.flow_certificate.specs.Guessing.{line_in}
+use Rattle.flow_certificate.specs.Private.Guessing.{line_in}
 use Rattle.flow_certificate.specs.Lines.{is_line, line_text}
 use Rattle.flow_certificate.proofs.Guesses.{line-own, pair-same}
 

@@ -13,8 +13,8 @@ use Rattle.max_flow.specs.Networks.{capacity_of, leaves, sum_below}
 use Rattle.max_flow.proofs.Graphs.{half-at, length-halves}
 use Rattle.max_flow.proofs.Sums.{sum-none, sum-suc}
 use Rattle.flow_certificate.specs.Keeping.{is_node}
-use Rattle.flow_certificate.specs.Sides.{cut_below}
-use Rattle.flow_certificate.specs.Sums.{heads_of, tails_of}
+use Rattle.flow_certificate.specs.Private.Sides.{cut_below}
+use Rattle.flow_certificate.specs.Private.Sums.{heads_of, tails_of}
 use Rattle.flow_certificate.specs.Verdicts.{cut_in}
 use Rattle.flow_certificate.proofs.Sides.{member-first, member-second}
 

@@ -14,8 +14,8 @@ use Rattle.max_flow.specs.declared.answers.Solved.{Solved}
 use Rattle.max_flow.specs.Flows.{halves_from, has_first, has_second, head_of, marks, member, network_of, relay_in}
 use Rattle.max_flow.specs.Flows.{tail_of}
 use Rattle.max_flow.proofs.Graphs.{length-halves}
-use Rattle.flow_certificate.specs.Sums.{heads_of, tails_of}
-use Rattle.flow_certificate.specs.Sides.{leads_out}
+use Rattle.flow_certificate.specs.Private.Sums.{heads_of, tails_of}
+use Rattle.flow_certificate.specs.Private.Sides.{leads_out}
 use Rattle.flow_certificate.specs.Verdicts.{HasNone, IsFirstAcross, is_across}
 use Rattle.flow_certificate.proofs.Counters.{heads_of-at, tails_of-at}
 

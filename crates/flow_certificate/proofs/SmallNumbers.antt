@@ -3,7 +3,7 @@ use Rattle.std.proofs.Common.{◌≡◌, ℕ, zero, suc, ◌^◌, true, List, []
 use Rattle.std.specs.List.{list_all}
 use Rattle.std.proofs.lemmas.Bool.{and_parts, ltb-true}
 use Rattle.flow_certificate.specs.Keeping.{is_number}
-use Rattle.flow_certificate.specs.Sums.{AreSmall}
+use Rattle.flow_certificate.specs.Private.Sums.{AreSmall}
 
 pub all_small : (numbers : List ℕ) → list_all is_number numbers ≡ true → AreSmall numbers
 all_small [] all i = omega arith

@@ -1,12 +1,8 @@
 pub mod Keeping
 pub mod Verdicts
 pub mod VerdictTexts
-pub mod Sums
-pub mod Sides
 pub mod Lines
-pub mod Guessing
 pub mod Certificates
-pub mod Drafts
-pub mod Reading
 pub mod Pictures
 pub mod Laws
+pub mod Private

@@ -3,7 +3,7 @@ ghost use Rattle.flow_graph.specs.Graphs.{are_relays, is_link, is_origin, is_rel
 ghost use Rattle.max_flow.specs.Flows.{has_first as first_in, has_second as second_in, head_of, member, relay_in};
 ghost use Rattle.max_flow.specs.Flows.{tail_of};
 ghost use Rattle.flow_certificate.specs.Verdicts.{HasNoneAcross, IsFirstAcross};
-ghost use Rattle.flow_certificate.specs.Sides.{leads_out};
+ghost use Rattle.flow_certificate.specs.Private.Sides.{leads_out};
 
 use crate::certificates::Certificate;
 use flow_graph::{Arc, End};

@@ -1,9 +1,9 @@
 ghost use Rattle.std.specs.Prelude.{◌≡◌, IfOk, OnOk};
 ghost use Rattle.flow_certificate.specs.declared.lines.Line.TheVariants as forms;
-ghost use Rattle.flow_certificate.specs.Drafts.{IsDraft, blank, is_bare as has_none, is_open as is_open_stage};
-ghost use Rattle.flow_certificate.specs.Drafts.{is_nothing as is_no_stage, is_version as is_version_stage};
-ghost use Rattle.flow_certificate.specs.Drafts.{may_add_link as may_link, may_add_point as may_point};
-ghost use Rattle.flow_certificate.specs.Drafts.{may_add_relay as may_relay, sketch_of, step, taken};
+ghost use Rattle.flow_certificate.specs.Private.Drafts.{IsDraft, blank, is_bare as has_none, is_open as is_open_stage};
+ghost use Rattle.flow_certificate.specs.Private.Drafts.{is_nothing as is_no_stage, is_version as is_version_stage};
+ghost use Rattle.flow_certificate.specs.Private.Drafts.{may_add_link as may_link, may_add_point as may_point};
+ghost use Rattle.flow_certificate.specs.Private.Drafts.{may_add_relay as may_relay, sketch_of, step, taken};
 
 use crate::drafts::{Draft, Stage};
 use crate::following::{is_link, may_follow_links, may_follow_points, may_follow_regions};
@@ -85,7 +85,7 @@ fn may_add_link(draft: &Draft, line: &LinkLine) -> bool
 }
 
 /// Takes the line of the version, where it may come.
-#[tactic(auto, unfolding(crate::specs::Drafts::step))]
+#[tactic(auto, unfolding(crate::specs::Private::Drafts::step))]
 fn add_version(draft: &mut Draft) -> bool
     requires { IsDraft draft.old }
     ensures step { taken result (sketch_of draft.new) ≡ step (sketch_of draft.old) forms.Version }
@@ -99,7 +99,7 @@ fn add_version(draft: &mut Draft) -> bool
 }
 
 /// Takes the line of the value, where it may come.
-#[tactic(auto, unfolding(crate::specs::Drafts::step))]
+#[tactic(auto, unfolding(crate::specs::Private::Drafts::step))]
 fn add_value(draft: &mut Draft, value: u64) -> bool
     requires { IsDraft draft.old }
     ensures step { taken result (sketch_of draft.new) ≡ step (sketch_of draft.old) (forms.Value value) }
@@ -114,7 +114,7 @@ fn add_value(draft: &mut Draft, value: u64) -> bool
 }
 
 /// Takes the line of a point, where it may come.
-#[tactic(auto, unfolding(crate::specs::Drafts::step))]
+#[tactic(auto, unfolding(crate::specs::Private::Drafts::step))]
 fn add_point(draft: &mut Draft, line: PointLine) -> Result<bool, NoMemory>
     requires { IsDraft draft.old }
     ensures step { IfOk result (λ t. taken t (sketch_of draft.new) ≡ step (sketch_of draft.old) (forms.Point line)) }
@@ -128,7 +128,7 @@ fn add_point(draft: &mut Draft, line: PointLine) -> Result<bool, NoMemory>
 }
 
 /// Takes the line of a relay, where it may come.
-#[tactic(auto, unfolding(crate::specs::Drafts::step))]
+#[tactic(auto, unfolding(crate::specs::Private::Drafts::step))]
 fn add_relay(draft: &mut Draft, line: RelayLine) -> Result<bool, NoMemory>
     requires { IsDraft draft.old }
     ensures step { IfOk result (λ t. taken t (sketch_of draft.new) ≡ step (sketch_of draft.old) (forms.Relay line)) }
@@ -143,7 +143,7 @@ fn add_relay(draft: &mut Draft, line: RelayLine) -> Result<bool, NoMemory>
 }
 
 /// Takes the line of a link, where it may come.
-#[tactic(auto, unfolding(crate::specs::Drafts::step))]
+#[tactic(auto, unfolding(crate::specs::Private::Drafts::step))]
 fn add_link(draft: &mut Draft, line: LinkLine) -> Result<bool, NoMemory>
     requires { IsDraft draft.old }
     ensures step { IfOk result (λ t. taken t (sketch_of draft.new) ≡ step (sketch_of draft.old) (forms.Link line)) }
@@ -157,7 +157,7 @@ fn add_link(draft: &mut Draft, line: LinkLine) -> Result<bool, NoMemory>
 }
 
 /// Takes the last line, where it may come.
-#[tactic(auto, unfolding(crate::specs::Drafts::step))]
+#[tactic(auto, unfolding(crate::specs::Private::Drafts::step))]
 fn add_end(draft: &mut Draft) -> bool
     requires { IsDraft draft.old }
     ensures step { taken result (sketch_of draft.new) ≡ step (sketch_of draft.old) forms.End }

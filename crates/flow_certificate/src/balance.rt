@@ -1,6 +1,6 @@
 ghost use Rattle.std.specs.Prelude.{◌≡◌, ◌+◌, ◌*◌, ◌≤◌, ◌<◌, None, IfSome, length, true};
 ghost use Rattle.max_flow.specs.Flows.{network_of};
-ghost use Rattle.flow_certificate.specs.Sums.{AreZero, differ_at};
+ghost use Rattle.flow_certificate.specs.Private.Sums.{AreZero, differ_at};
 ghost use Rattle.flow_certificate.specs.Verdicts.{HasNone, HasNoneUnbalanced, IsFirst, is_node_of, is_unbalanced};
 ghost use Rattle.flow_certificate.specs.Verdicts.{number_of};
 

@@ -1,7 +1,7 @@
 ghost use Rattle.std.specs.Prelude.{◌≡◌, ◌^◌, ◌<◌, IfOk, length, map, true};
 ghost use Rattle.flow_graph.specs.Graphs.{is_graph};
 ghost use Rattle.flow_certificate.specs.Certificates.{arc_of, is_valid, node_of};
-ghost use Rattle.flow_certificate.specs.Drafts.{IsDraft, sketch_of};
+ghost use Rattle.flow_certificate.specs.Private.Drafts.{IsDraft, sketch_of};
 ghost use Rattle.flow_certificate.specs.Pictures.{flow_at_link, flow_at_point, half_at, inside_at, picture_of};
 ghost use Rattle.flow_certificate.specs.Pictures.{have_counts, have_texts};
 

@@ -3,7 +3,7 @@ ghost use Rattle.std.specs.Ordering.{is_lt, nat_cmp};
 ghost use Rattle.flow_base.specs.PointOrders.{point_cmp};
 ghost use Rattle.flow_graph.specs.Graphs.{are_relays, is_link as is_known_link, is_origin, is_relay, is_target};
 ghost use Rattle.flow_graph.specs.Graphs.{arc_cmp, leads_on};
-ghost use Rattle.flow_certificate.specs.Drafts.{link_line_cmp, may_follow, point_line_cmp};
+ghost use Rattle.flow_certificate.specs.Private.Drafts.{link_line_cmp, may_follow, point_line_cmp};
 
 use crate::lines::{LinkLine, PointLine};
 use flow_base::Point;

@@ -1,9 +1,9 @@
 ghost use Rattle.std.specs.Prelude.{◌≡◌, ◌≤◌, ◌<◌, drop, length, slice_index};
-ghost use Rattle.flow_certificate.specs.Guessing.{below as below_limit, digit_of, end_at as end_in, grown as one_more};
-ghost use Rattle.flow_certificate.specs.Guessing.{guess as guessed, half_of as half_named, is_digit as is_decimal};
-ghost use Rattle.flow_certificate.specs.Guessing.{link_at as link_in, named_slot as slot_named};
-ghost use Rattle.flow_certificate.specs.Guessing.{number_at as number_in, point_at as point_in, relay_at as relay_in};
-ghost use Rattle.flow_certificate.specs.Guessing.{slot_at as slot_in, word_at as word_in};
+ghost use Rattle.flow_certificate.specs.Private.Guessing.{below as below_limit, digit_of, end_at as end_in, grown as one_more};
+ghost use Rattle.flow_certificate.specs.Private.Guessing.{guess as guessed, half_of as half_named, is_digit as is_decimal};
+ghost use Rattle.flow_certificate.specs.Private.Guessing.{link_at as link_in, named_slot as slot_named};
+ghost use Rattle.flow_certificate.specs.Private.Guessing.{number_at as number_in, point_at as point_in, relay_at as relay_in};
+ghost use Rattle.flow_certificate.specs.Private.Guessing.{slot_at as slot_in, word_at as word_in};
 
 use crate::lines::{Line, LinkLine, PointLine, RelayLine};
 use flow_base::{Point, Slot};
@@ -28,7 +28,7 @@ fn skip(bytes: &[u8], count: usize) -> &[u8]
 }
 
 /// A number with one decimal digit more. One that is too large for a certificate stays as it is.
-#[tactic(auto, unfolding(crate::specs::Guessing::grown))]
+#[tactic(auto, unfolding(crate::specs::Private::Guessing::grown))]
 fn grown(number: u64, byte: u8) -> u64
     requires { 48 ≤ byte }
     ensures { result ≡ one_more number byte }
@@ -41,7 +41,7 @@ fn grown(number: u64, byte: u8) -> u64
 }
 
 /// The number of the digits in front, and the rest.
-#[tactic(auto, unfolding(crate::specs::Guessing::number_at))]
+#[tactic(auto, unfolding(crate::specs::Private::Guessing::number_at))]
 fn number_at(bytes: &[u8]) -> (u64, &[u8])
     ensures { (result.0, result.1.now) ≡ number_in bytes.now }
 {
@@ -70,7 +70,7 @@ fn nibble(byte: u8) -> u32
 }
 
 /// The number of the first eight hexadecimal digits.
-#[tactic(auto, unfolding(crate::specs::Guessing::word_at))]
+#[tactic(auto, unfolding(crate::specs::Private::Guessing::word_at))]
 fn word_at(bytes: &[u8]) -> u32
     ensures { result ≡ word_in bytes.now }
 {
@@ -130,7 +130,7 @@ fn word(number: u64) -> u32
 }
 
 /// The slot in front, and the rest.
-#[tactic(auto, unfolding(crate::specs::Guessing::slot_at))]
+#[tactic(auto, unfolding(crate::specs::Private::Guessing::slot_at))]
 fn slot_at(bytes: &[u8]) -> (Slot, &[u8])
     ensures { (result.0, result.1.now) ≡ slot_in bytes.now }
 {
@@ -147,7 +147,7 @@ fn slot_at(bytes: &[u8]) -> (Slot, &[u8])
 }
 
 /// The end of a link in front, and the rest.
-#[tactic(auto, unfolding(crate::specs::Guessing::end_at))]
+#[tactic(auto, unfolding(crate::specs::Private::Guessing::end_at))]
 fn end_at(bytes: &[u8]) -> (End, &[u8])
     ensures { (result.0, result.1.now) ≡ end_in bytes.now }
 {
@@ -177,7 +177,7 @@ fn half_of(letter: u8) -> Half
 }
 
 /// The parts of the line of a point, behind its first word.
-#[tactic(auto, unfolding(crate::specs::Guessing::point_at))]
+#[tactic(auto, unfolding(crate::specs::Private::Guessing::point_at))]
 fn point_at(bytes: &[u8]) -> PointLine
     ensures { result ≡ point_in bytes.now }
 {
@@ -199,7 +199,7 @@ fn point_at(bytes: &[u8]) -> PointLine
 }
 
 /// The parts of the line of a relay, behind its first word.
-#[tactic(auto, unfolding(crate::specs::Guessing::relay_at))]
+#[tactic(auto, unfolding(crate::specs::Private::Guessing::relay_at))]
 fn relay_at(bytes: &[u8]) -> RelayLine
     ensures { result ≡ relay_in bytes.now }
 {
@@ -211,7 +211,7 @@ fn relay_at(bytes: &[u8]) -> RelayLine
 }
 
 /// The parts of the line of a link, behind its first word.
-#[tactic(auto, unfolding(crate::specs::Guessing::link_at))]
+#[tactic(auto, unfolding(crate::specs::Private::Guessing::link_at))]
 fn link_at(bytes: &[u8]) -> LinkLine
     ensures { result ≡ link_in bytes.now }
 {
@@ -225,7 +225,7 @@ fn link_at(bytes: &[u8]) -> LinkLine
 }
 
 /// The line that may stand in front, by its first letter and the numbers at their places.
-#[tactic(auto, unfolding(crate::specs::Guessing::guess))]
+#[tactic(auto, unfolding(crate::specs::Private::Guessing::guess))]
 pub fn guess(bytes: &[u8]) -> Line
     ensures { result ≡ guessed bytes.now }
 {

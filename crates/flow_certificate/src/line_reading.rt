@@ -1,5 +1,5 @@
 ghost use Rattle.std.specs.Prelude.{◌≡◌, IfOk, nat_lt, option_map};
-ghost use Rattle.flow_certificate.specs.Guessing.{line_in};
+ghost use Rattle.flow_certificate.specs.Private.Guessing.{line_in};
 ghost use Rattle.flow_certificate.specs.Keeping.{is_number as is_known_number, is_place as is_known_place};
 ghost use Rattle.flow_certificate.specs.Keeping.{is_region as is_known_region};
 ghost use Rattle.flow_certificate.specs.Lines.{is_end as is_known_end, is_line as is_known_line};
@@ -77,7 +77,7 @@ fn is_line(line: &Line) -> bool
 }
 
 /// The line in front of bytes, and what stands behind its line feed; None where no line stands there.
-#[tactic(auto, unfolding(crate::specs::Guessing::line_in))]
+#[tactic(auto, unfolding(crate::specs::Private::Guessing::line_in))]
 pub fn line_at(alloc: Global, bytes: &[u8]) -> Result<Option<(Line, &[u8])>, NoMemory>
     ensures { IfOk result (λ found. option_map (λ p. (p.0, p.1.now)) found ≡ line_in bytes.now) }
 {

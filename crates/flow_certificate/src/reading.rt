@@ -1,7 +1,7 @@
 ghost use Rattle.std.specs.Prelude.{◌≡◌, ◌==◌, ◌&&◌, ◌^◌, ◌<◌, IfErr, IfOk, length};
 ghost use Rattle.flow_certificate.specs.Certificates.{CertText, IsFormFault};
 ghost use Rattle.flow_certificate.specs.Pictures.{picture_of};
-ghost use Rattle.flow_certificate.specs.Reading.{IsWholeDraft, is_whole as is_whole_stage};
+ghost use Rattle.flow_certificate.specs.Private.Reading.{IsWholeDraft, is_whole as is_whole_stage};
 
 use crate::adding::{add, begin};
 use crate::certificates::Certificate;

@@ -1,7 +1,7 @@
 ghost use Rattle.std.specs.Prelude.{◌≡◌, ℕ, ◌+◌, ◌^◌, ◌<◌, length, slice_index};
 ghost use Rattle.max_flow.specs.Flows.{halves_from, network_of};
-ghost use Rattle.flow_certificate.specs.Sums.{AreAdded, AreSmall, AreZero, HaveRoom, HaveSums, brought, given, heads_of};
-ghost use Rattle.flow_certificate.specs.Sums.{tails_of};
+ghost use Rattle.flow_certificate.specs.Private.Sums.{AreAdded, AreSmall, AreZero, HaveRoom, HaveSums, brought, given, heads_of};
+ghost use Rattle.flow_certificate.specs.Private.Sums.{tails_of};
 ghost use Rattle.flow_certificate.specs.Verdicts.{flows_of};
 
 use crate::certificates::Certificate;

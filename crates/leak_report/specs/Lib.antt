@@ -1,4 +1,4 @@
 pub mod VerdictLines
 pub mod Reports
 pub mod JsonReports
-pub mod Members
+pub mod Private

@@ -3,7 +3,7 @@ ghost use Rattle.std.specs.List.{list_all};
 ghost use Rattle.serde_json.specs.Data.{array, put as with_member};
 ghost use Rattle.serde_json.specs.View.{items_of, members_view, view};
 ghost use Rattle.leak_report.specs.JsonReports.{point_data, report_data, report_json as report_json_of, whole};
-ghost use Rattle.leak_report.specs.Members.{with_first, with_last};
+ghost use Rattle.leak_report.specs.Private.Members.{with_first, with_last};
 ghost use Rattle.max_flow.specs.Flows.{is_small};
 
 use crate::capacities::capacity_of;

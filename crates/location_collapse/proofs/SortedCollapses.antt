@@ -14,7 +14,7 @@ use Rattle.flow_base.specs.PointOrders.{is_same}
 use Rattle.flow_graph.specs.EventGraphs.{is_among}
 use Rattle.flow_graph.specs.Keeping.{Keeps, TakesLinks, capacity_in, is_known, is_positive, is_sound}
 use Rattle.location_collapse.specs.Limits.{is_same_link, is_small}
-use Rattle.location_collapse.specs.Sorting.{HasSame}
+use Rattle.location_collapse.specs.Private.Sorting.{HasSame}
 use Rattle.location_collapse.proofs.CapacityMaps.{found_positive}
 use Rattle.flow_base.proofs.PointEquality.{points_alike}
 

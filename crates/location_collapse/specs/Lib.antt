@@ -1,5 +1,5 @@
 pub mod Limits
 pub mod Collapses
-pub mod Sorting
 pub mod LimitLaws
 pub mod LatestLinks
+pub mod Private

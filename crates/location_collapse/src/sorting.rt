@@ -7,7 +7,7 @@ ghost use Rattle.flow_graph.specs.declared.events.Event.{Event as AnEvent};
 ghost use Rattle.flow_graph.specs.EventGraphs.{IsGraphOf};
 ghost use Rattle.flow_graph.specs.Keeping.{TakesLinks, capacity_in};
 ghost use Rattle.location_collapse.specs.Collapses.{StandsFor};
-ghost use Rattle.location_collapse.specs.Sorting.{HasSame};
+ghost use Rattle.location_collapse.specs.Private.Sorting.{HasSame};
 
 use crate::collapses::Collapse;
 use flow_base::{NoMemory, Point};

@@ -25,8 +25,8 @@ use Rattle.lockstep_replay.specs.declared.differences.Difference.{Difference}
 use Rattle.lockstep_replay.specs.declared.verdicts.ReplayStop.TheVariants.{Guest, RangeOutside, Short as TooShort}
 use Rattle.lockstep_replay.specs.declared.verdicts.Why.TheVariants.{ReplayFault}
 use Rattle.lockstep_replay.specs.Differences.{byte_difference, status_difference, first_of, difference_of}
-use Rattle.lockstep_replay.specs.Standings.{why_answered}
-use Rattle.lockstep_replay.specs.Turning.{why_compared, Joins, InStep}
+use Rattle.lockstep_replay.specs.Private.Standings.{why_answered}
+use Rattle.lockstep_replay.specs.Private.Turning.{why_compared, Joins, InStep}
 use Rattle.lockstep_replay.specs.Verdicts.{why_output, why_marks, why_stopped, why_copy, why_replay}
 use Rattle.lockstep_replay.proofs.Conditions.{NotStopped, SameMarks, marks_same, first_none, none_output, none_marks}
 use Rattle.lockstep_replay.proofs.Conditions.{none_copy, no_byte, feed_rest}

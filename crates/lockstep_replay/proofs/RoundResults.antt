@@ -27,8 +27,8 @@ use Rattle.region_machine.specs.declared.real_turns.RealTurn.{RealTurn}
 use Rattle.lockstep_replay.specs.declared.verdicts.Why.{Why}
 use Rattle.lockstep_replay.specs.Crossing.{crossing_unless}
 use Rattle.lockstep_replay.specs.Sides.{tally_of}
-use Rattle.lockstep_replay.specs.Standings.{why_beside, why_standing}
-use Rattle.lockstep_replay.specs.Turning.{Makes, Keeps, Rounds, InStep, Joins, Joined, crossed, fed_turn}
+use Rattle.lockstep_replay.specs.Private.Standings.{why_beside, why_standing}
+use Rattle.lockstep_replay.specs.Private.Turning.{Makes, Keeps, Rounds, InStep, Joins, Joined, crossed, fed_turn}
 use Rattle.lockstep_replay.specs.Verdicts.{counted_bits, why_budget, why_mode, why_broken, why_common, why_replay}
 use Rattle.lockstep_replay.proofs.Turns.{Within, within-of, why-within}
 use Rattle.lockstep_replay.proofs.Conditions.{NotStopped, none_broken, none_mode}

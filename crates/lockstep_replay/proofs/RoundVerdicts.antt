@@ -25,7 +25,7 @@ use Rattle.lockstep_replay.specs.declared.verdicts.Why.TheVariants.{TurnLimit}
 use Rattle.lockstep_replay.specs.Crossing.{cross_after, crossing_of, crossing_unbroken}
 use Rattle.lockstep_replay.specs.Tasks.{Task, Limits, real_start, real_of, enclosed_of, Cross, replay_start}
 use Rattle.lockstep_replay.specs.Beginnings.{Begins}
-use Rattle.lockstep_replay.specs.Turning.{Rounds, Joined, crossed, fed_turn, why_turned}
+use Rattle.lockstep_replay.specs.Private.Turning.{Rounds, Joined, crossed, fed_turn, why_turned}
 use Rattle.lockstep_replay.specs.Verdicts.{Judgement, Accepts, Rejects, why_after, why_of, why_broken, why_mode}
 use Rattle.lockstep_replay.specs.Verdicts.{why_common, why_replay, fed_of}
 use Rattle.lockstep_replay.specs.Verdicts.{judged_from, judged_after, judged_mode}

@@ -20,7 +20,7 @@ use Rattle.lockstep_replay.specs.Crossing.{crossing, crossing_unless}
 use Rattle.lockstep_replay.specs.Ends.{tallies-none}
 use Rattle.lockstep_replay.specs.Sides.{tally_of}
 use Rattle.lockstep_replay.specs.Tapes.{Tally, Tallies, Crosses}
-use Rattle.lockstep_replay.specs.Turning.{Makes}
+use Rattle.lockstep_replay.specs.Private.Turning.{Makes}
 
 -- what the tally says of a turn that is told to it
 abbrev pub Told : {Stop : Type 0} → Tallying → Walk → Played Stop Tally → Type 0

@@ -10,8 +10,7 @@ pub mod VerdictLaws
 pub mod Tapes
 pub mod Sides
 pub mod Ends
-pub mod Turning
 pub mod Beginnings
 pub mod Checks
-pub mod Standings
 pub mod VerdictTexts
+pub mod Private

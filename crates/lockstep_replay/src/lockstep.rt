@@ -5,7 +5,7 @@ ghost use Rattle.rv32im_machine.specs.declared.stepping.Stepped.TheVariants.{Exi
 ghost use Rattle.lockstep_replay.specs.Judgements.{judgement_of};
 ghost use Rattle.lockstep_replay.specs.Beginnings.{Begins};
 ghost use Rattle.lockstep_replay.specs.Tasks.{Task, Limits, task_of};
-ghost use Rattle.lockstep_replay.specs.Turning.{Ends, Keeps};
+ghost use Rattle.lockstep_replay.specs.Private.Turning.{Ends, Keeps};
 ghost use Rattle.lockstep_replay.specs.Verdicts.{Accepts, First, judged_from};
 ghost use Rattle.region_machine.specs.Within.{may_leave};
 

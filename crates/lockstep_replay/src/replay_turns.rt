@@ -5,8 +5,8 @@ ghost use Rattle.replay_machine.specs.Standing.{Stands};
 ghost use Rattle.replay_machine.specs.Runs.{Masks, ReplayPlace as APlace};
 ghost use Rattle.lockstep_replay.specs.Differences.{byte_difference, status_difference as difference_of_ends, first_of};
 ghost use Rattle.rv32im_machine.specs.declared.stepping.Stepped.TheVariants.{Ran};
-ghost use Rattle.lockstep_replay.specs.Standings.{why_answered, why_beside};
-ghost use Rattle.lockstep_replay.specs.Turning.{fed_turn, why_compared, Joins, InStep};
+ghost use Rattle.lockstep_replay.specs.Private.Standings.{why_answered, why_beside};
+ghost use Rattle.lockstep_replay.specs.Private.Turning.{fed_turn, why_compared, Joins, InStep};
 ghost use Rattle.lockstep_replay.specs.Verdicts.{why_output, why_replay};
 
 use crate::differences::{Difference, output_difference, status_difference};

@@ -1,8 +1,8 @@
 ghost use Rattle.std.specs.Prelude.{◌≡◌, ℕ, List as Seq, None, IsTrue, nat_lt, false};
 ghost use Rattle.region_machine.specs.Enclosures.{Steps, kind_of};
 ghost use Rattle.region_machine.specs.Within.{may_leave};
-ghost use Rattle.lockstep_replay.specs.Standings.{why_standing};
-ghost use Rattle.lockstep_replay.specs.Turning.{Keeps, Makes, Rounds};
+ghost use Rattle.lockstep_replay.specs.Private.Standings.{why_standing};
+ghost use Rattle.lockstep_replay.specs.Private.Turning.{Keeps, Makes, Rounds};
 ghost use Rattle.lockstep_replay.specs.Verdicts.{why_broken, why_budget, why_mode};
 
 use crate::replay_turns::{keeps_up, replay_reason};

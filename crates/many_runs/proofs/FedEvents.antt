@@ -13,7 +13,7 @@ use Rattle.measuring.specs.Recordings.{Records}
 use Rattle.measuring.specs.declared.point_visits.VisitRun.{VisitRun}
 use Rattle.measuring.specs.VisitRuns.{run_masks}
 use Rattle.measuring.proofs.VisitRuns.{masks-none}
-use Rattle.many_runs.specs.Joining.{event_between, link_events, passes, passes_at, recorded_links, recorded_masks}
+use Rattle.many_runs.specs.Private.Joining.{event_between, link_events, passes, passes_at, recorded_links, recorded_masks}
 use Rattle.many_runs.proofs.Fronts.{is-none, opens}
 use Rattle.many_runs.proofs.JoinedMasks.{masks-cons}
 

@@ -8,7 +8,7 @@ use Rattle.measuring.proofs.VisitRuns.{masks-append, masks-none, masks-push}
 use Rattle.flow_base.specs.declared.points.Point.{Point}
 use Rattle.measuring.specs.declared.recordings.Recording.{Recording}
 use Rattle.measuring.specs.Visits.{all_masks}
-use Rattle.many_runs.specs.Joining.{recorded_masks}
+use Rattle.many_runs.specs.Private.Joining.{recorded_masks}
 use Rattle.many_runs.specs.Uniting.{joined}
 use Rattle.many_runs.proofs.Fronts.{is-none, opens}
 use Rattle.many_runs.proofs.JoinedMasks.{joined-none, joined-parted, masks-empty, none-joined}

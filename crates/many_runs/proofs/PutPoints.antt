@@ -18,8 +18,8 @@ use Rattle.measuring.specs.declared.recordings.Recording.{Recording}
 use Rattle.measuring.specs.Counts.{column_of, count_at, count_of, is_counted, page_of, row_counts}
 use Rattle.measuring.specs.KeptMasks.{masks_if_any}
 use Rattle.measuring.specs.Visits.{all_masks}
-use Rattle.many_runs.specs.Joining.{recorded_masks}
-use Rattle.many_runs.specs.Places.{point_at}
+use Rattle.many_runs.specs.Private.Joining.{recorded_masks}
+use Rattle.many_runs.specs.Private.Places.{point_at}
 use Rattle.many_runs.specs.Uniting.{joined}
 use Rattle.many_runs.proofs.Fronts.{is-none, opens}
 use Rattle.many_runs.proofs.JoinedMasks.{none-joined}

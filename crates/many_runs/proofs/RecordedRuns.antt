@@ -20,7 +20,7 @@ use Rattle.measuring.proofs.GraphWithinLimits.{recorded_exceeds_none}
 use Rattle.many_runs.specs.Causes.{IsFirstRefused}
 use Rattle.many_runs.specs.Following.{AreFollowed, IsFollowed, IsRunFault, many_fault_of}
 use Rattle.many_runs.specs.Measures.{AreRunsOn, IsRunOn, Setup, setup_of, start_on}
-use Rattle.many_runs.specs.Recordings.{AllKeep, AreSameTogether, Keeps, RecordsUnion}
+use Rattle.many_runs.specs.Private.Recordings.{AllKeep, AreSameTogether, Keeps, RecordsUnion}
 use Rattle.many_runs.specs.Uniting.{IsUnited, all_links, joined, joined_masks}
 use Rattle.many_runs.proofs.JoinedMasks.{joined-chain, joined-none, none-joined}
 use Rattle.std.proofs.Common.{◌||◌, Bool, append-nil}

@@ -24,8 +24,8 @@ use Rattle.acceptance_law.specs.RunCuts.{visit_masks}
 use Rattle.acceptance_law.proofs.CutVisits.{visit_masks-append}
 use Rattle.acceptance_law.proofs.GraphEvents.{all-append}
 use Rattle.measuring.specs.declared.recordings.Recording.{Recording}
-use Rattle.many_runs.specs.Joining.{event_between, link_events, passes, passes_at, recorded_links, recorded_masks}
-use Rattle.many_runs.specs.Recordings.{AllKeep, Keeps}
+use Rattle.many_runs.specs.Private.Joining.{event_between, link_events, passes, passes_at, recorded_links, recorded_masks}
+use Rattle.many_runs.specs.Private.Recordings.{AllKeep, Keeps}
 use Rattle.many_runs.specs.Uniting.{IsUnited, all_links, joined, joined_masks}
 use Rattle.many_runs.proofs.BitsOfUnions.{has-united, is_passed}
 use Rattle.many_runs.proofs.FedEvents.{links-append}

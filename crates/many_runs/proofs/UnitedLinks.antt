@@ -12,7 +12,7 @@ use Rattle.flow_graph.specs.declared.named_links.NamedLink.{NamedLink}
 use Rattle.flow_graph.specs.EventGraphs.{has_passed, links_after, links_by, named_links, one_if, outlet_of}
 use Rattle.flow_graph.specs.Keeping.{is_there}
 use Rattle.acceptance_law.proofs.GraphEvents.{all-append, all_more, knows_more}
-use Rattle.many_runs.specs.Joining.{event_between, link_events}
+use Rattle.many_runs.specs.Private.Joining.{event_between, link_events}
 
 -- ---- links that events make
 

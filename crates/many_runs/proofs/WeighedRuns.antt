@@ -8,9 +8,9 @@ use Rattle.many_runs.specs.declared.many.Many.{Many}
 use Rattle.many_runs.specs.Causes.{HasManyCause}
 use Rattle.many_runs.specs.Following.{AreFollowed}
 use Rattle.many_runs.specs.Measures.{HaveLength, MeasuresAll, Setup, first_length}
-use Rattle.many_runs.specs.Recordings.{AllKeep, RecordsUnion}
+use Rattle.many_runs.specs.Private.Recordings.{AllKeep, RecordsUnion}
 use Rattle.many_runs.proofs.RecordedRuns.{united-too}
-use Rattle.many_runs.specs.Weighing.{IsWeighFault, WeighsAll}
+use Rattle.many_runs.specs.Private.Weighing.{IsWeighFault, WeighsAll}
 
 module _ (setup : Setup) (secrets : List (List ℕ)) (recordings : List Recording) (union : Recording)
     (alike : HaveLength (first_length secrets) secrets) (are : AreFollowed setup secrets recordings)

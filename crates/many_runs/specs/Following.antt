@@ -10,7 +10,7 @@ use Rattle.many_runs.specs.declared.faults.ManyFault.{ManyFault}
 use Rattle.many_runs.specs.declared.faults.ManyFault.TheVariants.{Length, Run, UnitedLimit, BudgetLimit, Memory}
 use Rattle.many_runs.specs.Causes.{HasOtherLength, IsFirstRefused}
 use Rattle.many_runs.specs.Measures.{AreRunsOn, IsRunOn, Setup}
-use Rattle.many_runs.specs.Recordings.{AllKeep, AreSameTogether, Keeps}
+use Rattle.many_runs.specs.Private.Recordings.{AllKeep, AreSameTogether, Keeps}
 
 -- at most 65,536 bytes
 abbrev pub is_short : List ℕ → Bool

@@ -4,8 +4,5 @@ pub mod Measures
 pub mod Causes
 pub mod Accepting
 pub mod Deciding
-pub mod Recordings
-pub mod Joining
 pub mod Following
-pub mod Weighing
-pub mod Places
+pub mod Private

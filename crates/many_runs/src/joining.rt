@@ -2,7 +2,7 @@ ghost use Rattle.std.specs.Prelude.{◌≡◌, ◌++◌, IfOk, OnOk, option_copi
 ghost use Rattle.measuring.specs.KeptMasks.{masks_if_any};
 ghost use Rattle.measuring.specs.VisitRuns.{run_masks};
 ghost use Rattle.measuring.specs.Visits.{all_masks};
-ghost use Rattle.many_runs.specs.Joining.{recorded_masks};
+ghost use Rattle.many_runs.specs.Private.Joining.{recorded_masks};
 ghost use Rattle.many_runs.specs.Uniting.{joined};
 
 use flow_base::{List, NoMemory, Point};

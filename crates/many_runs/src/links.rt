@@ -2,7 +2,7 @@ ghost use Rattle.std.specs.Prelude.{◌++◌, List as Seq, OnOk};
 ghost use Rattle.std.specs.Map.{keys_of};
 ghost use Rattle.flow_graph.specs.declared.events.Event.{Event as AnEvent};
 ghost use Rattle.measuring.specs.Recordings.{Records};
-ghost use Rattle.many_runs.specs.Joining.{event_between, link_events};
+ghost use Rattle.many_runs.specs.Private.Joining.{event_between, link_events};
 
 use flow_base::NoMemory;
 use flow_graph::{Event, Events, NamedEnd, NamedLink};

@@ -2,8 +2,8 @@ ghost use Rattle.std.specs.Prelude.{◌≡◌, ◌++◌, List as Seq, IfOk, OnOk
 ghost use Rattle.flow_graph.specs.declared.events.Event.{Event as AnEvent};
 ghost use Rattle.measuring.specs.Recordings.{Records};
 ghost use Rattle.measuring.specs.VisitRuns.{run_masks};
-ghost use Rattle.many_runs.specs.Joining.{passes, passes_at, recorded_links, recorded_masks};
-ghost use Rattle.many_runs.specs.Recordings.{AllKeep, RecordsUnion};
+ghost use Rattle.many_runs.specs.Private.Joining.{passes, passes_at, recorded_links, recorded_masks};
+ghost use Rattle.many_runs.specs.Private.Recordings.{AllKeep, RecordsUnion};
 
 use crate::joining::joined_runs;
 use crate::links::add_links;

@@ -1,6 +1,6 @@
 ghost use Rattle.std.specs.Prelude.{◌≡◌, ◌≤◌, IfErr, IfOk};
 ghost use Rattle.measuring.specs.Recordings.{HasEvents};
-ghost use Rattle.many_runs.specs.Weighing.{IsWeighFault, WeighsAll};
+ghost use Rattle.many_runs.specs.Private.Weighing.{IsWeighFault, WeighsAll};
 
 use crate::faults::ManyFault;
 use crate::many::Many;

@@ -4,8 +4,8 @@ use Rattle.std.proofs.Common.{length, set, slice_index, ap, subst, ⊎_elim, ari
 use Rattle.std.proofs.lemmas.Bool.{cases_eq, eq-eqb, ne_eqb, cond-true, cond-false, cases_Bool}
 use Rattle.std.proofs.lemmas.List.{get_or-set_same, get_or-set_other}
 use Rattle.max_flow.specs.Networks.{Net, AreAtMost}
-use Rattle.max_flow.specs.Rooms.{other_end, pushed}
-use Rattle.max_flow.specs.Searching.{IsWalking, IsRaising}
+use Rattle.max_flow.specs.Private.Rooms.{other_end, pushed}
+use Rattle.max_flow.specs.Private.Searching.{IsWalking, IsRaising}
 use Rattle.max_flow.proofs.WalksBack.{walk_arrives}
 
 pub raising_first : (net : Net) (flow places : List ℕ) (value at d : ℕ) → AreAtMost value flow →

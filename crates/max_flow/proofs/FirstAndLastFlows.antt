@@ -3,10 +3,10 @@ use Rattle.std.proofs.Common.{◌≡◌, ℕ, ◌-◌, ◌^◌, ◌≤◌, ◌<�
 use Rattle.std.proofs.Common.{length, slice_index, refl, sym, ◌∙◌, ⊎_elim, arith}
 use Rattle.std.proofs.lemmas.Bool.{cases_Bool, ltb-true, lt-ltb, le-ltb}
 use Rattle.max_flow.specs.Networks.{Net, at_node, IsNet, IsFlow, IsSide, AreAtMost, value_of, capacity_of}
-use Rattle.max_flow.specs.Rooms.{IsBounded, IsClosed, HasSmallSide, IsLeast}
-use Rattle.max_flow.specs.Searching.{IsFound, is_found}
+use Rattle.max_flow.specs.Private.Rooms.{IsBounded, IsClosed, HasSmallSide, IsLeast}
+use Rattle.max_flow.specs.Private.Searching.{IsFound, is_found}
 use Rattle.max_flow.specs.declared.searching.Tree.{Tree}
-use Rattle.max_flow.specs.Solving.{IsRaised, AreZeros}
+use Rattle.max_flow.specs.Private.Solving.{IsRaised, AreZeros}
 use Rattle.max_flow.proofs.Sums.{sum_zero}
 use Rattle.max_flow.proofs.Tightness.{weak, closed, side_of_closed, capacity_of_closed}
 

@@ -14,8 +14,8 @@ use Rattle.max_flow.specs.declared.answers.Half.{Half}
 use Rattle.max_flow.specs.Networks.{IsNet, IsSide, capacity_of, leaves}
 use Rattle.max_flow.specs.Flows.{tail_of, head_of, network_of, member, marks, relay_in, has_first}
 use Rattle.max_flow.specs.Flows.{has_second}
-use Rattle.max_flow.specs.Marks.{found_marks}
-use Rattle.max_flow.specs.Searching.{is_found}
+use Rattle.max_flow.specs.Private.Marks.{found_marks}
+use Rattle.max_flow.specs.Private.Searching.{is_found}
 use Rattle.max_flow.proofs.Sums.{sum_same}
 use Rattle.max_flow.proofs.Graphs.{ends_hold, graph_net}
 

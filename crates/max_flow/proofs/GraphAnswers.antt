@@ -8,10 +8,10 @@ use Rattle.std.proofs.Math.Nat.{min-le_left}
 use Rattle.flow_graph.specs.declared.graphs.Graph.{Graph}
 use Rattle.max_flow.specs.declared.answers.Half.{Half}
 use Rattle.max_flow.specs.Networks.{IsFlow, IsSide, AreAtMost, value_of, capacity_of}
-use Rattle.max_flow.specs.Rooms.{IsLeast}
+use Rattle.max_flow.specs.Private.Rooms.{IsLeast}
 use Rattle.max_flow.specs.Flows.{halves_from, tail_of, network_of, member, IsFlowOf, Least, HasNoGreater}
 use Rattle.max_flow.specs.Flows.{IsWithinLimits, is_small, flow_value, side_capacity}
-use Rattle.max_flow.specs.Searching.{is_found}
+use Rattle.max_flow.specs.Private.Searching.{is_found}
 use Rattle.max_flow.proofs.Graphs.{graph_net, length-halves, all_map}
 use Rattle.max_flow.proofs.FoundNodesAreMembers.{IsMade, made_side, made-capacity, member_found}
 use Rattle.max_flow.proofs.Tightness.{weak}

@@ -4,10 +4,10 @@ use Rattle.std.proofs.Common.{set, take, slice_index, get_or, sym, ap, ◌∙◌
 use Rattle.std.proofs.lemmas.Bool.{cases_eq, cases_lt, eq-eqb, ne_eqb, cond-true, cond-false}
 use Rattle.std.proofs.lemmas.List.{length-set, get_or-set_same, get_or-set_other, length-take, get_or-take, get_or_past}
 use Rattle.max_flow.specs.Networks.{Net, sum_below}
-use Rattle.max_flow.specs.Rooms.{other_end}
-use Rattle.max_flow.specs.Adjacency.{IsLast, AreChains}
-use Rattle.max_flow.specs.Searching.{IsFound, IsStart, unfound}
-use Rattle.max_flow.specs.Stacks.{IsStack, AreCursors}
+use Rattle.max_flow.specs.Private.Rooms.{other_end}
+use Rattle.max_flow.specs.Private.Adjacency.{IsLast, AreChains}
+use Rattle.max_flow.specs.Private.Searching.{IsFound, IsStart, unfound}
+use Rattle.max_flow.specs.Private.Stacks.{IsStack, AreCursors}
 use Rattle.max_flow.proofs.Sums.{sum_changed}
 
 pub stack_of : (net : Net) (flow places arrivals rooms queue : List ℕ) → IsFound net flow places arrivals rooms queue →

@@ -5,8 +5,8 @@ use Rattle.std.proofs.lemmas.Bool.{cases_eq, cases_lt, eq-eqb, ne_eqb, lt-ltb, l
 use Rattle.std.proofs.lemmas.Bool.{cases_Bool}
 use Rattle.std.proofs.lemmas.List.{length-set, get_or-set_same, get_or-set_other}
 use Rattle.max_flow.specs.Networks.{Net, sum_below, at_node, IsNet, IsFlow, value_of}
-use Rattle.max_flow.specs.Rooms.{bound, IsBounded, room_into, other_end, pushed}
-use Rattle.max_flow.specs.Searching.{Arrives, Carries, IsWalking, IsFound}
+use Rattle.max_flow.specs.Private.Rooms.{bound, IsBounded, room_into, other_end, pushed}
+use Rattle.max_flow.specs.Private.Searching.{Arrives, Carries, IsWalking, IsFound}
 use Rattle.max_flow.proofs.Sums.{sum_changed}
 use Rattle.max_flow.proofs.Duality.{source_entered}
 

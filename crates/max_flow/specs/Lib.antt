@@ -1,9 +1,4 @@
 pub mod Networks
 pub mod Flows
 pub mod Laws
-pub mod Rooms
-pub mod Adjacency
-pub mod Searching
-pub mod Solving
-pub mod Marks
-pub mod Stacks
+pub mod Private

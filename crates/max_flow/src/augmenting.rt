@@ -1,7 +1,7 @@
 ghost use Rattle.std.specs.Prelude.{◌≡◌, ◌+◌, ◌<◌, ◌≤◌, length, slice_index, slice_set};
 ghost use Rattle.max_flow.specs.Networks.{AreAtMost, IsFlow, value_of};
-ghost use Rattle.max_flow.specs.Rooms.{IsBounded, bound, other_end, pushed, room_into};
-ghost use Rattle.max_flow.specs.Solving.{net_of, IsNetwork, IsTree};
+ghost use Rattle.max_flow.specs.Private.Rooms.{IsBounded, bound, other_end, pushed, room_into};
+ghost use Rattle.max_flow.specs.Private.Solving.{net_of, IsNetwork, IsTree};
 
 use crate::networks::Network;
 use crate::searching::Tree;

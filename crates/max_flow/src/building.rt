@@ -1,7 +1,7 @@
 ghost use Rattle.std.specs.Prelude.{◌≡◌, ◌+◌, ◌*◌, ◌^◌, ◌<◌, ◌≤◌, ◌++◌, map, length, IfOk, OnOk, IsTrue};
 ghost use Rattle.std.specs.List.{list_all};
 ghost use Rattle.max_flow.specs.Flows.{IsWithinLimits, halves_from, head_of, is_small, network_of, tail_of};
-ghost use Rattle.max_flow.specs.Solving.{net_of, IsNetwork};
+ghost use Rattle.max_flow.specs.Private.Solving.{net_of, IsNetwork};
 
 use crate::chains::chains_of;
 use crate::networks::Network;

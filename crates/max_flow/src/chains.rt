@@ -1,5 +1,5 @@
 ghost use Rattle.std.specs.Prelude.{◌≡◌, ℕ, ◌-◌, ◌<◌, ◌≤◌, length, slice_index, replicate, IfOk};
-ghost use Rattle.max_flow.specs.Adjacency.{AreChains};
+ghost use Rattle.max_flow.specs.Private.Adjacency.{AreChains};
 
 use flow_base::NoMemory;
 use std::alloc::Global;

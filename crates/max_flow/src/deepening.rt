@@ -1,9 +1,9 @@
 ghost use Rattle.std.specs.Prelude.{◌≡◌, ◌+◌, ◌-◌, ◌<◌, ◌≤◌, length, slice_index, false, IfOk, OnOk};
 ghost use Rattle.max_flow.specs.Networks.{AreAtMost, IsFlow, value_of};
-ghost use Rattle.max_flow.specs.Rooms.{HasSmallSide, IsBounded};
-ghost use Rattle.max_flow.specs.Searching.{IsStart};
-ghost use Rattle.max_flow.specs.Solving.{net_of, IsNetwork, IsTree};
-ghost use Rattle.max_flow.specs.Stacks.{AreCursors, IsStack};
+ghost use Rattle.max_flow.specs.Private.Rooms.{HasSmallSide, IsBounded};
+ghost use Rattle.max_flow.specs.Private.Searching.{IsStart};
+ghost use Rattle.max_flow.specs.Private.Solving.{net_of, IsNetwork, IsTree};
+ghost use Rattle.max_flow.specs.Private.Stacks.{AreCursors, IsStack};
 
 use crate::augmenting::augment;
 use crate::networks::Network;

@@ -1,5 +1,5 @@
 ghost use Rattle.std.specs.Prelude.{◌≡◌, ◌<◌, length, slice_index};
-ghost use Rattle.max_flow.specs.Rooms.{bound};
+ghost use Rattle.max_flow.specs.Private.Rooms.{bound};
 
 use crate::chains::Chains;
 
@@ -47,7 +47,7 @@ impl Network {
     }
 
     /// How much an edge can hold: its limit, or for an open edge all that a number can.
-    #[tactic(auto, unfolding(crate::specs::Rooms::bound))]
+    #[tactic(auto, unfolding(crate::specs::Private::Rooms::bound))]
     pub fn limit(&self, edge: usize) -> u64
         ensures { result ≡ bound self.now.limits.items edge }
     {

@@ -1,8 +1,8 @@
 ghost use Rattle.std.specs.Prelude.{◌≡◌, ◌+◌, ◌<◌, ◌≤◌, length, slice_index, IfOk};
 ghost use Rattle.max_flow.specs.Networks.{AreAtMost, IsFlow, IsSide, value_of, capacity_of};
-ghost use Rattle.max_flow.specs.Rooms.{IsBounded, IsClosed, HasSmallSide, IsLeast};
-ghost use Rattle.max_flow.specs.Searching.{is_found};
-ghost use Rattle.max_flow.specs.Solving.{net_of, IsNetwork, IsTree, IsRaised, AreZeros};
+ghost use Rattle.max_flow.specs.Private.Rooms.{IsBounded, IsClosed, HasSmallSide, IsLeast};
+ghost use Rattle.max_flow.specs.Private.Searching.{is_found};
+ghost use Rattle.max_flow.specs.Private.Solving.{net_of, IsNetwork, IsTree, IsRaised, AreZeros};
 
 use crate::deepening::deepen;
 use crate::networks::Network;

@@ -1,6 +1,6 @@
 ghost use Rattle.std.specs.Prelude.{◌≡◌, ℕ, ◌+◌, ◌<◌, ◌≤◌, length, slice_index, OnOk};
-ghost use Rattle.max_flow.specs.Searching.{HasGrown, HasLeft, HasEntered, IsScanned};
-ghost use Rattle.max_flow.specs.Solving.{net_of, IsNetwork, IsTree};
+ghost use Rattle.max_flow.specs.Private.Searching.{HasGrown, HasLeft, HasEntered, IsScanned};
+ghost use Rattle.max_flow.specs.Private.Solving.{net_of, IsNetwork, IsTree};
 
 use crate::networks::Network;
 use crate::searching::{Tree, reach};

@@ -1,8 +1,8 @@
 ghost use Rattle.std.specs.Prelude.{◌≡◌, ◌+◌, ◌-◌, ◌<◌, ◌≤◌, ◌++◌, ◌∷◌, [], length, slice_index, slice_set, take, IfOk};
 ghost use Rattle.std.specs.Prelude.{OnOk};
-ghost use Rattle.max_flow.specs.Rooms.{IsClosed};
-ghost use Rattle.max_flow.specs.Searching.{Reaches, HasGrown, is_found, IsStart};
-ghost use Rattle.max_flow.specs.Solving.{net_of, IsNetwork, IsTree};
+ghost use Rattle.max_flow.specs.Private.Rooms.{IsClosed};
+ghost use Rattle.max_flow.specs.Private.Searching.{Reaches, HasGrown, is_found, IsStart};
+ghost use Rattle.max_flow.specs.Private.Solving.{net_of, IsNetwork, IsTree};
 
 use crate::networks::Network;
 use crate::scanning::scan;

@@ -1,7 +1,7 @@
 ghost use Rattle.std.specs.Prelude.{◌≡◌, ◌+◌, ◌*◌, ◌≤◌, map, length, IfOk, take, drop};
 ghost use Rattle.max_flow.specs.Flows.{has_first, has_second, marks};
-ghost use Rattle.max_flow.specs.Searching.{is_found};
-ghost use Rattle.max_flow.specs.Marks.{found_marks};
+ghost use Rattle.max_flow.specs.Private.Searching.{is_found};
+ghost use Rattle.max_flow.specs.Private.Marks.{found_marks};
 
 use crate::answers::{Flow, Half, Side};
 use flow_base::{List, NoMemory};

@@ -10,7 +10,7 @@ use Rattle.measuring.specs.declared.following.Exit.{Exit}
 use Rattle.measuring.specs.declared.measured.Measured.{Measured}
 use Rattle.measuring.specs.Following.{HasEnded, HasRunCause}
 use Rattle.measuring.specs.Measures.{HasCause, Measures}
-use Rattle.measuring.specs.Weighing.{IsUnweighed, Weighs}
+use Rattle.measuring.specs.Private.Weighing.{IsUnweighed, Weighs}
 
 pub measures : (table : ℕ) (regions : List Region) (start : LabelledRun) (secret_len limit : ℕ) (exit : Exit)
     (measured : Measured) → HasEnded table regions start limit exit → Weighs exit secret_len measured →

@@ -11,6 +11,6 @@ pub mod RunCauses
 pub mod Following
 pub mod Limits
 pub mod Measures
-pub mod Weighing
 pub mod Accepting
 pub mod Deciding
+pub mod Private

@@ -4,7 +4,7 @@ ghost use Rattle.region_machine.specs.Starts.{guest};
 ghost use Rattle.run_labels.specs.Runs.{unlabelled};
 ghost use Rattle.measuring.specs.Measures.{HasCause, Measures};
 ghost use Rattle.measuring.specs.Recordings.{HasEvents};
-ghost use Rattle.measuring.specs.Weighing.{IsUnweighed, Weighs};
+ghost use Rattle.measuring.specs.Private.Weighing.{IsUnweighed, Weighs};
 
 use crate::cutting::cut_of;
 use crate::following::{Exit, RunEnd, follow};

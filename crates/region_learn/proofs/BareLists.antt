@@ -6,7 +6,7 @@ use Rattle.std.proofs.lemmas.Grind.{common_steps}
 use Rattle.elf32_loader.specs.declared.segments.Segment.{Segment}
 use Rattle.elf32_loader.specs.Segments.{highest_base, is_base, rounded_down}
 use Rattle.enclosure_regions.specs.declared.region_parts.Region.{Region}
-use Rattle.region_learn.specs.Books.{are_bare}
+use Rattle.region_learn.specs.Private.Books.{are_bare}
 use Rattle.region_learn.specs.Written.{bare}
 
 pub bare_none : (regions : List Region) → are_bare (map bare regions) ≡ true

@@ -4,7 +4,7 @@ use Rattle.std.proofs.Common.{refl, sym, ap, arith, inl, inr, subst}
 use Rattle.std.proofs.lemmas.Bool.{cases_Bool, eqb-true, eq-eqb, and_parts, not_from_true, or_left, or_right}
 use Rattle.enclosure_regions.specs.Regions.{stands_in}
 use Rattle.region_learn.specs.declared.notes.Notes.{Notes}
-use Rattle.region_learn.specs.Books.{are_own, has_notes, numbers_of}
+use Rattle.region_learn.specs.Private.Books.{are_own, has_notes, numbers_of}
 
 true-false : ◌≡◌ {A = Bool} true false → ⊥
 true-false e = cc

@@ -12,9 +12,9 @@ use Rattle.enclosure_regions.specs.declared.break_kinds.Place.TheVariants.{Reg, 
 use Rattle.enclosure_regions.specs.Breaks.{has_changed}
 use Rattle.region_machine.specs.Enclosures.{Kind, Leaves, Steps}
 use Rattle.region_learn.specs.declared.notes.Notes.{Notes}
-use Rattle.region_learn.specs.Books.{BookAfter, NotesAfter, are_own}
-use Rattle.region_learn.specs.Marks.{has_bit}
-use Rattle.region_learn.specs.Noting.{Notes-walk, has_place, noted_of}
+use Rattle.region_learn.specs.Private.Books.{BookAfter, NotesAfter, are_own}
+use Rattle.region_learn.specs.Private.Marks.{has_bit}
+use Rattle.region_learn.specs.Private.Noting.{Notes-walk, has_place, noted_of}
 use Rattle.region_learn.specs.Written.{is_leave_of, is_step_in, walk_writes}
 use Rattle.region_learn.proofs.BookPlaces.{one_place}
 

@@ -7,7 +7,7 @@ use Rattle.std.proofs.lemmas.Grind.{common_steps}
 use Rattle.enclosure_regions.specs.declared.region_parts.Range.{Range}
 use Rattle.enclosure_regions.specs.Breaks.{has_byte}
 use Rattle.region_learn.specs.Learnt.{AreSpread, have_byte}
-use Rattle.region_learn.specs.Spans.{End, SpansBelow, behind, extended, one_byte, one_longer}
+use Rattle.region_learn.specs.Private.Spans.{End, SpansBelow, behind, extended, one_byte, one_longer}
 
 pub extended_front : (front : List Range) (last : Range) (address : ℕ) →
     extended (front ++ last ∷ []) address ≡ front ++ behind last address

@@ -13,7 +13,7 @@ use Rattle.region_machine.specs.Enclosures.{Leaves, Steps, kind_in, kind_of, kin
 use Rattle.region_machine.specs.Enclosures.{region_entered_at, region_numbered}
 use Rattle.region_machine.specs.Within.{are_inside, may_leave, may_leave_of}
 use Rattle.region_learn.specs.declared.notes.Notes.{Notes}
-use Rattle.region_learn.specs.Books.{are_bare, has_kind_notes, has_notes, kind_passes, numbers_of}
+use Rattle.region_learn.specs.Private.Books.{are_bare, has_kind_notes, has_notes, kind_passes, numbers_of}
 use Rattle.region_learn.proofs.Counting.{nil_of}
 
 -- a region that may be there passes the test

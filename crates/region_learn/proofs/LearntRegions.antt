@@ -11,11 +11,11 @@ use Rattle.enclosure_regions.specs.declared.break_kinds.Place.TheVariants.{Reg, 
 use Rattle.enclosure_regions.specs.Orders.{all_registers}
 use Rattle.enclosure_regions.specs.Regions.{ids_of}
 use Rattle.region_learn.specs.declared.notes.Notes.{Notes}
-use Rattle.region_learn.specs.Books.{BookOf, NotesOf, have_base, numbers_of}
-use Rattle.region_learn.specs.Declarations.{DeclareAll, Declares, IsDraft, kept_bit, out_bit}
+use Rattle.region_learn.specs.Private.Books.{BookOf, NotesOf, have_base, numbers_of}
+use Rattle.region_learn.specs.Private.Declarations.{DeclareAll, Declares, IsDraft, kept_bit, out_bit}
 use Rattle.region_learn.specs.Learnt.{IsLearnt, Learnt, is_kept, is_out}
-use Rattle.region_learn.specs.Marks.{has_bit}
-use Rattle.region_learn.specs.Spans.{End}
+use Rattle.region_learn.specs.Private.Marks.{has_bit}
+use Rattle.region_learn.specs.Private.Spans.{End}
 use Rattle.region_learn.specs.Written.{Changed, Run, Written, bare}
 use Rattle.region_learn.proofs.RegionRules.{apart, out_not_kept, picked}
 

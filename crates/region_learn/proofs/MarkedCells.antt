@@ -7,7 +7,7 @@ use Rattle.std.proofs.Math.ListN.{set}
 use Rattle.std.proofs.lemmas.Bool.{cases_Bool, eqb-true, eqb-false, eq-eqb, cases_lt}
 use Rattle.std.proofs.lemmas.Nat.Bits.{bit_at_or, bit_at-zero, bit_at-pow_same, bit_at-pow_other}
 use Rattle.std.proofs.lemmas.List.{get_or-replicate, get_or_past, length-replicate}
-use Rattle.region_learn.specs.Marks.{has_bit, page_has}
+use Rattle.region_learn.specs.Private.Marks.{has_bit, page_has}
 
 or-true : (b : Bool) → (b || true) ≡ true
 or-true true = refl

@@ -12,14 +12,14 @@ use Rattle.enclosure_regions.specs.Orders.{all_registers}
 use Rattle.enclosure_regions.specs.Regions.{are_apart, are_distinct, are_ranges, are_regions, are_registers, ascends_above}
 use Rattle.enclosure_regions.specs.Regions.{enters_of, ids_of, is_place, is_range, is_region, is_region_number}
 use Rattle.enclosure_regions.specs.Regions.{is_register, stands_in}
-use Rattle.region_learn.specs.Declarations.{IsDraft, kept_bit, out_bit}
+use Rattle.region_learn.specs.Private.Declarations.{IsDraft, kept_bit, out_bit}
 use Rattle.enclosure_regions.specs.Regions.{is_base}
 use Rattle.region_learn.specs.declared.faults.LearnFault.{LearnFault}
 use Rattle.region_learn.specs.declared.faults.LearnFault.TheVariants.{Bytes, Ranges}
 use Rattle.region_learn.specs.LearnAnswers.{byte_count, counted, first_fault, region_fault, regions_fault}
 use Rattle.region_learn.specs.Learnt.{AreSpread}
-use Rattle.region_learn.specs.Marks.{has_bit}
-use Rattle.region_learn.specs.Spans.{End}
+use Rattle.region_learn.specs.Private.Marks.{has_bit}
+use Rattle.region_learn.specs.Private.Spans.{End}
 use Rattle.region_learn.specs.Written.{bare}
 
 -- ---- numbers and addresses

@@ -10,7 +10,7 @@ use Rattle.region_machine.specs.Guests.{guest_walk}
 use Rattle.region_machine.proofs.Stillness.{IsOver, still_guest, still_kind}
 use Rattle.region_learn.specs.declared.faults.LearnFault.{LearnFault}
 use Rattle.region_learn.specs.declared.notes.Notes.{Notes}
-use Rattle.region_learn.specs.Books.{BookAfter, BookOf, NotesAfter, NotesOf, have_base, numbers_of}
+use Rattle.region_learn.specs.Private.Books.{BookAfter, BookOf, NotesAfter, NotesOf, have_base, numbers_of}
 use Rattle.region_learn.specs.LearnAnswers.{call_in, first_call, first_fault}
 use Rattle.region_learn.specs.Written.{is_leave_of, is_step_in, leaves_changed, some_turn, state_after, walk_writes}
 use Rattle.region_learn.specs.Written.{writes_in}

@@ -8,8 +8,8 @@ use Rattle.std.proofs.lemmas.Nat.{div-mul-add, mod-mul-add}
 use Rattle.std.proofs.lemmas.Grind.{common_steps}
 use Rattle.std.proofs.lemmas.List.{get_or_past}
 use Rattle.region_learn.proofs.MarkedCells.{none_have_none}
-use Rattle.region_learn.specs.Marks.{marks_have, page_has}
-use Rattle.region_learn.specs.Spans.{in_memory, in_page}
+use Rattle.region_learn.specs.Private.Marks.{marks_have, page_has}
+use Rattle.region_learn.specs.Private.Spans.{in_memory, in_page}
 
 le-true : (a b : ℕ) → a ≤ b → nat_le a b ≡ true
 le-true a b h = grind (arith, common_steps)

@@ -14,11 +14,11 @@ use Rattle.enclosure_regions.specs.Breaks.{has_byte}
 use Rattle.enclosure_regions.specs.Turns.{base_value, start_of}
 use Rattle.region_machine.specs.Within.{are_inside}
 use Rattle.region_learn.specs.declared.notes.Notes.{Notes}
-use Rattle.region_learn.specs.Books.{BookOf, NotesOf}
-use Rattle.region_learn.specs.Declarations.{DeclareAll, Declares}
+use Rattle.region_learn.specs.Private.Books.{BookOf, NotesOf}
+use Rattle.region_learn.specs.Private.Declarations.{DeclareAll, Declares}
 use Rattle.region_learn.specs.Learnt.{AreSpread, have_byte}
-use Rattle.region_learn.specs.Marks.{has_bit, marks_have}
-use Rattle.region_learn.specs.Spans.{End}
+use Rattle.region_learn.specs.Private.Marks.{has_bit, marks_have}
+use Rattle.region_learn.specs.Private.Spans.{End}
 use Rattle.region_learn.specs.Unbroken.{IsTight}
 use Rattle.region_learn.specs.Written.{Run, Written}
 use Rattle.region_learn.proofs.LearntRegions.{all-from, no_notes, number-at}

@@ -1,15 +1,10 @@
 pub mod RegionTexts
-pub mod Members
 pub mod FaultTexts
 pub mod Written
 pub mod Learnt
 pub mod LearnAnswers
-pub mod Marks
-pub mod Noting
-pub mod Books
-pub mod Spans
-pub mod Declarations
 pub mod Learning
 pub mod Unbroken
 pub mod Minimal
 pub mod Laws
+pub mod Private

@@ -1,5 +1,5 @@
 ghost use Rattle.std.specs.Prelude.{◌≡◌, ◌==◌, ◌||◌, ℕ, ◌<◌};
-ghost use Rattle.region_learn.specs.Marks.{has_bit as has_bit_of};
+ghost use Rattle.region_learn.specs.Private.Marks.{has_bit as has_bit_of};
 
 /// Whether a word has the bit with an index, 0 to 31.
 #[inline(always)]

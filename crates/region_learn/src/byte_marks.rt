@@ -1,6 +1,6 @@
 ghost use Rattle.std.specs.Prelude.{◌≡◌, ◌==◌, ◌||◌, ℕ, ◌<◌, false, IfOk, IsTrue, OnOk, [], length, slice_index_or, vec_len};
 ghost use Rattle.flow_base.specs.Guests.{memory_size};
-ghost use Rattle.region_learn.specs.Marks.{marks_have, page_has};
+ghost use Rattle.region_learn.specs.Private.Marks.{marks_have, page_has};
 
 use crate::pages::{PAGE_SIZE, Page};
 use flow_base::NoMemory;

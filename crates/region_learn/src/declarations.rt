@@ -3,8 +3,8 @@ ghost use Rattle.std.specs.List.{filter, list_all};
 ghost use Rattle.flow_base.specs.Guests.{memory_size};
 ghost use Rattle.enclosure_regions.specs.Orders.{all_registers};
 ghost use Rattle.region_learn.specs.declared.notes.Notes.{Notes as TheNotes};
-ghost use Rattle.region_learn.specs.Books.{have_base};
-ghost use Rattle.region_learn.specs.Declarations.{DeclareAll, Declares, kept_bit, out_bit};
+ghost use Rattle.region_learn.specs.Private.Books.{have_base};
+ghost use Rattle.region_learn.specs.Private.Declarations.{DeclareAll, Declares, kept_bit, out_bit};
 
 use crate::bits::has_bit;
 use crate::notes::Notes;

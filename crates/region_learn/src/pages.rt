@@ -1,5 +1,5 @@
 ghost use Rattle.std.specs.Prelude.{◌≡◌, ◌==◌, ◌||◌, ℕ, ◌<◌, false, IsTrue, OnOk, length, vec_len};
-ghost use Rattle.region_learn.specs.Marks.{page_has};
+ghost use Rattle.region_learn.specs.Private.Marks.{page_has};
 
 use crate::bits::{has_bit, with_bit};
 use flow_base::NoMemory;

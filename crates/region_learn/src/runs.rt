@@ -4,7 +4,7 @@ ghost use Rattle.rv32im_machine.specs.Folds.{real_end};
 ghost use Rattle.enclosure_regions.specs.Regions.{ids_of};
 ghost use Rattle.region_machine.specs.Enclosures.{kind_of};
 ghost use Rattle.region_machine.specs.Guests.{guest_walk};
-ghost use Rattle.region_learn.specs.Books.{BookAfter, BookOf, are_bare, have_base, numbers_of};
+ghost use Rattle.region_learn.specs.Private.Books.{BookAfter, BookOf, are_bare, have_base, numbers_of};
 ghost use Rattle.region_learn.specs.LearnAnswers.{call_in, run_fault};
 
 use crate::faults::LearnFault;

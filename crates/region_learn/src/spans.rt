@@ -1,8 +1,8 @@
 ghost use Rattle.std.specs.Prelude.{◌≡◌, ◌+◌, ◌≤◌, ◌<◌, ◌==◌, ◌&&◌, ◌||◌, ◌-◌, nat_le, ◌++◌, ◌∷◌, ℕ, [], false, IfOk, OnOk};
 ghost use Rattle.flow_base.specs.Guests.{memory_size};
 ghost use Rattle.region_learn.specs.Learnt.{have_byte};
-ghost use Rattle.region_learn.specs.Marks.{marks_have};
-ghost use Rattle.region_learn.specs.Spans.{End, SpansBelow, behind, extended, in_page, one_byte as one_byte_at};
+ghost use Rattle.region_learn.specs.Private.Marks.{marks_have};
+ghost use Rattle.region_learn.specs.Private.Spans.{End, SpansBelow, behind, extended, in_page, one_byte as one_byte_at};
 
 use crate::byte_marks::ByteMarks;
 use crate::pages::{PAGE_SIZE, Page};

@@ -7,7 +7,7 @@ ghost use Rattle.enclosure_regions.specs.Regions.{is_region};
 ghost use Rattle.region_machine.specs.Enclosures.{Leaves as LeavesKind, Steps as StepsKind};
 ghost use Rattle.region_machine.specs.Guests.{entry, kind_walk, leave};
 ghost use Rattle.region_machine.specs.Within.{are_inside, can_leave, has_rules, seen};
-ghost use Rattle.region_learn.specs.Books.{BookAfter, are_own, has_kind_notes, has_notes, have_base};
+ghost use Rattle.region_learn.specs.Private.Books.{BookAfter, are_own, has_kind_notes, has_notes, have_base};
 ghost use Rattle.region_learn.specs.LearnAnswers.{call_in};
 ghost use Rattle.region_learn.specs.declared.notes.Notes.{Notes as TheNotes};
 

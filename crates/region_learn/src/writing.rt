@@ -4,7 +4,7 @@ ghost use Rattle.serde_json.specs.View.{members_view, view};
 ghost use Rattle.enclosure_regions.specs.Reading.{Spells};
 ghost use Rattle.region_learn.specs.RegionTexts.{address_data, register_data, range_data, region_data};
 ghost use Rattle.region_learn.specs.RegionTexts.{regions_data, regions_text};
-ghost use Rattle.region_learn.specs.Members.{with_first, with_last};
+ghost use Rattle.region_learn.specs.Private.Members.{with_first, with_last};
 
 use enclosure_regions::{Range, Region, Regions};
 use flow_base::{Bytes, HexWord, NoMemory};

@@ -12,7 +12,7 @@ use Rattle.rv32im_machine.specs.declared.stepping.Stepped.TheVariants.{Ran, Exit
 use Rattle.rv32im_machine.specs.State.{Control}
 use Rattle.enclosure_regions.specs.declared.region_parts.Region.{Region}
 use Rattle.region_machine.specs.Enclosures.{Steps, kind_in, kind_outside, kind_within, region_entered_at, region_numbered}
-use Rattle.region_machine.specs.Marked.{is_marked, mark_place}
+use Rattle.region_machine.specs.Private.Marked.{is_marked, mark_place}
 
 le_or_lt : (n m : ℕ) → (n ≤ m) ⊎ (m < n)
 le_or_lt n m = elim (nat_le n m) as (λ b. nat_le n m ≡ b → (n ≤ m) ⊎ (m < n)) [

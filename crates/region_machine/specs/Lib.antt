@@ -6,5 +6,5 @@ pub mod Runs
 pub mod Starts
 pub mod Guards
 pub mod NextTurns
-pub mod Marked
 pub mod Pairs
+pub mod Private

@@ -1,7 +1,7 @@
 ghost use Rattle.std.specs.Prelude.{◌≡◌, ◌<◌, IfOk, IsTrue, List as Seq, ℕ, None, vec_len};
 ghost use Rattle.std.specs.List.{list_all};
 ghost use Rattle.region_machine.specs.Enclosures.{kind_of, region_entered_at as entry_at, Steps};
-ghost use Rattle.region_machine.specs.Marked.{is_marked, mark_place};
+ghost use Rattle.region_machine.specs.Private.Marked.{is_marked, mark_place};
 ghost use Rattle.region_machine.specs.Within.{seen, has_rules, can_leave, may_leave};
 
 use crate::kinds::{GuestTurn, guest_turn};

@@ -12,7 +12,7 @@ use Rattle.replay_machine.specs.Runs.{ReplayPlace as Place, Masks, replayed}
 use Rattle.rv32im_machine.specs.Language.{Walk}
 use Rattle.region_machine.proofs.CarriedToEnds.{AtEnds}
 use Rattle.replay_machine.proofs.ReplayEnds.{replayed_at_end}
-use Rattle.replay_machine.specs.Sides.{Side, Comes, Replays, fed_of}
+use Rattle.replay_machine.specs.Private.Sides.{Side, Comes, Replays, fed_of}
 
 -- the same string, seen from before
 pub replays-from : (masks : Masks) (before after : Stream) (fed : Fed Place) (out : Played (Unit {0}) Side) →

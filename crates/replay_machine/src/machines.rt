@@ -11,7 +11,7 @@ ghost use Rattle.replay_machine.specs.ReplayTurns.{range_outside};
 ghost use Rattle.replay_machine.specs.Runs.{ReplayPlace, Masks, replayed, replay_turn};
 ghost use Rattle.replay_machine.specs.Starts.{replay_guest};
 ghost use Rattle.replay_machine.specs.Visits.{IsAhead};
-ghost use Rattle.replay_machine.specs.Sides.{Side, Comes};
+ghost use Rattle.replay_machine.specs.Private.Sides.{Side, Comes};
 ghost use Rattle.region_machine.specs.Enclosures.{kind_of, Steps};
 ghost use Rattle.region_machine.specs.Runs.{has_exited};
 ghost use Rattle.replay_machine.specs.Standing.{Stands, Turned, end_answer, turn_answer, taken_after};

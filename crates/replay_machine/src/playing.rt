@@ -6,7 +6,7 @@ ghost use Rattle.enclosure_regions.specs.declared.region_parts.Region.{Region as
 ghost use Rattle.enclosure_regions.specs.Regions.{is_region};
 ghost use Rattle.replay_machine.specs.Runs.{Masks, replayed};
 ghost use Rattle.replay_machine.specs.Visits.{IsAhead};
-ghost use Rattle.replay_machine.specs.Sides.{Side, Comes};
+ghost use Rattle.replay_machine.specs.Private.Sides.{Side, Comes};
 ghost use Rattle.replay_machine.specs.ReplayTurns.{replay_kind_walk, replay_walk};
 ghost use Rattle.replay_machine.specs.ReplayTurns.{kind_outside_range, outside_of, range_outside};
 ghost use Rattle.enclosure_regions.specs.Breaks.{outside_range};

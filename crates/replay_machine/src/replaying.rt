@@ -7,7 +7,7 @@ ghost use Rattle.crossing_bits.specs.Streams.{left_of};
 ghost use Rattle.rv32im_machine.specs.Playing.{Played};
 ghost use Rattle.replay_machine.specs.Runs.{ReplayPlace as ThePlace, Masks, mask_at};
 ghost use Rattle.replay_machine.specs.Visits.{IsAhead};
-ghost use Rattle.replay_machine.specs.Sides.{Side, Replays, fed_of};
+ghost use Rattle.replay_machine.specs.Private.Sides.{Side, Replays, fed_of};
 
 use crate::replays::Replaying;
 use crossing_bits::bit_count;
@@ -51,8 +51,8 @@ impl Passer for Replaying {
     ghost use Rattle.crossing_bits.specs.Streams.{left_of};
     ghost use Rattle.replay_machine.specs.Runs.{Masks, replayed};
     ghost use Rattle.replay_machine.specs.Visits.{IsAhead};
-    ghost use Rattle.replay_machine.specs.Sides.{Side, Replays, fed_of};
-    ghost use Rattle.replay_machine.specs.Ends.{replays-Ended};
+    ghost use Rattle.replay_machine.specs.Private.Sides.{Side, Replays, fed_of};
+    ghost use Rattle.replay_machine.specs.Private.Ends.{replays-Ended};
 
     type Stop = ();
 

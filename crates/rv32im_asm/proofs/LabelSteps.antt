@@ -8,7 +8,7 @@ use Rattle.std.specs.Str.{bytes_eq}
 use Rattle.std.specs.List.{position_from}
 use Rattle.std.proofs.lemmas.List.{take-append-le}
 use Rattle.std.proofs.Math.Seq.{take-append_seam}
-use Rattle.rv32im_asm.specs.Labels.{IsNear, IsNearBy, noted}
+use Rattle.rv32im_asm.specs.Private.Labels.{IsNear, IsNearBy, noted}
 use Rattle.rv32im_asm.specs.Lines.{label_of, lines_of}
 use Rattle.rv32im_asm.specs.Operands.{both}
 use Rattle.rv32im_asm.specs.Sizes.{is_label, line_size, place_of, total_size}

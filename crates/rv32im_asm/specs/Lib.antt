@@ -6,10 +6,9 @@ pub mod Operands
 pub mod Statements
 pub mod Sizes
 pub mod Encodings
-pub mod Pieces
 pub mod Assembling
-pub mod Labels
 pub mod Answers
 pub mod Mnemonics
 pub mod InstructionTexts
 pub mod Listing
+pub mod Private

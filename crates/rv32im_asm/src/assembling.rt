@@ -11,10 +11,10 @@ ghost use Rattle.rv32im_asm.specs.Assembling.{is_taken as is_taken_by, or_range 
 ghost use Rattle.rv32im_asm.specs.Assembling.{reading as read_as, reading_with};
 ghost use Rattle.rv32im_asm.specs.Assembling.{first_failing as first_to_fail, known_places, readings};
 ghost use Rattle.rv32im_asm.specs.Encodings.{bytes_with};
-ghost use Rattle.rv32im_asm.specs.Labels.{IsNear, IsNearBy, places_in};
+ghost use Rattle.rv32im_asm.specs.Private.Labels.{IsNear, IsNearBy, places_in};
 ghost use Rattle.rv32im_asm.specs.Lines.{lines_of};
 ghost use Rattle.rv32im_asm.specs.Operands.{both};
-ghost use Rattle.rv32im_asm.specs.Pieces.{IsSized, bytes_in, piece_bytes, reading_bytes};
+ghost use Rattle.rv32im_asm.specs.Private.Pieces.{IsSized, bytes_in, piece_bytes, reading_bytes};
 ghost use Rattle.rv32im_asm.specs.Sizes.{line_size as size_of_line, place_of, places_up_to, size_of, size_with};
 ghost use Rattle.rv32im_asm.specs.Statements.{HasRegisters, meaning_of};
 ghost use Rattle.rv32im_asm.specs.declared.fault.AsmFault.TheVariants.{Line};

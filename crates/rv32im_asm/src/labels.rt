@@ -1,5 +1,5 @@
 ghost use Rattle.std.specs.Prelude.{◌≡◌, ℕ, List as Seq, None, Some, OnOk, option_map};
-ghost use Rattle.rv32im_asm.specs.Labels.{IsNear, IsNearBy, noted, places_in};
+ghost use Rattle.rv32im_asm.specs.Private.Labels.{IsNear, IsNearBy, noted, places_in};
 ghost use Rattle.rv32im_asm.specs.Sizes.{places_up_to, up_to as known_up_to};
 
 use crate::places::Place;

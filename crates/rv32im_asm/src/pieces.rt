@@ -5,7 +5,7 @@ ghost use Rattle.std.specs.Prelude.{nat_abs};
 ghost use Rattle.std.specs.Prelude.{pos, neg_ℤ, ◌≤ℤ◌, ◌<ℤ◌};
 ghost use Rattle.rv32im_asm.specs.Encodings.{bytes_with, constant_bytes, high_part, is_branch_offset, is_immediate};
 ghost use Rattle.rv32im_asm.specs.Encodings.{is_jump_offset, is_operand, low_part, word_bytes};
-ghost use Rattle.rv32im_asm.specs.Pieces.{bytes_in};
+ghost use Rattle.rv32im_asm.specs.Private.Pieces.{bytes_in};
 ghost use Rattle.rv32im_asm.specs.Sizes.{is_between, size_with};
 ghost use Rattle.rv32im_asm.specs.Statements.{HasRegisters};
 ghost use Rattle.rv32im_decode.specs.Encoding.{encoded, InRange};

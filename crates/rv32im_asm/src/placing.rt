@@ -1,7 +1,7 @@
 //! The places of the labels of a source.
 
 ghost use Rattle.std.specs.Prelude.{◌≡◌, ℕ, ◌+◌, ◌<◌, ◌≤◌, ◌^◌, List as Seq, IfOk, IfSome, length};
-ghost use Rattle.rv32im_asm.specs.Labels.{IsNear, IsNearBy, places_in};
+ghost use Rattle.rv32im_asm.specs.Private.Labels.{IsNear, IsNearBy, places_in};
 ghost use Rattle.rv32im_asm.specs.Lines.{lines_of};
 ghost use Rattle.rv32im_asm.specs.Operands.{both};
 ghost use Rattle.rv32im_asm.specs.Sizes.{line_size as size_of_line, place_of};

@@ -4,9 +4,9 @@ pub mod Calls
 pub mod Rows
 pub mod Folds
 pub mod Parts
-pub mod Passings
 pub mod Playing
 pub mod Start
 pub mod Pages
 pub mod Laws
 pub mod FaultTexts
+pub mod Private

@@ -3,7 +3,7 @@
 ghost use Rattle.std.specs.Prelude.{◌≡◌, ℕ, ◌<◌, IsTrue};
 ghost use Rattle.flow_base.specs.Points.{is_slot, width_of};
 ghost use Rattle.rv32im_machine.specs.Language.{Walk, Passed, computed};
-ghost use Rattle.rv32im_machine.specs.Passings.{copy_of, sum_of};
+ghost use Rattle.rv32im_machine.specs.Private.Passings.{copy_of, sum_of};
 ghost use Rattle.rv32im_machine.specs.Playing.{Goes, IsAim};
 
 use crate::language::{Aim, Operation, Passing, Place, Shape, Source, Sources, Work};

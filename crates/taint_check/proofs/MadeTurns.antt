@@ -20,8 +20,8 @@ use Rattle.tracked_run.specs.Labels.{map_of}
 use Rattle.lockstep_replay.specs.Tasks.{Task, Limits}
 use Rattle.taint_check.specs.Cleared.{MaskedRun, is_hidden, leaves_skipped}
 use Rattle.taint_check.specs.Reasons.{why_of}
-use Rattle.taint_check.specs.Tapes.{Tape, EndsCleared}
-use Rattle.taint_check.specs.Turns.{IsReady, Stands, Makes}
+use Rattle.taint_check.specs.Private.Tapes.{Tape, EndsCleared}
+use Rattle.taint_check.specs.Private.Turns.{IsReady, Stands, Makes}
 use Rattle.taint_check.proofs.MaskedTurns.{told-makes, untold-makes}
 use Rattle.taint_check.proofs.ReasonsCounted.{fine-of}
 

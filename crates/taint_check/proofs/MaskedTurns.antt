@@ -28,8 +28,8 @@ use Rattle.masked_turns.specs.Looking.{first_look, looked_in}
 use Rattle.taint_check.specs.declared.whys.TaintWhy.{TaintWhy}
 use Rattle.taint_check.specs.Cleared.{MaskedRun, AnswersUnless, is_hidden, leaves_skipped, next_masked, labels_unless}
 use Rattle.taint_check.specs.Reasons.{why_of, look_unless, left_unless}
-use Rattle.taint_check.specs.Tapes.{Tape, EndsCleared}
-use Rattle.taint_check.specs.Turns.{Stands, Makes, crossed_after}
+use Rattle.taint_check.specs.Private.Tapes.{Tape, EndsCleared}
+use Rattle.taint_check.specs.Private.Turns.{Stands, Makes, crossed_after}
 use Rattle.taint_check.proofs.ReasonsCounted.{fine-of, why-counted}
 
 -- ---- what is shown of a turn, and what is hidden

@@ -30,7 +30,7 @@ use Rattle.masked_turns.specs.Clearing.{Cutting, crossing_at, left_mask, labels_
 use Rattle.masked_turns.specs.Deciding.{first_left, left_at, left_in}
 use Rattle.masked_turns.specs.Looking.{first_look, look_at, looked_in}
 use Rattle.masked_turns.specs.Notes.{Clears}
-use Rattle.taint_check.specs.Tapes.{Tape, PlaysCleared}
+use Rattle.taint_check.specs.Private.Tapes.{Tape, PlaysCleared}
 
 look-assoc : (first second third : Option SecretLook) →
     first_look (first_look first second) third ≡ first_look first (first_look second third)

@@ -15,8 +15,8 @@ use Rattle.taint_check.specs.Cleared.{Cleared, AreRunAnswers}
 use Rattle.taint_check.specs.Reasons.{why_turned}
 use Rattle.taint_check.specs.Tainted.{Finding, IsClean, IsUnclear, found, found_in, found_turn, found_mode, found_within}
 use Rattle.taint_check.specs.Tainted.{first_found, exit_of, IsVerdict}
-use Rattle.taint_check.specs.Tapes.{Tape}
-use Rattle.taint_check.specs.Turns.{Begins, Stands, Makes, crossed_after}
+use Rattle.taint_check.specs.Private.Tapes.{Tape}
+use Rattle.taint_check.specs.Private.Turns.{Begins, Stands, Makes, crossed_after}
 
 -- a run with masks stands where the real run does, whatever the rules answer
 pub cleared-place : (task : Task) (secret : List ℕ) (answers : List (List ℕ)) →

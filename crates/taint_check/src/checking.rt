@@ -4,8 +4,8 @@ ghost use Rattle.cut_file.specs.Pictures.{picture_of as cut_picture};
 ghost use Rattle.lockstep_replay.specs.Tasks.{Task, Limits, task_of};
 ghost use Rattle.taint_check.specs.Laws.{IsAcceptedIfClean};
 ghost use Rattle.taint_check.specs.Tainted.{IsClean, IsVerdict, exit_of, finding_of};
-ghost use Rattle.taint_check.specs.Tapes.{tape_of};
-ghost use Rattle.taint_check.specs.Turns.{Begins, IsReady};
+ghost use Rattle.taint_check.specs.Private.Tapes.{tape_of};
+ghost use Rattle.taint_check.specs.Private.Turns.{Begins, IsReady};
 
 use crate::beginning::beginning;
 use crate::clearing::Clearing;

@@ -36,7 +36,7 @@ impl Passer for Clearing<'_> {
     ghost use Rattle.replay_machine.specs.Runs.{Masks};
     ghost use Rattle.replay_machine.specs.Visits.{IsAhead};
     ghost use Rattle.tracked_run.specs.Labels.{labels_of};
-    ghost use Rattle.taint_check.specs.Tapes.{Tape, PlaysCleared, clears-Ended, tape_of};
+    ghost use Rattle.taint_check.specs.Private.Tapes.{Tape, PlaysCleared, clears-Ended, tape_of};
 
     type Stop = NoMemory;
 
@@ -108,7 +108,7 @@ impl Observer for Clearing<'_> {
     ghost use Rattle.cut_file.specs.Masks.{MaskAt};
     ghost use Rattle.replay_machine.proofs.MasksAhead.{ahead-self};
     ghost use Rattle.tracked_run.specs.Labels.{labels_of};
-    ghost use Rattle.taint_check.specs.Tapes.{clears-real, tape_of};
+    ghost use Rattle.taint_check.specs.Private.Tapes.{clears-real, tape_of};
 
     ghost real = { λ side walk state after told.
         clears-real side.region

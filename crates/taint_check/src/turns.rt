@@ -6,8 +6,8 @@ ghost use Rattle.run_labels.specs.Runs.{entered_number as number_entered};
 ghost use Rattle.lockstep_replay.specs.Tasks.{Task, Limits};
 ghost use Rattle.taint_check.specs.Cleared.{MaskedRun, is_hidden, leaves_skipped as is_skipped_leave};
 ghost use Rattle.taint_check.specs.Reasons.{why_of};
-ghost use Rattle.taint_check.specs.Turns.{IsReady, Stands, Makes};
-ghost use Rattle.taint_check.specs.Tapes.{tape_of};
+ghost use Rattle.taint_check.specs.Private.Turns.{IsReady, Stands, Makes};
+ghost use Rattle.taint_check.specs.Private.Tapes.{tape_of};
 
 use crate::clearing::Clearing;
 use crate::reasons::reason;

@@ -17,7 +17,7 @@ use Rattle.shadow_masks.specs.Writes.{LabelMap, ToByte, after}
 use Rattle.run_labels.specs.Flowing.{aim_events, flow_events, link_from, sources_events}
 use Rattle.run_labels.specs.Masks.{labels_after, mask_of}
 use Rattle.run_labels.specs.TurnLabels.{TurnLabels, aim_label, put_label}
-use Rattle.tracked_run.specs.Again.{GivesAgain}
+use Rattle.tracked_run.specs.Private.Again.{GivesAgain}
 use Rattle.tracked_run.specs.Linking.{masked_events}
 
 -- ---- a byte that gets the label that it has

@@ -23,7 +23,7 @@ use Rattle.run_labels.specs.Looking.{first_fault, look_fault, secret_look}
 use Rattle.run_labels.specs.Masks.{labels_after, masks_of, moved_label}
 use Rattle.run_labels.specs.TurnLabels.{TurnLabels, put_label, save_labels, restore_labels}
 use Rattle.tracked_run.specs.Linking.{Appends}
-use Rattle.tracked_run.specs.Tracks.{Left, Tracks}
+use Rattle.tracked_run.specs.Private.Tracks.{Left, Tracks}
 use Rattle.tracked_run.proofs.Appending.{appends-more}
 
 first-assoc : (first second third : Option MeasureFault) →

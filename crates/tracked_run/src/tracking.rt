@@ -29,7 +29,7 @@ impl<E: Events> Passer for Tracking<'_, E> {
     ghost use Rattle.std.specs.Prelude.{Some};
     ghost use Rattle.std.proofs.Common.{refl};
     ghost use Rattle.tracked_run.specs.Labels.{labels_of};
-    ghost use Rattle.tracked_run.specs.Tracks.{Left, Tracks, tracks-Ended};
+    ghost use Rattle.tracked_run.specs.Private.Tracks.{Left, Tracks, tracks-Ended};
 
     type Stop = NoMemory;
 
@@ -102,7 +102,7 @@ impl<E: Events> Passer for Tracking<'_, E> {
 
 impl<E: Events> Observer for Tracking<'_, E> {
     ghost use Rattle.tracked_run.specs.Labels.{labels_of};
-    ghost use Rattle.tracked_run.specs.Tracks.{tracks-real};
+    ghost use Rattle.tracked_run.specs.Private.Tracks.{tracks-real};
 
     ghost real = { λ side walk state after told.
         tracks-real E.stands_for side.book.now.table side.region (labels_of side.shadow.now side.held)

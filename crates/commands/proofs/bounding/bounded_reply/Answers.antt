@@ -3,7 +3,7 @@ use Rattle.std.proofs.lemmas.Grind.{common_steps}
 use Rattle.every_secret.specs.Bounds.{found_of}
 use Rattle.commands.specs.declared.statuses.Status.TheVariants.{Done}
 use Rattle.commands.specs.AllSecrets.{bounded_text}
-use Rattle.commands.specs.ReadTasks.{all_secrets_in}
+use Rattle.commands.specs.Private.ReadTasks.{all_secrets_in}
 use Rattle.commands.proofs.bounding.bounded_reply.Goals as goal
 
 pub returns : goal.returns

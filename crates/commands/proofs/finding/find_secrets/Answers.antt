@@ -2,7 +2,7 @@ use Rattle.std.proofs.Common.{◌≡◌, ◌++◌, Ok, sym, ap, arith}
 use Rattle.std.proofs.lemmas.Grind.{common_steps}
 use Rattle.cut_file.specs.Pictures.{picture_of as cut_of}
 use Rattle.commands.specs.Checks.{judged_by}
-use Rattle.commands.specs.ReadTasks.{guest_in, limits_in}
+use Rattle.commands.specs.Private.ReadTasks.{guest_in, limits_in}
 use Rattle.commands.proofs.OneFinding.{length_findings, made_reply}
 use Rattle.commands.proofs.finding.find_secrets.Goals as goal
 

@@ -6,7 +6,7 @@ use Rattle.cut_file.specs.Pictures.{picture_of as cut_of}
 use Rattle.taint_check.specs.Tainted.{Finding, finding_of}
 use Rattle.commands.specs.Checks.{judged_by}
 use Rattle.commands.specs.Findings.{AreFindings}
-use Rattle.commands.specs.ReadTasks.{guest_in, limits_in}
+use Rattle.commands.specs.Private.ReadTasks.{guest_in, limits_in}
 use Rattle.commands.proofs.OneFinding.{all_findings, next_finding}
 use Rattle.commands.proofs.finding.lines_of.Goals as goal
 

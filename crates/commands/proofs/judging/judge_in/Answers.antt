@@ -1,6 +1,6 @@
 use Rattle.cut_file.specs.Pictures.{picture_of as cut_of}
 use Rattle.commands.specs.Checks.{judged_by}
-use Rattle.commands.specs.ReadTasks.{guest_in, limits_in}
+use Rattle.commands.specs.Private.ReadTasks.{guest_in, limits_in}
 use Rattle.commands.proofs.judging.judge_in.Goals as goal
 
 pub returns : goal.returns

@@ -1,7 +1,7 @@
 use Rattle.std.proofs.Common.{◌≡◌, ◌≤◌, ◌+◌, ◌++◌, drop}
 use Rattle.cut_file.specs.Pictures.{picture_of as cut_of}
 use Rattle.commands.specs.Checks.{judged_by, judgements_of}
-use Rattle.commands.specs.ReadTasks.{guest_in, limits_in}
+use Rattle.commands.specs.Private.ReadTasks.{guest_in, limits_in}
 use Rattle.commands.specs.Texts.{accepted_count, verdict_lines}
 use Rattle.commands.proofs.judging.lines_of.Given as goal
 

@@ -3,7 +3,7 @@ use Rattle.region_learn.specs.LearnAnswers.{Refuses}
 use Rattle.region_learn.specs.declared.faults.LearnFault.TheVariants.{Memory as NoRoomForLearning}
 use Rattle.commands.specs.declared.refusals.Refusal.TheVariants.{Learn}
 use Rattle.commands.specs.Declarations.{learnt_run}
-use Rattle.commands.specs.ReadTasks.{guest_in}
+use Rattle.commands.specs.Private.ReadTasks.{guest_in}
 use Rattle.commands.proofs.Refusing.{refused_first}
 use Rattle.commands.proofs.learning.declaration.Goals as goal
 

@@ -4,7 +4,7 @@ use Rattle.commands.specs.declared.kinds.FileKind.TheVariants.{Program}
 use Rattle.commands.specs.declared.loads.Want.{Want}
 use Rattle.commands.specs.declared.refusals.Refusal.TheVariants.{Load, Memory}
 use Rattle.commands.specs.declared.refusals.Refusal.{Refusal}
-use Rattle.commands.specs.Wants.{want_of}
+use Rattle.commands.specs.Private.Wants.{want_of}
 use Rattle.commands.proofs.LoadSteps.{gave-more, refused-loads, part-loads, all-loads, all-part, within-more, refusal-among, wants-around, wants-up-to}
 use Rattle.commands.proofs.loads.load_all.Goals as goal
 

@@ -1,6 +1,6 @@
 use Rattle.std.proofs.Common.{◌≡◌, map, take}
 use Rattle.commands.specs.Loading.{AreWithin}
-use Rattle.commands.specs.Wants.{want_of}
+use Rattle.commands.specs.Private.Wants.{want_of}
 use Rattle.commands.proofs.LoadSteps.{Gave}
 use Rattle.commands.proofs.loads.load_all.Given as goal
 

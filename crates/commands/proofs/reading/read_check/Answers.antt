@@ -1,7 +1,7 @@
 use Rattle.std.proofs.Common.{◌≡◌, Err, inl, inr, arith}
 use Rattle.std.proofs.lemmas.Grind.{common_steps}
 use Rattle.command_line.specs.Words.{check_of}
-use Rattle.commands.specs.ReadTasks.{files_in, guest_in}
+use Rattle.commands.specs.Private.ReadTasks.{files_in, guest_in}
 use Rattle.commands.specs.Tasks.{IsCutFilesRefusal}
 use Rattle.commands.proofs.Refusing.{handed_on}
 use Rattle.commands.proofs.reading.read_check.Goals as goal

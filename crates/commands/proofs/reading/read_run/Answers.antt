@@ -1,7 +1,7 @@
 use Rattle.std.proofs.Common.{◌≡◌, Err, arith}
 use Rattle.std.proofs.lemmas.Grind.{common_steps}
 use Rattle.command_line.specs.Words.{run_of}
-use Rattle.commands.specs.ReadTasks.{files_in}
+use Rattle.commands.specs.Private.ReadTasks.{files_in}
 use Rattle.commands.specs.Tasks.{IsRunFilesRefusal}
 use Rattle.commands.proofs.Refusing.{handed_on}
 use Rattle.commands.proofs.reading.read_run.Goals as goal

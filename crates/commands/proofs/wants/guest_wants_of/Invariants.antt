@@ -1,6 +1,6 @@
 use Rattle.std.proofs.Common.{◌≡◌, ◌∷◌, ◌++◌, map, drop}
 use Rattle.commands.specs.Loading.{want}
-use Rattle.commands.specs.Wants.{want_of}
+use Rattle.commands.specs.Private.Wants.{want_of}
 use Rattle.commands.specs.declared.kinds.FileKind.TheVariants.{Program, PublicInput}
 use Rattle.commands.proofs.wants.guest_wants_of.Given as goal
 

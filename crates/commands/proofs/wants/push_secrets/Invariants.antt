@@ -1,6 +1,6 @@
 use Rattle.std.proofs.Common.{◌≡◌, ◌++◌, map, drop}
 use Rattle.commands.specs.Guests.{secret_wants}
-use Rattle.commands.specs.Wants.{want_of}
+use Rattle.commands.specs.Private.Wants.{want_of}
 use Rattle.commands.proofs.wants.push_secrets.Given as goal
 
 abbrev pub invariant-loop-name : goal.invariant-loop-name

@@ -5,7 +5,7 @@ use Rattle.flow_base.specs.HexWords.{hex_word}
 use Rattle.flow_base.specs.Points.{slot_text}
 use Rattle.std.specs.Prelude.{map}
 use Rattle.cut_file.specs.Texts.{rest_text, run_text}
-use Rattle.cut_file.specs.Writing.{led}
+use Rattle.cut_file.specs.Private.Writing.{led}
 use Rattle.flow_base.proofs.JoinedPieces.{joins}
 use Rattle.cut_file.proofs.writing.put_point.Goals as goal
 

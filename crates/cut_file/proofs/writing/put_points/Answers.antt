@@ -3,7 +3,7 @@ use Rattle.std.specs.Prelude.{map}
 use Rattle.cut_file.specs.declared.lines.Line.TheVariants.{Point}
 use Rattle.cut_file.specs.declared.points.CutPoint.{CutPoint}
 use Rattle.cut_file.specs.Texts.{lines_text}
-use Rattle.cut_file.specs.Writing.{point_pieces}
+use Rattle.cut_file.specs.Private.Writing.{point_pieces}
 use Rattle.cut_file.proofs.Pieces.{lines-step, point-pieces}
 use Rattle.cut_file.proofs.writing.put_points.Goals as goal
 

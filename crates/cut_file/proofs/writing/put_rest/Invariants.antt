@@ -1,7 +1,7 @@
 use Rattle.std.proofs.Common.{◌≡◌, ◌++◌, drop}
 use Rattle.std.specs.Prelude.{map}
 use Rattle.cut_file.specs.Texts.{rest_text}
-use Rattle.cut_file.specs.Writing.{led}
+use Rattle.cut_file.specs.Private.Writing.{led}
 use Rattle.cut_file.proofs.writing.put_rest.Given as goal
 
 abbrev pub invariant-loop-run : goal.invariant-loop-run

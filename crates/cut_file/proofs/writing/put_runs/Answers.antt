@@ -2,7 +2,7 @@ use Rattle.std.proofs.Common.{List, ℕ, ◌≡◌, ◌++◌, ◌+◌, codes, dr
 use Rattle.std.specs.Prelude.{map}
 use Rattle.cut_file.specs.declared.points.Run.{Run}
 use Rattle.cut_file.specs.Texts.{run_text}
-use Rattle.cut_file.specs.Writing.{led}
+use Rattle.cut_file.specs.Private.Writing.{led}
 use Rattle.flow_base.proofs.JoinedPieces.{joins}
 use Rattle.cut_file.proofs.Pieces.{runs-step}
 use Rattle.cut_file.proofs.writing.put_runs.Goals as goal

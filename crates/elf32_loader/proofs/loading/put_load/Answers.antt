@@ -3,7 +3,7 @@ use Rattle.std.proofs.lemmas.Result.{on_ok_weaker}
 use Rattle.elf32_loader.specs.declared.headers.Header.{Header}
 use Rattle.elf32_loader.specs.declared.segments.Segment.{Segment}
 use Rattle.elf32_loader.specs.Programs.{IsLoaded}
-use Rattle.elf32_loader.specs.Searches.{AreLoads}
+use Rattle.elf32_loader.specs.Private.Searches.{AreLoads}
 use Rattle.elf32_loader.proofs.Loads.{in-range, loads-put, loads-skip}
 use Rattle.elf32_loader.proofs.loading.put_load.Goals as goal
 

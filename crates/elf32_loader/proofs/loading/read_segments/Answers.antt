@@ -1,6 +1,6 @@
 use Rattle.std.proofs.Common.{◌≡◌, ℕ, arith, subst}
 use Rattle.elf32_loader.specs.Headers.{header_count}
-use Rattle.elf32_loader.specs.Searches.{AreLoads}
+use Rattle.elf32_loader.specs.Private.Searches.{AreLoads}
 use Rattle.elf32_loader.proofs.loading.read_segments.Goals as goal
 
 pub returns : goal.returns

@@ -1,4 +1,4 @@
-use Rattle.elf32_loader.specs.Searches.{AreLoads}
+use Rattle.elf32_loader.specs.Private.Searches.{AreLoads}
 use Rattle.elf32_loader.proofs.loading.read_segments.Given as goal
 
 abbrev pub invariant-loop-index : goal.invariant-loop-index

@@ -1,4 +1,4 @@
-use Rattle.elf32_loader.specs.Searches.{FoundLowest}
+use Rattle.elf32_loader.specs.Private.Searches.{FoundLowest}
 use Rattle.elf32_loader.proofs.searching.lowest_load.Given as goal
 
 abbrev pub invariant-loop-index : goal.invariant-loop-index

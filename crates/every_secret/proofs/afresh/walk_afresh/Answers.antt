@@ -9,7 +9,7 @@ use Rattle.rv32im_machine.specs.Start.{start}
 use Rattle.rv32im_machine.specs.State.{State}
 use Rattle.every_secret.specs.Replays.{MaskedReplay, unmasked}
 use Rattle.every_secret.specs.Rules.{AnswerAs}
-use Rattle.every_secret.specs.Tapes.{HoldsPlace, Lengthens, tape_of}
+use Rattle.every_secret.specs.Private.Tapes.{HoldsPlace, Lengthens, tape_of}
 use Rattle.every_secret.proofs.afresh.walk_afresh.Goals as goal
 
 pub walk_path-requires : goal.walk_path-requires

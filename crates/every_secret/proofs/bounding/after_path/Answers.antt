@@ -1,7 +1,7 @@
 use Rattle.std.proofs.Common.{◌≡◌, Some, ◌∷◌, ◌++◌, [], take, true, sym, ap, ◌∙◌, eq-eqb}
 use Rattle.std.proofs.lemmas.Bool.{ne_eqb}
 use Rattle.every_secret.specs.Bounds.{IsBounded}
-use Rattle.every_secret.specs.Finding.{found_by}
+use Rattle.every_secret.specs.Private.Finding.{found_by}
 use Rattle.every_secret.specs.Paths.{next_string}
 use Rattle.every_secret.proofs.SteppedPaths.{ends-all, ends-many, goes-next}
 use Rattle.every_secret.proofs.bounding.after_path.Goals as goal

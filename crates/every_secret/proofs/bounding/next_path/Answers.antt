@@ -3,9 +3,9 @@ use Rattle.cut_file.specs.Pictures.{picture_of as cut_picture}
 use Rattle.elf32_loader.specs.Images.{picture_of}
 use Rattle.lockstep_replay.specs.Tasks.{task_of}
 use Rattle.every_secret.specs.Bounds.{judged}
-use Rattle.every_secret.specs.Finding.{found_by}
-use Rattle.every_secret.specs.Judging.{Judges}
-use Rattle.every_secret.specs.Orders.{later}
+use Rattle.every_secret.specs.Private.Finding.{found_by}
+use Rattle.every_secret.specs.Private.Judging.{Judges}
+use Rattle.every_secret.specs.Private.Orders.{later}
 use Rattle.every_secret.specs.Paths.{tree_of}
 use Rattle.every_secret.specs.Replays.{MaskedReplay}
 use Rattle.every_secret.proofs.SteppedPaths.{is-walked, steps-join}

@@ -3,7 +3,7 @@ use Rattle.cut_file.specs.Pictures.{picture_of as cut_picture}
 use Rattle.elf32_loader.specs.Images.{picture_of}
 use Rattle.lockstep_replay.specs.Tasks.{task_of}
 use Rattle.every_secret.specs.Bounds.{Found}
-use Rattle.every_secret.specs.Finding.{found_by}
+use Rattle.every_secret.specs.Private.Finding.{found_by}
 use Rattle.every_secret.specs.Replays.{MaskedReplay}
 use Rattle.every_secret.proofs.SteppedPaths.{begins-all}
 use Rattle.every_secret.proofs.bounding.walk_all.Goals as goal

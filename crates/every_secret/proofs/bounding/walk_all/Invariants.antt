@@ -4,12 +4,12 @@ use Rattle.elf32_loader.specs.Images.{picture_of}
 use Rattle.lockstep_replay.specs.Tasks.{task_of}
 use Rattle.rv32im_machine.specs.Start.{zeros}
 use Rattle.every_secret.specs.Bounds.{judged, nothing_found}
-use Rattle.every_secret.specs.Finding.{found_by}
-use Rattle.every_secret.specs.Orders.{Opens}
+use Rattle.every_secret.specs.Private.Finding.{found_by}
+use Rattle.every_secret.specs.Private.Orders.{Opens}
 use Rattle.every_secret.specs.Paths.{Paths, tree_of}
 use Rattle.every_secret.specs.Replays.{MaskedReplay}
 use Rattle.every_secret.specs.Rules.{AnswerAs, Rules}
-use Rattle.every_secret.specs.Stepping.{judged_from}
+use Rattle.every_secret.specs.Private.Stepping.{judged_from}
 use Rattle.every_secret.proofs.bounding.walk_all.Given as goal
 
 abbrev pub invariant-loop : goal.invariant-loop

@@ -2,7 +2,7 @@ use Rattle.std.proofs.Common.{◌≡◌, ◌+◌, length, map, sym, subst, IfOk,
 use Rattle.std.specs.Prelude.{◌==◌}
 use Rattle.std.specs.Str.{bytes_eq}
 use Rattle.every_secret.specs.Bounds.{size_of, with_pattern}
-use Rattle.every_secret.specs.KeptPatterns.{pattern_of}
+use Rattle.every_secret.specs.Private.KeptPatterns.{pattern_of}
 use Rattle.every_secret.proofs.KeptKeys.{all-four, inserted, inserted-size, left-four}
 use Rattle.every_secret.proofs.pattern_set.put.Goals as goal
 use Rattle.every_secret.proofs.pattern_set.put.Goals.{in-Ok, in-Err}

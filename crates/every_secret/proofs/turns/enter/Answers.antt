@@ -2,7 +2,7 @@ use Rattle.std.proofs.Common.{refl, sym, ap, ◌∙◌}
 use Rattle.region_machine.specs.Enclosures.{Enters}
 use Rattle.replay_machine.specs.ReplayTurns.{kind_outside_range}
 use Rattle.tracked_run.specs.Labels.{map_of}
-use Rattle.every_secret.specs.Tapes.{tape_of}
+use Rattle.every_secret.specs.Private.Tapes.{tape_of}
 use Rattle.every_secret.specs.Turns.{secret_base, secret_base_of}
 use Rattle.every_secret.proofs.MadeTurns.{none-of, walks-by}
 use Rattle.every_secret.proofs.turns.enter.Goals as goal

@@ -3,7 +3,7 @@ use Rattle.region_machine.specs.Enclosures.{Enclosures}
 use Rattle.region_machine.specs.Within.{seen}
 use Rattle.replay_machine.specs.ReplayTurns.{kind_outside_range}
 use Rattle.tracked_run.specs.Labels.{map_of}
-use Rattle.every_secret.specs.Tapes.{tape_of}
+use Rattle.every_secret.specs.Private.Tapes.{tape_of}
 use Rattle.every_secret.specs.Turns.{secret_base_of}
 use Rattle.every_secret.proofs.MadeTurns.{kind-longer, kind-ready, kind-table, turn-makes}
 use Rattle.every_secret.proofs.turns.make_turn.Goals as goal

@@ -4,8 +4,8 @@ use Rattle.crossing_bits.specs.Streams.{left_of}
 use Rattle.lockstep_replay.specs.Tasks.{Limits}
 use Rattle.every_secret.specs.Replays.{walked_on}
 use Rattle.every_secret.specs.Rules.{AnswerAs}
-use Rattle.every_secret.specs.Tapes.{tape_of}
-use Rattle.every_secret.specs.Walks.{end_of, ending_after}
+use Rattle.every_secret.specs.Private.Tapes.{tape_of}
+use Rattle.every_secret.specs.Private.Walks.{end_of, ending_after}
 use Rattle.every_secret.specs.declared.endings.Ending.TheVariants as ending
 use Rattle.every_secret.specs.declared.stops.PathStop.TheVariants.{Turns}
 use Rattle.every_secret.proofs.MadeTurns.{none-of}

@@ -2,8 +2,8 @@ use Rattle.std.proofs.Common.{◌≡◌, ◌-◌, ◌≤◌, length}
 use Rattle.lockstep_replay.specs.Tasks.{Limits, Task}
 use Rattle.every_secret.specs.Masked.{MaskedPlace}
 use Rattle.every_secret.specs.Rules.{AnswerAs, Rules}
-use Rattle.every_secret.specs.Tapes.{HoldsPlace, Lengthens, tape_of}
-use Rattle.every_secret.specs.Turning.{IsReady}
+use Rattle.every_secret.specs.Private.Tapes.{HoldsPlace, Lengthens, tape_of}
+use Rattle.every_secret.specs.Private.Turning.{IsReady}
 use Rattle.every_secret.proofs.WalkedPaths.{IsOn}
 use Rattle.every_secret.proofs.walks.walk_path.Given as goal
 

@@ -1,5 +1,5 @@
 use Rattle.std.proofs.Common.{◌≡◌, ◌∙◌, sym, true}
-use Rattle.flow_certificate.specs.Drafts.{may_add_relay, sketch_of}
+use Rattle.flow_certificate.specs.Private.Drafts.{may_add_relay, sketch_of}
 use Rattle.flow_certificate.proofs.LastItems.{regions-grow, relays-grow}
 use Rattle.flow_certificate.proofs.adding.add_relay.Goals as goal
 

@@ -1,4 +1,4 @@
-use Rattle.flow_certificate.specs.Sums.{differ_at}
+use Rattle.flow_certificate.specs.Private.Sums.{differ_at}
 use Rattle.flow_certificate.specs.Verdicts.{HasNone}
 use Rattle.flow_certificate.proofs.balance.first_difference.Given as goal
 

@@ -2,7 +2,7 @@ use Rattle.std.proofs.Common.{map, refl, ap, ◌∙◌}
 use Rattle.flow_graph.specs.declared.graphs.Graph.{Graph}
 use Rattle.max_flow.specs.declared.answers.Solved.{Solved}
 use Rattle.flow_certificate.specs.Certificates.{arc_of, node_of}
-use Rattle.flow_certificate.specs.Drafts.{sketch_of}
+use Rattle.flow_certificate.specs.Private.Drafts.{sketch_of}
 use Rattle.flow_certificate.specs.Pictures.{flow_at_link, flow_at_point, half_at, inside_at}
 use Rattle.flow_certificate.proofs.WholeDrafts.{parts-texts, same-picture}
 use Rattle.flow_certificate.proofs.finishing.certificate_of.Goals as goal

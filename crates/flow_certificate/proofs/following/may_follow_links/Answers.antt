@@ -1,5 +1,5 @@
 use Rattle.std.proofs.Common.{sym, ◌∙◌, arith}
-use Rattle.flow_certificate.specs.Drafts.{link_line_cmp}
+use Rattle.flow_certificate.specs.Private.Drafts.{link_line_cmp}
 use Rattle.flow_certificate.proofs.LastItems.{follows-last}
 use Rattle.flow_certificate.proofs.following.may_follow_links.Goals as goal
 

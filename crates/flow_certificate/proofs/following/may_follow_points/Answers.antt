@@ -1,5 +1,5 @@
 use Rattle.std.proofs.Common.{sym, ◌∙◌, arith}
-use Rattle.flow_certificate.specs.Drafts.{point_line_cmp}
+use Rattle.flow_certificate.specs.Private.Drafts.{point_line_cmp}
 use Rattle.flow_certificate.proofs.LastItems.{follows-last}
 use Rattle.flow_certificate.proofs.following.may_follow_points.Goals as goal
 

@@ -1,5 +1,5 @@
 use Rattle.std.proofs.Common.{◌≡◌, length}
-use Rattle.flow_certificate.specs.Guessing.{digits_at}
+use Rattle.flow_certificate.specs.Private.Guessing.{digits_at}
 use Rattle.flow_certificate.proofs.guessing.number_at.Given as goal
 
 abbrev pub invariant-loop-rest : goal.invariant-loop-rest

@@ -1,7 +1,7 @@
 use Rattle.std.proofs.Common.{◌+◌, ◌≤◌, ◌==◌, length, sym, ◌∙◌}
 use Rattle.std.proofs.Common.{arith}
 use Rattle.std.proofs.lemmas.Bool.{and_parts}
-use Rattle.flow_certificate.specs.Reading.{is_whole}
+use Rattle.flow_certificate.specs.Private.Reading.{is_whole}
 use Rattle.flow_certificate.proofs.FileReads.{line-shorter, line-stands, none-left, none-there, points-few, reading-done}
 use Rattle.flow_certificate.proofs.FileReads.{reading-fails, reading-first, reading-more, stuck-none, stuck-there}
 use Rattle.flow_certificate.proofs.reading.draft_of.Goals as goal

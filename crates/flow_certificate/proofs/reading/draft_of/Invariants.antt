@@ -1,5 +1,5 @@
 use Rattle.std.proofs.Common.{length}
-use Rattle.flow_certificate.specs.Reading.{IsReading}
+use Rattle.flow_certificate.specs.Private.Reading.{IsReading}
 use Rattle.flow_certificate.proofs.reading.draft_of.Given as goal
 
 abbrev pub invariant-loop-draft : goal.invariant-loop-draft

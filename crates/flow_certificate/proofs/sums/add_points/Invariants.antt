@@ -1,6 +1,6 @@
 use Rattle.std.proofs.Common.{length}
 use Rattle.max_flow.specs.Flows.{halves_from}
-use Rattle.flow_certificate.specs.Sums.{AreAdded, brought}
+use Rattle.flow_certificate.specs.Private.Sums.{AreAdded, brought}
 use Rattle.flow_certificate.proofs.sums.add_points.Given as goal
 
 abbrev pub invariant-loop-i : goal.invariant-loop-i

@@ -1,5 +1,5 @@
 use Rattle.std.proofs.Common.{sym, refl, ◌∙◌, arith}
-use Rattle.flow_certificate.specs.Sums.{tails_of}
+use Rattle.flow_certificate.specs.Private.Sums.{tails_of}
 use Rattle.flow_certificate.proofs.Counters.{added_none, added_more, added_room, tails_of-at}
 use Rattle.flow_certificate.proofs.sums.add_sources.Goals as goal
 

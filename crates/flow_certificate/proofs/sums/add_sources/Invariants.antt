@@ -1,4 +1,4 @@
-use Rattle.flow_certificate.specs.Sums.{AreAdded, brought, tails_of}
+use Rattle.flow_certificate.specs.Private.Sums.{AreAdded, brought, tails_of}
 use Rattle.flow_certificate.proofs.sums.add_sources.Given as goal
 
 abbrev pub invariant-loop-i : goal.invariant-loop-i

@@ -1,4 +1,4 @@
-use Rattle.flow_certificate.specs.Sums.{AreAdded, brought, heads_of}
+use Rattle.flow_certificate.specs.Private.Sums.{AreAdded, brought, heads_of}
 use Rattle.flow_certificate.proofs.sums.add_targets.Given as goal
 
 abbrev pub invariant-loop-i : goal.invariant-loop-i

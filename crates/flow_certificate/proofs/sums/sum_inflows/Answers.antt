@@ -2,7 +2,7 @@ use Rattle.std.proofs.Common.{◌≡◌, ℕ, ◌∙◌, length, sym, subst, ari
 use Rattle.std.proofs.lemmas.List.{length-map}
 use Rattle.max_flow.specs.Flows.{halves_from}
 use Rattle.max_flow.proofs.Graphs.{length-halves}
-use Rattle.flow_certificate.specs.Sums.{AreAdded, brought, heads_of}
+use Rattle.flow_certificate.specs.Private.Sums.{AreAdded, brought, heads_of}
 use Rattle.flow_certificate.proofs.SmallNumbers.{all_small}
 use Rattle.flow_certificate.proofs.Blocks.{room_after, sums_whole}
 use Rattle.flow_certificate.proofs.sums.sum_inflows.Goals as goal

@@ -1,5 +1,5 @@
 use Rattle.std.proofs.Common.{◌≡◌, ◌<◌, ◌≤◌, length, sym, ap, ◌∙◌, arith}
-use Rattle.flow_certificate.specs.Sides.{cut_below}
+use Rattle.flow_certificate.specs.Private.Sides.{cut_below}
 use Rattle.flow_certificate.proofs.SideCapacity.{cut-none, cut-step, cut-whole}
 use Rattle.flow_certificate.proofs.values.side_capacity.Goals as goal
 

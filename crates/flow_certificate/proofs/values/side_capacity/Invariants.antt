@@ -1,5 +1,5 @@
 use Rattle.std.proofs.Common.{◌≡◌, ◌*◌, ◌^◌, ◌≤◌}
-use Rattle.flow_certificate.specs.Sides.{cut_below}
+use Rattle.flow_certificate.specs.Private.Sides.{cut_below}
 use Rattle.flow_certificate.proofs.values.side_capacity.Given as goal
 
 abbrev pub invariant-loop-i : goal.invariant-loop-i

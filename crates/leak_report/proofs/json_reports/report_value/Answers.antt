@@ -3,7 +3,7 @@ use Rattle.serde_json.specs.Data.{no_members, object}
 use Rattle.serde_json.specs.View.{members_view}
 use Rattle.serde_json.proofs.OnLiterals.{serde_json_on_literals}
 use Rattle.serde_json.proofs.Views.{view-Object}
-use Rattle.leak_report.specs.Members.{with_first, with_last}
+use Rattle.leak_report.specs.Private.Members.{with_first, with_last}
 use Rattle.leak_report.proofs.json_reports.report_value.Goals as goal
 
 pub returns : goal.returns

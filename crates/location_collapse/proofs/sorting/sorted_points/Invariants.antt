@@ -1,5 +1,5 @@
 use Rattle.std.proofs.Common.{◌≤◌, length, drop}
-use Rattle.location_collapse.specs.Sorting.{HasSame}
+use Rattle.location_collapse.specs.Private.Sorting.{HasSame}
 use Rattle.location_collapse.proofs.sorting.sorted_points.Given as goal
 
 abbrev pub invariant-loop-left : goal.invariant-loop-left

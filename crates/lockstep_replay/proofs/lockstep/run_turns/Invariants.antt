@@ -1,7 +1,7 @@
 use Rattle.std.proofs.Common.{◌≡◌, ℕ, ◌-◌, List, None}
 use Rattle.lockstep_replay.specs.Beginnings.{Begins}
 use Rattle.lockstep_replay.specs.Tasks.{Task, Limits}
-use Rattle.lockstep_replay.specs.Turning.{Keeps}
+use Rattle.lockstep_replay.specs.Private.Turning.{Keeps}
 use Rattle.lockstep_replay.specs.Verdicts.{judged_from}
 use Rattle.lockstep_replay.proofs.RoundVerdicts.{StandsAt}
 use Rattle.lockstep_replay.proofs.lockstep.run_turns.Given as goal

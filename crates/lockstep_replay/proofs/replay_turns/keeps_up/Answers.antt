@@ -2,8 +2,8 @@ use Rattle.std.proofs.Common.{◌∙◌, sym, ap, arith}
 use Rattle.cut_file.specs.Masks.{MaskAt}
 use Rattle.crossing_bits.specs.Streams.{left_of}
 use Rattle.replay_machine.specs.Runs.{replay_turn}
-use Rattle.lockstep_replay.specs.Standings.{why_answered}
-use Rattle.lockstep_replay.specs.Turning.{fed_turn}
+use Rattle.lockstep_replay.specs.Private.Standings.{why_answered}
+use Rattle.lockstep_replay.specs.Private.Turning.{fed_turn}
 use Rattle.lockstep_replay.proofs.AnswersTellReasons.{self_place, beside-why, joins-of, in_step-of, missing-none}
 use Rattle.lockstep_replay.proofs.AnswersTellReasons.{runs-of, stands-self, begins-alike, begins-short, taken-of}
 use Rattle.rv32im_machine.specs.declared.stepping.Stepped.TheVariants.{Ran}

@@ -1,5 +1,5 @@
 use Rattle.std.proofs.Common.{sym, refl, ◌∙◌}
-use Rattle.lockstep_replay.specs.Standings.{why_beside}
+use Rattle.lockstep_replay.specs.Private.Standings.{why_beside}
 use Rattle.lockstep_replay.proofs.RoundResults.{Played, none-fails, outside_turn, output-begins, step-beside, step-fails}
 use Rattle.lockstep_replay.proofs.RoundResults.{used-played}
 use Rattle.lockstep_replay.proofs.rounds.make_step.Goals as goal

@@ -1,7 +1,7 @@
 use Rattle.std.proofs.Common.{◌++◌, ◌∷◌, ◌∙◌, [], ap, subst, sym, List}
 use Rattle.flow_graph.specs.declared.events.Event.{Event}
 use Rattle.many_runs.specs.Following.{AreFollowed}
-use Rattle.many_runs.specs.Recordings.{AllKeep, RecordsUnion}
+use Rattle.many_runs.specs.Private.Recordings.{AllKeep, RecordsUnion}
 use Rattle.many_runs.proofs.RecordedRuns.{followed-union}
 use Rattle.many_runs.proofs.following_all.gathered.Goals as goal
 

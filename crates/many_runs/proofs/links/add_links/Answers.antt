@@ -2,7 +2,7 @@ use Rattle.std.proofs.Common.{◌++◌, subst, sym, take, arith}
 use Rattle.std.specs.Map.{keys_of}
 use Rattle.std.proofs.lemmas.Bool.{false≢true}
 use Rattle.measuring.specs.Recordings.{Records}
-use Rattle.many_runs.specs.Joining.{event_between, link_events}
+use Rattle.many_runs.specs.Private.Joining.{event_between, link_events}
 use Rattle.many_runs.proofs.FedEvents.{link-again, links-start}
 use Rattle.many_runs.proofs.links.add_links.Goals as goal
 use Rattle.many_runs.proofs.links.add_links.Goals.{in-Some+in_ok-add_link, in_default}

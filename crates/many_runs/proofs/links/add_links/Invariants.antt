@@ -2,7 +2,7 @@ use Rattle.std.proofs.Common.{◌++◌, List, take}
 use Rattle.std.specs.Map.{keys_of}
 use Rattle.flow_graph.specs.declared.events.Event.{Event}
 use Rattle.measuring.specs.Recordings.{Records}
-use Rattle.many_runs.specs.Joining.{link_events}
+use Rattle.many_runs.specs.Private.Joining.{link_events}
 use Rattle.many_runs.proofs.links.add_links.Given as goal
 
 abbrev pub invariant-loop-index : goal.invariant-loop-index

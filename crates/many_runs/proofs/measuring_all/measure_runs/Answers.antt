@@ -2,8 +2,8 @@ use Rattle.std.proofs.Common.{Result, Ok, Err, subst, List}
 use Rattle.std.specs.Result.{IfOk}
 use Rattle.std.proofs.lemmas.Result.{IfErr-weaker}
 use Rattle.flow_graph.specs.declared.events.Event.{Event}
-use Rattle.many_runs.specs.Recordings.{AllKeep, RecordsUnion}
-use Rattle.many_runs.specs.Weighing.{WeighsAll}
+use Rattle.many_runs.specs.Private.Recordings.{AllKeep, RecordsUnion}
+use Rattle.many_runs.specs.Private.Weighing.{WeighsAll}
 use Rattle.many_runs.proofs.WeighedRuns.{unweighed, weighed}
 use Rattle.many_runs.proofs.measuring_all.measure_runs.Goals as goal
 

@@ -2,7 +2,7 @@ use Rattle.std.proofs.Common.{subst, ap, ◌∙◌, ◌++◌, get_or}
 use Rattle.flow_graph.specs.EventGraphs.{no_point}
 use Rattle.measuring.specs.Recordings.{Records}
 use Rattle.measuring.specs.VisitRuns.{run_masks}
-use Rattle.many_runs.specs.Joining.{passes}
+use Rattle.many_runs.specs.Private.Joining.{passes}
 use Rattle.many_runs.proofs.FedEvents.{points-end, points-open, reach-end, reach-start, reach-step}
 use Rattle.many_runs.proofs.uniting.add_points.Goals as goal
 

@@ -1,7 +1,7 @@
 use Rattle.std.proofs.Common.{◌++◌, List, length}
 use Rattle.flow_graph.specs.declared.events.Event.{Event}
 use Rattle.measuring.specs.Recordings.{Records}
-use Rattle.many_runs.specs.Joining.{passes_at}
+use Rattle.many_runs.specs.Private.Joining.{passes_at}
 use Rattle.many_runs.proofs.FedEvents.{Reaches}
 use Rattle.many_runs.proofs.uniting.add_points.Given as goal
 

@@ -2,7 +2,7 @@ use Rattle.std.proofs.Common.{◌++◌, List, length}
 use Rattle.flow_graph.specs.declared.events.Event.{Event}
 use Rattle.measuring.specs.Recordings.{Records}
 use Rattle.measuring.specs.VisitRuns.{run_masks}
-use Rattle.many_runs.specs.Joining.{passes}
+use Rattle.many_runs.specs.Private.Joining.{passes}
 use Rattle.many_runs.proofs.FedEvents.{Reaches}
 use Rattle.many_runs.proofs.uniting.add_runs.Given as goal
 

@@ -1,5 +1,5 @@
 use Rattle.std.proofs.Common.{◌++◌, replicate}
-use Rattle.many_runs.specs.Joining.{passes}
+use Rattle.many_runs.specs.Private.Joining.{passes}
 use Rattle.many_runs.proofs.FedEvents.{visit-again, visits-start}
 use Rattle.many_runs.proofs.uniting.add_visits.Goals as goal
 

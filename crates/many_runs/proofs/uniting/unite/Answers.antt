@@ -1,6 +1,6 @@
 use Rattle.std.proofs.Common.{◌++◌, [], subst}
 use Rattle.measuring.specs.Recordings.{Records}
-use Rattle.many_runs.specs.Joining.{passes_at, recorded_links}
+use Rattle.many_runs.specs.Private.Joining.{passes_at, recorded_links}
 use Rattle.many_runs.proofs.UnitedEvents.{united}
 use Rattle.many_runs.proofs.uniting.unite.Goals as goal
 

@@ -1,6 +1,6 @@
 use Rattle.std.proofs.Common.{◌≡◌, ◌≢◌, ◌+◌}
 use Rattle.max_flow.specs.Networks.{value_of}
-use Rattle.max_flow.specs.Solving.{net_of}
+use Rattle.max_flow.specs.Private.Solving.{net_of}
 use Rattle.max_flow.proofs.WalksBack.{walking_first, walking_on, walked_flow, walked-value}
 use Rattle.max_flow.proofs.Amounts.{raising_first, raising_on, raised_most}
 use Rattle.max_flow.proofs.augmenting.augment.Goals as goal

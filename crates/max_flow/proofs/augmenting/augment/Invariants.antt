@@ -1,7 +1,7 @@
 use Rattle.std.proofs.Common.{slice_index}
 use Rattle.max_flow.specs.Networks.{value_of}
-use Rattle.max_flow.specs.Searching.{IsWalking, IsRaising}
-use Rattle.max_flow.specs.Solving.{net_of}
+use Rattle.max_flow.specs.Private.Searching.{IsWalking, IsRaising}
+use Rattle.max_flow.specs.Private.Solving.{net_of}
 use Rattle.max_flow.proofs.augmenting.augment.Given as goal
 
 abbrev pub invariant-loop-at : goal.invariant-loop-at

@@ -1,5 +1,5 @@
 use Rattle.std.proofs.Common.{sym, ◌∙◌, arith}
-use Rattle.max_flow.specs.Solving.{net_of}
+use Rattle.max_flow.specs.Private.Solving.{net_of}
 use Rattle.max_flow.proofs.WalksBack.{sum_fits}
 use Rattle.max_flow.proofs.augmenting.push.Goals as goal
 

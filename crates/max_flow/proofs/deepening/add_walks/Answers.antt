@@ -1,7 +1,7 @@
 use Rattle.std.proofs.Common.{◌-◌, ◌^◌, ◌<◌, subst, arith}
 use Rattle.max_flow.specs.Networks.{value_of}
-use Rattle.max_flow.specs.Searching.{IsStart}
-use Rattle.max_flow.specs.Solving.{net_of}
+use Rattle.max_flow.specs.Private.Searching.{IsStart}
+use Rattle.max_flow.specs.Private.Solving.{net_of}
 use Rattle.max_flow.proofs.SearchSteps.{found_first}
 use Rattle.max_flow.proofs.FirstAndLastFlows.{value_small}
 use Rattle.max_flow.proofs.deepening.add_walks.Goals as goal

@@ -1,8 +1,8 @@
 use Rattle.std.proofs.Common.{◌≡◌, ◌+◌, slice_index}
 use Rattle.max_flow.specs.Networks.{AreAtMost, IsFlow, value_of}
-use Rattle.max_flow.specs.Rooms.{IsBounded}
-use Rattle.max_flow.specs.Solving.{net_of, IsTree}
-use Rattle.max_flow.specs.Stacks.{AreCursors}
+use Rattle.max_flow.specs.Private.Rooms.{IsBounded}
+use Rattle.max_flow.specs.Private.Solving.{net_of, IsTree}
+use Rattle.max_flow.specs.Private.Stacks.{AreCursors}
 use Rattle.max_flow.proofs.deepening.add_walks.Given as goal
 
 abbrev pub invariant-loop : goal.invariant-loop

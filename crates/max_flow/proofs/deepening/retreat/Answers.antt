@@ -1,5 +1,5 @@
 use Rattle.std.proofs.Common.{◌-◌, ◌<◌, ◌≤◌, length, slice_index, refl, arith}
-use Rattle.max_flow.specs.Solving.{net_of}
+use Rattle.max_flow.specs.Private.Solving.{net_of}
 use Rattle.max_flow.proofs.LastNodeTakenOut.{IsTop, stack_of, stack_less, found_less, top_more}
 use Rattle.max_flow.proofs.deepening.retreat.Goals as goal
 

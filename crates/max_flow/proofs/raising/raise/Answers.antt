@@ -1,6 +1,6 @@
 use Rattle.std.proofs.Common.{◌<◌, ◌-◌, ◌^◌, arith}
 use Rattle.max_flow.specs.Networks.{value_of}
-use Rattle.max_flow.specs.Solving.{net_of}
+use Rattle.max_flow.specs.Private.Solving.{net_of}
 use Rattle.max_flow.proofs.FirstAndLastFlows.{value_small}
 use Rattle.max_flow.proofs.raising.raise.Goals as goal
 

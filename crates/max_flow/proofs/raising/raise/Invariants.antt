@@ -1,8 +1,8 @@
 use Rattle.std.proofs.Common.{◌≡◌, ◌-◌, ◌^◌, slice_index}
 use Rattle.max_flow.specs.Networks.{AreAtMost, IsFlow, value_of}
-use Rattle.max_flow.specs.Rooms.{IsBounded, IsClosed}
-use Rattle.max_flow.specs.Searching.{is_found}
-use Rattle.max_flow.specs.Solving.{net_of, IsTree}
+use Rattle.max_flow.specs.Private.Rooms.{IsBounded, IsClosed}
+use Rattle.max_flow.specs.Private.Searching.{is_found}
+use Rattle.max_flow.specs.Private.Solving.{net_of, IsTree}
 use Rattle.max_flow.proofs.raising.raise.Given as goal
 
 abbrev pub invariant-loop-alloc : goal.invariant-loop-alloc

@@ -1,5 +1,5 @@
 use Rattle.std.proofs.Common.{length, sym, subst}
-use Rattle.max_flow.specs.Solving.{net_of, AreZeros}
+use Rattle.max_flow.specs.Private.Solving.{net_of, AreZeros}
 use Rattle.max_flow.proofs.FirstAndLastFlows.{none_flow, none_bounded, none-value, none_most}
 use Rattle.max_flow.proofs.FirstAndLastFlows.{raised_side, raised-capacity, raised_least}
 use Rattle.max_flow.proofs.raising.solve_network.Goals as goal

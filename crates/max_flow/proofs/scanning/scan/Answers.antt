@@ -1,6 +1,6 @@
 use Rattle.std.proofs.Common.{length, subst}
-use Rattle.max_flow.specs.Searching.{HasLeft, HasEntered}
-use Rattle.max_flow.specs.Solving.{net_of}
+use Rattle.max_flow.specs.Private.Searching.{HasLeft, HasEntered}
+use Rattle.max_flow.specs.Private.Solving.{net_of}
 use Rattle.max_flow.proofs.SearchSteps.{grown_on}
 use Rattle.max_flow.proofs.ScannedQueueIsClosed.{left_grown, scanned_more}
 use Rattle.max_flow.proofs.scanning.scan.Goals as goal

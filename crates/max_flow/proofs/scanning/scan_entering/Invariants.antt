@@ -1,6 +1,6 @@
 use Rattle.std.proofs.Common.{◌≡◌, ◌≤◌, ◌<◌, ◌-◌, length, slice_index}
-use Rattle.max_flow.specs.Searching.{HasGrown, HasEntered}
-use Rattle.max_flow.specs.Solving.{net_of, IsTree}
+use Rattle.max_flow.specs.Private.Searching.{HasGrown, HasEntered}
+use Rattle.max_flow.specs.Private.Solving.{net_of, IsTree}
 use Rattle.max_flow.proofs.scanning.scan_entering.Given as goal
 
 abbrev pub invariant-loop-cursor : goal.invariant-loop-cursor

@@ -1,5 +1,5 @@
 use Rattle.std.proofs.Common.{◌≡◌, ◌<◌, ◌-◌, length, slice_index, ap, ◌∙◌, arith}
-use Rattle.max_flow.specs.Solving.{net_of}
+use Rattle.max_flow.specs.Private.Solving.{net_of}
 use Rattle.max_flow.proofs.SearchSteps.{grown_on}
 use Rattle.max_flow.proofs.ScannedQueueIsClosed.{reaches_head, left_next}
 use Rattle.max_flow.proofs.scanning.scan_leaving.Goals as goal

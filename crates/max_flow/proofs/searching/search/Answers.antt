@@ -1,6 +1,6 @@
 use Rattle.std.proofs.Common.{subst, arith}
-use Rattle.max_flow.specs.Searching.{IsStart}
-use Rattle.max_flow.specs.Solving.{net_of}
+use Rattle.max_flow.specs.Private.Searching.{IsStart}
+use Rattle.max_flow.specs.Private.Solving.{net_of}
 use Rattle.max_flow.proofs.SearchSteps.{found_first}
 use Rattle.max_flow.proofs.ScannedQueueIsClosed.{scanned_none}
 use Rattle.max_flow.proofs.searching.search.Goals as goal

@@ -1,6 +1,6 @@
 use Rattle.std.proofs.Common.{◌≤◌, ◌-◌, length}
-use Rattle.max_flow.specs.Searching.{IsScanned}
-use Rattle.max_flow.specs.Solving.{net_of, IsTree}
+use Rattle.max_flow.specs.Private.Searching.{IsScanned}
+use Rattle.max_flow.specs.Private.Solving.{net_of, IsTree}
 use Rattle.max_flow.proofs.searching.search.Given as goal
 
 abbrev pub invariant-loop-next : goal.invariant-loop-next

@@ -1,6 +1,6 @@
 use Rattle.std.proofs.Common.{◌≡◌, length}
 use Rattle.max_flow.specs.Flows.{marks}
-use Rattle.max_flow.specs.Marks.{found_marks}
+use Rattle.max_flow.specs.Private.Marks.{found_marks}
 use Rattle.max_flow.proofs.sides.found_halves.Given as goal
 
 abbrev pub invariant-loop-i : goal.invariant-loop-i

@@ -1,5 +1,5 @@
 use Rattle.std.proofs.Common.{◌≡◌, ◌+◌, map, take}
-use Rattle.max_flow.specs.Searching.{is_found}
+use Rattle.max_flow.specs.Private.Searching.{is_found}
 use Rattle.max_flow.proofs.sides.found_relays.Given as goal
 
 abbrev pub invariant-loop-region : goal.invariant-loop-region

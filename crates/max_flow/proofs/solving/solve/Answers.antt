@@ -1,10 +1,10 @@
 use Rattle.std.proofs.Common.{◌≡◌, length, sym, ap, ◌∙◌, subst}
 use Rattle.std.proofs.lemmas.List.{length-map}
 use Rattle.max_flow.specs.Networks.{IsFlow, IsSide, value_of, capacity_of}
-use Rattle.max_flow.specs.Rooms.{HasSmallSide, IsLeast}
+use Rattle.max_flow.specs.Private.Rooms.{HasSmallSide, IsLeast}
 use Rattle.max_flow.specs.Flows.{network_of}
-use Rattle.max_flow.specs.Searching.{is_found}
-use Rattle.max_flow.specs.Solving.{net_of}
+use Rattle.max_flow.specs.Private.Searching.{is_found}
+use Rattle.max_flow.specs.Private.Solving.{net_of}
 use Rattle.max_flow.proofs.SmallSides.{small_side}
 use Rattle.max_flow.proofs.FoundNodesAreMembers.{IsMade, made-capacity}
 use Rattle.max_flow.proofs.GraphAnswers.{edges-count, flow_from, front_most, back_most, least_from, greatest_from}

@@ -4,7 +4,7 @@ use Rattle.elf32_loader.specs.Images.{picture_of}
 use Rattle.region_machine.specs.Starts.{guest}
 use Rattle.run_labels.specs.Runs.{unlabelled}
 use Rattle.measuring.specs.Following.{EndsAs}
-use Rattle.measuring.specs.Weighing.{Weighs}
+use Rattle.measuring.specs.Private.Weighing.{Weighs}
 use Rattle.measuring.proofs.Measuring.{measures, exit_cause}
 use Rattle.measuring.proofs.weighing.measure_run.Goals as goal
 

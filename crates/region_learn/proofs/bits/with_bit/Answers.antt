@@ -1,6 +1,6 @@
 use Rattle.std.proofs.Common.{◌≡◌, ◌∙◌, ◌*◌, ◌%◌, ◌^◌, ℕ, ap, bit_or}
 use Rattle.std.proofs.lemmas.Nat.{one_shl}
-use Rattle.region_learn.specs.Marks.{has_bit}
+use Rattle.region_learn.specs.Private.Marks.{has_bit}
 use Rattle.region_learn.proofs.MarkedCells as cells
 use Rattle.region_learn.proofs.bits.with_bit.Goals as goal
 

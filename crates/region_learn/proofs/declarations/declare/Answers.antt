@@ -1,9 +1,9 @@
 use Rattle.std.proofs.Common.{◌∙◌, ◌+◌, List, ap, refl, subst, sym}
 use Rattle.std.specs.List.{filter}
 use Rattle.enclosure_regions.specs.declared.region_parts.Range.{Range}
-use Rattle.region_learn.specs.Declarations.{kept_bit, out_bit}
+use Rattle.region_learn.specs.Private.Declarations.{kept_bit, out_bit}
 use Rattle.region_learn.specs.Learnt.{have_byte}
-use Rattle.region_learn.specs.Spans.{SpansBelow}
+use Rattle.region_learn.specs.Private.Spans.{SpansBelow}
 use Rattle.region_learn.proofs.Registers.{table}
 use Rattle.region_learn.proofs.declarations.declare.Goals as goal
 

@@ -3,7 +3,7 @@ use Rattle.std.proofs.lemmas.Bool.{cases_lt}
 use Rattle.std.proofs.lemmas.List.{get_or_append_left, get_or_default, get_or_push}
 use Rattle.enclosure_regions.specs.declared.region_parts.Region.{Region}
 use Rattle.region_learn.specs.declared.notes.Notes.{Notes}
-use Rattle.region_learn.specs.Declarations.{Declares}
+use Rattle.region_learn.specs.Private.Declarations.{Declares}
 use Rattle.region_learn.proofs.declarations.declare_all.Goals as goal
 
 pub loop-place-preserved : goal.loop-place-preserved

@@ -1,7 +1,7 @@
 use Rattle.std.proofs.Common.{◌≡◌, ◌<◌, ℕ, get_or, length}
 use Rattle.enclosure_regions.specs.declared.region_parts.Region.{Region}
 use Rattle.region_learn.specs.declared.notes.Notes.{Notes}
-use Rattle.region_learn.specs.Declarations.{Declares}
+use Rattle.region_learn.specs.Private.Declarations.{Declares}
 use Rattle.region_learn.proofs.declarations.declare_all.Given as goal
 
 abbrev pub invariant-loop-place : goal.invariant-loop-place

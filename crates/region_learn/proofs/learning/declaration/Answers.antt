@@ -1,6 +1,6 @@
 use Rattle.std.proofs.Common.{◌∙◌, ◌+◌, ◌≤◌, ℕ, List, ap, subst, sym, map, inr}
 use Rattle.enclosure_regions.specs.declared.region_parts.Region.{Region}
-use Rattle.region_learn.specs.Declarations.{DeclareAll}
+use Rattle.region_learn.specs.Private.Declarations.{DeclareAll}
 use Rattle.region_learn.specs.LearnAnswers.{declaration_fault}
 use Rattle.region_learn.specs.Learnt.{Learnt}
 use Rattle.region_learn.specs.Written.{bare}

@@ -5,7 +5,7 @@ use Rattle.enclosure_regions.specs.Regions.{ids_of}
 use Rattle.enclosure_regions.specs.declared.region_lists.Regions.{Regions}
 use Rattle.enclosure_regions.specs.declared.region_parts.Region.{Region}
 use Rattle.region_learn.specs.declared.notes.Notes.{Notes}
-use Rattle.region_learn.specs.Books.{BookOf, IsNew, are_bare, numbers_of}
+use Rattle.region_learn.specs.Private.Books.{BookOf, IsNew, are_bare, numbers_of}
 use Rattle.region_learn.specs.LearnAnswers.{Refuses}
 use Rattle.region_learn.specs.Written.{Run, bare}
 use Rattle.region_learn.proofs.BareLists.{bare_none, bare_twice, base_room}

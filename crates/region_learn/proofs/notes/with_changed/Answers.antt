@@ -1,5 +1,5 @@
 use Rattle.enclosure_regions.specs.Breaks.{has_changed}
-use Rattle.region_learn.specs.Marks.{has_bit}
+use Rattle.region_learn.specs.Private.Marks.{has_bit}
 use Rattle.region_learn.proofs.Counting.{below_more}
 use Rattle.region_learn.proofs.notes.with_changed.Goals as goal
 

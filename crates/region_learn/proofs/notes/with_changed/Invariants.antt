@@ -1,6 +1,6 @@
 use Rattle.std.proofs.Common.{◌≡◌, ◌&&◌, ◌||◌, ℕ, nat_lt}
 use Rattle.enclosure_regions.specs.Breaks.{has_changed}
-use Rattle.region_learn.specs.Marks.{has_bit}
+use Rattle.region_learn.specs.Private.Marks.{has_bit}
 use Rattle.region_learn.proofs.notes.with_changed.Given as goal
 
 abbrev pub invariant-loop-register : goal.invariant-loop-register

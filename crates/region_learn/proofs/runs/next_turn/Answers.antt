@@ -2,7 +2,7 @@ use Rattle.std.proofs.Common.{◌≡◌, true, List, ℕ, subst, sym}
 use Rattle.std.proofs.lemmas.Bool.{and_parts}
 use Rattle.enclosure_regions.specs.Regions.{are_distinct}
 use Rattle.region_machine.specs.Enclosures.{Kind}
-use Rattle.region_learn.specs.Books.{has_kind_notes}
+use Rattle.region_learn.specs.Private.Books.{has_kind_notes}
 use Rattle.region_learn.proofs.KindRegions.{bare_leave, notes_of_turn}
 use Rattle.region_learn.proofs.runs.next_turn.Goals as goal
 

@@ -2,7 +2,7 @@ use Rattle.std.proofs.Common.{◌≡◌, ◌∙◌, ◌+◌, ℕ, suc, None, Som
 use Rattle.rv32im_machine.specs.declared.stepping.Stepped.TheVariants.{Exited, Stopped}
 use Rattle.rv32im_machine.specs.State.{State}
 use Rattle.region_machine.proofs.Stillness.{IsOver}
-use Rattle.region_learn.specs.Books.{BookOf}
+use Rattle.region_learn.specs.Private.Books.{BookOf}
 use Rattle.region_learn.specs.LearnAnswers.{first_call}
 use Rattle.region_learn.specs.Written.{state_after}
 use Rattle.region_learn.proofs.RunEnds.{book_base, book_more, first_more, state_more, still_book}

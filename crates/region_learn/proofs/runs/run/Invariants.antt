@@ -1,6 +1,6 @@
 use Rattle.std.proofs.Common.{◌≡◌, None}
 use Rattle.rv32im_machine.specs.declared.stepping.Stepped.TheVariants.{Ran}
-use Rattle.region_learn.specs.Books.{BookOf}
+use Rattle.region_learn.specs.Private.Books.{BookOf}
 use Rattle.region_learn.specs.LearnAnswers.{first_call}
 use Rattle.region_learn.specs.Written.{state_after}
 use Rattle.region_learn.proofs.runs.run.Given as goal

@@ -1,6 +1,6 @@
 use Rattle.std.proofs.Common.{◌∙◌, List, ap, sym}
 use Rattle.enclosure_regions.specs.declared.region_parts.Range.{Range}
-use Rattle.region_learn.specs.Spans.{extended}
+use Rattle.region_learn.specs.Private.Spans.{extended}
 use Rattle.region_learn.proofs.GrowingSpans.{extended_front}
 use Rattle.region_learn.proofs.spans.put_byte.Goals as goal
 

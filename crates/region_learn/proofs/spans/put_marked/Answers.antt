@@ -1,7 +1,7 @@
 use Rattle.std.proofs.Common.{◌∙◌, ◌+◌, ◌&&◌, ◌||◌, ◌==◌, Bool, List, ap, subst, sym}
 use Rattle.enclosure_regions.specs.declared.region_parts.Range.{Range}
 use Rattle.region_learn.specs.Learnt.{have_byte}
-use Rattle.region_learn.specs.Spans.{SpansBelow}
+use Rattle.region_learn.specs.Private.Spans.{SpansBelow}
 use Rattle.region_learn.proofs.GrowingSpans.{below_more, extended_below, extended_has}
 use Rattle.region_learn.proofs.spans.put_marked.Goals as goal
 

@@ -1,6 +1,6 @@
 use Rattle.std.proofs.Common.{◌≡◌, ◌+◌, ◌||◌, ℕ}
 use Rattle.region_learn.specs.Learnt.{have_byte}
-use Rattle.region_learn.specs.Spans.{SpansBelow, in_page}
+use Rattle.region_learn.specs.Private.Spans.{SpansBelow, in_page}
 use Rattle.region_learn.proofs.spans.put_page.Given as goal
 
 abbrev pub invariant-loop-place : goal.invariant-loop-place

@@ -1,5 +1,5 @@
 use Rattle.std.proofs.Common.{◌≡◌, ◌∙◌, ◌*◌, ℕ, ap, arith}
-use Rattle.region_learn.specs.Spans.{in_memory}
+use Rattle.region_learn.specs.Private.Spans.{in_memory}
 use Rattle.region_learn.proofs.ScannedSpans.{all_memory}
 use Rattle.region_learn.proofs.spans.ranges_of.Goals as goal
 

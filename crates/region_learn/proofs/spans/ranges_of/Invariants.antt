@@ -1,6 +1,6 @@
 use Rattle.std.proofs.Common.{◌≡◌, ◌+◌, ◌*◌, ℕ}
 use Rattle.region_learn.specs.Learnt.{have_byte}
-use Rattle.region_learn.specs.Spans.{SpansBelow, in_memory}
+use Rattle.region_learn.specs.Private.Spans.{SpansBelow, in_memory}
 use Rattle.region_learn.proofs.spans.ranges_of.Given as goal
 
 abbrev pub invariant-loop-index : goal.invariant-loop-index

@@ -2,8 +2,8 @@ use Rattle.std.proofs.Common.{◌≡◌, ◌∙◌, ◌||◌, ℕ, List, ap, get
 use Rattle.enclosure_regions.specs.Breaks.{has_changed}
 use Rattle.region_machine.specs.Enclosures.{Leaves}
 use Rattle.region_learn.specs.declared.notes.Notes.{Notes}
-use Rattle.region_learn.specs.Books.{NotesAfter}
-use Rattle.region_learn.specs.Marks.{has_bit}
+use Rattle.region_learn.specs.Private.Books.{NotesAfter}
+use Rattle.region_learn.specs.Private.Marks.{has_bit}
 use Rattle.region_learn.proofs.BookTurns.{book-after, leaves-of, left}
 use Rattle.std.proofs.lemmas.List.{get_or_default}
 use Rattle.region_learn.proofs.turns.leave_noting.Goals as goal

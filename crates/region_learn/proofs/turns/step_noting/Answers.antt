@@ -2,7 +2,7 @@ use Rattle.std.proofs.Common.{◌≡◌, Some, get_or, subst}
 use Rattle.std.proofs.lemmas.List.{get_or_default}
 use Rattle.region_machine.specs.Enclosures.{Steps}
 use Rattle.region_learn.specs.declared.notes.Notes.{Notes}
-use Rattle.region_learn.specs.Books.{NotesAfter}
+use Rattle.region_learn.specs.Private.Books.{NotesAfter}
 use Rattle.region_learn.proofs.BookTurns.{book-after, steps-of, stepped}
 use Rattle.region_learn.proofs.turns.step_noting.Goals as goal
 

@@ -3,7 +3,7 @@ use Rattle.serde_json.specs.Data.{no_members, object}
 use Rattle.serde_json.specs.View.{members_view}
 use Rattle.serde_json.proofs.OnLiterals.{serde_json_on_literals}
 use Rattle.serde_json.proofs.Views.{view-Object}
-use Rattle.region_learn.specs.Members.{with_first, with_last}
+use Rattle.region_learn.specs.Private.Members.{with_first, with_last}
 use Rattle.region_learn.proofs.writing.region_value.Goals as goal
 
 pub returns : goal.returns

@@ -1,6 +1,6 @@
 use Rattle.std.proofs.Common.{◌≡◌, take, vec_len, IsTrue}
 use Rattle.std.specs.List.{list_all}
-use Rattle.region_machine.specs.Marked.{is_marked}
+use Rattle.region_machine.specs.Private.Marked.{is_marked}
 use Rattle.region_machine.proofs.marked.marks_of.Given as goal
 
 abbrev pub invariant-loop-region : goal.invariant-loop-region

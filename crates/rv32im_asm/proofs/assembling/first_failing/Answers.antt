@@ -1,10 +1,10 @@
 use Rattle.std.proofs.Common.{◌≡◌, ◌+◌, ◌≤◌, [], ◌∷◌, ◌++◌, take, Some, Ok, Err, add-one, ap, sym, ◌∙◌, arith}
 use Rattle.std.proofs.lemmas.Grind.{common_steps}
 use Rattle.rv32im_asm.specs.Assembling.{first_failing, reading}
-use Rattle.rv32im_asm.specs.Labels.{places_in}
+use Rattle.rv32im_asm.specs.Private.Labels.{places_in}
 use Rattle.rv32im_asm.specs.Lines.{lines_of}
 use Rattle.rv32im_asm.specs.Operands.{both}
-use Rattle.rv32im_asm.specs.Pieces.{bytes_in}
+use Rattle.rv32im_asm.specs.Private.Pieces.{bytes_in}
 use Rattle.rv32im_asm.specs.Sizes.{line_size, places_up_to, total_size}
 use Rattle.rv32im_asm.proofs.Fronts.{HasNext, has_next}
 use Rattle.rv32im_asm.proofs.LabelSteps.{total_size-push}

@@ -1,6 +1,6 @@
 use Rattle.std.proofs.Common.{◌≡◌, ◌+◌, ◌≤◌, length, take, drop, Some}
 use Rattle.rv32im_asm.specs.Assembling.{first_failing}
-use Rattle.rv32im_asm.specs.Labels.{places_in}
+use Rattle.rv32im_asm.specs.Private.Labels.{places_in}
 use Rattle.rv32im_asm.specs.Lines.{lines_of}
 use Rattle.rv32im_asm.specs.Sizes.{total_size}
 use Rattle.rv32im_asm.proofs.assembling.first_failing.Given as goal

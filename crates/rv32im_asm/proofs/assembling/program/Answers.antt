@@ -2,10 +2,10 @@ use Rattle.std.proofs.Common.{◌≡◌, ◌+◌, ◌≤◌, [], ◌∷◌, ◌+
 use Rattle.std.proofs.Common.{length-append}
 use Rattle.std.proofs.lemmas.Grind.{common_steps}
 use Rattle.rv32im_asm.specs.Assembling.{joined, known_places, reading, readings}
-use Rattle.rv32im_asm.specs.Labels.{places_in}
+use Rattle.rv32im_asm.specs.Private.Labels.{places_in}
 use Rattle.rv32im_asm.specs.Lines.{lines_of}
 use Rattle.rv32im_asm.specs.Operands.{both}
-use Rattle.rv32im_asm.specs.Pieces.{bytes_in}
+use Rattle.rv32im_asm.specs.Private.Pieces.{bytes_in}
 use Rattle.rv32im_asm.specs.Sizes.{line_size, places_up_to, total_size}
 use Rattle.rv32im_asm.proofs.Fronts.{HasNext, has_next}
 use Rattle.rv32im_asm.proofs.LabelSteps.{total_size-push}

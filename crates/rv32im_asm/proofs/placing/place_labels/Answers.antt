@@ -1,6 +1,6 @@
 use Rattle.std.proofs.Common.{◌≡◌, ◌+◌, [], ◌∷◌, ◌++◌, length, take, add-one, ap, sym, ◌∙◌, subst, arith}
 use Rattle.std.proofs.lemmas.Grind.{common_steps}
-use Rattle.rv32im_asm.specs.Labels.{IsNear}
+use Rattle.rv32im_asm.specs.Private.Labels.{IsNear}
 use Rattle.rv32im_asm.specs.Lines.{lines_of}
 use Rattle.rv32im_asm.specs.Operands.{both}
 use Rattle.rv32im_asm.specs.Sizes.{line_size, place_of, total_size}

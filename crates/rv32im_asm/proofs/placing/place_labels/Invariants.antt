@@ -1,5 +1,5 @@
 use Rattle.std.proofs.Common.{◌≡◌, ℕ, ◌+◌, ◌*◌, ◌≤◌, List, length, take, drop, IfSome}
-use Rattle.rv32im_asm.specs.Labels.{IsNear, places_in}
+use Rattle.rv32im_asm.specs.Private.Labels.{IsNear, places_in}
 use Rattle.rv32im_asm.specs.Lines.{lines_of}
 use Rattle.rv32im_asm.specs.Sizes.{place_of, total_size}
 use Rattle.rv32im_asm.proofs.placing.place_labels.Given as goal

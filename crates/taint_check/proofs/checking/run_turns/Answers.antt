@@ -3,7 +3,7 @@ use Rattle.lockstep_replay.specs.Tasks.{Cross}
 use Rattle.taint_check.specs.Cleared.{Cleared}
 use Rattle.taint_check.specs.declared.whys.TaintWhy.TheVariants.{TurnLimit}
 use Rattle.taint_check.specs.Tainted.{IsClean, IsUnclear, IsVerdict, exit_of}
-use Rattle.taint_check.specs.Tapes.{tape_of}
+use Rattle.taint_check.specs.Private.Tapes.{tape_of}
 use Rattle.taint_check.proofs.RunVerdicts.{IsGoing, going-start, going-on, none-of, verdict-unclear, verdict-clean}
 use Rattle.taint_check.proofs.RunVerdicts.{verdict-limit}
 use Rattle.taint_check.proofs.checking.run_turns.Goals as goal

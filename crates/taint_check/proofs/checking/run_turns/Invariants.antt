@@ -1,7 +1,7 @@
 use Rattle.std.proofs.Common.{◌≡◌, ℕ, List}
 use Rattle.lockstep_replay.specs.Tasks.{Task, Limits}
-use Rattle.taint_check.specs.Tapes.{tape_of}
-use Rattle.taint_check.specs.Turns.{Begins, IsReady}
+use Rattle.taint_check.specs.Private.Tapes.{tape_of}
+use Rattle.taint_check.specs.Private.Turns.{Begins, IsReady}
 use Rattle.taint_check.proofs.RunVerdicts.{IsGoing}
 use Rattle.taint_check.proofs.checking.run_turns.Given as goal
 

@@ -8,8 +8,8 @@ use Rattle.run_labels.specs.Runs.{entered_number}
 use Rattle.run_labels.specs.TurnLabels.{at_start}
 use Rattle.tracked_run.specs.Labels.{map_of, labels_of}
 use Rattle.taint_check.specs.Cleared.{is_hidden, leaves_skipped}
-use Rattle.taint_check.specs.Tapes.{tape_of}
-use Rattle.taint_check.specs.Turns.{Makes}
+use Rattle.taint_check.specs.Private.Tapes.{tape_of}
+use Rattle.taint_check.specs.Private.Turns.{Makes}
 use Rattle.taint_check.proofs.MadeTurns.{region-makes, ready-after, told-same}
 use Rattle.taint_check.proofs.turns.make_region_turn.Goals as goal
 

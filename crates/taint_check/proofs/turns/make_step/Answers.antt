@@ -4,8 +4,8 @@ use Rattle.region_machine.specs.Breaking.{kind_break}
 use Rattle.region_machine.specs.Guests.{kind_walk}
 use Rattle.rv32im_machine.specs.Folds.{real_end}
 use Rattle.replay_machine.proofs.MasksAhead.{ahead-self}
-use Rattle.taint_check.specs.Tapes.{tape_of}
-use Rattle.taint_check.specs.Turns.{Makes}
+use Rattle.taint_check.specs.Private.Tapes.{tape_of}
+use Rattle.taint_check.specs.Private.Turns.{Makes}
 use Rattle.taint_check.proofs.MadeTurns.{step-makes, ready-after}
 use Rattle.taint_check.proofs.turns.make_step.Goals as goal
 

@@ -1,5 +1,5 @@
 use Rattle.std.proofs.Common.{◌≡◌, ◌++◌, map}
-use Rattle.every_secret.specs.KeptPatterns.{pattern_of}
+use Rattle.every_secret.specs.Private.KeptPatterns.{pattern_of}
 use Rattle.every_secret.proofs.pattern_set.PatternSet.into_list.Given as goal
 
 abbrev pub invariant-loop-kept : goal.invariant-loop-kept

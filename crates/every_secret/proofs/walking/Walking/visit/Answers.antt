@@ -2,7 +2,7 @@ use Rattle.std.proofs.Common.{refl, ap, ◌∙◌, ◌∷◌, arith}
 use Rattle.tracked_run.specs.Labels.{labels_of}
 use Rattle.run_labels.specs.TurnLabels.{aim_label}
 use Rattle.every_secret.specs.Masked.{why_left}
-use Rattle.every_secret.specs.Tapes.{tape_of}
+use Rattle.every_secret.specs.Private.Tapes.{tape_of}
 use Rattle.every_secret.proofs.Nodes.{masks-passed}
 use Rattle.every_secret.proofs.OneVisit.{put-width, visited}
 use Rattle.every_secret.proofs.walking.Walking.visit.Goals as goal

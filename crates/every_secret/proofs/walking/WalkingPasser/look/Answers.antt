@@ -1,7 +1,7 @@
 use Rattle.std.proofs.Common.{ap, ◌∙◌}
 use Rattle.tracked_run.specs.Labels.{labels_of}
 use Rattle.every_secret.specs.Masked.{why_looked}
-use Rattle.every_secret.specs.Tapes.{knowledge_of, tape_of}
+use Rattle.every_secret.specs.Private.Tapes.{knowledge_of, tape_of}
 use Rattle.every_secret.proofs.Nodes.{masks-looked, over-looked}
 use Rattle.every_secret.proofs.walking.WalkingPasser.look.Goals as goal
 

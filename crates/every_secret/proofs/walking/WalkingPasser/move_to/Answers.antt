@@ -1,5 +1,5 @@
 use Rattle.tracked_run.specs.Labels.{labels_of}
-use Rattle.every_secret.specs.Tapes.{tape_of}
+use Rattle.every_secret.specs.Private.Tapes.{tape_of}
 use Rattle.every_secret.proofs.Nodes.{masks-moved}
 use Rattle.every_secret.proofs.walking.WalkingPasser.move_to.Goals as goal
 

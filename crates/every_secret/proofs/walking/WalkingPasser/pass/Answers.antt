@@ -1,5 +1,5 @@
 use Rattle.tracked_run.specs.Labels.{labels_of}
-use Rattle.every_secret.specs.Tapes.{knowledge_of, tape_of}
+use Rattle.every_secret.specs.Private.Tapes.{knowledge_of, tape_of}
 use Rattle.every_secret.proofs.Nodes.{over-passed}
 use Rattle.every_secret.proofs.walking.WalkingPasser.pass.Goals as goal
 

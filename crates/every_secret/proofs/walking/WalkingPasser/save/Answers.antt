@@ -1,5 +1,5 @@
 use Rattle.tracked_run.specs.Labels.{labels_of}
-use Rattle.every_secret.specs.Tapes.{tape_of}
+use Rattle.every_secret.specs.Private.Tapes.{tape_of}
 use Rattle.every_secret.proofs.Nodes.{masks-saved}
 use Rattle.every_secret.proofs.walking.WalkingPasser.save.Goals as goal
 

@@ -1,5 +1,5 @@
 use Rattle.std.proofs.Common.{◌≡◌, ℕ, [], false, get_or, vec_len}
-use Rattle.region_learn.specs.Marks.{page_has}
+use Rattle.region_learn.specs.Private.Marks.{page_has}
 use Rattle.region_learn.proofs.byte_marks.ByteMarks.new.Given as goal
 
 abbrev pub invariant-loop : goal.invariant-loop

@@ -1,6 +1,6 @@
 use Rattle.std.proofs.Common.{◌≡◌, ◌∙◌, ◌++◌, ℕ, List, [], ap, sym, replicate, length, vec_len, arith}
 use Rattle.std.proofs.lemmas.Bool.{eqb-true}
-use Rattle.region_learn.specs.Marks.{page_has}
+use Rattle.region_learn.specs.Private.Marks.{page_has}
 use Rattle.region_learn.proofs.Counting.{nil_of}
 use Rattle.region_learn.proofs.MarkedCells.{none_have_none, zeros_have_none}
 use Rattle.region_learn.proofs.pages.Page.begin.Goals as goal

@@ -1,6 +1,6 @@
 use Rattle.std.proofs.Common.{◌≡◌, ◌∙◌, ◌/◌, ◌%◌, ◌<◌, ◌==◌, ◌||◌, ℕ, Bool, List, ap, get_or, length, arith}
 use Rattle.std.proofs.lemmas.Grind.{get_or_default_zero}
-use Rattle.region_learn.specs.Marks.{has_bit, page_has}
+use Rattle.region_learn.specs.Private.Marks.{has_bit, page_has}
 use Rattle.region_learn.proofs.MarkedCells.{one_mark}
 use Rattle.region_learn.proofs.pages.Page.mark.Goals as goal
 

@@ -1,7 +1,7 @@
 use Rattle.std.proofs.Common.{◌≡◌, None, Some, arith}
 use Rattle.std.proofs.lemmas.Grind.{common_steps}
 use Rattle.std.proofs.lemmas.Map.Text.{btree_map_updates_str}
-use Rattle.rv32im_asm.specs.Labels.{places_in}
+use Rattle.rv32im_asm.specs.Private.Labels.{places_in}
 use Rattle.rv32im_asm.proofs.LabelSteps.{noted_after}
 use Rattle.rv32im_asm.proofs.labels.Labels.add.Goals as goal
 

@@ -1,7 +1,7 @@
 use Rattle.std.proofs.Common.{ap, ◌∙◌}
 use Rattle.masked_turns.specs.Looking.{first_look}
 use Rattle.tracked_run.specs.Labels.{labels_of}
-use Rattle.taint_check.specs.Tapes.{tape_of}
+use Rattle.taint_check.specs.Private.Tapes.{tape_of}
 use Rattle.taint_check.proofs.Nodes.{clears-looked}
 use Rattle.taint_check.proofs.clearing.ClearingPasser.look.Goals as goal
 

@@ -2,7 +2,7 @@ use Rattle.std.proofs.Common.{◌∷◌, ap, ◌∙◌, subst}
 use Rattle.tracked_run.specs.Labels.{labels_of}
 use Rattle.masked_turns.specs.Deciding.{first_left}
 use Rattle.masked_turns.specs.Notes.{Clears}
-use Rattle.taint_check.specs.Tapes.{tape_of}
+use Rattle.taint_check.specs.Private.Tapes.{tape_of}
 use Rattle.lockstep_replay.specs.Sides.{tally_of}
 use Rattle.taint_check.proofs.Nodes.{clears-passed}
 use Rattle.taint_check.proofs.clearing.ClearingPasser.pass.Goals as goal

@@ -1,5 +1,5 @@
 use Rattle.tracked_run.specs.Labels.{labels_of}
-use Rattle.taint_check.specs.Tapes.{tape_of}
+use Rattle.taint_check.specs.Private.Tapes.{tape_of}
 use Rattle.taint_check.proofs.Nodes.{clears-saved}
 use Rattle.taint_check.proofs.clearing.ClearingPasser.save.Goals as goal
 
