@@ -51,26 +51,49 @@ pub(crate) struct Walks<'a> {
     pub turns: u32,
 }
 
-/// A path that was walked: guest memory for the next walk, its string, and how it ends.
+/// What a walk leaves for the next to begin in, which then costs no more than what this one has used of it: guest memory
+/// and the masks of its bytes.
+#[derive(Drop)]
+pub(crate) struct Room {
+    memory: GuestMemory,
+    shadow: Shadow,
+}
+
+impl Room {
+    /// What the first walk begins in. `NoMemory` where there is not enough.
+    pub(crate) fn new(alloc: Global, image: &Image) -> Result<Room, NoMemory> {
+        Ok(Room {
+            memory: GuestMemory::new(alloc)?,
+            shadow: Shadow::new(alloc, image.base)?,
+        })
+    }
+}
+
+/// A path that was walked: what the next begins in, its string, and how it ends.
 #[derive(Drop)]
 pub(crate) struct Walked {
-    pub memory: GuestMemory,
+    pub room: Room,
     pub bits: Bits,
     pub end: PathEnd,
 }
 
-/// The masks of a guest whose memory begins at an address: no bit may differ.
-fn no_masks(alloc: Global, base: u32) -> Result<Shadow, NoMemory>
+/// The masks of a guest whose memory begins at an address, in the place of others: no bit may differ.
+fn no_masks(place: Shadow, base: u32) -> Shadow
     requires { base + memory_size ≤ 2 ^ 32 }
-    ensures masks { IfOk result (λ shadow. map_of shadow ≡ default_map) }
-    ensures base { IfOk result (λ shadow. shadow.base ≡ base) }
+    ensures masks { map_of result ≡ default_map }
+    ensures base { result.base ≡ base }
 {
-    let shadow = Shadow::new(alloc, base)?;
-    Ok(shadow)
+    Shadow::new_in(place, base)
 }
 
-/// A walk before its first turn, on a string.
-fn beginning<'b>(alloc: Global, walks: Walks<'b>, bits: Bits) -> Result<Walking<'b>, NoMemory>
+/// A walk before its first turn, on a string, with masks in the place of others.
+/// `NoMemory` where there is not enough.
+fn beginning<'b>(
+    alloc: Global,
+    place: Shadow,
+    walks: Walks<'b>,
+    bits: Bits,
+) -> Result<Walking<'b>, NoMemory>
     ensures masks { IfOk result (λ side. map_of side.shadow ≡ default_map) }
     ensures base { IfOk result (λ side. side.shadow.base ≡ walks.entry.image.now.base) }
     ensures ahead { IfOk result (λ side. IsAhead side.masks (MaskAt walks.entry.cut.now.points) []) }
@@ -81,7 +104,7 @@ fn beginning<'b>(alloc: Global, walks: Walks<'b>, bits: Bits) -> Result<Walking<
     ensures table { IfOk result (λ side. side.book.now.table ≡ walks.entry.book.now.table) }
     ensures unclear { IfOk result (λ side. side.unclear ≡ None) }
 {
-    let shadow = no_masks(alloc, walks.image.base)?;
+    let shadow = no_masks(place, walks.image.base);
     let masks = VisitMasks::new(alloc, walks.cut)?;
     Ok(Walking {
         shadow,
@@ -111,6 +134,7 @@ fn finished(
     ensures bits { IfOk result (λ walked. walked.bits ≡ side.entry.bits) }
 {
     let Walking {
+        shadow,
         bits,
         byte_masks,
         status_mask,
@@ -127,14 +151,15 @@ fn finished(
         Ending::Unclear(why) => PathEnd::Unclear(why),
     };
     let (_output, memory) = machine.into_parts();
-    Ok(Walked { memory, bits, end })
+    let room = Room { memory, shadow };
+    Ok(Walked { room, bits, end })
 }
 
-/// The path whose string begins so and goes on with zeros, walked in guest memory that may have been another's.
+/// The path whose string begins so and goes on with zeros, walked in what another may have left.
 /// `NoMemory` where there is not enough.
 pub(crate) fn walk_afresh(
     alloc: Global,
-    memory: GuestMemory,
+    room: Room,
     walks: Walks<'_>,
     bits: Bits,
 ) -> Result<Walked, NoMemory>
@@ -146,6 +171,7 @@ pub(crate) fn walk_afresh(
         (cut_picture walks.entry.cut.now)) (record { budget = walks.entry.budget; turns = walks.entry.turns })) walked.bits.bits
         ≡ Fed' walked.end (left_of walked.bits)) }
 {
+    let Room { memory, shadow } = room;
     let mut machine = Machine::new_in(
         memory,
         alloc,
@@ -154,7 +180,7 @@ pub(crate) fn walk_afresh(
         walks.zeros,
         OUTPUT_LIMIT,
     )?;
-    let mut side = beginning(alloc, walks, bits)?;
+    let mut side = beginning(alloc, shadow, walks, bits)?;
     let skip = walks.cut.skip.as_slice();
     let ending = walk_path(
         &mut machine,

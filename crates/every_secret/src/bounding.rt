@@ -12,7 +12,7 @@ ghost use Rattle.every_secret.specs.Replays.{MaskedReplay};
 ghost use Rattle.every_secret.specs.Rules.{AnswerAs, Rules};
 ghost use Rattle.every_secret.specs.Private.Stepping.{CountsStep, EndsPath, Steps, StepsAfter};
 
-use crate::afresh::{Walked, Walks, walk_afresh};
+use crate::afresh::{Room, Walked, Walks, walk_afresh};
 use crate::finding::{bounded, nothing};
 use crate::findings::Findings;
 use crate::judging::{Judged, judge};
@@ -21,14 +21,13 @@ use crate::verdicts::BoundVerdict;
 use crate::whys::UnclearWhy;
 use crossing_bits::Bits;
 use flow_base::NoMemory;
-use rv32im_machine::GuestMemory;
 use std::alloc::Global;
 
-/// What comes after a path: the answer, or what is found so far, guest memory for the next walk, and its string.
+/// What comes after a path: the answer, or what is found so far, what the next walk begins in, and its string.
 #[derive(Drop)]
 pub(crate) enum Step {
     Answered(BoundVerdict),
-    Goes(Findings, GuestMemory, Bits),
+    Goes(Findings, Room, Bits),
 }
 
 /// What comes after a path that does not make it unclear, with which so much is found.
@@ -36,7 +35,7 @@ pub(crate) enum Step {
 fn after_path(
     alloc: Global,
     found: Findings,
-    memory: GuestMemory,
+    room: Room,
     path: Bits,
     limit: u32,
 ) -> Result<Step, NoMemory>
@@ -59,7 +58,7 @@ fn after_path(
                 }));
             }
             let next = turned(alloc, path.as_slice(), place)?;
-            Ok(Step::Goes(found, memory, next))
+            Ok(Step::Goes(found, room, next))
         }
     }
 }
@@ -70,7 +69,7 @@ fn next_path(
     alloc: Global,
     walks: Walks<'_>,
     found: Findings,
-    memory: GuestMemory,
+    room: Room,
     bits: Bits,
     limit: u32,
 ) -> Result<Step, NoMemory>
@@ -87,16 +86,16 @@ fn next_path(
         walks.entry.public.now walks.entry.marked.now.regions.items (cut_picture walks.entry.cut.now))
         (record { budget = walks.entry.budget; turns = walks.entry.turns }))) bits.bits) }
 {
-    let walked = walk_afresh(alloc, memory, walks, bits)?;
+    let walked = walk_afresh(alloc, room, walks, bits)?;
     let Walked {
-        memory,
+        room,
         bits: path,
         end,
     } = walked;
     match judge(alloc, found, &path, end)? {
         Judged::Unclear(why) => Ok(Step::Answered(BoundVerdict::Unclear { path, why })),
         Judged::Found(next) => {
-            let step = after_path(alloc, next, memory, path, limit)?;
+            let step = after_path(alloc, next, room, path, limit)?;
             Ok(step)
         }
     }
@@ -117,15 +116,15 @@ pub(crate) fn walk_all(
         walks.entry.public.now walks.entry.marked.now.regions.items (cut_picture walks.entry.cut.now))
         (record { budget = walks.entry.budget; turns = walks.entry.turns }))) ≡ answer_of verdict) }
 {
-    let mut memory = GuestMemory::new(alloc)?;
+    let mut room = Room::new(alloc, walks.image)?;
     let mut bits = Bits::with_room(alloc, 0)?;
     let mut found = nothing(alloc);
     for _ in 0..limit {
-        match next_path(alloc, walks, found, memory, bits, limit)? {
+        match next_path(alloc, walks, found, room, bits, limit)? {
             Step::Answered(verdict) => return Ok(verdict),
             Step::Goes(next, freed, string) => {
                 found = next;
-                memory = freed;
+                room = freed;
                 bits = string;
             }
         }
