@@ -1,11 +1,11 @@
 #!/usr/bin/env python3
 """Tries the verdicts of certificate_rows on certificates of random graphs in which one number is changed.
 
-    python3 tools/try_certificates.py PROGRAM [TRIALS] [SEED]
+    python3 tools/gate/try_certificates.py PROGRAM [TRIALS] [SEED]
 
 PROGRAM is the built program certificate_rows. Each right certificate, of a flow and a side that networkx found, must be
 verified; each changed one must be rejected, or its value is the maximum flow that networkx finds of the changed graph.
-Each verdict must be that of make_certificate_rows.py too.
+Each verdict must be that of tools/tables/make_certificate_rows.py too.
 """
 import random
 import re
@@ -16,7 +16,7 @@ from pathlib import Path
 
 import networkx
 
-sys.path.insert(0, str(Path(__file__).parent))
+sys.path.insert(0, str(Path(__file__).resolve().parent.parent / "tables"))
 from make_certificate_rows import LIMIT, judge, read  # noqa: E402
 
 

@@ -16,8 +16,8 @@ import sys
 import tempfile
 from collections import Counter
 
-HERE = os.path.dirname(os.path.abspath(__file__))
-sys.path[:0] = [HERE, os.path.join(HERE, "explain"), os.path.join(HERE, "model")]
+TOOLS = os.path.dirname(os.path.dirname(os.path.abspath(__file__)))
+sys.path[:0] = [TOOLS, os.path.join(TOOLS, "explain"), os.path.join(TOOLS, "model")]
 
 from answering import Program
 from bound_words import bounded_lines, unclear_lines

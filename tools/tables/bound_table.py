@@ -23,9 +23,9 @@ import sys
 import tempfile
 import time
 
-HERE = os.path.dirname(os.path.abspath(__file__))
-TOP = os.path.dirname(HERE)
-sys.path[:0] = [os.path.join(HERE, "explain"), os.path.join(HERE, "model"), HERE]
+TOOLS = os.path.dirname(os.path.dirname(os.path.abspath(__file__)))
+TOP = os.path.dirname(TOOLS)
+sys.path[:0] = [os.path.join(TOOLS, "explain"), os.path.join(TOOLS, "model"), TOOLS]
 
 from answering import Program
 from bounding import Bounding, found
@@ -112,7 +112,7 @@ class Guest:
 
     def regions(self, around):
         """The region file around a function or lines, by some secrets."""
-        script = os.path.join(HERE, "regions.py")
+        script = os.path.join(TOOLS, "regions.py")
         words = [sys.executable, script, self.program, around, "--public", self.public, "--code"]
         for number in range(LEARNT):
             words += ["--secret", self.write(f"learnt{number}", self.draw(self.dice))]

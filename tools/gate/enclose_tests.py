@@ -14,9 +14,9 @@ import subprocess
 import sys
 import tempfile
 
-HERE = os.path.dirname(os.path.abspath(__file__))
-TOP = os.path.dirname(HERE)
-sys.path[:0] = [os.path.join(HERE, "explain"), os.path.join(HERE, "model")]
+TOOLS = os.path.dirname(os.path.dirname(os.path.abspath(__file__)))
+TOP = os.path.dirname(TOOLS)
+sys.path[:0] = [os.path.join(TOOLS, "explain"), os.path.join(TOOLS, "model")]
 
 from answering import Program
 from picture_tests import compilers, output

@@ -16,8 +16,8 @@ import subprocess
 import sys
 import tempfile
 
-HERE = os.path.dirname(os.path.abspath(__file__))
-sys.path.insert(0, HERE)
+TOOLS = os.path.dirname(os.path.dirname(os.path.abspath(__file__)))
+sys.path.insert(0, TOOLS)
 
 import explain
 from answering import Program
@@ -43,7 +43,7 @@ from taint_page import taint_page
 from tainting import Tainting
 from trials import random_trial
 
-TOP = os.path.dirname(HERE)
+TOP = os.path.dirname(TOOLS)
 STORIES = [("password", ["early", "constant"]), ("redactor", ["stars", "initial"]), ("auction", ["open", "sealed"])]
 INPUTS = {"password": ("typed", "password"), "redactor": ("letter", "name"), "auction": ("lowest", "bids")}
 STORED = [
@@ -470,7 +470,7 @@ def compilers():
 
 def output(script, *words):
     """The status of a script and what it prints."""
-    command = [sys.executable, os.path.join(HERE, script), *words]
+    command = [sys.executable, os.path.join(TOOLS, script), *words]
     done = subprocess.run(command, capture_output=True, text=True, check=False)
     return done.returncode, done.stderr + done.stdout
 

@@ -1,8 +1,8 @@
 #!/usr/bin/env python3
 """Makes the table of crates/tracked_rows, and what the program must print of it.
 
-    python3 tools/make_tracked_rows.py table >crates/tracked_rows/stdin
-    python3 tools/make_tracked_rows.py rows <crates/tracked_rows/stdin >crates/tracked_rows/stdout
+    python3 tools/tables/make_tracked_rows.py table >crates/tracked_rows/stdin
+    python3 tools/tables/make_tracked_rows.py rows <crates/tracked_rows/stdin >crates/tracked_rows/stdout
 
 The guests are those of event_guests.py; GNU as makes their words. What must be printed is found by the model of
 `tools/model`, which was written from the rules in words: it makes the real run turn by turn and follows it with labels
@@ -14,7 +14,7 @@ import subprocess
 import sys
 import tempfile
 
-sys.path.insert(0, str(pathlib.Path(__file__).parent / "model"))
+sys.path.insert(0, str(pathlib.Path(__file__).resolve().parent.parent / "model"))
 
 from cuts import read_regions
 from event_guests import GUESTS

@@ -1,21 +1,21 @@
 #!/usr/bin/env python3
 """Says what crates/bound_rows must print of its table, by the model of `tools/model`.
 
-    python3 tools/make_bound_rows.py >crates/bound_rows/stdout
+    python3 tools/tables/make_bound_rows.py >crates/bound_rows/stdout
 
 A row of the table has its name, the files of the program, the cut and the regions (a dash: none), the budget, the limits
 of turns and of paths, and the table of the mask rules; the public input is empty. Python 3 only."""
 import pathlib
 import sys
 
-HERE = pathlib.Path(__file__).parent
-sys.path.insert(0, str(HERE / "model"))
+TOOLS = pathlib.Path(__file__).resolve().parent.parent
+sys.path.insert(0, str(TOOLS / "model"))
 
 from bounds import Bounds, Task
 from cuts import read_cut, read_regions
 from guest import Image
 
-CRATE = HERE.parent / "crates" / "bound_rows"
+CRATE = TOOLS.parent / "crates" / "bound_rows"
 
 
 def content(name):

@@ -8,7 +8,8 @@ import os
 import subprocess
 import sys
 
-DATA = os.path.join(os.path.dirname(os.path.abspath(__file__)), "..", "crates", "compiled_rows", "data")
+TOP = os.path.dirname(os.path.dirname(os.path.dirname(os.path.abspath(__file__))))
+DATA = os.path.join(TOP, "crates", "compiled_rows", "data")
 
 
 def input_of(word):

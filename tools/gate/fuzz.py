@@ -27,8 +27,8 @@ import tempfile
 import time
 import traceback
 
-HERE = pathlib.Path(__file__).resolve().parent
-sys.path.insert(0, str(HERE / "model"))
+TOOLS = pathlib.Path(__file__).resolve().parent.parent
+sys.path.insert(0, str(TOOLS / "model"))
 
 from answers import answer_to  # noqa: E402
 from measure_trials import measure_trial  # noqa: E402
@@ -182,10 +182,10 @@ class Corpus:
     """Files to begin with, by what they are."""
 
     def __init__(self):
-        examples = HERE.parent / "examples"
+        examples = TOOLS.parent / "examples"
         self.sources = [path.read_bytes() for path in examples.rglob("*.s")]
         self.lines = [line.split(" -> ")[0] for line in
-                      (HERE.parent / "crates" / "asm_rows" / "stdin").read_text().splitlines()]
+                      (TOOLS.parent / "crates" / "asm_rows" / "stdin").read_text().splitlines()]
         self.certificates = []
 
     def trial(self, dice, seed):
