@@ -3,11 +3,11 @@
 
 mod copies;
 mod cursors;
-mod machines;
 mod marking;
 mod marks;
 mod outsides;
 mod playing;
+mod replay;
 mod replay_turns;
 mod replaying;
 mod replays;
@@ -15,8 +15,8 @@ mod search;
 mod turns;
 mod visit_masks;
 
-pub use machines::Replay;
 pub use marks::Mark;
 pub use outsides::Outside;
+pub use replay::Replay;
 pub use turns::ReplayTurn;
 pub use visit_masks::VisitMasks;

@@ -11,7 +11,7 @@ use Rattle.replay_machine.proofs.ReplayEnds.{replay_kind_extends}
 use Rattle.replay_machine.proofs.MasksAhead.{ahead-self}
 use Rattle.replay_machine.proofs.Passings.{comes-bits, comes-room, comes-so}
 use Rattle.replay_machine.proofs.Stillness.{ended-turn, none-or}
-use Rattle.replay_machine.proofs.machines.Replay.turn.Goals as goal
+use Rattle.replay_machine.proofs.replay.Replay.turn.Goals as goal
 
 pub returns-in-Ran-clause-bits : goal.returns-in-Ran-clause-bits
 returns-in-Ran-clause-bits c = elim (none-or c.run_turn.new.self.outside) [
