@@ -1,6 +1,6 @@
 use Rattle.std.proofs.Common.{◌≡◌, ◌++◌, true, length, nat_lt}
 use Rattle.std.specs.List.{filter, list_all}
-use Rattle.region_learn.specs.Declarations.{out_bit}
+use Rattle.region_learn.specs.Private.Declarations.{out_bit}
 use Rattle.region_learn.proofs.declarations.outs_among.Given as goal
 
 abbrev pub invariant-loop-rest : goal.invariant-loop-rest
