@@ -1,5 +1,6 @@
 #!/usr/bin/env python3
 """definitions.py NAME .. [--list]
+definitions.py --unreached
 
 Prints on how many definitions of specs/ a statement stands, in how many files, and how many lines these have, and the
 same of the types of src/: what is read to know what it says. A NAME is a definition, as
@@ -10,7 +11,12 @@ It reads the crates of the folder in which it is called. A definition stands on 
 and on what that names in turn. A name is what the `use` lines of its file bring, or what its file defines; bound names
 are left out, and so is what std and the kit define. Each record, data type and function is one definition, of which a
 variant is a part; a type of src/ counts where specs.declared names it, or a field of a type that counts. A definition
-does not count itself. Lines are those of signature and body, comments inside with them and the one above left out."""
+does not count itself. Lines are those of signature and body, comments inside with them and the one above left out.
+
+With `--unreached` it lists instead the files of definitions on which no public contract of any crate stands, but for
+those in a folder specs/Private/, and the files in such a folder on which one does; the status is 1 where there is any.
+A public contract is that of a function, a method or a trait that a `pub use` of a crate's lib.rt names. Crates that are
+programs have none, and are left out; Lib.antt and Private.antt are lists of modules."""
 import argparse
 import pathlib
 import re
@@ -21,11 +27,22 @@ NAME = re.compile(rf"{WORD}(?:(?:\.|::){WORD})*|[^\s\w(){{}}\[\],;.\"'◌]+")
 HEAD = re.compile(r"(?:(?:abbrev|unfoldable|pub|record|data) )+(?!(?:use|mod) )([^\s:]+)|([\w'◌-]+) :")
 USE = re.compile(r"^\s*(?:pub |ghost )*use ([\w.:]+?)(?:(?:\.|::)\{([^}]*)\}| as (\w+))?;?$", re.M)
 TYPE = re.compile(r"(?:pub(?:\(crate\))? )?(?:struct|enum|trait|type) (\w+)")
+FUNCTION = re.compile(r"(?ms)^pub (?:const )?fn (\w+)(.*?)^\{")
+METHOD = re.compile(r"(?ms)^    pub (?:const )?fn (\w+)(.*?)^    \{")
+BLOCK = re.compile(r"(?m)^(?:pub(?:\(crate\))? )?(impl\b[^{;]*|trait \w[^{;]*)\{")
+OF_TRAIT = re.compile(r"(?s)ghost (?!use\b)\w+ = \{.*?\};|(?:requires|ensures)[^\n]*\{.*?\}\n")
+GIVEN_OUT = re.compile(r"pub use ([\w:]+?)(?:::\{([^}]*)\})?;")
 
 
 def bare(text):
     """A text without what strings and comments say."""
     return re.sub(r"(?m)(?:--|//).*$", "", re.sub(r'"(?:[^"\\\n]|\\.)*"', '""', text))
+
+
+def clauses_of(head):
+    """What a function requires and ensures, by what stands between its name and its body."""
+    found = re.search(r"(?ms)^ *(?:requires|ensures)\b.*", head)
+    return bare(found[0]) if found else ""
 
 
 class Source:
@@ -61,6 +78,22 @@ class Source:
     def text_of(self, name):
         return bare("\n".join(self.lines[slice(*self.heads[name])]))
 
+    def contracts(self):
+        """The public functions that stand in no block, with their clauses."""
+        return [(name, clauses_of(head)) for name, head in FUNCTION.findall(self.text)]
+
+    def public_clauses(self, names):
+        """The clauses of the functions, the methods and the traits that belong to one of these names."""
+        yield from (clauses for name, clauses in self.contracts() if name in names)
+        for block in BLOCK.finditer(self.text):
+            if names.isdisjoint(re.findall(r"\w+", block[1])):
+                continue
+            body = self.text[block.end():].split("\n}", 1)[0]
+            if block[1].startswith("trait") or " for " in block[1]:
+                yield from map(bare, OF_TRAIT.findall(body))
+            else:
+                yield from (clauses_of(head) for _, head in METHOD.findall(body))
+
 
 class Crates:
     """The definitions and types of all crates. One of them is a pair of its file and its name."""
@@ -68,6 +101,8 @@ class Crates:
     def __init__(self):
         paths = [*pathlib.Path("crates").glob("*/specs/**/*.antt"), *pathlib.Path("crates").glob("*/src/**/*.rt")]
         self.sources, self.stands = {path: Source(path) for path in paths}, {}
+        if not paths:
+            sys.exit("no crates: this is not the top of the repository")
 
     def at(self, folder, parts):
         """What stands at a path: the longest part of it that is a file, and the name behind that."""
@@ -123,12 +158,35 @@ class Crates:
         """What a definition or a contract stands on, without itself."""
         crate, _, function = name.partition("::")
         for source in self.sources.values() if function else []:
-            head = re.search(rf"(?ms)^pub (?:const )?fn {function}\b(.*?)^\{{", source.text)
-            if source.crate == crate and head:
-                clauses = re.search(r"(?ms)^    (requires|ensures).*", head[1])
-                return self.closure(self.named(source, bare(clauses[0]))) if clauses else set()
+            if source.crate == crate and function in dict(source.contracts()):
+                return self.closure(self.named(source, dict(source.contracts())[function]))
         start = None if function else self.brought(None, ["Rattle", *name.split(".")])
         return self.closure([start]) - {start} if start else sys.exit(f"nothing is named {name}")
+
+    def given_out(self, crate):
+        """The names that the library of a crate gives out."""
+        library = self.sources.get(pathlib.Path("crates", crate, "src", "lib.rt"))
+        found = GIVEN_OUT.findall(library.text) if library else []
+        return {name.split("::")[-1].strip() for whole, listed in found for name in (listed or whole).split(",")} - {""}
+
+    def reached(self):
+        """The files of all on which a public contract stands."""
+        names = {source.crate: self.given_out(source.crate) for source in self.sources.values()}
+        start = set()
+        for source in self.sources.values():
+            for clauses in source.public_clauses(names[source.crate]) if source.path.suffix == ".rt" else []:
+                start.update(self.named(source, clauses))
+        return {source.path for source, _ in self.closure(start)}
+
+    def misplaced(self):
+        """The files of definitions that are reached and private, or neither, each with what is wrong with it."""
+        reached = self.reached()
+        for path in sorted(self.sources):
+            program = pathlib.Path("crates", path.parts[1], "src", "main.rt") in self.sources
+            if path.suffix != ".antt" or path.parts[3:] in (("Lib.antt",), ("Private.antt",)) or program:
+                continue
+            if (path.parts[3] == "Private") == (path in reached):
+                yield path, "reached" if path in reached else "unreached"
 
 
 def lines_of(one):
@@ -142,10 +200,17 @@ def told(some, kind):
 
 def main():
     parser = argparse.ArgumentParser(description=__doc__, formatter_class=argparse.RawDescriptionHelpFormatter)
-    parser.add_argument("names", nargs="+", metavar="NAME")
+    parser.add_argument("names", nargs="*", metavar="NAME")
     parser.add_argument("--list", action="store_true")
+    parser.add_argument("--unreached", action="store_true")
     words = parser.parse_args()
+    if bool(words.names) == words.unreached or words.list and words.unreached:
+        parser.error("it takes names, or --unreached alone")
     crates = Crates()
+    if words.unreached:
+        found = list(crates.misplaced())
+        print("".join(f"{wrong}: {path}\n" for path, wrong in found), end="")
+        return 1 if found else 0
     rows = [(name, crates.below(name)) for name in words.names]
     if len(rows) > 1:
         rows.append(("together", set().union(*(below for _, below in rows))))
