@@ -20,7 +20,6 @@ import pickle
 import random
 import re
 import resource
-import struct
 import subprocess
 import sys
 import tempfile
@@ -32,6 +31,7 @@ sys.path.insert(0, str(TOOLS / "model"))
 
 from answers import answer_to  # noqa: E402
 from measure_trials import measure_trial  # noqa: E402
+from program_files import packed, plain_file  # noqa: E402
 from refusals import program_fault  # noqa: E402
 from trials import random_trial  # noqa: E402
 from words import LOAD, JALR, ECALL, immediate_word, store_word, upper_word  # noqa: E402
@@ -135,14 +135,6 @@ def spoilt_text(dice, data):
     return b"\n".join(lines)
 
 
-def program_file(base, words):
-    """A program file with one segment, which begins with the entry."""
-    code = b"".join((word & 0xFFFFFFFF).to_bytes(4, "little") for word in words)
-    head = b"\x7fELF\x01\x01\x01" + bytes(9)
-    head += struct.pack("<HHIIIIIHHHHHH", 2, 243, 1, base, 52, 0, 0, 52, 32, 1, 0, 0, 0)
-    return head + struct.pack("<8I", 1, 84, base, base, len(code), len(code), 7, 1) + code
-
-
 def number_words(register, value):
     """A register gets a number."""
     return [upper_word(register, value + 0x800 >> 12), immediate_word(0, register, register, value)]
@@ -175,7 +167,7 @@ def edge_guest(dice):
         else:
             code.append(dice.getrandbits(32))
     code += [*number_words(10, 3), *number_words(17, 93), ECALL]
-    return program_file(base, code)
+    return plain_file(packed([word & 0xFFFFFFFF for word in code]), base)
 
 
 class Corpus:

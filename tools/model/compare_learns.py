@@ -21,13 +21,13 @@ from compare_measures import Folder, keep
 from cuts import Cut, read_regions
 from guest import Image, Region
 from learns import regions_text
+from program_files import BASE, plain_file
 from refusals import MOST_RANGES
 from trial_regions import region_file
 from trials import random_guest, spelled, usual_options
 from verdicts import MOST_BUDGET, USUAL_TURNS, real_run
 from ways import ways_program
 from words import ECALL, Writer, immediate_word, store_word
-from worked_trial import CODE, plain_file
 
 MOST_LEFT_OUT, FEW_LEFT_OUT = 400, 20
 DATA, POINTER, LEFT = 0x80000, 6, 5
@@ -38,7 +38,7 @@ WIDE = [(63, 2, 0, 1), (64, 2, 0, 1), (65, 2, 0, 1), (16_384, 4, 2, 1), (64, 2, 
 
 def wide_trial(dice):
     """A guest with loops that write about as many ranges or bytes, or make as long a text, as there may be."""
-    program, regions = Writer(dice, CODE, DATA), []
+    program, regions = Writer(dice, BASE, DATA), []
     count, stride, minor, loops = dice.choice(WIDE)
     for number in range(1, loops + 1):
         program.put_number(POINTER, DATA + 256 * number)

@@ -3,8 +3,9 @@ the answer of `bound` to each, worked out by hand."""
 import json
 
 from cuts import Cut
+from program_files import BASE, plain_file
 from words import ADD, ECALL, LOAD, XOR, Writer, immediate_word, register_word
-from worked_trial import CODE, number_word, plain_file
+from worked_trial import number_word
 
 ANSWER, BUFFER, COUNT, NUMBER, KEPT, TAKEN, SPARE = 10, 11, 12, 17, 8, 6, 7
 BACK, DATA = (0x20, 0), 0x80
@@ -13,7 +14,7 @@ FOUND = "bounded secret 1 regions {} paths {} stopped {} outputs {} bits {}\n"
 
 def begin():
     """A guest that has read a secret byte into a register and holds 5 in another."""
-    writer = Writer(None, CODE, 0)
+    writer = Writer(None, BASE, 0)
     writer.put(number_word(ANSWER, 3), DATA << 12 | BUFFER << 7 | 0x37, number_word(COUNT, 1), number_word(NUMBER, 63))
     writer.put(ECALL, immediate_word(4, TAKEN, BUFFER, 0, LOAD), number_word(KEPT, 5))
     return writer

@@ -1,10 +1,10 @@
 """Random trials of `measure`: the files and the words behind the command; a seed alone determines them."""
 import random
-import struct
 
+from program_files import packed, plain_file
 from trials import random_guest, spelled, usual_options
 from words import ECALL, LOAD, immediate_word, upper_word
-from worked_trial import number_word, plain_file
+from worked_trial import number_word
 
 WIDE_POINTS = 32_768
 
@@ -15,7 +15,7 @@ def wide_guest(dice):
     words += [immediate_word(4, 5, 11, 0, LOAD)]
     words += [immediate_word(0, 5, 5, 0)] * (WIDE_POINTS + dice.randint(-2, 1))
     words += [number_word(10, 0), number_word(17, 93), ECALL if dice.random() < 0.9 else 0]
-    return {"program": plain_file(struct.pack(f"<{len(words)}I", *words)), "public": b"", "secret": b"\x5a"}
+    return {"program": plain_file(packed(words)), "public": b"", "secret": b"\x5a"}
 
 
 def measure_trial(seed):

@@ -1,9 +1,8 @@
 """Whole random programs, and their program files in many shapes."""
-import struct
-
 from carriers import Carriers
 from forks import Forks
 from instructions import ALL
+from program_files import HEAD_SIZE, HEADER_SIZE, file_head, load_header, packed
 from words import store_word
 
 ROOM = 0x400
@@ -134,14 +133,14 @@ def other_header(dice):
     fields = [dice.choice(OTHER_HEADERS)] + [dice.randrange(1 << 32) for _ in range(7)]
     if dice.random() < 0.25:
         fields[0], fields[5] = 1, 0
-    return struct.pack("<8I", *fields)
+    return packed(fields)
 
 
-def load_header(dice, place, segment):
+def any_load_header(dice, place, segment):
     """The program header of a load."""
     address, data, length = segment
     free = dice.randrange(1 << 32), dice.randrange(1 << 32), dice.choice([0, 1, 4096, 3])
-    return struct.pack("<8I", 1, place, address, free[0], len(data), length, *free[1:])
+    return load_header(place, address, len(data), length, free)
 
 
 def program_file(dice, segments, entry):
@@ -150,19 +149,17 @@ def program_file(dice, segments, entry):
     segments = dice.sample(segments, len(segments))
     others, gap = dice.choice([0, 0, 1, 3]), dice.choice([0, 0, 5, 52, 100])
     is_behind = dice.random() < 0.3
-    size = 32 * (len(segments) + others)
-    begin = 52 + gap + (0 if is_behind else size)
+    size = HEADER_SIZE * (len(segments) + others)
+    begin = HEAD_SIZE + gap + (0 if is_behind else size)
     data, headers = b"", []
     for segment in segments:
-        headers.append(load_header(dice, begin + len(data), segment))
+        headers.append(any_load_header(dice, begin + len(data), segment))
         data += segment[1] + bytes(dice.choice([0, 0, 3, 7]))
     headers += [other_header(dice) for _ in range(others)]
     table = b"".join(dice.sample(headers, len(headers)))
-    place = begin + len(data) if is_behind else 52 + gap
+    place = begin + len(data) if is_behind else HEAD_SIZE + gap
     rest = random_bytes(dice, gap) + (data + table if is_behind else table + data)
     free = [dice.randrange(1 << 16) for _ in range(4)]
-    head = b"\x7fELF\x01\x01\x01" + random_bytes(dice, 9) + struct.pack(
-        "<HHIIIIIHHHHHH", 2, 243, dice.randrange(1 << 32), entry, place, dice.randrange(1 << 32),
-        dice.randrange(1 << 31) * 2, free[0], 32, len(headers), *free[1:],
-    )
-    return head + rest
+    identity, version = random_bytes(dice, 9), dice.randrange(1 << 32)
+    sections, flags = dice.randrange(1 << 32), dice.randrange(1 << 31) * 2
+    return file_head(entry, place, len(headers), identity, version, sections, flags, free) + rest

@@ -14,7 +14,7 @@ import sys
 import time
 
 from answers import OPTIONS, answer_to
-from worked_trial import plain_file
+from program_files import plain_file
 
 
 def content(spec):

@@ -1,7 +1,6 @@
 """The words of instructions, and a program that is written word by word with labels."""
-import struct
-
 from instructions import ALL, sign_extended
+from program_files import packed
 
 ECALL, EBREAK = 0x73, 0x100073
 ARITHMETIC, ARITHMETIC_IMMEDIATE, LOAD, JALR, LUI, AUIPC = 0x33, 0x13, 0x03, 0x67, 0x37, 0x17
@@ -88,4 +87,4 @@ class Writer:
         """The bytes of the program, every label of which has its place."""
         for label, (index, word) in enumerate(self.pending):
             self.words[index] = word(self.labels[label] - self.code - 4 * index)
-        return struct.pack(f"<{len(self.words)}I", *self.words)
+        return packed(self.words)

@@ -1,19 +1,11 @@
 """The command `trial`: a program and a secret of a number, measured and then checked with their own cut."""
-import struct
-
 from guest import Image
 from measures import Measured
+from program_files import packed, plain_file
 from verdicts import USUAL_TURNS, judge
 from words import ECALL, LOAD, immediate_word, store_word, upper_word
 
-CODE, ANSWER, BUFFER, COUNT, NUMBER, TAKEN = 0x10000, 10, 11, 12, 17, 6
-
-
-def plain_file(body, address=CODE):
-    """The program file of one load, which begins with its entry."""
-    head = b"\x7fELF\x01\x01\x01" + bytes(9)
-    head += struct.pack("<HHIIIIIHHHHHH", 2, 243, 1, address, 52, 0, 0, 52, 32, 1, 0, 0, 0)
-    return head + struct.pack("<8I", 1, 84, address, address, len(body), len(body), 7, 1) + body
+ANSWER, BUFFER, COUNT, NUMBER, TAKEN = 10, 11, 12, 17, 6
 
 
 def number_word(register, number):
@@ -45,7 +37,7 @@ def trial_line(number):
     """The text of `trial`."""
     length = 1 + number % 2000
     words, secret = trial_words(number, length), trial_secret(number, length)
-    image = Image(plain_file(struct.pack(f"<{len(words)}I", *words)))
+    image = Image(plain_file(packed(words)))
     measured = Measured(image, b"", secret, [], 1, USUAL_TURNS)
     cut = measured.cut()
     judged = judge(image, b"", secret, [], cut, measured.bits, USUAL_TURNS)

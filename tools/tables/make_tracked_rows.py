@@ -22,7 +22,7 @@ from guest import Image, RealGuest, shown
 from labels import Labels
 from measures import MeasuredRun, Refused
 from passings import CLEAN, IMPLICIT, OUT, SECRET
-from worked_trial import plain_file
+from program_files import plain_file
 
 TOOLS = "riscv64-unknown-elf-"
 
