@@ -6,31 +6,15 @@ compares status and text with those of the model. With --patterns most cuts are 
 the acceptance of each short run is computed by its definition as well. Prints how many secrets had each verdict and
 reason and how many let bits cross at each slot, and last how many trials agree and differ. The files and words of those
 that differ are kept in a folder that is named; then the status is 1. Python 3 only."""
-import argparse
 import collections
-import json
-import pathlib
-import subprocess
 import sys
 import tempfile
 
-from cuts import slot_order
+from comparing import Differing, Folder, family, parser_of, seeds_of, show_counts, show_slots
 from trials import random_trial
 from verdicts import Command, answer
 
-SECONDS, DEFINED_EACH, DEFINED_TURNS = 300, 20, 250
-
-
-def run(executable, files, words):
-    """The status and the text of the built program."""
-    with tempfile.TemporaryDirectory() as folder:
-        for name, data in files.items():
-            pathlib.Path(folder, name).write_bytes(data)
-        try:
-            done = subprocess.run([executable, "check", *words], cwd=folder, capture_output=True, timeout=SECONDS)
-        except subprocess.TimeoutExpired:
-            return None, f"no answer within {SECONDS} seconds"
-    return done.returncode, done.stdout.decode(errors="replace")
+DEFINED_EACH, DEFINED_TURNS = 20, 250
 
 
 def reason(judged):
@@ -56,17 +40,6 @@ def reason(judged):
     return " ".join(begin)
 
 
-def keep(folder, seed, files, words, texts):
-    """Keeps a trial that differs, with its words and both answers."""
-    place = folder / str(seed)
-    place.mkdir()
-    for name, data in files.items():
-        (place / name).write_bytes(data)
-    (place / "words.json").write_text(json.dumps(["check", *words]))
-    for name, (status, text) in texts.items():
-        (place / name).write_text(f"status {status}\n{text}")
-
-
 class Counts:
     """What the trials had."""
 
@@ -77,7 +50,7 @@ class Counts:
         """Counts the judgements of a trial."""
         for judged in judgements:
             self.reasons[reason(judged)] += 1
-            slots = {slot if slot[0] not in "xr" or slot == "rs" else slot[0] + "N" for slot in judged.slots}
+            slots = {family(slot) for slot in judged.slots}
             self.slots.update(slots)
             self.others["secrets"] += 1
             self.others["judged past the leave of a region"] += "leave" in judged.kinds
@@ -88,48 +61,39 @@ class Counts:
 
     def show(self):
         """Prints the counts."""
-        for name in sorted(self.reasons):
-            print(f"{self.reasons[name]:8} {name}")
-        for slot in sorted(self.slots, key=lambda slot: slot_order(slot.replace("N", "0"))):
-            print(f"{self.slots[slot]:8} with bits at {slot}, accepted {self.accepted_slots[slot]}")
-        for name in sorted(self.others):
-            print(f"{self.others[name]:8} {name}")
+        show_counts(self.reasons)
+        show_slots(self.slots, lambda slot: f"with bits at {slot}, accepted {self.accepted_slots[slot]}")
+        show_counts(self.others)
 
 
-def compare(executable, seeds, has_patterns):
-    """Compares the trials of the seeds; how many differ."""
-    counts, differing, folder = Counts(), 0, None
-    for seed in seeds:
-        files, words = random_trial(seed, has_patterns)
-        command = Command(files, words)
+def compare(words):
+    """Compares the trials; the status."""
+    counts, differing = Counts(), Differing("model")
+    for seed in seeds_of(words):
+        files, check = random_trial(seed, words.patterns)
+        command = Command(files, check)
         judgements = command.judgements()
         counts.add(judgements)
-        expected, given, wrong = answer(judgements, command.budget), run(executable, files, words), 0
+        with tempfile.TemporaryDirectory() as path:
+            given = Folder(words.executable, path, files).run("check", *check)
+        expected, texts = answer(judgements, command.budget), []
+        if expected != given:
+            texts.append(f"{given} for {expected}")
         if seed % DEFINED_EACH == 0:
             tried, wrong = command.disagreements(judgements, DEFINED_TURNS)
             counts.others["judged by the definition of acceptance too"] += tried
-        if expected != given or wrong:
-            differing += 1
-            folder = folder or pathlib.Path(tempfile.mkdtemp(prefix="flowcheck-model-"))
-            keep(folder, seed, files, words, {"model.txt": expected, "program.txt": given})
-            print(f"trial {seed} differs", flush=True)
+            texts += [f"judged otherwise by the definition of acceptance: {wrong}"] if wrong else []
+        if texts:
+            differing.keep(seed, files, ["check", *check], texts, {"model": expected, "program": given})
     counts.show()
-    if folder:
-        print(f"the trials that differ are in {folder}")
-    print(f"{len(seeds) - differing} agree, {differing} differ")
-    return differing
+    return differing.show(words.count)
 
 
 def main():
     """Reads the words of the command."""
-    parser = argparse.ArgumentParser(description=__doc__, formatter_class=argparse.RawDescriptionHelpFormatter)
-    parser.add_argument("executable", type=pathlib.Path)
-    parser.add_argument("--first", type=int, default=1, metavar="SEED")
-    parser.add_argument("--count", type=int, default=400, metavar="N")
+    parser = parser_of(__doc__, wants_program=True)
     parser.add_argument("--patterns", action="store_true")
-    words = parser.parse_args()
-    seeds = range(words.first, words.first + words.count)
-    return int(compare(words.executable.resolve(), seeds, words.patterns) > 0)
+    return compare(parser.parse_args())
 
 
 if __name__ == "__main__":

@@ -13,18 +13,16 @@ and its `check` of the same secrets.
 
 Prints what the trials had, and last how many agree and differ. The files and words of those that differ are kept in a
 folder that is named; then the status is 1."""
-import argparse
 import collections
-import pathlib
 import random
 import sys
 import tempfile
 
 from answers import USUAL_PATHS, read_words
 from bounds import Bounds, Task, stands_for
-from compare_measures import Folder, family, keep
 from compare_taints import spoilt
-from cuts import Cut, point_order, read_cut, read_regions, slot_order
+from comparing import Differing, Folder, family, parser_of, seeds_of, show_counts, show_slots
+from cuts import Cut, point_order, read_cut, read_regions
 from guest import Image
 from kept_guests import kept_trials
 from manys import Many
@@ -127,8 +125,8 @@ class Comparison:
     """A comparison of trials."""
 
     def __init__(self, words):
-        self.words, self.counts, self.slots, self.differing = words, collections.Counter(), collections.Counter(), 0
-        self.folder = None
+        self.words, self.counts, self.slots = words, collections.Counter(), collections.Counter()
+        self.differing = Differing("bounds")
 
     def count(self, bounds):
         """Counts the answer of a trial."""
@@ -185,7 +183,7 @@ class Comparison:
         _, plain, options = read_words(words)
         with tempfile.TemporaryDirectory() as path:
             named = {f"secret{number}": secret for number, secret in enumerate(secrets, 1)}
-            folder = Folder(self.words.executable.resolve(), path, files | named)
+            folder = Folder(self.words.executable, path, files | named)
             expected, given = bounds.text("--list" in options), folder.run(*words)
             if given != expected:
                 yield f"bound: {given} for {expected}"
@@ -214,36 +212,25 @@ class Comparison:
             self.counts[f"without a point: {kind_of(less)}"] += 1
             texts += self.program_wrongs(without, words, less, [], []) if self.words.executable else []
         if texts:
-            self.differing += 1
-            self.folder = self.folder or pathlib.Path(tempfile.mkdtemp(prefix="flowcheck-bounds-"))
-            keep(self.folder, name, files, words, texts)
-            print(f"trial {name} differs: {texts[0][:300]}", flush=True)
+            self.differing.keep(name, files, words, texts)
 
     def make(self):
-        """Makes all trials; how many differ."""
+        """Makes all trials; the status."""
         by_hand = kept_trials()
         for name, files, words, expected in by_hand:
             self.try_trial(name, files, words, expected)
-        for seed in range(self.words.first, self.words.first + self.words.count):
+        for seed in seeds_of(self.words):
             self.try_trial(str(seed), *bound_trial(seed))
-        for name in sorted(self.counts):
-            print(f"{self.counts[name]:8} {name}")
-        for slot in sorted(self.slots, key=lambda slot: slot_order(slot.replace("N", "0"))):
-            print(f"{self.slots[slot]:8} bounded with {slot} in the cut")
-        if self.folder:
-            print(f"the trials that differ are in {self.folder}")
-        print(f"{self.words.count + len(by_hand) - self.differing} agree, {self.differing} differ")
-        return self.differing
+        show_counts(self.counts)
+        show_slots(self.slots, lambda slot: f"bounded with {slot} in the cut")
+        return self.differing.show(self.words.count + len(by_hand))
 
 
 def main():
     """Reads the words of the command."""
-    parser = argparse.ArgumentParser(description=__doc__, formatter_class=argparse.RawDescriptionHelpFormatter)
-    parser.add_argument("executable", type=pathlib.Path, nargs="?")
-    parser.add_argument("--first", type=int, default=1, metavar="SEED")
-    parser.add_argument("--count", type=int, default=400, metavar="N")
+    parser = parser_of(__doc__)
     parser.add_argument("--secrets", type=int, default=50, metavar="N")
-    return int(Comparison(parser.parse_args()).make() > 0)
+    return Comparison(parser.parse_args()).make()
 
 
 if __name__ == "__main__":

@@ -8,16 +8,14 @@ must answer as the model does, and its `check` must say the same of what is left
 
 Prints what the trials had, and last how many agree and differ. The files and words of those that differ are kept in a
 folder that is named; then the status is 1."""
-import argparse
 import collections
-import pathlib
 import random
 import re
 import sys
 import tempfile
 
 from answers import answer_to
-from compare_measures import Folder, keep
+from comparing import Differing, Folder, parser_of, seeds_of, show_counts
 from cuts import Cut, read_regions
 from guest import Image, Region
 from learns import regions_text
@@ -163,7 +161,7 @@ def judged_by_program(minimal, executable):
     def judge(files):
         """The text of `check`."""
         with tempfile.TemporaryDirectory() as path:
-            return Folder(executable.resolve(), path, files).run(*minimal.words)[1]
+            return Folder(executable, path, files).run(*minimal.words)[1]
 
     return judge
 
@@ -172,12 +170,12 @@ class Comparison:
     """A comparison of trials."""
 
     def __init__(self, words):
-        self.words, self.counts, self.differing, self.folder = words, collections.Counter(), 0, None
+        self.words, self.counts, self.differing = words, collections.Counter(), Differing("learns")
 
     def wrongs(self, files, words, expected):
         """What is wrong with the answers of the program to a trial."""
         with tempfile.TemporaryDirectory() as path:
-            given = Folder(self.words.executable.resolve(), path, files).run("learn", *words)
+            given = Folder(self.words.executable, path, files).run("learn", *words)
         if given != expected:
             yield f"learn: {given} for {expected}"
 
@@ -199,10 +197,7 @@ class Comparison:
         if expected[0] == 0 and seed % self.words.minimal_each == 0:
             texts += self.minimal_wrongs(seed, files, words, expected[1])
         if texts:
-            self.differing += 1
-            self.folder = self.folder or pathlib.Path(tempfile.mkdtemp(prefix="flowcheck-learns-"))
-            keep(self.folder, seed, files, ["learn", *words], texts)
-            print(f"trial {seed} differs: {texts[0][:300]}", flush=True)
+            self.differing.keep(seed, files, ["learn", *words], texts)
 
     def count(self, status, text):
         """Counts an answer."""
@@ -218,25 +213,18 @@ class Comparison:
         self.counts["with several ranges"] += any(len(region.ranges) > 1 for region in regions)
 
     def make(self):
-        """Makes all trials; how many differ."""
-        for seed in range(self.words.first, self.words.first + self.words.count):
+        """Makes all trials; the status."""
+        for seed in seeds_of(self.words):
             self.try_seed(seed)
-        for name in sorted(self.counts):
-            print(f"{self.counts[name]:8} {name}")
-        if self.folder:
-            print(f"the trials that differ are in {self.folder}")
-        print(f"{self.words.count - self.differing} agree, {self.differing} differ")
-        return self.differing
+        show_counts(self.counts)
+        return self.differing.show(self.words.count)
 
 
 def main():
     """Reads the words of the command."""
-    parser = argparse.ArgumentParser(description=__doc__, formatter_class=argparse.RawDescriptionHelpFormatter)
-    parser.add_argument("executable", type=pathlib.Path, nargs="?")
-    parser.add_argument("--first", type=int, default=1, metavar="SEED")
-    parser.add_argument("--count", type=int, default=400, metavar="N")
+    parser = parser_of(__doc__)
     parser.add_argument("--minimal-each", type=int, default=5, metavar="N")
-    return int(Comparison(parser.parse_args()).make() > 0)
+    return Comparison(parser.parse_args()).make()
 
 
 if __name__ == "__main__":

@@ -9,17 +9,16 @@ number.
 
 Prints what the trials had, and last how many agree and differ. The files and words of those that differ are kept in a
 folder that is named; then the status is 1."""
-import argparse
 import collections
-import pathlib
 import random
 import sys
 import tempfile
 
 import flows
 from answers import Ended, cut_text, many_of, measured_of, read_words
-from compare_measures import Folder, family, keep, without_options
-from cuts import read_cut, slot_order
+from compare_measures import without_options
+from comparing import Differing, Folder, family, parser_of, seeds_of, show_counts, show_slots
+from cuts import read_cut
 from trials import random_guest, spelled, usual_options
 from verdicts import Command
 from ways import ways_program
@@ -43,8 +42,8 @@ class Comparison:
     """A comparison of trials."""
 
     def __init__(self, words):
-        self.words, self.counts, self.slots, self.differing = words, collections.Counter(), collections.Counter(), 0
-        self.folder = None
+        self.words, self.counts, self.slots = words, collections.Counter(), collections.Counter()
+        self.differing = Differing("manys")
 
     def count(self, many, single):
         """Counts what is measured."""
@@ -102,34 +101,22 @@ class Comparison:
             self.counts[f"refused {' '.join(expected[1].split()[2:5:2])}"] += 1
         if self.words.executable:
             with tempfile.TemporaryDirectory() as path:
-                texts += self.program_wrongs(Folder(self.words.executable.resolve(), path, files), words, expected)
+                texts += self.program_wrongs(Folder(self.words.executable, path, files), words, expected)
         if texts:
-            self.differing += 1
-            self.folder = self.folder or pathlib.Path(tempfile.mkdtemp(prefix="flowcheck-manys-"))
-            keep(self.folder, seed, files, ["measure-all", *words], texts)
-            print(f"trial {seed} differs: {texts[0][:300]}", flush=True)
+            self.differing.keep(seed, files, ["measure-all", *words], texts)
 
     def make(self):
-        """Makes all trials; how many differ."""
-        for seed in range(self.words.first, self.words.first + self.words.count):
+        """Makes all trials; the status."""
+        for seed in seeds_of(self.words):
             self.try_seed(seed)
-        for name in sorted(self.counts):
-            print(f"{self.counts[name]:8} {name}")
-        for slot in sorted(self.slots, key=lambda slot: slot_order(slot.replace("N", "0"))):
-            print(f"{self.slots[slot]:8} with {slot} in the cut")
-        if self.folder:
-            print(f"the trials that differ are in {self.folder}")
-        print(f"{self.words.count - self.differing} agree, {self.differing} differ")
-        return self.differing
+        show_counts(self.counts)
+        show_slots(self.slots, lambda slot: f"with {slot} in the cut")
+        return self.differing.show(self.words.count)
 
 
 def main():
     """Reads the words of the command."""
-    parser = argparse.ArgumentParser(description=__doc__, formatter_class=argparse.RawDescriptionHelpFormatter)
-    parser.add_argument("executable", type=pathlib.Path, nargs="?")
-    parser.add_argument("--first", type=int, default=1, metavar="SEED")
-    parser.add_argument("--count", type=int, default=400, metavar="N")
-    return int(Comparison(parser.parse_args()).make() > 0)
+    return Comparison(parser_of(__doc__).parse_args()).make()
 
 
 if __name__ == "__main__":

@@ -13,12 +13,8 @@ and now and then that of `trial`.
 
 Prints what the trials had, and last how many agree and differ. The files and words of those that differ are kept in a
 folder that is named; then the status is 1."""
-import argparse
 import collections
-import json
-import pathlib
 import random
-import subprocess
 import sys
 import tempfile
 import time
@@ -26,30 +22,14 @@ import time
 import flows
 from answers import Ended, measured_of, run_text
 from certificates import verify, without_flows
-from cuts import read_cut, slot_order
+from comparing import Differing, Folder, family, parser_of, seeds_of, show_counts, show_slots
+from cuts import read_cut
 from measure_checks import Guest, narrowing_wrongs, wrongs
 from measure_trials import measure_trial, measure_words
 from verdicts import answer
 from worked_trial import trial_line
 
-SECONDS, THOROUGH_EACH, TRIAL_EACH = 300, 10, 20
-
-
-class Folder:
-    """A trial's files in a folder, in which the program runs."""
-
-    def __init__(self, executable, path, files):
-        self.executable, self.path = executable, pathlib.Path(path)
-        for name, data in files.items():
-            (self.path / name).write_bytes(data)
-
-    def run(self, *words):
-        """The status and the text of the program on these words."""
-        try:
-            done = subprocess.run([self.executable, *words], cwd=self.path, capture_output=True, timeout=SECONDS)
-        except subprocess.TimeoutExpired:
-            return None, f"no answer within {SECONDS} seconds"
-        return done.returncode, done.stdout.decode(errors="replace")
+THOROUGH_EACH, TRIAL_EACH = 10, 20
 
 
 def model_answer(measured, command, options):
@@ -129,11 +109,6 @@ def kind_of(refusal):
     return f"region {words[2]}"
 
 
-def family(slot):
-    """A slot; those of registers and of ranges are one each."""
-    return slot if slot == "rs" or slot[0] not in "xr" else slot[0] + "N"
-
-
 class Counts:
     """What the trials had."""
 
@@ -158,22 +133,9 @@ class Counts:
 
     def show(self):
         """Prints the counts."""
-        for name in sorted(self.endings):
-            print(f"{self.endings[name]:8} {name}")
-        for slot in sorted(self.passed, key=lambda slot: slot_order(slot.replace("N", "0"))):
-            print(f"{self.passed[slot]:8} with secret bits at {slot}, in the cut {self.cut[slot]}")
-        for name in sorted(self.others):
-            print(f"{self.others[name]:8} {name}")
-
-
-def keep(folder, seed, files, words, texts):
-    """Keeps a trial that differs, with its words and what is wrong."""
-    place = folder / str(seed)
-    place.mkdir()
-    for name, data in files.items():
-        (place / name).write_bytes(data)
-    (place / "words.json").write_text(json.dumps(words))
-    (place / "wrong.txt").write_text("\n".join(texts) + "\n")
+        show_counts(self.endings)
+        show_slots(self.passed, lambda slot: f"with secret bits at {slot}, in the cut {self.cut[slot]}")
+        show_counts(self.others)
 
 
 class Narrowing:
@@ -204,7 +166,7 @@ class Comparison:
     """A comparison of trials."""
 
     def __init__(self, words):
-        self.words, self.counts, self.differing, self.folder = words, {1: Counts(), 2: Counts()}, 0, None
+        self.words, self.counts, self.differing = words, {1: Counts(), 2: Counts()}, Differing("measures")
         self.narrowing = Narrowing()
 
     def options_of(self, seed, options):
@@ -237,47 +199,34 @@ class Comparison:
         if self.words.executable:
             measured = results[int(dict(options).get("--rules", 1))]
             with tempfile.TemporaryDirectory() as path:
-                folder = Folder(self.words.executable.resolve(), path, files)
+                folder = Folder(self.words.executable, path, files)
                 texts += program_wrongs(folder, guest, measured, dict(options), words, self.words.reports)
                 if self.words.reports and seed % TRIAL_EACH == 0:
                     texts += trial_wrongs(folder, seed)
         if texts:
-            self.differ(seed, files, words, texts)
-
-    def differ(self, seed, files, words, texts):
-        """Counts and keeps a trial that differs."""
-        self.differing += 1
-        self.folder = self.folder or pathlib.Path(tempfile.mkdtemp(prefix="flowcheck-measures-"))
-        keep(self.folder, seed, files, words, texts)
-        print(f"trial {seed} differs: {texts[0][:300]}", flush=True)
+            self.differing.keep(seed, files, words, texts)
 
     def make(self):
-        """Makes all trials; how many differ."""
-        begin, count = time.monotonic(), self.words.count
+        """Makes all trials; the status."""
+        begin = time.monotonic()
         if not flows.networkx:
             print("flows are not compared with those of networkx, which is not there")
-        for seed in range(self.words.first, self.words.first + count):
+        for seed in seeds_of(self.words):
             self.try_seed(seed)
         for table, counts in self.counts.items():
             print(f"by table {table}:")
             counts.show()
         self.narrowing.show()
-        if self.folder:
-            print(f"the trials that differ are in {self.folder}")
-        print(f"{1000 * (time.monotonic() - begin) / max(count, 1):.0f} milliseconds for each trial")
-        print(f"{count - self.differing} agree, {self.differing} differ")
-        return self.differing
+        print(f"{1000 * (time.monotonic() - begin) / max(self.words.count, 1):.0f} milliseconds for each trial")
+        return self.differing.show(self.words.count)
 
 
 def main():
     """Reads the words of the command."""
-    parser = argparse.ArgumentParser(description=__doc__, formatter_class=argparse.RawDescriptionHelpFormatter)
-    parser.add_argument("executable", type=pathlib.Path, nargs="?")
-    parser.add_argument("--first", type=int, default=1, metavar="SEED")
-    parser.add_argument("--count", type=int, default=400, metavar="N")
+    parser = parser_of(__doc__)
     for flag in ("--rules", "--cut", "--reports"):
         parser.add_argument(flag, action="store_true")
-    return int(Comparison(parser.parse_args()).make() > 0)
+    return Comparison(parser.parse_args()).make()
 
 
 if __name__ == "__main__":

@@ -8,16 +8,14 @@ the model does, and its `check` must accept each clean secret with the same bits
 
 Prints how many secrets had each finding and reason and how many let bits cross at each slot, and last how many trials
 agree and differ. The files and words of those that differ are kept in a folder that is named; then the status is 1."""
-import argparse
 import collections
-import pathlib
 import random
 import sys
 import tempfile
 
 from answers import findings_of, read_words
-from compare_measures import Folder, family, keep
-from cuts import places_of, point_order, read_cut, read_regions, slot_order, slot_width
+from comparing import Differing, Folder, family, parser_of, seeds_of, show_counts, show_slots
+from cuts import places_of, point_order, read_cut, read_regions, slot_width
 from measures import Measured, Refused
 from taints import taint_answer
 from trial_cuts import joined
@@ -126,12 +124,9 @@ class Counts:
 
     def show(self):
         """Prints the counts."""
-        for name in sorted(self.reasons):
-            print(f"{self.reasons[name]:8} {name}")
-        for slot in sorted(self.slots, key=lambda slot: slot_order(slot.replace("N", "0"))):
-            print(f"{self.slots[slot]:8} clean with bits at {slot}")
-        for name in sorted(self.others):
-            print(f"{self.others[name]:8} {name}")
+        show_counts(self.reasons)
+        show_slots(self.slots, lambda slot: f"clean with bits at {slot}")
+        show_counts(self.others)
 
 
 def model_wrongs(found, judgements):
@@ -161,34 +156,24 @@ def trial_wrongs(seed, executable, counts):
     wrongs = list(model_wrongs(found, judgements))
     if executable:
         with tempfile.TemporaryDirectory() as path:
-            wrongs += program_wrongs(Folder(executable.resolve(), path, files), found, budget, words, rules)
+            wrongs += program_wrongs(Folder(executable, path, files), found, budget, words, rules)
     return files, ["taint", *words, *rules], wrongs
 
 
 def compare(words):
-    """Compares the trials; how many differ."""
-    counts, differing, folder = Counts(), 0, None
-    for seed in range(words.first, words.first + words.count):
+    """Compares the trials; the status."""
+    counts, differing = Counts(), Differing("taints")
+    for seed in seeds_of(words):
         files, command, wrongs = trial_wrongs(seed, words.executable, counts)
         if wrongs:
-            differing += 1
-            folder = folder or pathlib.Path(tempfile.mkdtemp(prefix="flowcheck-taints-"))
-            keep(folder, seed, files, command, wrongs)
-            print(f"trial {seed} differs: {wrongs[0][:300]}", flush=True)
+            differing.keep(seed, files, command, wrongs)
     counts.show()
-    if folder:
-        print(f"the trials that differ are in {folder}")
-    print(f"{words.count - differing} agree, {differing} differ")
-    return differing
+    return differing.show(words.count)
 
 
 def main():
     """Reads the words of the command."""
-    parser = argparse.ArgumentParser(description=__doc__, formatter_class=argparse.RawDescriptionHelpFormatter)
-    parser.add_argument("executable", type=pathlib.Path, nargs="?")
-    parser.add_argument("--first", type=int, default=1, metavar="SEED")
-    parser.add_argument("--count", type=int, default=400, metavar="N")
-    return int(compare(parser.parse_args()) > 0)
+    return compare(parser_of(__doc__).parse_args())
 
 
 if __name__ == "__main__":

@@ -1,3 +1,4 @@
+#!/usr/bin/env python3
 """The model as a command: answers a command line as `flowcheck` would, from files on the disk.
 
 Call: flowcheck.py WORDS, as of the program. It knows `check`, `taint`, `measure`, `measure-all`, `graph`, `report`,

@@ -1,9 +1,9 @@
 """One cut for several runs: the union of what they pass, its maximum flow, and the cut."""
-from cuts import Cut, point_order
+from cuts import Cut
 from flows import solve
 from guest import RealGuest
 from measures import MeasuredRun, Refused, leaves_region
-from passings import POINT, RELAY, Graph
+from passings import Collapsed
 
 MOST_VALUE = 1 << 20
 
@@ -27,27 +27,15 @@ def united_runs(first, second):
     return joined
 
 
-class United:
+class United(Collapsed):
     """The passings of several runs: for each point the union of its masks visit by visit, and all links."""
 
     def __init__(self, passings):
-        self.runs, self.links = {}, set()
+        super().__init__()
         for one in passings:
             self.links |= one.links
             for point, runs in one.runs.items():
                 self.runs[point] = united_runs(self.runs.get(point, []), runs)
-
-    def capacity(self, point):
-        """How many secret bits the united masks of a point have."""
-        return sum(count * mask.bit_count() for count, mask in self.runs[point])
-
-    def graph(self):
-        """The graph."""
-        points = sorted((point for point in self.runs if self.capacity(point)), key=point_order)
-        places = {point: (POINT, place) for place, point in enumerate(points)}
-        links = [tuple(places[end[1]] if end[0] == POINT else end for end in link) for link in self.links]
-        relays = {end[1] for link in links for end in link if end[0] == RELAY}
-        return Graph(points, [self.capacity(point) for point in points], sorted(relays), sorted(links))
 
 
 class Many:

@@ -21,11 +21,27 @@ class Graph:
         return len(self.points) > MOST_POINTS or len(self.links) > MOST_LINKS or is_wide
 
 
-class Passings:
-    """The passings so far: for each point its masks as runs [count, mask], and the set of all links."""
+class Collapsed:
+    """What has passed by points: for each point its masks as runs (count, mask), and the set of all links."""
 
     def __init__(self):
         self.runs, self.links = {}, set()
+
+    def capacity(self, point):
+        """How many secret bits have passed a point."""
+        return sum(count * mask.bit_count() for count, mask in self.runs[point])
+
+    def graph(self):
+        """The collapsed graph."""
+        points = sorted((point for point in self.runs if self.capacity(point)), key=point_order)
+        places = {point: (POINT, place) for place, point in enumerate(points)}
+        links = [tuple(places[end[1]] if end[0] == POINT else end for end in link) for link in self.links]
+        relays = {end[1] for link in links for end in link if end[0] == RELAY}
+        return Graph(points, [self.capacity(point) for point in points], sorted(relays), sorted(links))
+
+
+class Passings(Collapsed):
+    """The passings of one run so far."""
 
     def add(self, point, mask, sources=(), kind=None):
         """Adds a passing with a mask, linked from labels: of a byte of the secret, of a value that the run betrays by
@@ -46,15 +62,3 @@ class Passings:
         elif kind == OUT:
             self.links.add((region, end))
         return mask, point
-
-    def capacity(self, point):
-        """How many secret bits have passed a point."""
-        return sum(count * mask.bit_count() for count, mask in self.runs[point])
-
-    def graph(self):
-        """The collapsed graph."""
-        points = sorted((point for point in self.runs if self.capacity(point)), key=point_order)
-        places = {point: (POINT, place) for place, point in enumerate(points)}
-        links = [tuple(places[end[1]] if end[0] == POINT else end for end in link) for link in self.links]
-        relays = {end[1] for link in links for end in link if end[0] == RELAY}
-        return Graph(points, [self.capacity(point) for point in points], sorted(relays), sorted(links))
