@@ -50,7 +50,6 @@ STORED = [
     ("crates/compiled_rows/data/pin-gcc.elf", "examples/guests/typed", "examples/guests/pin"),
     ("crates/compiled_rows/data/pin-clang.elf", "examples/guests/typed", "examples/guests/pin"),
     ("examples/bit/program", "examples/bit/public", "examples/bit/secret3"),
-    ("examples/low/program", "examples/low/public", "examples/low/secret"),
 ]
 DEEP = """
 #include "flowcheck.h"
