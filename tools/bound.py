@@ -15,7 +15,6 @@ than were measured, it begins again without a point, and at last with as many pa
   --flowcheck COMMAND  the program; without it crates/flowcheck/out/flowcheck, else `flowcheck`, else the model
 
 Prints the rounds, then in words what is bounded, or why not and what to change. The status is 0 where it is bounded."""
-import argparse
 import os
 import sys
 
@@ -28,6 +27,7 @@ from bounding import Bounding, NoBound, found
 from elf_symbols import ProgramFile
 from refusals import program_fault
 from run_facts import Inputs, read
+from run_words import parser_of
 from source_lines import Places
 
 MOST_LENGTH = 65_536
@@ -36,17 +36,13 @@ OPTIONS = ("regions", "turns", "rules", "paths")
 
 def arguments():
     """The words of the command line."""
-    parser = argparse.ArgumentParser(
-        description=__doc__, usage=argparse.SUPPRESS, formatter_class=argparse.RawDescriptionHelpFormatter
-    )
-    parser.add_argument("program")
+    parser = parser_of(__doc__)
     parser.add_argument("public")
     parser.add_argument("secrets", nargs="+")
     for name in OPTIONS:
         parser.add_argument(f"--{name}")
     parser.add_argument("--rounds", type=int, default=100)
     parser.add_argument("--output", default="bound.cut")
-    parser.add_argument("--flowcheck")
     return parser.parse_intermixed_args()
 
 

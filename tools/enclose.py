@@ -14,7 +14,6 @@ it. Of several that lower it alike the one is kept with which `check` accepts mo
   --flowcheck COMMAND  the program; without it crates/flowcheck/out/flowcheck, else `flowcheck`, else the model
 
 Prints a table of what was kept, and the commands that measure and check with it."""
-import argparse
 import os
 import shlex
 import sys
@@ -31,6 +30,7 @@ from refusals import program_fault
 from region_finding import NoRegion
 from region_joining import Learner, pretty_text
 from run_facts import read
+from run_words import parser_of
 from source_lines import Places
 from verdicts import USUAL_TURNS
 
@@ -43,10 +43,7 @@ MODEL = [sys.executable, os.path.join(HERE, "model", "flowcheck.py")]
 
 def arguments():
     """The words of the command line."""
-    parser = argparse.ArgumentParser(
-        description=__doc__, usage=argparse.SUPPRESS, formatter_class=argparse.RawDescriptionHelpFormatter
-    )
-    parser.add_argument("program")
+    parser = parser_of(__doc__)
     parser.add_argument("public")
     parser.add_argument("secrets", nargs="+")
     parser.add_argument("--most", type=int, default=200)
@@ -54,7 +51,6 @@ def arguments():
     parser.add_argument("--output", default="enclosed.regions")
     parser.add_argument("--turns", type=int, default=USUAL_TURNS)
     parser.add_argument("--rules", choices=["1", "2"])
-    parser.add_argument("--flowcheck")
     return parser.parse_args()
 
 

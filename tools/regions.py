@@ -15,7 +15,6 @@ What is declared is the least that the runs on these secrets need together, as `
 write and give back are kept, others are outputs, and bytes that they write are ranges. Where that makes more than 64
 ranges, the nearest are joined. Standard error says what each secret adds. Give secrets that take different ways: of a
 run on another way nothing is known, and it may break the region."""
-import argparse
 import os
 import sys
 
@@ -28,22 +27,19 @@ from refusals import program_fault
 from region_finding import Calls, NoRegion, enclosures_of
 from region_joining import Declaration, Learner, pretty_text
 from run_facts import read
+from run_words import parser_of
 from source_lines import Places
 from verdicts import USUAL_TURNS
 
 
 def arguments():
     """The words of the command line."""
-    parser = argparse.ArgumentParser(
-        description=__doc__, usage=argparse.SUPPRESS, formatter_class=argparse.RawDescriptionHelpFormatter
-    )
-    parser.add_argument("program")
+    parser = parser_of(__doc__)
     parser.add_argument("names", nargs="+")
     parser.add_argument("--public", default=os.devnull)
     parser.add_argument("--secret", action="append", required=True)
     parser.add_argument("--turns", type=int, default=USUAL_TURNS)
     parser.add_argument("--code", action="store_true")
-    parser.add_argument("--flowcheck")
     return parser.parse_intermixed_args()
 
 
