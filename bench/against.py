@@ -4,13 +4,14 @@
 Times two built programs, one after the other and so on, TIMES times each (5 without the word): `check` over the guests
 of run.py, then `measure` over those of measure.py. Prints for each guest the median of the seconds of either, and how
 much of the old time the new one takes; for `measure` also the most memory of either. Linux with Python 3."""
-import os
 import statistics
 import sys
 import tempfile
+from functools import partial
 
 import measure
 import run
+from timing import in_turns, parser_of
 
 TURNS = 1_900_000
 
@@ -18,37 +19,27 @@ TURNS = 1_900_000
 def compare_checks(programs, times, folder):
     print(f"{'check':24}{'turns':>12}{'old':>10}{'new':>10}{'new / old':>11}")
     for name, guest, secrets in run.rows():
-        seconds = [[], []]
-        for _ in range(times):
-            for program, found in zip(programs, seconds):
-                found.append(run.check(program, folder, guest, secrets)[0])
-        old, new = (statistics.median(found) for found in seconds)
+        tries = in_turns([partial(run.check, program, folder, guest, secrets) for program in programs], times)
+        old, new = (statistics.median(one[0] for one in found) for found in tries)
         print(f"{name:24}{guest.turns * secrets:>12}{old:>8.3f} s{new:>8.3f} s{new / old:>11.2f}", flush=True)
 
 
 def compare_measures(programs, times, folder):
     print(f"{'measure':24}{'turns':>12}{'old':>10}{'new':>10}{'new / old':>11}{'memory of both':>22}")
     for name, guest in measure.rows(TURNS):
-        seconds, memory, cuts = [[], []], [[], []], set()
-        for _ in range(times):
-            for program, found, most in zip(programs, seconds, memory):
-                took, taken, cut = measure.measure_alone(program, folder, guest)
-                found.append(took)
-                most.append(taken)
-                cuts.add(cut)
-        if len(cuts) != 1:
+        tries = in_turns([partial(measure.measure_alone, program, folder, guest) for program in programs], times)
+        if len({cut for found in tries for _, _, cut in found}) != 1:
             raise SystemExit(f"{name}: the programs print different cuts")
-        old, new = (statistics.median(found) for found in seconds)
-        both = f"{max(memory[0]) / 1e6:.1f}, {max(memory[1]) / 1e6:.1f} MB"
+        old, new = (statistics.median(one[0] for one in found) for found in tries)
+        both = ", ".join(f"{max(one[1] for one in found) / 1e6:.1f}" for found in tries) + " MB"
         print(f"{name:24}{guest.turns:>12}{old:>8.3f} s{new:>8.3f} s{new / old:>11.2f}{both:>22}", flush=True)
 
 
 def main():
-    if len(sys.argv) not in (3, 4):
-        print(__doc__, file=sys.stderr)
-        return 2
-    programs = [os.path.abspath(name) for name in sys.argv[1:3]]
-    times = int(sys.argv[3]) if len(sys.argv) == 4 else 5
+    parser = parser_of(__doc__, "old", "new")
+    parser.add_argument("times", type=int, nargs="?", default=5, metavar="TIMES")
+    words = parser.parse_args()
+    programs, times = [words.old, words.new], words.times
     with tempfile.TemporaryDirectory() as folder:
         compare_checks(programs, times, folder)
         compare_measures(programs, times, folder)

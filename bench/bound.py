@@ -7,14 +7,12 @@ output, or each has its own. Each is run so many times (once without the word), 
 for each guest the walks, the turns of a walk, the seconds that a processor worked for the command, the microseconds for
 a walk and the nanoseconds for a turn, and the most memory that it had. Every answer must be bounded, with as many paths
 and outputs as there are. Linux with Python 3."""
-import os
 import pathlib
 import sys
 import tempfile
 
-from measure import prepare
-from run import EXIT, Guest, timed
-from taint import worked
+from run import EXIT, Guest, prepare
+from timing import parser_of, timed, worked
 
 REGISTERS = ["t1", "t2", "t3"]
 
@@ -75,11 +73,10 @@ def bounded(executable, folder, row, times):
 
 
 def main():
-    if len(sys.argv) not in (2, 3):
-        print(__doc__, file=sys.stderr)
-        return 2
-    executable = os.path.abspath(sys.argv[1])
-    times = int(sys.argv[2]) if len(sys.argv) == 3 else 1
+    parser = parser_of(__doc__)
+    parser.add_argument("times", type=int, nargs="?", default=1, metavar="TIMES")
+    words = parser.parse_args()
+    executable, times = words.executable, words.times
     heads = f"{'walks':>10}{'turns':>7}{'seconds':>10}{'a walk':>11}{'a turn':>9}{'memory':>12}"
     print(f"{'bits are chosen':18}{'outputs':>10}{heads}")
     with tempfile.TemporaryDirectory() as folder:

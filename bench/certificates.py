@@ -8,10 +8,11 @@ right one, which is read and verified whole, and one whose last line is left out
 the time of verifying.
 """
 import subprocess
-import sys
 import tempfile
 import time
 from pathlib import Path
+
+from timing import parser_of
 
 
 def certificate():
@@ -27,7 +28,7 @@ def certificate():
 
 
 def main():
-    program = str(Path(sys.argv[1]).resolve())
+    program = parser_of(__doc__, "program").parse_args().program
     text = certificate()
     with tempfile.TemporaryDirectory() as folder:
         (Path(folder) / "whole").write_text(text)

@@ -9,8 +9,8 @@ import pathlib
 import sys
 import tempfile
 
-sys.path.insert(0, os.path.dirname(os.path.abspath(__file__)))
-from run import EXIT, timed
+from run import EXIT, Guest, prepare
+from timing import parser_of, timed
 
 SIZE = 64 << 20
 HEAD = "flowcheck-cut {}\nsecret 1\nbits 0\n"
@@ -44,14 +44,10 @@ def long_list(version):
     return filled(version, [f"point 1 0x00010000 rs {runs}rest {rest(version)}\n"])
 
 
-def main(executable):
+def main():
+    executable = parser_of(__doc__).parse_args().executable
     with tempfile.TemporaryDirectory() as folder:
-        files = {name: f"{folder}/{name}" for name in ("source", "program", "public", "secret", "cut")}
-        pathlib.Path(files["source"]).write_text("\n".join(EXIT) + "\n")
-        pathlib.Path(files["public"]).write_bytes(b"")
-        pathlib.Path(files["secret"]).write_bytes(b"a")
-        timed([executable, "asm", files["source"]], folder)
-        pathlib.Path(files["program"]).write_bytes(pathlib.Path(f"{folder}/put").read_bytes())
+        files, _ = prepare(executable, folder, Guest(EXIT, 3))
         for name, make in (("many points", many_points), ("a long list", long_list)):
             for version in (1, 2):
                 pathlib.Path(files["cut"]).write_text(make(version))
@@ -64,4 +60,4 @@ def main(executable):
 
 
 if __name__ == "__main__":
-    main(sys.argv[1])
+    main()

@@ -4,14 +4,12 @@
 Counts by valgrind the instructions that two built programs take for `check` of the guests of run.py and for `measure` of
 those of measure.py, with fewer turns. Prints both counts and their ratio. What else the machine does changes nothing of
 it. Linux with Python 3 and valgrind."""
-import os
-import re
-import subprocess
 import sys
 import tempfile
 
 import measure
 import run
+from timing import counted, parser_of, timed
 
 MEASURED_TURNS = 60_000
 CHECKED = [
@@ -25,25 +23,20 @@ CHECKED = [
 
 
 def counting(counts):
-    """As `timed` of run.py, but that instructions of `check` and `measure` are counted, and no time."""
-    timed = run.timed
-
-    def counted(words, folder):
+    """As `timed`, but that instructions of `check` and `measure` are counted, and no time."""
+    def taken(words, folder):
         if words[1] not in ("check", "measure"):
             return timed(words, folder)
-        words = ["valgrind", "--tool=callgrind", "--callgrind-out-file=/dev/null"] + words
-        done = subprocess.run(words, capture_output=True)
-        counts.append(int(re.search(rb"Collected : (\d+)", done.stderr)[1]))
-        return 0.0, 0, done.returncode, done.stdout
+        count, *rest = counted(words, folder)
+        counts.append(count)
+        return count, *rest
 
-    return counted
+    return taken
 
 
 def main():
-    if len(sys.argv) != 3:
-        print(__doc__, file=sys.stderr)
-        return 2
-    programs = [os.path.abspath(name) for name in sys.argv[1:3]]
+    words = parser_of(__doc__, "old", "new").parse_args()
+    programs = [words.old, words.new]
     counts = []
     run.timed = measure.timed = counting(counts)
 

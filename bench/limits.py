@@ -8,27 +8,25 @@ memory of each command, and says of each whether it took more than 5 s or 1.5 GB
 expected. Linux with Python 3."""
 import os
 import pathlib
-import struct
 import sys
 import tempfile
 
 from certificates import certificate
 from cuts import many_points
-from run import EXIT, timed
+from run import EXIT, EXIT_WORDS
+from timing import parser_of, timed
+
+sys.path.append(str(pathlib.Path(__file__).resolve().parent.parent / "tools" / "model"))
+from program_files import packed, plain_file
 
 SECONDS, MEMORY = 5, 1_500_000_000
 NO_CUT = "flowcheck-cut 1\nsecret {}\nbits 0\nend\n"
-EXIT_WORDS = (0x00000513, 0x05D00893, 0x00000073)
 
 
 def program_of(words, size):
     """A program file of so many bytes, whose one segment begins with these words."""
-    head = b"\x7fELF\x01\x01\x01" + bytes(9)
-    head += struct.pack("<HHIIIIIHHHHHH", 2, 243, 1, 0x10000, 52, 0, 0, 52, 32, 1, 0, 0, 0)
-    count = size - 84
-    head += struct.pack("<8I", 1, 84, 0x10000, 0x10000, count, count, 7, 1)
-    code = b"".join(struct.pack("<I", word) for word in words)
-    return head + code + bytes(count - len(code))
+    code = packed(words)
+    return plain_file(code + bytes(size - len(plain_file(code))))
 
 
 def region_file():
@@ -82,8 +80,10 @@ class Folder:
 
 
 def main():
-    executable = os.path.abspath(sys.argv[1])
-    turns = int(sys.argv[2]) if len(sys.argv) > 2 else 20_000_000
+    parser = parser_of(__doc__)
+    parser.add_argument("turns", type=int, nargs="?", default=20_000_000, metavar="TURNS")
+    words = parser.parse_args()
+    executable, turns = words.executable, words.turns
     with tempfile.TemporaryDirectory() as place:
         folder = Folder(executable, place)
         folder.write("program", program_of(EXIT_WORDS, 1 << 24))

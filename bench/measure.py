@@ -12,13 +12,15 @@ Prints for each the turns of the run, the seconds of both commands, how many tim
 memory that each had; of the last one the nanoseconds for each of the 4,325,376,000 visits of its point. Every other run
 must be accepted with its own cut and number, and the cut of the point that turns secret must begin with its clean
 visits. Linux with Python 3."""
-import os
 import pathlib
-import struct
 import sys
 import tempfile
 
-from run import BASE, EXIT, Guest, beside_regions, copy_loop, region_loop, tight_loop, timed
+from run import BASE, EXIT, EXIT_WORDS, Guest, beside_regions, copy_loop, prepare, region_loop, tight_loop
+from timing import parser_of, timed
+
+sys.path.append(str(pathlib.Path(__file__).resolve().parent.parent / "tools" / "model"))
+from program_files import packed, plain_file
 
 READ_A_BYTE = ["li a0, 3", "li a1, 0x80000", "li a2, 1", "li a7, 63", "ecall", "li a1, 0x80000", "lbu t1, 0(a1)"]
 
@@ -59,12 +61,8 @@ def turning_secret(rounds):
 
 def straight(instructions):
     """So many instructions in a row, of which `asm` takes no source: the program itself."""
-    code = struct.pack("<I", 0x00130313) * instructions + struct.pack("<III", 0x00000513, 0x05D00893, 0x00000073)
-    head = b"\x7fELF" + bytes([1, 1, 1]) + bytes(9)
-    head += struct.pack("<HHIIIIIHHHHHH", 2, 243, 1, BASE, 52, 0, 0, 52, 32, 1, 0, 0, 0)
-    guest = Guest([], instructions + 3)
-    guest.program = head + struct.pack("<IIIIIIII", 1, 84, BASE, 0, len(code), len(code), 5, 1) + code
-    return guest
+    code = packed([0x00130313]) * instructions + packed(EXIT_WORDS)
+    return Guest([], instructions + 3, program=plain_file(code))
 
 
 def wide_region(rounds):
@@ -75,26 +73,6 @@ def wide_region(rounds):
         f'"ranges":[{{"offset":{BASE + 0x10000},"length":65536}}]}}]}}'
     )
     return Guest(lines, 5 * rounds + 5, region)
-
-
-def prepare(executable, folder, guest):
-    """The words of both commands but for the cut and the budget."""
-    paths = {name: f"{folder}/{name}" for name in ("source", "program", "public", "cut", "regions", "secret")}
-    if hasattr(guest, "program"):
-        pathlib.Path(paths["program"]).write_bytes(guest.program)
-    else:
-        pathlib.Path(paths["source"]).write_text(guest.source)
-        _, _, status, _ = timed([executable, "asm", paths["source"]], folder)
-        if status != 0:
-            raise SystemExit(f"the source is refused:\n{guest.source[:300]}")
-        os.replace(f"{folder}/put", paths["program"])
-    pathlib.Path(paths["public"]).write_bytes(b"")
-    pathlib.Path(paths["secret"]).write_bytes(b"\x0f")
-    options = ["--turns", "20000000"]
-    if guest.region:
-        pathlib.Path(paths["regions"]).write_text(guest.region)
-        options += ["--regions", paths["regions"]]
-    return paths, options
 
 
 def measured_run(words, folder):
@@ -143,11 +121,10 @@ def rows(turns):
 
 
 def main():
-    if len(sys.argv) not in (2, 3):
-        print(__doc__, file=sys.stderr)
-        return 2
-    executable = os.path.abspath(sys.argv[1])
-    turns = int(sys.argv[2]) if len(sys.argv) == 3 else 2_000_000
+    parser = parser_of(__doc__)
+    parser.add_argument("turns", type=int, nargs="?", default=2_000_000, metavar="TURNS")
+    words = parser.parse_args()
+    executable, turns = words.executable, words.turns
     print(f"{'guest':24}{'turns':>12}{'bits':>6}{'measure':>10}{'check':>9}{'times':>7}{'memory of both':>22}")
     with tempfile.TemporaryDirectory() as folder:
         for name, guest in rows(turns):

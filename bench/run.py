@@ -11,21 +11,24 @@ import os
 import pathlib
 import sys
 import tempfile
-import time
+
+from timing import parser_of, timed
 
 EXIT = ["addi a0, x0, 0", "addi a7, x0, 93", "ecall"]
+EXIT_WORDS = [0x00000513, 0x05D00893, 0x00000073]
 BASE = 0x10000
 NO_CUT = "flowcheck-cut 1\nsecret 1\nbits 0\n{}end\n"
 
 
 class Guest:
-    """A guest as the lines of a source, with the turns that it makes and its region, if it has one."""
+    """A guest as the lines of a source, or as a program, with the turns that it makes and its region, if it has one."""
 
-    def __init__(self, lines, turns, region=None, skipped=False):
+    def __init__(self, lines, turns, region=None, skipped=False, program=None):
         self.source = "\n".join(lines) + "\n"
         self.turns = turns
         self.region = region
         self.skipped = skipped
+        self.program = program
 
 
 def tight_loop(rounds):
@@ -63,36 +66,32 @@ def copy_loop(rounds, size):
     return Guest(lines, rounds * (8 + 5 * size) + 5)
 
 
-def timed(words, folder):
-    """The seconds of a command, its most memory in bytes, its status and what it puts."""
-    put = f"{folder}/put"
-    begin = time.perf_counter()
-    child = os.fork()
-    if child == 0:
-        out = os.open(put, os.O_WRONLY | os.O_CREAT | os.O_TRUNC)
-        os.dup2(out, 1)
-        os.execv(words[0], words)
-    _, status, usage = os.wait4(child, 0)
-    seconds = time.perf_counter() - begin
-    return seconds, 1024 * usage.ru_maxrss, os.waitstatus_to_exitcode(status), pathlib.Path(put).read_bytes()
+def prepare(executable, folder, guest):
+    """The paths of a guest's files, and the options; the secret has one byte, and no cut is written."""
+    paths = {name: f"{folder}/{name}" for name in ("source", "program", "public", "cut", "regions", "secret")}
+    if guest.program is None:
+        pathlib.Path(paths["source"]).write_text(guest.source)
+        _, _, status, _ = timed([executable, "asm", paths["source"]], folder)
+        if status != 0:
+            raise SystemExit(f"asm: status {status}, of the source:\n{guest.source[:300]}")
+        os.replace(f"{folder}/put", paths["program"])
+    else:
+        pathlib.Path(paths["program"]).write_bytes(guest.program)
+    pathlib.Path(paths["public"]).write_bytes(b"")
+    pathlib.Path(paths["secret"]).write_bytes(b"\x0f")
+    options = ["--turns", "20000000"]
+    if guest.region:
+        pathlib.Path(paths["regions"]).write_text(guest.region)
+        options += ["--regions", paths["regions"]]
+    return paths, options
 
 
 def check(executable, folder, guest, secrets):
     """The seconds and the most memory of a check of so many secrets, all of which must be accepted."""
-    paths = {name: f"{folder}/{name}" for name in ("source", "program", "public", "cut", "regions", "secret")}
-    pathlib.Path(paths["source"]).write_text(guest.source)
-    _, _, status, _ = timed([executable, "asm", paths["source"]], folder)
-    if status != 0:
-        raise SystemExit(f"the source is refused:\n{guest.source}")
-    os.replace(f"{folder}/put", paths["program"])
-    pathlib.Path(paths["public"]).write_bytes(b"")
-    pathlib.Path(paths["secret"]).write_bytes(b"\x00")
+    paths, options = prepare(executable, folder, guest)
     pathlib.Path(paths["cut"]).write_text(NO_CUT.format("skip 1\n" if guest.skipped else ""))
     words = [executable, "check", paths["program"], paths["public"], paths["cut"], "0"]
-    words += [paths["secret"]] * secrets + ["--turns", "20000000"]
-    if guest.region:
-        pathlib.Path(paths["regions"]).write_text(guest.region)
-        words += ["--regions", paths["regions"]]
+    words += [paths["secret"]] * secrets + options
     seconds, memory, status, text = timed(words, folder)
     if status != 0 or f"accepted {secrets} ".encode() not in text:
         raise SystemExit(f"{words}: status {status}:\n{text.decode()}")
@@ -114,10 +113,7 @@ def rows():
 
 
 def main():
-    if len(sys.argv) != 2:
-        print(__doc__, file=sys.stderr)
-        return 2
-    executable = os.path.abspath(sys.argv[1])
+    executable = parser_of(__doc__).parse_args().executable
     print(f"{'guest':24}{'turns':>12}{'seconds':>10}{'ns a turn':>11}{'turns a second':>16}{'memory':>10}")
     with tempfile.TemporaryDirectory() as folder:
         for name, guest, secrets in rows():

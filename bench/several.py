@@ -16,17 +16,14 @@ each secret with the one cut and number.
 With --instructions it counts by valgrind the millions of instructions, of fewer turns (20,000 without the option). What
 else the machine does changes nothing of it; it has no part of the system's work. Of the 64 calls it makes eight, and
 counts each eight times. The run of so many links is left out. Linux with Python 3, and valgrind for the count."""
-import argparse
-import os
 import pathlib
-import re
 import statistics
-import subprocess
 import sys
 import tempfile
 
-from measure import READ_A_BYTE, carried, changing, largest, prepare
-from run import EXIT, Guest, copy_loop, region_loop, tight_loop
+from measure import READ_A_BYTE, carried, changing, largest
+from run import EXIT, Guest, copy_loop, prepare, region_loop, tight_loop
+from timing import counted_millions, parser_of, worked
 
 SECRETS = 64
 TIMES = 3
@@ -61,26 +58,6 @@ def rows(turns):
     ]
 
 
-def worked(words, folder):
-    """The seconds in which a processor worked for a command, its most memory in bytes, its status and what it puts."""
-    put = f"{folder}/put"
-    child = os.fork()
-    if child == 0:
-        out = os.open(put, os.O_WRONLY | os.O_CREAT | os.O_TRUNC)
-        os.dup2(out, 1)
-        os.execv(words[0], words)
-    _, status, usage = os.wait4(child, 0)
-    seconds = usage.ru_utime + usage.ru_stime
-    return seconds, 1024 * usage.ru_maxrss, os.waitstatus_to_exitcode(status), pathlib.Path(put).read_bytes()
-
-
-def counted(words, folder):
-    """As `worked`, with millions of instructions for the seconds, and no memory."""
-    words = ["valgrind", "--tool=callgrind", f"--callgrind-out-file={folder}/counts"] + words
-    done = subprocess.run(words, capture_output=True, check=False)
-    return int(re.search(rb"Collected : (\d+)", done.stderr)[1]) / 1e6, 0, done.returncode, done.stdout
-
-
 class Calls:
     """The calls for a guest, in a folder."""
 
@@ -97,7 +74,7 @@ class Calls:
     def call(self, command, secrets, expected=0):
         """Seconds, memory and text of a call."""
         words = [self.executable, command, *self.head, *secrets, *self.options]
-        seconds, memory, status, text = (counted if self.is_counting else worked)(words, self.folder)
+        seconds, memory, status, text = (counted_millions if self.is_counting else worked)(words, self.folder)
         if status != expected:
             raise SystemExit(f"{command}: status {status}:\n{text.decode()[:300]}")
         return seconds, memory, text
@@ -136,8 +113,7 @@ class Calls:
 
 
 def main():
-    parser = argparse.ArgumentParser(description=__doc__, formatter_class=argparse.RawDescriptionHelpFormatter)
-    parser.add_argument("executable", type=os.path.abspath)
+    parser = parser_of(__doc__)
     parser.add_argument("--turns", type=int, metavar="N")
     parser.add_argument("--instructions", action="store_true")
     words = parser.parse_args()

@@ -6,10 +6,11 @@ nothing, one byte in so many pages, many points in one page, and all of guest me
 Prints for each the memory of the program's own (heap, stack and data; nothing of it is shared with other programs)
 once it has answered the last line, what that is for each page at work above a shadow of which nothing is labelled, and
 the seconds. Linux with Python 3."""
-import os
 import subprocess
 import sys
 import time
+
+from timing import parser_of
 
 BASE = 0x10000
 PAGE = 0x1000
@@ -41,10 +42,7 @@ def points_in_a_page(count):
 
 
 def main():
-    if len(sys.argv) != 2:
-        print(__doc__, file=sys.stderr)
-        return 2
-    executable = os.path.abspath(sys.argv[1])
+    executable = parser_of(__doc__).parse_args().executable
     rows = [
         ("nothing labelled", 0, [f"clean {BASE:x} {MEMORY:x}"]),
         ("a byte in 1 page", 1, bytes_in_pages(1)),

@@ -9,16 +9,14 @@ times as long `taint` took, and the most memory that each had. Every secret must
 
 With --instructions it counts by valgrind the instructions of both commands, for about a tenth of the turns: that does
 not depend on what else the machine does. Linux with Python 3."""
-import os
 import pathlib
-import re
-import resource
-import subprocess
 import sys
 import tempfile
+from functools import partial
 
-from measure import READ_A_BYTE, prepare
-from run import EXIT, NO_CUT, Guest, beside_regions, copy_loop, region_loop, tight_loop, timed
+from measure import READ_A_BYTE
+from run import EXIT, NO_CUT, Guest, beside_regions, copy_loop, prepare, region_loop, tight_loop
+from timing import counted_millions, in_turns, parser_of, timed, worked
 
 LAST = "flowcheck-cut 1\nsecret 1\nbits 8\npoint 0 {} st rest 0x000000ff\nend\n"
 
@@ -56,21 +54,6 @@ def cut_of(executable, folder, guest, program):
     return LAST.format(listing.decode().rstrip("\n").split("\n")[-1].split()[0]), 8
 
 
-def worked(words, folder):
-    """The seconds that a processor worked for a command, its most memory in bytes, its status and what it puts."""
-    before = resource.getrusage(resource.RUSAGE_CHILDREN)
-    _, memory, status, text = timed(words, folder)
-    after = resource.getrusage(resource.RUSAGE_CHILDREN)
-    return after.ru_utime + after.ru_stime - before.ru_utime - before.ru_stime, memory, status, text
-
-
-def counted(words, folder):
-    """The instructions of a command by valgrind in millions, no memory, its status and what it puts."""
-    command = ["valgrind", "--tool=callgrind", f"--callgrind-out-file={folder}/counts", *words]
-    done = subprocess.run(command, capture_output=True, check=False)
-    return int(re.search(rb"Collected : (\d+)", done.stderr)[1]) / 1e6, 0, done.returncode, done.stdout
-
-
 def checked(measure, command, word, secrets, folder):
     """What a check takes, and its most memory; every secret must have this word."""
     taken, memory, status, text = measure(command, folder)
@@ -85,20 +68,19 @@ def both(executable, folder, guest, secrets, times, measure):
     cut, bits = cut_of(executable, folder, guest, paths["program"])
     pathlib.Path(paths["cut"]).write_text(cut)
     words = [paths["program"], paths["public"], paths["cut"], str(bits), *[paths["secret"]] * secrets, *options]
-    tries = []
-    for _ in range(times):
-        tainted = checked(measure, [executable, "taint", *words], "clean", secrets, folder)
-        tries.append((tainted, checked(measure, [executable, "check", *words], "accepted", secrets, folder)))
-    return [(min(one[place][0] for one in tries), max(one[place][1] for one in tries)) for place in (0, 1)]
+    calls = [partial(checked, measure, [executable, command, *words], word, secrets, folder)
+             for command, word in (("taint", "clean"), ("check", "accepted"))]
+    return [(min(one[0] for one in tries), max(one[1] for one in tries)) for tries in in_turns(calls, times)]
 
 
 def main():
-    if len(sys.argv) not in (2, 3):
-        print(__doc__, file=sys.stderr)
-        return 2
-    executable, is_counting = os.path.abspath(sys.argv[1]), sys.argv[2:] == ["--instructions"]
-    times = 1 if is_counting else int(sys.argv[2]) if len(sys.argv) == 3 else 5
-    turns, measure, unit = (200_000, counted, "M") if is_counting else (1_900_000, worked, "s")
+    parser = parser_of(__doc__)
+    parser.add_argument("times", type=int, nargs="?", default=5, metavar="TIMES")
+    parser.add_argument("--instructions", action="store_true")
+    words = parser.parse_args()
+    executable, is_counting = words.executable, words.instructions
+    times = 1 if is_counting else words.times
+    turns, measure, unit = (200_000, counted_millions, "M") if is_counting else (1_900_000, worked, "s")
     print(f"{'guest':26}{'turns':>12}{'taint':>10}{'check':>10}{'times':>7}{'memory of both':>22}")
     with tempfile.TemporaryDirectory() as folder:
         for name, guest, secrets in rows(turns):
