@@ -20,10 +20,10 @@ import tempfile
 from collections import Counter
 
 HERE = os.path.dirname(os.path.abspath(__file__))
-TOP = os.path.dirname(HERE)
-sys.path[:0] = [os.path.join(HERE, "explain"), os.path.join(HERE, "model")]
+sys.path[:0] = [os.path.join(HERE, name) for name in ("explain", "model", "guests")]
 
 from answering import Program
+from guest_folder import GuestFolder, content
 
 MOST = 64
 TRIALS = 1000
@@ -58,13 +58,6 @@ def contacts(dice):
     return bytes(sorted(dice.sample(range(32), 8)))
 
 
-def content(name):
-    """The bytes of a file of the repository."""
-    with open(os.path.join(TOP, name), "rb") as file:
-        return file.read()
-
-
-# The name, the source, the public input, how a secret is drawn, and the function that a region is put around.
 GUESTS = [
     ("early", "examples/password/early.c", content("examples/password/typed"), passwords, None),
     ("constant", "examples/password/constant.c", content("examples/password/typed"), passwords, None),
@@ -90,38 +83,24 @@ class Judged:
         return ", ".join(f"{counts[reason]} {reason}" for reason in sorted(counts)) or "-"
 
 
-class Trial:
+class Trial(GuestFolder):
     """A guest in a folder of its own, with files for its secrets."""
 
     def __init__(self, folder, asked, guest, compiler, seed):
         self.name, source, public, self.draw, function = guest
-        self.folder, self.asked, self.dice, self.seen = folder, asked, random.Random(f"{self.name} {seed}"), set()
+        super().__init__(folder)
+        self.asked, self.dice, self.seen = asked, random.Random(f"{self.name} {seed}"), set()
         self.head = [self.built(compiler, source), self.write("public", public)]
         self.options = []
         if function:
             words = ["regions.py", self.head[0], function, "--public", self.head[1], "--code", "--secret"]
             self.options = ["--regions", self.write("regions", self.tool(*words, self.write("one", self.drawn())))]
 
-    def write(self, name, data):
-        """Writes a file; its path."""
-        path = os.path.join(self.folder, name)
-        with open(path, "wb") as file:
-            file.write(data)
-        return path
-
     def tool(self, name, *words):
         """What a script of this folder prints."""
         flowcheck = ["--flowcheck", " ".join(self.asked.words)] if self.asked.words else []
         words = [sys.executable, os.path.join(HERE, name), *words, *flowcheck]
         return subprocess.run(words, stdout=subprocess.PIPE, stderr=subprocess.DEVNULL, check=True).stdout
-
-    def built(self, compiler, source):
-        """The program file that a compiler makes of a source."""
-        self.write(f"{self.name}.c", content(source))
-        makefile = os.path.join(TOP, "examples/guests/Makefile")
-        words = ["make", "-s", "-B", "-f", makefile, f"COMPILER={compiler}", f"{self.name}.elf"]
-        subprocess.run(words, cwd=self.folder, check=True)
-        return os.path.join(self.folder, f"{self.name}.elf")
 
     def drawn(self, is_new=True):
         """A secret, which was not drawn before where it is to be new."""

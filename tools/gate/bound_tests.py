@@ -17,7 +17,7 @@ import tempfile
 from collections import Counter
 
 TOOLS = os.path.dirname(os.path.dirname(os.path.abspath(__file__)))
-sys.path[:0] = [TOOLS, os.path.join(TOOLS, "explain"), os.path.join(TOOLS, "model")]
+sys.path[:0] = [os.path.join(TOOLS, name) for name in ("", "explain", "model", "guests")]
 
 from answering import Program
 from bound_words import bounded_lines, unclear_lines
@@ -25,6 +25,7 @@ from bounding import Bounding, NoBound, found
 from compare_bounds import bound_trial
 from cuts import read_cut
 from elf_symbols import ProgramFile
+from guest_folder import GuestFolder
 from lint import Lint
 from programs import random_bytes
 from run_facts import Inputs
@@ -34,11 +35,12 @@ PATHS, TURNS, ROUNDS, SECRETS = 24, 400, 40, 20
 ENDED = ("region", "guest", "turns")
 
 
-class Trial:
+class Trial(GuestFolder):
     """A random guest in a folder."""
 
     def __init__(self, folder, seed, flowcheck):
-        self.folder, self.seed, self.asked = folder, seed, Program(flowcheck)
+        super().__init__(folder)
+        self.seed, self.asked = seed, Program(flowcheck)
         files, _ = bound_trial(seed)
         for name, data in files.items():
             self.write(name, data)
@@ -47,16 +49,6 @@ class Trial:
         self.program, self.cut = ProgramFile(files["program"]), read_cut(files["cut"])
         self.inputs = Inputs(self.path("program"), self.path("public"), None, options)
         self.bounding = Bounding(self.asked, self.inputs, self.program)
-
-    def path(self, name):
-        """The path of a file in the folder."""
-        return os.path.join(self.folder, name)
-
-    def write(self, name, data):
-        """Writes a file; its path."""
-        with open(self.path(name), "wb") as file:
-            file.write(data)
-        return self.path(name)
 
     def wrongs(self):
         """How the searches end, and what is wrong with them."""

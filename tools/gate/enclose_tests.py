@@ -10,15 +10,14 @@ import argparse
 import os
 import random
 import re
-import subprocess
 import sys
 import tempfile
 
 TOOLS = os.path.dirname(os.path.dirname(os.path.abspath(__file__)))
-TOP = os.path.dirname(TOOLS)
-sys.path[:0] = [os.path.join(TOOLS, "explain"), os.path.join(TOOLS, "model")]
+sys.path[:0] = [os.path.join(TOOLS, name) for name in ("explain", "model", "guests")]
 
 from answering import Program
+from guest_folder import GuestFolder
 from picture_tests import compilers, output
 
 OTHERS = 20
@@ -53,32 +52,13 @@ GUESTS = [
 ]
 
 
-class Tests:
+class Tests(GuestFolder):
     """The tests in a folder."""
 
     def __init__(self, folder, flowcheck):
-        self.folder, self.asked, self.wrongs = folder, Program(flowcheck), []
+        super().__init__(folder)
+        self.asked, self.wrongs = Program(flowcheck), []
         self.flowcheck = ["--flowcheck", flowcheck] if flowcheck else []
-
-    def path(self, name):
-        """The path of a file in the folder."""
-        return os.path.join(self.folder, name)
-
-    def write(self, name, data):
-        """Writes a file; its path."""
-        with open(self.path(name), "wb") as file:
-            file.write(data)
-        return self.path(name)
-
-    def built(self, compiler, source):
-        """The program file that a compiler makes of a source."""
-        name = os.path.basename(source)[:-2]
-        with open(os.path.join(TOP, source), "rb") as file:
-            self.write(name + ".c", file.read())
-        makefile = os.path.join(TOP, "examples/guests/Makefile")
-        words = ["make", "-s", "-B", "-f", makefile, f"COMPILER={compiler}", name + ".elf"]
-        subprocess.run(words, cwd=self.folder, check=True)
-        return self.path(name + ".elf")
 
     def bits(self, *words):
         """The number that `measure` has."""

@@ -17,7 +17,7 @@ import sys
 import tempfile
 
 TOOLS = os.path.dirname(os.path.dirname(os.path.abspath(__file__)))
-sys.path.insert(0, TOOLS)
+sys.path[:0] = [TOOLS, os.path.join(TOOLS, "guests")]
 
 import explain
 from answering import Program
@@ -30,6 +30,7 @@ from decision_tree import DecisionTree
 from document import html_page, text_page
 from elf_symbols import ProgramFile
 from faults_of_text import cut_text_fault, regions_text_fault
+from guest_folder import GuestFolder
 from many_page import many_page
 from many_runs import ManyRuns
 from measure_trials import measure_trial
@@ -96,11 +97,12 @@ int main(void) {
 LINES = "spread.c:9-11"
 
 
-class Tests:
+class Tests(GuestFolder):
     """The tests, with a folder for files and the pages that a window is asked about."""
 
     def __init__(self, folder, program, count):
-        self.folder, self.program, self.count, self.wrongs, self.pages, self.done = folder, program, count, [], [], {}
+        super().__init__(folder)
+        self.program, self.count, self.wrongs, self.pages, self.done = program, count, [], [], {}
 
     def expect(self, what, is_right, detail=""):
         """Counts a test, and notes it where it fails."""
@@ -109,15 +111,10 @@ class Tests:
         if not is_right:
             self.wrongs.append(f"{what} {detail}")
 
-    def path(self, name):
-        """The path of a file in the folder."""
-        return os.path.join(self.folder, name)
-
-    def write(self, files):
+    def write_all(self, files):
         """Writes files into the folder."""
         for name, data in files.items():
-            with open(self.path(name), "wb") as file:
-                file.write(data)
+            self.write(name, data)
 
     def words(self, *plain, **options):
         """The words of explain.py."""
@@ -158,7 +155,7 @@ class Tests:
             files, options = measure_trial(seed)
             if len(files["program"]) > 100_000:
                 continue
-            self.write(files)
+            self.write_all(files)
             named = {name.lstrip("-"): value for name, value in options}
             if "regions" in named:
                 named["regions"] = self.path("regions")
@@ -170,7 +167,7 @@ class Tests:
         """Pages of random checks: the verdict and the place must be those of `check`."""
         for seed in range(1, self.count + 1):
             files, words = random_trial(seed)
-            self.write(files)
+            self.write_all(files)
             budget = next(word for word in words[3:] if word.isdigit())
             options = dict(re.findall(r"--(turns|regions)[= ](\S+)", " ".join(words)))
             options = {name: self.path(value) if name == "regions" else value for name, value in options.items()}
@@ -205,7 +202,7 @@ class Tests:
         and be cleared by the lines that are named."""
         for seed in range(1, self.count + 1):
             files, words, rules = taint_trial(seed)
-            self.write(files)
+            self.write_all(files)
             budget = next(word for word in words[3:] if word.isdigit())
             options = dict(re.findall(r"--(turns|regions|rules)[= ](\S+)", " ".join(words + rules)))
             options = {name: self.path(value) if name == "regions" else value for name, value in options.items()}
@@ -239,7 +236,7 @@ class Tests:
         """Pages of random bounds: the line must be that of `bound`, and the outputs as many as its list has."""
         for seed in range(1, self.count + 1, 2):
             files, words = bound_trial(seed)
-            self.write(files)
+            self.write_all(files)
             named = dict(re.findall(r"--(turns|regions|rules|paths)[= ](\S+)", " ".join(words)))
             options = {name: self.path(value) if name == "regions" else value for name, value in named.items()}
             flat = [word for name, value in options.items() for word in (f"--{name}", value)]
@@ -274,7 +271,7 @@ class Tests:
         """Pages of several random runs under one cut: what crosses in each must be what `check` says."""
         for seed in range(1, self.count + 1):
             files, words = many_trial(seed)
-            self.write(files)
+            self.write_all(files)
             options = dict(re.findall(r"--(turns|regions|rules)[= ](\S+)", " ".join(words)))
             flat = [word for name, value in options.items() for word in (f"--{name}", value)]
             flat = [self.path("regions") if word == "regions" else word for word in flat]
@@ -330,7 +327,7 @@ class Tests:
             ("point 0 0x0001001A rs rest 0x00000001", "lower case letters: 0x0001001a"),
             ("point 0 0x00010018 rs rest 0x00000001\r", "CR and LF"),
         ):
-            self.write({"cut": f"flowcheck-cut 1\nsecret 1\nbits 1\n{line}\nend\n".encode()})
+            self.write_all({"cut": f"flowcheck-cut 1\nsecret 1\nbits 1\n{line}\nend\n".encode()})
             found = output("lint.py", program, cut)[1]
             self.expect(f"findings: {line}", expected in found, found)
         regions = (
@@ -338,7 +335,7 @@ class Tests:
             ' {"id": 2, "enter": "0x20000", "leave": "0x10018"}]}'
         )
         text = b"flowcheck-cut 1\nsecret 1\nbits 1\nskip 1\npoint 1 0x0001001c x10 rest 0x00000001\nend\n"
-        self.write({"cut": text, "regions": regions.encode()})
+        self.write_all({"cut": text, "regions": regions.encode()})
         found = output("lint.py", program, cut, self.path("regions"))[1]
         for expected in ("pass at its leave address 0x00010018", "x10 is not among the outs", "address 0x00020000"):
             self.expect(f"findings: {expected}", expected in found, found)
@@ -364,15 +361,6 @@ class Tests:
                         self.pages.append((f"{guest} by {compiler} {option}", page))
                         self.expect(f"names: {guest} {option}", (" main" in text) == has_names and ".c:" not in text)
 
-    def built(self, compiler, source, *options):
-        """The program file that a compiler makes of a source."""
-        makefile, elf = os.path.join(TOP, "examples/guests/Makefile"), os.path.basename(source)[:-2] + ".elf"
-        with open(source, "rb") as file:
-            self.write({os.path.basename(source): file.read()})
-        words = ["make", "-s", "-B", "-f", makefile, f"COMPILER={compiler}", *options, elf]
-        subprocess.run(words, cwd=self.folder, check=True)
-        return self.path(elf)
-
     def symbolizers(self, elf):
         """Each symbolizer must say the same places. Of clang's inlined calls addr2line 2.40 does not know the names."""
         program, seen = ProgramFile(explain.read(elf)), {}
@@ -386,8 +374,8 @@ class Tests:
 
     def test_regions(self):
         """Regions around calls with stack, objects and callees: `measure` keeps to them, and the number goes down."""
-        self.write({"deep.c": DEEP.encode(), "nothing": b""})
-        self.write({f"s{index}": random.Random(index).randbytes(16) for index in range(8)})
+        self.write_all({"deep.c": DEEP.encode(), "nothing": b""})
+        self.write_all({f"s{index}": random.Random(index).randbytes(16) for index in range(8)})
         secrets = [self.path(f"s{index}") for index in range(8)]
         asked = Program(self.program)
         for compiler in compilers():
@@ -397,7 +385,7 @@ class Tests:
                 named = [word for secret in secrets for word in ("--secret", secret)]
                 status, text = self.regions_of(elf, function, *named)
                 self.expect(f"regions: {function} by {compiler}", status == 0, text)
-                self.write({"regions": text[text.index("{") :].encode()})
+                self.write_all({"regions": text[text.index("{") :].encode()})
                 named = ["--regions", self.path("regions")]
                 for secret in secrets:
                     status, report = asked.answer(["report", elf, self.path("nothing"), secret, *named, "--json"])
@@ -410,7 +398,7 @@ class Tests:
             for function in ("main", "missing"):
                 status, _ = self.regions_of(elf, function, "--secret", secrets[0])
                 self.expect(f"no region: {function}", status == 1)
-            self.write({"tail.c": TAIL.encode()})
+            self.write_all({"tail.c": TAIL.encode()})
             elf = self.built(compiler, self.path("tail.c"))
             for function, is_region in (("middle", True), ("down", True), ("leaf", False)):
                 status, text = self.regions_of(elf, function, "--secret", secrets[0])
@@ -418,7 +406,7 @@ class Tests:
 
     def test_joined_regions(self):
         """Regions around lines, what each of several secrets adds, and ranges that are too many, which are joined."""
-        self.write({"spread.c": SPREAD.encode(), "nothing": b"", "low": bytes([3, 1]), "high": bytes([250, 0])})
+        self.write_all({"spread.c": SPREAD.encode(), "nothing": b"", "low": bytes([3, 1]), "high": bytes([250, 0])})
         for compiler in compilers():
             elf = self.built(compiler, self.path("spread.c"))
             both = ["--secret", self.path("low"), "--secret", self.path("high")]
@@ -426,7 +414,7 @@ class Tests:
             for what, expected in told:
                 status, text = self.regions_of(elf, what, *both)
                 self.expect(f"joined: {what} by {compiler}", status == 0 and expected in text, text)
-                self.write({"regions": text[text.find("{") :].encode()})
+                self.write_all({"regions": text[text.find("{") :].encode()})
                 for name in ("low", "high"):
                     words = ["report", elf, self.path("nothing"), self.path(name), "--regions", self.path("regions")]
                     status, report = Program(self.program).answer(words)
@@ -439,7 +427,7 @@ class Tests:
     def suggestion(self, compiler, elf, secrets):
         """The page of a secret that parts inside a function names a region around its call."""
         inputs = Inputs(elf, self.path("nothing"), secrets[1])
-        self.write({"cut": b"flowcheck-cut 1\nsecret 16\nbits 0\nend\n"})
+        self.write_all({"cut": b"flowcheck-cut 1\nsecret 16\nbits 0\nend\n"})
         program = ProgramFile(explain.read(elf))
         seen = Rejection(Program(self.program), inputs, self.path("cut"), "64", program)
         text = text_page(*rejection_page(seen, program, Places(elf, program)))

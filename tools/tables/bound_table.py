@@ -24,13 +24,13 @@ import tempfile
 import time
 
 TOOLS = os.path.dirname(os.path.dirname(os.path.abspath(__file__)))
-TOP = os.path.dirname(TOOLS)
-sys.path[:0] = [os.path.join(TOOLS, "explain"), os.path.join(TOOLS, "model"), TOOLS]
+sys.path[:0] = [os.path.join(TOOLS, name) for name in ("explain", "model", "guests", "")]
 
 from answering import Program
 from bounding import Bounding, found
 from elf_symbols import ProgramFile
-from how_many_runs import SMALL, auctions, contacts, content, names, passwords, readings
+from guest_folder import GuestFolder, content
+from how_many_runs import SMALL, auctions, contacts, names, passwords, readings
 from run_facts import Inputs, read
 from verdicts import real_run
 
@@ -80,35 +80,21 @@ GUESTS = [
 ]
 
 
-class Guest:
+class Guest(GuestFolder):
     """A guest in a folder of its own, with its input, its regions and the search for its cut."""
 
     def __init__(self, folder, words, guest):
         self.name, self.source, public, self.draw, around = guest
-        self.folder, self.asked, self.dice = folder, Program(words.flowcheck), random.Random(f"{guest[0]} {words.seed}")
-        self.program, self.public = self.built(words.compiler), self.write("public", public)
+        super().__init__(folder)
+        self.asked, self.dice = Program(words.flowcheck), random.Random(f"{guest[0]} {words.seed}")
+        has_source = self.source.endswith(".c")
+        made = self.built(words.compiler, self.source) if has_source else self.write("guest.elf", content(self.source))
+        self.program = made
+        self.public = self.write("public", public)
         self.first = self.write("first", self.draw(self.dice))
         options = ["--regions", self.write("regions", self.regions(around))] if around else []
         inputs = Inputs(self.program, self.public, None, [*options, "--paths", str(words.paths)])
         self.bounding = Bounding(self.asked, inputs, ProgramFile(read(self.program)))
-
-    def write(self, name, data):
-        """Writes a file; its path."""
-        path = os.path.join(self.folder, name)
-        with open(path, "wb") as file:
-            file.write(data)
-        return path
-
-    def built(self, compiler):
-        """The program file, made by the compiler where there is a source."""
-        if not self.source.endswith(".c"):
-            return self.write("guest.elf", content(self.source))
-        file = os.path.basename(self.source)
-        self.write(file, content(self.source))
-        makefile, target = os.path.join(TOP, "examples/guests/Makefile"), file.replace(".c", ".elf")
-        words = ["make", "-s", "-B", "-f", makefile, f"COMPILER={compiler}", target]
-        subprocess.run(words, cwd=self.folder, check=True)
-        return os.path.join(self.folder, target)
 
     def regions(self, around):
         """The region file around a function or lines, by some secrets."""
