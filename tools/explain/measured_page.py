@@ -6,7 +6,9 @@ from document import Commands, Drawing, Folded, Section, Table, Words
 from flow_picture import bits_text, node_text, picture_of
 from guest import shown
 from instruction_text import NAMES, instruction_text, slot_words
+from noted_run import noted_of, output_section
 from pieces_of_code import Marks, listing_blocks, source_blocks
+from tool import counted
 
 WIDE, NARROW = 860, 340
 
@@ -21,7 +23,7 @@ def outputs_text(bits):
 def number_section(facts):
     """The number in words."""
     bits, length = facts.numbers["bits"], facts.numbers["secret"]
-    whole = f"its secret of {length:,} byte{'' if length == 1 else 's'} ({bits_text(8 * length)})"
+    whole = f"its secret of {counted(length, 'byte')} ({bits_text(8 * length)})"
     if bits:
         first = f"The output of this run can have given away at most {bits_text(bits)} of {whole}."
     else:
@@ -34,8 +36,8 @@ def number_section(facts):
         facts.numbers[name] for name in ("turns", "output", "status", "points", "links")
     )
     run = (
-        f"The run took {turns:,} turns, wrote {output:,} bytes and exited with status {status}. Its graph has "
-        f"{points:,} points and {links:,} links."
+        f"The run took {counted(turns, 'turn')}, wrote {counted(output, 'byte')} and exited with status {status}. Its "
+        f"graph has {counted(points, 'point')} and {counted(links, 'link')}."
     )
     return Section("", Words(first, "number", bits), Words(promise), Words(run, "dim"))
 
@@ -168,7 +170,9 @@ def measured_page(facts, program, places):
     """The title and the sections of the page of a measured run."""
     inputs = facts.inputs
     title = f"{bits_text(facts.numbers['bits'])} of {base(inputs.secret)} in {base(inputs.program)}"
-    sections = [number_section(facts), cut_section(facts, program, places), picture_section(facts, places)]
+    noted = noted_of(facts, program)
+    sections = [number_section(facts), output_section(noted), cut_section(facts, program, places)]
+    sections.append(picture_section(facts, places))
     sections += code_sections(facts, program, places) + [regions_section(facts, places), commands_section(facts)]
     return title, [section for section in sections if section]
 

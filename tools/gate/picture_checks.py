@@ -9,6 +9,7 @@ import subprocess
 
 from cuts import length_of
 from guest import shown
+from tool import counted
 
 LOOK = """
 <script>window.addEventListener("load", function () {
@@ -73,10 +74,11 @@ def page_wrongs(page, text, numbers, cut, listed):
     visits = {f"{point[0]} {shown(point[1])} {point[2]}": length_of(runs) for point, (runs, _) in cut.points.items()}
     if page.visits != visits:
         yield f"visits {page.visits} for {visits}"
-    forms = "took {turns:,} turns", "wrote {output:,} bytes", "status {status}.", "{points:,} points", "{links:,} links"
+    forms = [f"took {counted(numbers['turns'], 'turn')}", f"wrote {counted(numbers['output'], 'byte')}"]
+    forms += [f"status {numbers['status']}.", *(counted(numbers[name + "s"], name) for name in ("point", "link"))]
     for form in forms:
-        if form.format(**numbers) not in words:
-            yield f"no {form.format(**numbers)}"
+        if form not in words:
+            yield f"no {form}"
     if page.regions != {number: number in numbers["skip"] for number in listed}:
         yield f"regions {page.regions}"
     yield from picture_wrongs(page, bits)

@@ -1,0 +1,60 @@
+"""What the scripts that a user calls have in common: no traceback, whatever the words, the files or the output are."""
+import os
+import sys
+
+from cuts import read_regions
+from elf_symbols import ProgramFile
+from refusals import program_fault, regions_fault
+from run_facts import read
+
+
+class Unusable(Exception):
+    """A file that cannot be used; the text says which, why, and what says more."""
+
+
+def program_of(name):
+    """The program file of a name."""
+    file = read(name)
+    fault = program_fault(file)
+    if fault:
+        raise Unusable(f"{name}: refused 3 program {fault}")
+    return ProgramFile(file)
+
+
+def regions_of(name):
+    """The regions of a region file, none where no file is named."""
+    if not name:
+        return []
+    file = read(name)
+    fault = regions_fault(file)
+    if fault:
+        raise Unusable(f"{name}: refused 3 regions {fault}; tools/lint.py shows it")
+    return read_regions(file)
+
+
+def counted(number, word):
+    """A number with its word: 1 byte, 2 bytes."""
+    return f"{number:,} {word}{'' if number == 1 else 's'}"
+
+
+def finish(main, unusable=3):
+    """Ends the process with the status that `main` gives, with `unusable` and a line where a file cannot be used."""
+    try:
+        status = main()
+        sys.stdout.flush()
+    except Unusable as fault:
+        status = told(str(fault), unusable)
+    except BrokenPipeError:
+        os.dup2(os.open(os.devnull, os.O_WRONLY), sys.stdout.fileno())
+        status = 1
+    except OSError as fault:
+        status = told(f"{fault.filename}: {fault.strerror}" if fault.filename else str(fault), unusable)
+    except KeyboardInterrupt:
+        status = told("stopped", 130)
+    sys.exit(status)
+
+
+def told(text, status):
+    """Says something on standard error; the status."""
+    print(text, file=sys.stderr)
+    return status
