@@ -1,16 +1,18 @@
 """Explains a run on one page: how many bits of its secret the output can have given away, and where they pass.
 
-Call: explain.py PROG PUBLIC SECRET... [--turns N] [--regions FILE] [--rules N]
+Call: explain.py PROG PUBLIC SECRET... [--turns N] [--regions FILE] [--rules N] [--against CUT]
       explain.py PROG PUBLIC --check CUT BUDGET SECRET [--turns N] [--regions FILE]
       explain.py PROG PUBLIC --taint CUT BUDGET SECRET [--turns N] [--regions FILE] [--rules N]
       explain.py PROG PUBLIC --bound CUT BUDGET [SECRET] [--turns N] [--regions FILE] [--rules N] [--paths N]
 
-The first form measures a run, or several together, with one cut, and what crosses at it in each. The second says of a
+The first form measures a run, and says why its number is what it is and what would lower it; or it measures several
+together, with one cut, and what crosses at it in each. The second says of a
 secret that `check` rejects where and why, and the third of one that is unclear to `taint`, with the lines of a cut that
 would clear it. The fourth has all outputs that there can be, whatever the secret is, with the choices that lead to them
 where there are few, and beside them what is measured of a secret that is named. Each writes one HTML file, which needs
 nothing beside it, or with --text a text for the terminal.
 
+  --against CUT        of one secret: this measurement beside an earlier one, of which there is a cut or a page
   --output FILE        the file of the page; without it `explain.html`, and `-` is standard output
   --text               a text on standard output
   --source FOLDER      where sources are that have moved; may be given more than once
@@ -25,6 +27,7 @@ import sys
 HERE = os.path.dirname(os.path.abspath(__file__))
 sys.path[:0] = [os.path.join(HERE, "explain"), os.path.join(HERE, "model")]
 
+from against import Earlier
 from answering import Program
 from bound_page import bound_page, bounded_of
 from bounding import NoBound
@@ -40,6 +43,7 @@ from run_facts import Inputs, NoMeasure, RunFacts, read
 from source_lines import Places
 from taint_page import taint_page
 from tainting import Tainting
+from tool import finish
 
 
 def arguments():
@@ -55,6 +59,7 @@ def arguments():
     parser.add_argument("--bound", nargs="+", metavar=("CUT", "BUDGET"))
     for name in ("--turns", "--regions", "--rules", "--paths"):
         parser.add_argument(name)
+    parser.add_argument("--against", metavar="CUT")
     parser.add_argument("--output", default="explain.html")
     parser.add_argument("--text", action="store_true")
     parser.add_argument("--source", action="append", default=[])
@@ -64,6 +69,8 @@ def arguments():
         parser.error("name secrets, or --check or --taint CUT BUDGET SECRET, or --bound CUT BUDGET [SECRET]")
     if words.bound and (len(words.bound) not in (2, 3) or not words.bound[1].isdigit()):
         parser.error("--bound takes CUT BUDGET, and perhaps SECRET")
+    if words.against and len(words.secret) != 1:
+        parser.error("--against is an option of the measurement of one secret")
     if words.paths and not words.bound:
         parser.error("--paths is an option of --bound")
     if words.check and words.rules:
@@ -92,7 +99,8 @@ def page(words):
     try:
         if len(words.secret) > 1:
             return many_page(ManyRuns(asked, inputs, words.secret, program), program, places)
-        return measured_page(RunFacts(asked, inputs), program, places)
+        earlier = Earlier(words.against) if words.against else None
+        return measured_page(RunFacts(asked, inputs), program, places, earlier)
     except NoMeasure as refusal:
         return refused_page(str(refusal), inputs, program, places)
 
@@ -104,8 +112,6 @@ def main():
         title, sections = page(words)
     except NoBound as refusal:
         raise SystemExit(str(refusal)) from None
-    except OSError as fault:
-        raise SystemExit(f"{fault.filename}: {fault.strerror}") from None
     if words.text:
         sys.stdout.write(text_page(title, sections))
     elif words.output == "-":
@@ -114,7 +120,8 @@ def main():
         with open(words.output, "w", encoding="utf-8") as out:
             out.write(html_page(title, sections))
         print(f"{title}: {words.output}")
+    return 0
 
 
 if __name__ == "__main__":
-    main()
+    finish(main)

@@ -2,12 +2,15 @@
 import shlex
 from os.path import basename as base
 
+from against import against_section
 from document import Commands, Drawing, Folded, Section, Table, Words
 from flow_picture import bits_text, node_text, picture_of
 from guest import shown
 from instruction_text import NAMES, instruction_text, slot_words
 from noted_run import noted_of, output_section
 from pieces_of_code import Marks, listing_blocks, source_blocks
+from reasons import Reasons
+from reasons_page import remedies_section, why_section
 from tool import counted
 
 WIDE, NARROW = 860, 340
@@ -166,13 +169,15 @@ def commands_section(facts):
     )
 
 
-def measured_page(facts, program, places):
-    """The title and the sections of the page of a measured run."""
+def measured_page(facts, program, places, earlier=None):
+    """The title and the sections of the page of a measured run, perhaps beside an earlier measurement."""
     inputs = facts.inputs
     title = f"{bits_text(facts.numbers['bits'])} of {base(inputs.secret)} in {base(inputs.program)}"
     noted = noted_of(facts, program)
     sections = [number_section(facts), output_section(noted), cut_section(facts, program, places)]
-    sections.append(picture_section(facts, places))
+    sections.append(against_section(facts, earlier, program, places) if earlier else None)
+    reasons = Reasons(facts, noted, program)
+    sections += [why_section(reasons, places), remedies_section(reasons), picture_section(facts, places)]
     sections += code_sections(facts, program, places) + [regions_section(facts, places), commands_section(facts)]
     return title, [section for section in sections if section]
 

@@ -1,4 +1,4 @@
-"""What the tests of the scripts share: a folder for files, guests that are built there, scripts that are called, and the
+"""What tests of scripts share: a folder for files, guests that are built there, scripts that are called, and the
 expectations that are counted."""
 import argparse
 import os
@@ -13,6 +13,8 @@ TOOLS = os.path.join(TOP, "tools")
 MAKEFILE = os.path.join(TOP, "examples", "guests", "Makefile")
 PIN = [os.path.join(TOP, name) for name in
        ("crates/compiled_rows/data/pin-gcc.elf", "examples/guests/typed", "examples/guests/pin")]
+
+MOST_DETAIL = 2000
 
 
 def compilers():
@@ -32,7 +34,7 @@ class Expectations:
         kind = what.split(":")[0]
         self.counts[kind] = self.counts.get(kind, 0) + 1
         if not is_right:
-            self.wrongs.append(f"{what} {detail}")
+            self.wrongs.append(f"{what} {detail[:MOST_DETAIL]}")
 
     def path(self, name):
         """The path of a file in the folder."""

@@ -118,7 +118,7 @@ class Tests(GuestFolder):
 
     def words(self, *plain, **options):
         """The words of explain.py."""
-        named = ("turns", "regions", "rules", "paths", "check", "taint", "bound")
+        named = ("turns", "regions", "rules", "paths", "check", "taint", "bound", "against")
         usual = dict.fromkeys(named) | {"source": []}
         program, public, *secret = plain
         given = {"program": program, "public": public, "secret": secret, "flowcheck": self.program}
