@@ -32,18 +32,17 @@ from answering import Program
 from bound_page import bound_page, bounded_of
 from bounding import NoBound
 from document import html_page, text_page
-from elf_symbols import ProgramFile
 from many_page import many_page
 from many_runs import ManyRuns
 from measured_page import measured_page, refused_page
-from refusals import program_fault
+from misleading import TITLE, of_cut, of_run, program_section, section_of
 from rejection import Rejection
 from rejection_page import rejection_page
-from run_facts import Inputs, NoMeasure, RunFacts, read
+from run_facts import Inputs, NoMeasure, RunFacts
 from source_lines import Places
 from taint_page import taint_page
 from tainting import Tainting
-from tool import finish
+from tool import finish, program_of, told
 
 
 def arguments():
@@ -80,21 +79,29 @@ def arguments():
 
 def page(words):
     """The title and the sections of the page."""
-    file = read(words.program)
-    if program_fault(file):
-        raise SystemExit(f"refused 3 program {program_fault(file)}")
-    program, asked = ProgramFile(file), Program(words.flowcheck)
+    program = program_of(words.program)
+    title, sections = page_of(words, program)
+    return title, [section for section in sections if section] + [program_section(words.program, program.file)]
+
+
+def page_of(words, program):
+    """The title and the sections of the page, but the one of the program; there may be None among these."""
+    asked = Program(words.flowcheck)
     places = Places(words.program, program, words.source)
     options = [(name, getattr(words, name)) for name in ("turns", "regions", "rules", "paths")]
     flat = [word for name, value in options if value for word in (f"--{name}", value)]
     if words.check or words.taint:
         cut, budget, secret = words.check or words.taint
         named = asked, Inputs(words.program, words.public, secret, flat), cut, budget, program
-        if words.taint:
-            return taint_page(Tainting(*named), program, places)
-        return rejection_page(Rejection(*named), program, places)
+        seen = Tainting(*named) if words.taint else Rejection(*named)
+        title, sections = (taint_page if words.taint else rejection_page)(seen, program, places)
+        lockstep = None if words.taint else seen.lockstep
+        notes = of_cut(program, seen.cut, seen.regions) + of_run(lockstep and lockstep.real, seen.cut, secret)
+        return title, [*sections[:1], section_of(notes), *sections[1:]]
     if words.bound:
-        return bound_page(bounded_of(asked, words, flat, program), program, places)
+        bounded = bounded_of(asked, words, flat, program)
+        title, sections = bound_page(bounded, program, places)
+        return title, [*sections[:1], section_of(of_cut(program, bounded.cut, bounded.inputs.regions())), *sections[1:]]
     inputs = Inputs(words.program, words.public, words.secret[0], flat)
     try:
         if len(words.secret) > 1:
@@ -105,6 +112,13 @@ def page(words):
         return refused_page(str(refusal), inputs, program, places)
 
 
+def told_of(sections):
+    """Says on standard error what may mislead, since a page is not read at once."""
+    for section in sections:
+        if section.title == TITLE:
+            told("\n".join(block.words for block in section.blocks), 0)
+
+
 def main():
     """Writes the page."""
     words = arguments()
@@ -112,6 +126,8 @@ def main():
         title, sections = page(words)
     except NoBound as refusal:
         raise SystemExit(str(refusal)) from None
+    if not words.text:
+        told_of(sections)
     if words.text:
         sys.stdout.write(text_page(title, sections))
     elif words.output == "-":

@@ -16,13 +16,17 @@ import tempfile
 import time
 
 HERE = os.path.dirname(os.path.abspath(__file__))
-sys.path.insert(0, os.path.join(HERE, "sweep"))
+sys.path[:0] = [os.path.join(HERE, name) for name in ("sweep", "explain", "model")]
 
 from bars import picture
 from batch import Check, put, read
+from cuts import read_cut, read_regions
+from elf_symbols import ProgramFile
 from engines import Parallel, Slurm
 from manifest import Sweep, difference
 from merge import Contradiction, Merged, answer_of, is_judged, power, report_of, write_tables
+from misleading import of_cut
+from refusals import cut_fault, program_fault, regions_fault
 from secret_lists import Refused, lists_of
 
 BUILT = os.path.join(HERE, "..", "crates", "flowcheck", "out", "flowcheck")
@@ -108,6 +112,14 @@ def try_first(folder, sweep):
         raise Refused(f"check {answer['died']}")
 
 
+def notes_of(sweep):
+    """What may mislead: a cut of another program, or one that skips a region which is not there."""
+    program, cut, regions = (sweep.contents.get(name) for name in ("program", "cut", "regions"))
+    if program_fault(program) or cut_fault(cut) or regions and regions_fault(regions):
+        return []
+    return of_cut(ProgramFile(program), read_cut(cut), read_regions(regions) if regions else [])
+
+
 def merged_of(folder, sweep):
     merged = Merged(folder, sweep).take_all()
     write_tables(folder, merged)
@@ -120,6 +132,8 @@ def sweep_all(args):
     folder = os.path.abspath(args.results)
     lock = locked(folder)
     sweep = asked(args)
+    for note in notes_of(sweep):
+        print(f"note: {note}", file=sys.stderr)
     engine = Slurm() if args.slurm else Parallel(args.jobs or os.cpu_count() or 1, args.hosts)
     sweep.write(folder)
     missing = sweep.missing(folder)

@@ -6,6 +6,7 @@ from cuts import point_order, read_cut
 from document import Section, Table, Words
 from flow_picture import bits_text
 from guest import shown
+from misleading import HASH, program_hash
 from refusals import cut_fault
 from run_facts import read
 from tool import Unusable
@@ -19,7 +20,7 @@ class Earlier:
 
     def __init__(self, name):
         self.name, text = name, read(name)
-        page = IN_PAGE.search(text)
+        page, self.hash = IN_PAGE.search(text), HASH.search(text)
         if page:
             text = html.unescape(page[1].decode()).encode() + b"\n"
         elif text.startswith(b"<!DOCTYPE"):
@@ -29,6 +30,12 @@ class Earlier:
         self.cut = read_cut(text)
         self.bits = {point: sum(count * mask.bit_count() for count, mask in runs + (rest if not runs else []))
                      for point, (runs, rest) in self.cut.points.items()}
+
+    def notes(self, file):
+        """What may mislead: that an earlier page is of another program file."""
+        if self.hash is None or self.hash[1].decode() == program_hash(file):
+            return []
+        return [f"{self.name} is of another program, or of another build: its SHA-256 is {self.hash[1].decode()}."]
 
 
 def against_section(facts, earlier, program, places):

@@ -7,6 +7,7 @@ from flow_picture import bits_text
 from guest import shown
 from instruction_text import instruction_text, slot_words
 from measured_page import outputs_text
+from misleading import of_number, of_reads, section_of
 from pieces_of_code import Marks, listing_blocks, source_blocks
 
 
@@ -60,7 +61,8 @@ def many_page(many, program, places):
         bits[point[1]] = bits.get(point[1], 0) + capacity
     marks = Marks(bits)
     title = f"{bits_text(many.cut.bits)} of {len(many.runs)} secrets in {base(inputs.program)}"
-    sections = [number_section(many), cut_section(many, program, places), runs_section(many)]
+    notes = of_number(many.cut.bits) + [note for reads in many.reads for note in of_reads(*reads)]
+    sections = [number_section(many), section_of(notes), cut_section(many, program, places), runs_section(many)]
     sections.append(Section("The source", Words("In red: the cut.", "dim"), *source_blocks(places, marks)))
     sections.append(Section("The listing", *listing_blocks(program, places, marks)))
     words = [inputs.program, inputs.public, *many.secrets, *inputs.options]
@@ -68,4 +70,5 @@ def many_page(many, program, places):
     lines = [shlex.join(["flowcheck", "measure-all", *words]) + " >cut",
              shlex.join(check + inputs.without("--rules", "--cut"))]
     cut = Folded("The cut", many.cut_text.rstrip("\n").split("\n"))
-    return title, [*sections, Section("Check another secret", Commands(lines), cut)]
+    sections.append(Section("Check another secret", Commands(lines), cut))
+    return title, [section for section in sections if section]

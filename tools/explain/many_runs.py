@@ -4,6 +4,7 @@ import tempfile
 from cuts import VisitMasks, read_cut
 from guest import RealGuest
 from run_facts import NoMeasure, read
+from running import reads_of
 from verdicts import USUAL_TURNS, RealRun, crossing
 
 
@@ -30,6 +31,7 @@ class ManyRuns:
         self.cut = read_cut(self.cut_text.encode())
         self.capacities = {point: sum(count * mask.bit_count() for count, mask in runs)
                            for point, (runs, _) in self.cut.points.items()}
+        self.reads = []
         self.runs = [RunUnderCut(secret, self.crossing_of(secret), line)
                      for secret, line in zip(secrets, self.lines(asked))]
 
@@ -52,4 +54,5 @@ class ManyRuns:
                 crossed = crossing(visit, masks.mask_of(visit))
                 if crossed:
                     bits[visit[:3]] += len(crossed)
+        self.reads.append((*reads_of(guest)[1], secret))
         return bits

@@ -7,10 +7,12 @@ from document import Commands, Drawing, Folded, Section, Table, Words
 from flow_picture import bits_text, node_text, picture_of
 from guest import shown
 from instruction_text import NAMES, instruction_text, slot_words
+from misleading import of_number, of_reads, section_of
 from noted_run import noted_of, output_section
 from pieces_of_code import Marks, listing_blocks, source_blocks
 from reasons import Reasons
 from reasons_page import remedies_section, why_section
+from running import reads_of
 from tool import counted
 
 WIDE, NARROW = 860, 340
@@ -169,12 +171,20 @@ def commands_section(facts):
     )
 
 
+def notes_of(facts, noted, earlier, program):
+    """What may mislead."""
+    notes = of_number(facts.numbers["bits"])
+    notes += of_reads(*reads_of(noted.guest)[1], base(facts.inputs.secret)) if noted else []
+    return notes + (earlier.notes(program.file) if earlier else [])
+
+
 def measured_page(facts, program, places, earlier=None):
     """The title and the sections of the page of a measured run, perhaps beside an earlier measurement."""
     inputs = facts.inputs
     title = f"{bits_text(facts.numbers['bits'])} of {base(inputs.secret)} in {base(inputs.program)}"
     noted = noted_of(facts, program)
-    sections = [number_section(facts), output_section(noted), cut_section(facts, program, places)]
+    sections = [number_section(facts), section_of(notes_of(facts, noted, earlier, program)), output_section(noted)]
+    sections.append(cut_section(facts, program, places))
     sections.append(against_section(facts, earlier, program, places) if earlier else None)
     reasons = Reasons(facts, noted, program)
     sections += [why_section(reasons, places), remedies_section(reasons), picture_section(facts, places)]

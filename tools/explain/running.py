@@ -36,15 +36,16 @@ def reads_of(guest):
     return [(guest.consumed[number], len(guest.inputs[number])) for number in (PUBLIC, SECRET)]
 
 
-def run_by_model(image, public, secret, regions, limit):
-    """The run by the model, within so many turns."""
+def run_by_model(image, public, secret, regions, limit, passed=None):
+    """The run by the model, within so many turns; the points that it passes are added to a set."""
+    passed = set() if passed is None else passed
     guest, status, reason, turns = RealGuest(image, public, secret, regions), None, None, 0
     while status is None and reason is None:
         if turns == limit:
             reason = f"it did not exit within {counted(limit, 'turn')}; --turns sets another number"
             break
         try:
-            walk(guest.turn(), lambda visit: visit[3])
+            walk(guest.turn(), lambda visit: passed.add(visit[:3]) or visit[3])
         except GuestExit as exited:
             status = exited.status
         except (GuestFault, RegionBreak) as stop:

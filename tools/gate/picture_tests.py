@@ -38,7 +38,7 @@ from picture_checks import Chromium, PageNumbers, page_wrongs
 from refusals import cut_fault, regions_fault
 from rejection import Rejection
 from rejection_page import rejection_page
-from run_facts import Inputs, NoMeasure
+from run_facts import Inputs, NoMeasure, read
 from source_lines import ADDR2LINE, LLVM, Places
 from taint_page import taint_page
 from tainting import Tainting
@@ -177,7 +177,7 @@ class Tests(GuestFolder):
     def rejection(self, what, budget, secret, options):
         """Makes the page of one check."""
         flat = [word for name, value in options.items() for word in (f"--{name}", value)]
-        program = ProgramFile(explain.read(self.path("program")))
+        program = ProgramFile(read(self.path("program")))
         inputs = Inputs(self.path("program"), self.path("public"), secret, flat)
         seen = Rejection(Program(self.program), inputs, self.path("cut"), budget, program)
         title, sections = rejection_page(seen, program, Places(self.path("program"), program))
@@ -212,7 +212,7 @@ class Tests(GuestFolder):
     def finding(self, what, budget, secret, options):
         """Makes the page of one check with one machine."""
         flat = [word for name, value in options.items() for word in (f"--{name}", value)]
-        program = ProgramFile(explain.read(self.path("program")))
+        program = ProgramFile(read(self.path("program")))
         inputs = Inputs(self.path("program"), self.path("public"), secret, flat)
         seen = Tainting(Program(self.program), inputs, self.path("cut"), budget, program)
         title, sections = taint_page(seen, program, Places(self.path("program"), program))
@@ -244,7 +244,7 @@ class Tests(GuestFolder):
 
     def bound(self, what, budget, options):
         """Makes the page of one bound. Its tree must have a leaf for each path."""
-        program, asked = ProgramFile(explain.read(self.path("program"))), Program(self.program)
+        program, asked = ProgramFile(read(self.path("program"))), Program(self.program)
         inputs = Inputs(self.path("program"), self.path("public"), None, options)
         seen = Bounded(asked, inputs, [self.path("cut"), budget], program)
         places = Places(self.path("program"), program)
@@ -277,7 +277,7 @@ class Tests(GuestFolder):
             flat = [self.path("regions") if word == "regions" else word for word in flat]
             secrets = [self.path(word) for word in words if word.startswith("secret")]
             inputs = Inputs(self.path("program"), self.path("public"), secrets[0], flat)
-            program = ProgramFile(explain.read(self.path("program")))
+            program = ProgramFile(read(self.path("program")))
             try:
                 many = ManyRuns(Program(self.program), inputs, secrets, program)
             except NoMeasure:
@@ -363,7 +363,7 @@ class Tests(GuestFolder):
 
     def symbolizers(self, elf):
         """Each symbolizer must say the same places. Of clang's inlined calls addr2line 2.40 does not know the names."""
-        program, seen = ProgramFile(explain.read(elf)), {}
+        program, seen = ProgramFile(read(elf)), {}
         for name in LLVM + ADDR2LINE:
             if any(os.access(os.path.join(folder, name), os.X_OK) for folder in os.environ["PATH"].split(os.pathsep)):
                 words = ["--output-style=GNU", "--addresses", "--functions"] if "llvm" in name else ["-afi"]
@@ -428,7 +428,7 @@ class Tests(GuestFolder):
         """The page of a secret that parts inside a function names a region around its call."""
         inputs = Inputs(elf, self.path("nothing"), secrets[1])
         self.write_all({"cut": b"flowcheck-cut 1\nsecret 16\nbits 0\nend\n"})
-        program = ProgramFile(explain.read(elf))
+        program = ProgramFile(read(elf))
         seen = Rejection(Program(self.program), inputs, self.path("cut"), "64", program)
         text = text_page(*rejection_page(seen, program, Places(elf, program)))
         self.expect(f"suggestions: {compiler}", "With them the secret is accepted" in text, text)
