@@ -18,7 +18,8 @@ nothing beside it, or with --text a text for the terminal.
   --source FOLDER      where sources are that have moved; may be given more than once
   --flowcheck COMMAND  the program; without it crates/flowcheck/out/flowcheck, else `flowcheck`, else the model
 
-Python 3 is enough for addresses and functions; lines of sources want -g, and llvm-symbolizer or addr2line for
+The status is 0 where the page is made, 1 where there is no number, 2 where the words are no command line, and 3 where a
+file cannot be used. Python 3 is enough for addresses and functions; lines of sources want -g, and llvm-symbolizer or addr2line for
 RISC-V."""
 import argparse
 import os
@@ -34,11 +35,11 @@ from bounding import NoBound
 from document import html_page, text_page
 from many_page import many_page
 from many_runs import ManyRuns
-from measured_page import measured_page, refused_page
+from measured_page import NO_NUMBER, measured_page, refused_page
 from misleading import TITLE, of_cut, of_run, program_section, section_of
 from rejection import Rejection
 from rejection_page import rejection_page
-from run_facts import Inputs, NoMeasure, RunFacts
+from run_facts import Inputs, NoMeasure, RunFacts, read
 from source_lines import Places
 from taint_page import taint_page
 from tainting import Tainting
@@ -87,6 +88,8 @@ def page(words):
 def page_of(words, program):
     """The title and the sections of the page, but the one of the program; there may be None among these."""
     asked = Program(words.flowcheck)
+    for name in filter(None, [words.public, *words.secret, words.regions]):
+        read(name)
     places = Places(words.program, program, words.source)
     options = [(name, getattr(words, name)) for name in ("turns", "regions", "rules", "paths")]
     flat = [word for name, value in options if value for word in (f"--{name}", value)]
@@ -136,7 +139,7 @@ def main():
         with open(words.output, "w", encoding="utf-8") as out:
             out.write(html_page(title, sections))
         print(f"{title}: {words.output}")
-    return 0
+    return int(title.startswith(NO_NUMBER))
 
 
 if __name__ == "__main__":

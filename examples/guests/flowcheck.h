@@ -1,13 +1,15 @@
-/* What a guest in C needs, for gcc and clang: the calls, the start, and functions that compilers call by themselves.
+/* What a guest in C or C++ needs, for gcc and clang: the calls, the start, and functions that compilers call by
+ * themselves.
  *
- * Include it in one file and write `int main(void)`. The guest exits with what main returns.
+ * Include it in each file that uses it, and write `int main(void)` in one. The guest exits with what main returns. In
+ * C++ there are no exceptions, no library and no constructors of global objects.
  *
  *     gcc:   riscv64-unknown-elf-gcc -march=rv32im -mabi=ilp32 -O2 -g -static -nostartfiles -nostdlib -ffreestanding
  *                guest.c -lgcc -o guest.elf
  *     clang: clang --target=riscv32-unknown-elf -march=rv32im -mabi=ilp32 -O2 -g -static -nostdlib -ffreestanding
  *                -fuse-ld=lld guest.c -o guest.elf
  *
- * The Makefile beside this file runs these.
+ * The Makefile beside this file runs these, and for C++ with -fno-exceptions -fno-rtti -fno-threadsafe-statics.
  */
 #ifndef FLOWCHECK_H
 #define FLOWCHECK_H
@@ -17,6 +19,10 @@
 
 enum { CALL_READ = 63, CALL_WRITE = 64, CALL_EXIT = 93 };
 enum { DESCRIPTOR_PUBLIC = 0, DESCRIPTOR_OUTPUT = 1, DESCRIPTOR_SECRET = 3 };
+
+#ifdef __cplusplus
+extern "C" {
+#endif
 
 int main(void);
 
@@ -64,8 +70,8 @@ __attribute__((noreturn)) static inline void exit_with(int status)
 
 FLOWCHECK_MEMORY void *memcpy(void *to, const void *from, size_t count)
 {
-    unsigned char *target = to;
-    const unsigned char *source = from;
+    unsigned char *target = (unsigned char *)to;
+    const unsigned char *source = (const unsigned char *)from;
     for (size_t index = 0; index < count; index++) {
         target[index] = source[index];
         FLOWCHECK_STEP;
@@ -75,8 +81,8 @@ FLOWCHECK_MEMORY void *memcpy(void *to, const void *from, size_t count)
 
 FLOWCHECK_MEMORY void *memmove(void *to, const void *from, size_t count)
 {
-    unsigned char *target = to;
-    const unsigned char *source = from;
+    unsigned char *target = (unsigned char *)to;
+    const unsigned char *source = (const unsigned char *)from;
     if ((uintptr_t)to <= (uintptr_t)from)
         return memcpy(to, from, count);
     while (count--) {
@@ -88,7 +94,7 @@ FLOWCHECK_MEMORY void *memmove(void *to, const void *from, size_t count)
 
 FLOWCHECK_MEMORY void *memset(void *to, int byte, size_t count)
 {
-    unsigned char *target = to;
+    unsigned char *target = (unsigned char *)to;
     for (size_t index = 0; index < count; index++) {
         target[index] = (unsigned char)byte;
         FLOWCHECK_STEP;
@@ -98,16 +104,17 @@ FLOWCHECK_MEMORY void *memset(void *to, int byte, size_t count)
 
 FLOWCHECK_MEMORY int memcmp(const void *one, const void *other, size_t count)
 {
-    const unsigned char *first = one, *second = other;
+    const unsigned char *first = (const unsigned char *)one, *second = (const unsigned char *)other;
     for (size_t index = 0; index < count; index++)
         if (first[index] != second[index])
             return first[index] < second[index] ? -1 : 1;
     return 0;
 }
 
-/* The start: sets gp, which GNU ld's relaxation counts on, calls main, and exits with what it returns. */
+/* The start: sets gp, which GNU ld's relaxation counts on, calls main, and exits with what it returns. It is weak, as
+ * several files may bring it. */
 __asm__(".section .text._start, \"ax\", @progbits\n"
-        ".globl _start\n"
+        ".weak _start\n"
         ".type _start, @function\n"
         "_start:\n"
         ".option push\n"
@@ -119,5 +126,9 @@ __asm__(".section .text._start, \"ax\", @progbits\n"
         "    ecall\n"
         ".size _start, . - _start\n"
         ".text\n");
+
+#ifdef __cplusplus
+}
+#endif
 
 #endif

@@ -15,7 +15,7 @@ from reasons_page import remedies_section, why_section
 from running import reads_of
 from tool import counted
 
-WIDE, NARROW = 860, 340
+WIDE, NARROW, NO_NUMBER = 860, 340, "No number"
 
 
 def outputs_text(bits):
@@ -201,7 +201,7 @@ def refused_page(text, inputs, program, places):
         marks = Marks(parted=addresses[0])
         where = Words(f"It is at {places.at(addresses[0]).text()}, {shown(addresses[0])}.")
         sections.append(Section("Where", where, *source_blocks(places, marks), *listing_blocks(program, places, marks)))
-    return f"No number for {base(inputs.secret)} in {base(inputs.program)}", sections
+    return f"{NO_NUMBER} for {base(inputs.secret)} in {base(inputs.program)}", sections
 
 
 REFUSALS = {

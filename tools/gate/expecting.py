@@ -55,9 +55,9 @@ class Expectations:
             self.wrongs.append(f"traceback: {script} {' '.join(words)}\n{error}")
         return done.returncode, output, error
 
-    def make(self, *words, folder=None):
-        """The status of make with the makefile of the guests, and what it prints."""
-        command = ["make", "-s", "-f", MAKEFILE, *words]
+    def make(self, *words, folder=None, makefile=MAKEFILE):
+        """The status of make with a makefile, that of the guests without another, and what it prints."""
+        command = ["make", "-s", "-f", makefile, *words]
         done = subprocess.run(command, capture_output=True, cwd=folder or self.folder, check=False, text=True)
         return done.returncode, done.stdout, done.stderr
 
