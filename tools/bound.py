@@ -21,14 +21,13 @@ import sys
 HERE = os.path.dirname(os.path.abspath(__file__))
 sys.path[:0] = [os.path.join(HERE, "explain"), os.path.join(HERE, "model")]
 
-from answering import Program
+from answering import Program, command_words
 from bound_words import bounded_lines, unclear_lines
 from bounding import Bounding, NoBound, found
-from elf_symbols import ProgramFile
-from refusals import program_fault
-from run_facts import Inputs, read
+from run_facts import Inputs
 from run_words import parser_of
 from source_lines import Places
+from tool import finish, program_of, told
 
 MOST_LENGTH = 65_536
 OPTIONS = ("regions", "turns", "rules", "paths")
@@ -37,8 +36,8 @@ OPTIONS = ("regions", "turns", "rules", "paths")
 def arguments():
     """The words of the command line."""
     parser = parser_of(__doc__)
-    parser.add_argument("public")
-    parser.add_argument("secrets", nargs="+")
+    parser.add_argument("public", metavar="PUBLIC")
+    parser.add_argument("secrets", metavar="SECRET", nargs="+")
     for name in OPTIONS:
         parser.add_argument(f"--{name}")
     parser.add_argument("--rounds", type=int, default=100)
@@ -63,7 +62,8 @@ def find(bounding, words, tell):
 
 def command(words, answer, options):
     """The words that ask again."""
-    return ["flowcheck", "bound", words.program, words.public, words.output, str(answer.budget), *options, "--list"]
+    named = words.program, words.public, words.output, str(answer.budget)
+    return [*command_words(), "bound", *named, *options, "--list"]
 
 
 def main():
@@ -71,16 +71,11 @@ def main():
     words = arguments()
     options = [word for name in OPTIONS if getattr(words, name) for word in (f"--{name}", getattr(words, name))]
     try:
-        file = read(words.program)
-        if program_fault(file):
-            raise NoBound(f"refused 3 program {program_fault(file)}")
-        program, inputs = ProgramFile(file), Inputs(words.program, words.public, None, options)
+        program, inputs = program_of(words.program), Inputs(words.program, words.public, None, options)
         bounding = Bounding(Program(words.flowcheck), inputs, program)
         answer, walk, bits = find(bounding, words, lambda text: print(text, flush=True))
     except NoBound as fault:
-        raise SystemExit(str(fault)) from None
-    except OSError as fault:
-        raise SystemExit(f"{fault.filename}: {fault.strerror}") from None
+        return told(str(fault), 1)
     with open(words.output, "w", encoding="utf-8") as out:
         out.write(answer.cut.text())
     again = command(words, answer, options)
@@ -92,4 +87,4 @@ def main():
 
 
 if __name__ == "__main__":
-    sys.exit(main())
+    finish(main)

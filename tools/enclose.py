@@ -22,16 +22,14 @@ import time
 HERE = os.path.dirname(os.path.abspath(__file__))
 sys.path[:0] = [os.path.join(HERE, "explain"), os.path.join(HERE, "model")]
 
-from answering import Program
+from answering import Program, command_words
 from document import Table
-from elf_symbols import ProgramFile
 from enclosing import Search, candidates_of
-from refusals import program_fault
 from region_finding import NoRegion
 from region_joining import Learner, pretty_text
-from run_facts import read
 from run_words import parser_of
 from source_lines import Places
+from tool import finish, program_of, told
 from verdicts import USUAL_TURNS
 
 NONE = (
@@ -44,8 +42,8 @@ MODEL = [sys.executable, os.path.join(HERE, "model", "flowcheck.py")]
 def arguments():
     """The words of the command line."""
     parser = parser_of(__doc__)
-    parser.add_argument("public")
-    parser.add_argument("secrets", nargs="+")
+    parser.add_argument("public", metavar="PUBLIC")
+    parser.add_argument("secrets", metavar="SECRET", nargs="+")
     parser.add_argument("--most", type=int, default=200)
     parser.add_argument("-j", dest="jobs", type=int, default=os.cpu_count())
     parser.add_argument("--output", default="enclosed.regions")
@@ -56,10 +54,7 @@ def arguments():
 
 def find(words):
     """The trials that were kept, how many candidates there were, and how many measurements were made."""
-    file = read(words.program)
-    if program_fault(file):
-        raise NoRegion(f"refused 3 program {program_fault(file)}")
-    program, asked = ProgramFile(file), Program(words.flowcheck)
+    program, asked = program_of(words.program), Program(words.flowcheck)
     if not program.functions:
         raise NoRegion("the program has no symbols, which say where its functions are: link it without -s")
     asked.words = asked.words or MODEL
@@ -85,8 +80,8 @@ def commands(words, bits):
     options = ["--regions", words.output] + (["--turns", str(words.turns)] if words.turns != USUAL_TURNS else [])
     rules = ["--rules", words.rules] if words.rules else []
     run, first = [words.program, words.public], words.secrets[0]
-    measure = shlex.join(["flowcheck", "measure", *run, first, *options, *rules])
-    return [measure + " >cut", shlex.join(["flowcheck", "check", *run, "cut", str(bits), first, *options])]
+    measure = shlex.join([*command_words(), "measure", *run, first, *options, *rules])
+    return [measure + " >cut", shlex.join([*command_words(), "check", *run, "cut", str(bits), first, *options])]
 
 
 def main():
@@ -95,9 +90,7 @@ def main():
     try:
         kept, candidates, measured = find(words)
     except NoRegion as fault:
-        raise SystemExit(str(fault)) from None
-    except OSError as fault:
-        raise SystemExit(f"{fault.filename}: {fault.strerror}") from None
+        return told(str(fault), 1)
     seconds = time.monotonic() - begin
     print("\n".join(table_of(kept, len(words.secrets) - 1).text()))
     print(f"{candidates} candidates, {measured} measurements, {seconds:.1f} seconds")
@@ -113,4 +106,4 @@ def main():
 
 
 if __name__ == "__main__":
-    sys.exit(main())
+    finish(main)

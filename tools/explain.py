@@ -19,9 +19,8 @@ nothing beside it, or with --text a text for the terminal.
   --flowcheck COMMAND  the program; without it crates/flowcheck/out/flowcheck, else `flowcheck`, else the model
 
 The status is 0 where the page is made, 1 where there is no number, 2 where the words are no command line, and 3 where a
-file cannot be used. Python 3 is enough for addresses and functions; lines of sources want -g, and llvm-symbolizer or addr2line for
-RISC-V."""
-import argparse
+file cannot be used. Python 3 is enough for addresses and functions; lines of sources want -g, and llvm-symbolizer or
+addr2line for RISC-V."""
 import os
 import sys
 
@@ -40,6 +39,7 @@ from misleading import TITLE, of_cut, of_run, program_section, section_of
 from rejection import Rejection
 from rejection_page import rejection_page
 from run_facts import Inputs, NoMeasure, RunFacts, read
+from run_words import parser_of
 from source_lines import Places
 from taint_page import taint_page
 from tainting import Tainting
@@ -48,12 +48,9 @@ from tool import finish, program_of, told
 
 def arguments():
     """The words of the command line."""
-    parser = argparse.ArgumentParser(
-        description=__doc__, usage=argparse.SUPPRESS, formatter_class=argparse.RawDescriptionHelpFormatter
-    )
-    parser.add_argument("program")
-    parser.add_argument("public")
-    parser.add_argument("secret", nargs="*")
+    parser = parser_of(__doc__)
+    parser.add_argument("public", metavar="PUBLIC")
+    parser.add_argument("secret", metavar="SECRET", nargs="*")
     for name in ("--check", "--taint"):
         parser.add_argument(name, nargs=3, metavar=("CUT", "BUDGET", "SECRET"))
     parser.add_argument("--bound", nargs="+", metavar=("CUT", "BUDGET"))
@@ -63,7 +60,6 @@ def arguments():
     parser.add_argument("--output", default="explain.html")
     parser.add_argument("--text", action="store_true")
     parser.add_argument("--source", action="append", default=[])
-    parser.add_argument("--flowcheck")
     words = parser.parse_args()
     if sum(bool(given) for given in (words.secret, words.check, words.taint, words.bound)) != 1:
         parser.error("name secrets, or --check or --taint CUT BUDGET SECRET, or --bound CUT BUDGET [SECRET]")
@@ -128,7 +124,7 @@ def main():
     try:
         title, sections = page(words)
     except NoBound as refusal:
-        raise SystemExit(str(refusal)) from None
+        return told(str(refusal), 1)
     if not words.text:
         told_of(sections)
     if words.text:

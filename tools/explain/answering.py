@@ -11,6 +11,19 @@ TOOLS = os.path.dirname(os.path.dirname(os.path.abspath(__file__)))
 BUILT = os.path.join(TOOLS, "..", "crates", "flowcheck", "out", "flowcheck")
 
 
+def command_words():
+    """How the program is called from the folder where one stands: by its name, by its place, or the model."""
+    if shutil.which("flowcheck"):
+        return ["flowcheck"]
+    is_built = os.path.exists(BUILT)
+    return [os.path.relpath(BUILT)] if is_built else script_words(os.path.join("model", "flowcheck.py"))
+
+
+def script_words(name):
+    """How a script of this folder is called from the folder where one stands."""
+    return ["python3", os.path.relpath(os.path.join(TOOLS, name))]
+
+
 class Program:
     """Whoever answers command lines. `words` are the words of the built program; none are the model."""
 

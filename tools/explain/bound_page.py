@@ -4,6 +4,7 @@ import shlex
 from collections import Counter
 from os.path import basename as base
 
+from answering import command_words
 from bound_words import ADVICE, FREE_WORDS, advice_at, claim, numbers_words, reason_kind
 from bounding import Bounding, choices_by_point
 from bounds import Task
@@ -160,7 +161,7 @@ def bound_page(bounded, program, places):
     marks = Marks({}, cut | set(choices), None if answer.is_bounded else bounded.walk.begin)
     sections.append(Section("The source", Words("Marked: where bits cross.", "dim"), *source_blocks(places, marks)))
     sections.append(Section("The listing", *listing_blocks(program, places, marks)))
-    again = ["flowcheck", "bound", inputs.program, inputs.public, bounded.cut_name, str(bounded.budget)]
+    again = [*command_words(), "bound", inputs.program, inputs.public, bounded.cut_name, str(bounded.budget)]
     lines = [shlex.join([*again, *inputs.options, "--list"])]
     sections.append(Section("Ask again", Commands(lines)))
     return f"{word} of {name}", [section for section in sections if section]

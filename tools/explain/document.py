@@ -14,10 +14,10 @@ class Section:
 
 
 class Words:
-    """A paragraph."""
+    """A paragraph. `text` are its words on a terminal, where they are others: there are no colours."""
 
-    def __init__(self, words, kind="", number=None):
-        self.words, self.kind, self.number = words, kind, number
+    def __init__(self, words, kind="", number=None, text=None):
+        self.words, self.kind, self.number, self.on_terminal = words, kind, number, text or words
 
     def html(self):
         """As HTML; a number that tests look for is an attribute."""
@@ -27,7 +27,7 @@ class Words:
 
     def text(self):
         """As lines."""
-        return textwrap.wrap(self.words, TEXT_WIDTH)
+        return textwrap.wrap(self.on_terminal, TEXT_WIDTH)
 
 
 class Table:

@@ -1,12 +1,33 @@
 """The symbols and the code of a program file, read from the file itself."""
 import bisect
+import re
+import shutil
 import struct
+import subprocess
 
 from guest import Image
 from instructions import decode
 
 SYMBOL_TABLE, FUNCTION, OBJECT, NO_TYPE = 2, 2, 1, 0
 EXECUTABLE = 1
+DEMANGLERS = ["c++filt", "llvm-cxxfilt", "riscv64-unknown-elf-c++filt"]
+DEMANGLERS += [f"llvm-cxxfilt-{version}" for version in range(20, 12, -1)]
+
+
+def demangled(names):
+    """Names of C++ as they are written, where there is a program that knows them; others stay as they are."""
+    mangled = [name for name in names if name.startswith("_Z")]
+    command = next(filter(None, map(shutil.which, DEMANGLERS)), None)
+    if not mangled or not command:
+        return {}
+    done = subprocess.run([command], input="\n".join(mangled), stdout=subprocess.PIPE, check=False, text=True)
+    return dict(zip(mangled, done.stdout.split("\n")))
+
+
+def plain_names(name):
+    """How a user may call a function: by its whole name, without its parameters, and without what it stands in."""
+    bare = re.sub(r"\(.*", "", name)
+    return {name, name.split(".")[0], bare, bare.split("::")[-1]}
 
 
 class Symbol:
@@ -27,6 +48,9 @@ class ProgramFile:
         self.file, self.image = file, Image(file)
         self.code = self.executable_loads()
         symbols = list(self.read_symbols())
+        names = demangled([symbol.name for _, symbol in symbols])
+        for _, symbol in symbols:
+            symbol.name = names.get(symbol.name, symbol.name)
         self.functions = self.functions_of(symbols)
         self.objects = sorted((symbol for kind, symbol in symbols if kind == OBJECT), key=lambda symbol: symbol.address)
         self.starts = [function.address for function in self.functions]
@@ -82,7 +106,7 @@ class ProgramFile:
 
     def functions_named(self, name):
         """The functions of a name, and the copies that compilers make of them, as name.isra.0."""
-        return [function for function in self.functions if function.name.split(".")[0] == name or function.name == name]
+        return [function for function in self.functions if name in plain_names(function.name)]
 
     def object_at(self, address):
         """The object in which an address lies, or None."""

@@ -3,6 +3,7 @@ bands whose widths are the bits that flow."""
 import html
 
 from flow_groups import CUT, LEVELS, RELAY_NODE, SECRET_SIDE, SINK, SOURCE, Grouping
+from tool import counted
 
 BOX, GAP, MARGIN, BETWEEN, LEAST_GAP = 50, 12, 6, 46, 3
 MOST_NODES = 24
@@ -55,7 +56,7 @@ class Picture:
         kind, name = node
         bits = bits_text(self.grouping.through(node))
         if node == SOURCE:
-            return ["the secret", f"{self.facts.numbers['secret']} bytes", bits]
+            return ["the secret", counted(self.facts.numbers["secret"], "byte"), bits]
         if node == SINK:
             return ["what is seen", "output and status", bits]
         if kind == CUT:

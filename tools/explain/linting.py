@@ -2,8 +2,8 @@
 from code_graph import CodeGraph
 from cuts import slot_width
 from guest import MEMORY_SIZE, shown
+from instruction_text import NAMES as REGISTERS
 from instruction_text import instruction_text
-from instructions import ALL
 from region_finding import Calls
 from tool import counted
 
@@ -30,6 +30,7 @@ class Lint:
         self.by_number = {region.number: region for region in regions or []}
         self.lone_skips = [number for number in cut.skip if number not in self.by_number]
         self.strange = [point for point in cut.points if not self.is_place(point)]
+        self.calls, self.lost = Calls(program), 0
 
     def find(self, line, text):
         """Adds a finding."""
@@ -52,6 +53,10 @@ class Lint:
             self.find("the cut", self.strange_words())
         for region in self.regions or []:
             self.look_at_region(region)
+        if 2 * self.lost > len(self.by_number):
+            of_all = f"{self.lost} of {counted(len(self.by_number), 'region')}"
+            self.find("the regions", f"no code leads to the begin or the end of {of_all}; it is the region file of another "
+                                     "program, or of another build")
         return self.findings
 
     def is_place(self, point):
@@ -130,10 +135,13 @@ class Lint:
             if not self.program.is_code(address):
                 self.find(line, f"there is no instruction at its {word} address {shown(address)}" + self.near(address))
         if not self.program.is_code(region.enter) or not self.program.is_code(region.leave):
+            self.lost += 1
             return
         before, entered = self.program.instruction(region.enter - 4), self.program.instruction(region.enter)
         if not self.is_reached(region.enter, before):
             self.find(line, f"no instruction leads to its enter address {shown(region.enter)}")
+            self.lost += 1
+        self.look_at_writes(line, region)
         is_pair = entered and entered.name == "auipc" and entered.destination == 1
         if is_pair and region.leave == region.enter + 4:
             self.find(line, f"it has the first half of a call alone; enter at {shown(region.enter + 4)}, the jalr")
@@ -141,6 +149,22 @@ class Lint:
             first, last = self.program.image.base, self.program.image.base + MEMORY_SIZE
             if base is None and not first <= offset <= offset + length <= last:
                 self.find(line, f"range {index} is outside guest memory, {shown(first)} to {shown(last - 1)}")
+
+    def look_at_writes(self, line, region):
+        """Looks for registers that the code inside may write and that the region does not declare."""
+        function = self.program.function_at(region.enter)
+        if function is None:
+            return
+        if region.leave == region.enter + 4:
+            inside = {region.enter}
+        elif function.holds(region.leave):
+            inside = CodeGraph(self.program, function).inside(region.enter, region.leave)
+        else:
+            return
+        missing = sorted(self.calls.written(inside) - {*region.outs, *region.keep})
+        if missing:
+            names = " ".join(REGISTERS[number] for number in missing)
+            self.find(line, f"its code may write {names}, of which neither outs nor keep says anything")
 
     def is_reached(self, address, before):
         """Whether an instruction falls through, jumps or branches to an address, or it is the entry. Jumps to what a

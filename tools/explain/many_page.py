@@ -2,6 +2,7 @@
 import shlex
 from os.path import basename as base
 
+from answering import command_words
 from document import Commands, Folded, Section, Table, Words
 from flow_picture import bits_text
 from guest import shown
@@ -63,11 +64,12 @@ def many_page(many, program, places):
     title = f"{bits_text(many.cut.bits)} of {len(many.runs)} secrets in {base(inputs.program)}"
     notes = of_number(many.cut.bits) + [note for reads in many.reads for note in of_reads(*reads)]
     sections = [number_section(many), section_of(notes), cut_section(many, program, places), runs_section(many)]
-    sections.append(Section("The source", Words("In red: the cut.", "dim"), *source_blocks(places, marks)))
+    key = Words("In red: the cut.", "dim", text="Marked by >: the cut.")
+    sections.append(Section("The source", key, *source_blocks(places, marks)))
     sections.append(Section("The listing", *listing_blocks(program, places, marks)))
     words = [inputs.program, inputs.public, *many.secrets, *inputs.options]
-    check = ["flowcheck", "check", inputs.program, inputs.public, "cut", str(many.cut.bits), "OTHER"]
-    lines = [shlex.join(["flowcheck", "measure-all", *words]) + " >cut",
+    check = [*command_words(), "check", inputs.program, inputs.public, "cut", str(many.cut.bits), "OTHER"]
+    lines = [shlex.join([*command_words(), "measure-all", *words]) + " >cut",
              shlex.join(check + inputs.without("--rules", "--cut"))]
     cut = Folded("The cut", many.cut_text.rstrip("\n").split("\n"))
     sections.append(Section("Check another secret", Commands(lines), cut))

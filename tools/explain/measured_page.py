@@ -3,6 +3,7 @@ import shlex
 from os.path import basename as base
 
 from against import against_section
+from answering import command_words, script_words
 from document import Commands, Drawing, Folded, Section, Table, Words
 from flow_picture import bits_text, node_text, picture_of
 from guest import shown
@@ -80,12 +81,11 @@ def picture_section(facts, places):
         f"{bits_text(flow):>12}   {node_text(source)}  ->  {node_text(target)}"
         for (source, target), flow in wide.grouping.flows.items()
     ]
-    words = (
-        f"One maximum flow, {level_words(wide, places)}: blue on the secret's side of the cut, amber on the side that "
-        "is seen, and as wide as the bits that flow; what goes to and fro is left out. Other maximum flows may take "
-        "other ways; all of them pass the cut."
-    )
-    return Section("The flow", Drawing(wide.svg(label), narrow.svg(label), lines), Words(words, "dim"))
+    first = f"One maximum flow, {level_words(wide, places)}"
+    colours = "blue on the secret's side of the cut, amber on the side that is seen, and as wide as the bits that flow"
+    rest = "what goes to and fro is left out. Other maximum flows may take other ways; all of them pass the cut."
+    words = Words(f"{first}: {colours}; {rest}", "dim", text=f"{first}; {rest}")
+    return Section("The flow", Drawing(wide.svg(label), narrow.svg(label), lines), words)
 
 
 def level_words(picture, places):
@@ -102,11 +102,12 @@ def code_sections(facts, program, places):
         cut_bits[cut.address] = cut_bits.get(cut.address, 0) + cut.bits
     marks = Marks(cut_bits, {point[1] for point in facts.passed()})
     sources, listings = source_blocks(places, marks), listing_blocks(program, places, marks)
-    key = "In red: the cut, with the bits that pass there. In blue: secret bits pass. "
+    cut, passed = "the cut, with the bits that pass there.", "secret bits pass."
+    key = Words(f"In red: {cut} In blue: {passed}", "dim", text=f"Marked by >: {cut} Marked by |: {passed}")
     lack = "No line of a source is known, or no source was found: build with -g, and name its folder by --source."
-    sections = [Section("The source", Words(key if sources else lack, "dim"), *sources)]
+    sections = [Section("The source", key if sources else Words(lack, "dim"), *sources)]
     if listings:
-        sections.append(Section("The listing", Words(key, "dim"), *listings))
+        sections.append(Section("The listing", key, *listings))
     return sections
 
 
@@ -152,15 +153,15 @@ def commands_section(facts):
     """The commands that check other secrets."""
     inputs, bits = facts.inputs, facts.numbers["bits"]
     usual = inputs.without("--rules", "--cut")
-    measure = shlex.join(["flowcheck", *inputs.words("measure")]) + " >cut"
-    check = ["flowcheck", "check", inputs.program, inputs.public, "cut", str(bits)]
+    measure = shlex.join([*command_words(), *inputs.words("measure")]) + " >cut"
+    check = [*command_words(), "check", inputs.program, inputs.public, "cut", str(bits)]
     lines = [measure, shlex.join([*check, inputs.secret, *usual]), shlex.join([*check, "OTHER", *usual])]
     words = (
         "The first command writes the cut, the second checks this secret, which is accepted, and the third any other, "
         "or up to 64 of them."
     )
     again = "Of a secret that is rejected, this says where and why:"
-    explain = ["python3", "tools/explain.py", inputs.program, inputs.public, "--check", "cut", str(bits), "OTHER"]
+    explain = [*script_words("explain.py"), inputs.program, inputs.public, "--check", "cut", str(bits), "OTHER"]
     return Section(
         "Check another secret",
         Words(words),

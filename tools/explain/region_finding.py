@@ -173,6 +173,8 @@ def read_name(calls, places, name):
     if colon and first.isdigit() and (last or first).isdigit():
         return around_lines(calls, places, file, int(first), int(last or first))
     functions = calls.program.functions_named(name)
+    if not calls.program.functions:
+        raise NoRegion(f"{name} is not found: the program has no symbols; link it without -s, and do not strip it")
     if not functions:
         raise NoRegion(f"{name} is no function of the program; a compiler may have put its body where it is called")
     return around_calls(calls, functions)

@@ -2,6 +2,7 @@
 import shlex
 from os.path import basename as base
 
+from answering import command_words, script_words
 from document import Commands, Section, Table, Words
 from flow_picture import bits_text
 from guest import shown
@@ -170,7 +171,7 @@ def region_words(rejection, places):
     except (NoRegion, NotLearnt, Refused):
         return []
     inputs = rejection.inputs
-    command = ["python3", "tools/regions.py", inputs.program, function.name, "--public", inputs.public]
+    command = [*script_words("regions.py"), inputs.program, function.name, "--public", inputs.public]
     words = (
         f"Or a region around the call of {function.name}: with it this run measures {bits_text(measured.bits)}, and "
         "what happens inside need not be the same. This writes it:"
@@ -226,6 +227,6 @@ def rejection_page(rejection, program, places):
         key = Words("Marked: where it is, and the cut with the bits that crossed there.", "dim")
         sections.append(Section("The source", key, *source_blocks(places, marks)))
         sections.append(Section("The listing", *listing_blocks(program, places, marks)))
-    again = shlex.join(["flowcheck", *inputs.words("measure")]) + " >cut"
+    again = shlex.join([*command_words(), *inputs.words("measure")]) + " >cut"
     sections.append(Section("Measure this secret", Commands([again])))
     return title, [section for section in sections if section]

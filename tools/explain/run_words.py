@@ -4,9 +4,7 @@ import argparse
 
 def parser_of(text):
     """The parser of a script whose help is this text, which says the call too."""
-    parser = argparse.ArgumentParser(
-        description=text, usage=argparse.SUPPRESS, formatter_class=argparse.RawDescriptionHelpFormatter
-    )
-    parser.add_argument("program")
+    parser = argparse.ArgumentParser(description=text, formatter_class=argparse.RawDescriptionHelpFormatter)
+    parser.add_argument("program", metavar="PROG")
     parser.add_argument("--flowcheck")
     return parser

@@ -35,7 +35,7 @@ def symbolizer():
             return [name, "--output-style=GNU", "--addresses", "--functions", "--inlines", "-e"]
     for name in ADDR2LINE:
         if shutil.which(name):
-            return [name, "-a", "-f", "-i", "-e"]
+            return [name, "-a", "-f", "-i", "-C", "-e"]
     return None
 
 

@@ -2,6 +2,7 @@
 import shlex
 from os.path import basename as base
 
+from answering import command_words
 from document import Commands, Section, Table, Words
 from flow_picture import bits_text
 from guest import shown
@@ -127,6 +128,6 @@ def taint_page(tainting, program, places):
         key = Words("Marked: where it is, and the cut with the bits that crossed there.", "dim")
         sections.append(Section("The source", key, *source_blocks(places, marks)))
         sections.append(Section("The listing", *listing_blocks(program, places, marks)))
-    again = shlex.join(["flowcheck", *inputs.words("measure")]) + " >cut"
+    again = shlex.join([*command_words(), *inputs.words("measure")]) + " >cut"
     sections.append(Section("Measure this secret", Commands([again])))
     return title, [section for section in sections if section]

@@ -62,8 +62,8 @@ class MakefileTests(Expectations):
 
     def test_notes(self):
         """What may mislead is told, and nothing where nothing does."""
-        folder = self.put("notes", mine_c=BIT % ("", "s & 1"), none_c=BIT % ("", "0"), none_secret="abc", none_public="",
-                          mine_secret="a", mine_public="")
+        folder = self.put("notes", mine_c=BIT % ("", "s & 1"), mine_secret="a", mine_public="")
+        self.put("notes", none_c=BIT % ("", "0"), none_secret="abc", none_public="")
         for target in ("cut", "report", "html"):
             self.made("notes", [f"none.{target}"], 0, "read 1 of 3 bytes", "number is 0", folder=folder)
             _, _, error = self.make(f"mine.{target}", folder=folder)

@@ -18,7 +18,7 @@ import tempfile
 
 from batch import secrets_of
 
-MOST_TOLD = 10
+MOST_TOLD, MOST_SHOWN = 10, 40
 
 
 def accepted_rows(results):
@@ -67,6 +67,12 @@ def output_of(program, public, secret):
     return ended.stdout, ended.returncode
 
 
+def output_text(content):
+    """An output, of which only the first bytes are shown where it is long."""
+    more = len(content) - MOST_SHOWN
+    return f"{content[:MOST_SHOWN]!r}" + (f" and {more:,} byte{'s' * (more > 1)} more" if more > 0 else "")
+
+
 def compare(results, rows, program):
     """The output of each crossing, and how many secrets have another output than the first, or than check says."""
     secrets, public = Secrets(results), (results / "files" / "public").read_bytes()
@@ -96,7 +102,7 @@ def main():
         outputs, failed = compare(args.results, rows, program)
     different = len(set(outputs.values()))
     for (bits, crossing), (content, status) in sorted(outputs.items()):
-        print(f"bits {bits} crossing {crossing}: {content[:40]!r} status {status}")
+        print(f"bits {bits} crossing {crossing}: {output_text(content)} status {status}")
     print(f"{len(rows)} secrets, {len(outputs)} different crossings, {different} different outputs, {failed} differ")
     return int(failed > 0 or different > len(outputs))
 
