@@ -1,12 +1,15 @@
 #!/bin/sh
-# Runs the commands of each story as they stand in its text, with gcc and with clang.
+# Runs the commands of each story as they stand in its text, with gcc and with clang; those of `hosted` with gcc alone.
 #
-# Call: run.sh [gcc|clang]... It wants Debian's gcc-riscv64-unknown-elf, clang and lld, make and Python 3, and takes the
-# built program, or the model in tools/model where FLOWCHECK is not set and there is none. See run_story.py.
+# Call: run.sh [gcc|clang]... It wants Debian's gcc-riscv64-unknown-elf, picolibc-riscv64-unknown-elf, clang, lld,
+# qemu-user and make, and Python 3. It takes the built program, or the model in tools/model where FLOWCHECK is not set
+# and there is none. See run_story.py.
 set -e
 cd "$(dirname "$0")"
 for compiler in ${*:-gcc clang}; do
-    for story in password redactor auction bound; do
+    stories='password redactor auction bound battleship picture calendar digest'
+    [ "$compiler" = clang ] || stories="$stories hosted"
+    for story in $stories; do
         python3 run_story.py "$compiler" "$story"
     done
 done
