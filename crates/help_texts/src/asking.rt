@@ -1,32 +1,124 @@
-ghost use Rattle.std.specs.Prelude.{◌≡◌, IfOk, Some, is_some, map, option_map, string_bytes, true};
-ghost use Rattle.help_texts.specs.Texts.{asks, asks_version, version};
+ghost use Rattle.std.specs.Prelude.{◌≡◌, ◌∷◌, [], IfOk, Some, is_some, map, option_map, string_bytes, true};
+ghost use Rattle.help_texts.specs.Texts.{asks, asks_version, is_command, is_help, is_help_option, is_version, version};
 
+use crate::endings::ending_text;
 use crate::forms::{command_line, forms};
+use clap::Command;
 use std::alloc::{AllocError, Global};
 
-const VERSION: &str = "flowcheck 0.1.0\n";
+const VERSION: &str = "flowcheck 0.1.0\nproved with rattle-kit-13f\n";
 
-/// The text of the help: the commands, and then the form of each, as `clap` tells them. Its error is want of memory.
+const BELOW: &str =
+    "\nflowcheck help COMMAND tells of one command. docs/GUIDE.md says what each answer means.\n";
+
+/// The form of a command with its statuses and an example.
+fn form_text(alloc: Global, mut form: Command<'_>) -> Result<String, AllocError> {
+    let mut text = form.render_help()?;
+    let ending = ending_text(alloc, form.get_name())?;
+    text.push_str(ending.as_str())?;
+    Ok(text)
+}
+
+/// The text of the help: the commands, and then the form of each, as `clap` tells them, with its statuses and an
+/// example. Its error is want of memory.
 pub fn help(alloc: Global) -> Result<String, AllocError> {
     let mut text = command_line(alloc)?.render_help()?;
-    for mut form in forms(alloc)? {
+    text.push_str(BELOW)?;
+    for form in forms(alloc)? {
         text.push('\n')?;
-        let shown = form.render_help()?;
+        let shown = form_text(alloc, form)?;
         text.push_str(shown.as_str())?;
     }
     Ok(text)
 }
 
-/// The text that a lone word `--help` or `--version` asks for; None exactly where the words are neither. Its
-/// error is want of memory.
+/// The help of the command of this name.
+fn command_help(alloc: Global, name: &str) -> Result<String, AllocError> {
+    for form in forms(alloc)? {
+        if form.get_name() == name {
+            return form_text(alloc, form);
+        }
+    }
+    help(alloc)
+}
+
+/// Whether a word is the name of a command.
+fn is_command_name(word: &str) -> bool
+    ensures { result ≡ is_command word.now }
+{
+    word == "check"
+        || word == "taint"
+        || word == "bound"
+        || word == "measure"
+        || word == "measure-all"
+        || word == "graph"
+        || word == "report"
+        || word == "learn"
+        || word == "asm"
+        || word == "list"
+        || word == "verify"
+        || word == "migrate"
+        || word == "trial"
+}
+
+/// Whether a word behind a command asks for its help.
+fn is_option_of_help(word: &str) -> bool
+    ensures { result ≡ is_help_option word.now }
+{
+    word == "--help" || word == "-h"
+}
+
+/// Whether a lone word asks for the help.
+fn is_word_of_help(word: &str) -> bool
+    ensures { result ≡ is_help word.now }
+{
+    is_option_of_help(word) || word == "help"
+}
+
+/// Whether a lone word asks for the version.
+fn is_word_of_version(word: &str) -> bool
+    ensures { result ≡ is_version word.now }
+{
+    word == "--version" || word == "-V"
+}
+
+/// The text that a lone word asks for; None exactly where it asks for none.
+fn text_of_word(alloc: Global, word: &str) -> Result<Option<String>, AllocError>
+    ensures asked { IfOk result (λ text. is_some text ≡ asks (word.now ∷ [])) }
+    ensures version { is_version word.now ≡ true → IfOk result (λ text. option_map string_bytes text ≡ Some version) }
+{
+    if is_word_of_version(word) {
+        return Ok(Some(VERSION.to_string(alloc)?));
+    }
+    if is_word_of_help(word) {
+        return Ok(Some(help(alloc)?));
+    }
+    Ok(None)
+}
+
+/// The text that two words ask for; None exactly where they ask for none.
+fn text_of_pair(alloc: Global, first: &str, second: &str) -> Result<Option<String>, AllocError>
+    ensures { IfOk result (λ text. is_some text ≡ asks (first.now ∷ second.now ∷ [])) }
+{
+    if first == "help" && is_command_name(second) {
+        return Ok(Some(command_help(alloc, second)?));
+    }
+    if is_command_name(first) && is_option_of_help(second) {
+        return Ok(Some(command_help(alloc, first)?));
+    }
+    Ok(None)
+}
+
+/// The text that words ask for: `--help`, `-h` or `help`, `--version` or `-V`, or of a command `help COMMAND`,
+/// `COMMAND --help` or `COMMAND -h`. None exactly where they ask for none. Its error is want of memory.
 pub fn text_asked(alloc: Global, words: &[String]) -> Result<Option<String>, AllocError>
     ensures asked { IfOk result (λ text. is_some text ≡ asks (map string_bytes words.now)) }
     ensures version { asks_version (map string_bytes words.now) ≡ true
         → IfOk result (λ text. option_map string_bytes text ≡ Some version) }
 {
     match words {
-        [word] if word.as_str() == "--help" => Ok(Some(help(alloc)?)),
-        [word] if word.as_str() == "--version" => Ok(Some(VERSION.to_string(alloc)?)),
+        [word] => text_of_word(alloc, word.as_str()),
+        [first, second] => text_of_pair(alloc, first.as_str(), second.as_str()),
         _ => Ok(None),
     }
 }

@@ -2,6 +2,7 @@ ghost use Rattle.std.specs.Prelude.{IfOk, string_bytes};
 ghost use Rattle.help_texts.specs.Texts.{IsComplaint};
 
 use crate::forms::{command_line, forms};
+use clap::Command;
 use clap::error::ErrorKind;
 use std::alloc::{AllocError, Global};
 
@@ -10,12 +11,24 @@ const NARROWER: &str =
     "error: no word and no value is empty, only behind `=` does a value begin with `-`, and numbers \
     have no leading zeros";
 
-/// The line of the form of the command that the words begin with, or of a command line where they begin with none.
-fn form_line(alloc: Global, words: &[String]) -> Result<String, AllocError> {
-    let name = match words {
+/// What to do where a word begins with `-` and is no option.
+const DASH: &str = "\n  tip: a file whose name begins with `-` is named with ./ before it";
+
+const COMMANDS: &str =
+    "Commands: check, taint, bound, measure, measure-all, graph, report, learn, asm, list, verify, migrate, trial\n\
+    Options stand behind the command. For all of it: flowcheck --help";
+
+/// The name of the command that the words begin with; empty where they begin with none.
+fn first_word<'a>(words: &'a [String]) -> &'a str {
+    match words {
         [name, ..] => name.as_str(),
         [] => "",
-    };
+    }
+}
+
+/// The line of the form of the command that the words begin with, or of a command line where they begin with none.
+pub fn form_line(alloc: Global, words: &[String]) -> Result<String, AllocError> {
+    let name = first_word(words);
     for mut form in forms(alloc)? {
         if form.get_name() == name {
             return form.render_usage();
@@ -24,27 +37,86 @@ fn form_line(alloc: Global, words: &[String]) -> Result<String, AllocError> {
     command_line(alloc)?.render_usage()
 }
 
-/// What `clap` says is wrong with words that are no command line, up to its first blank line.
+/// The options of a command, in a line of their own; empty where it has none.
+fn option_line(alloc: Global, form: &Command<'_>) -> Result<String, AllocError> {
+    let mut text = String::new(alloc);
+    for argument in form.get_arguments() {
+        if let Some(long) = argument.get_long() {
+            let lead = if text.is_empty() {
+                "\nOptions: --"
+            } else {
+                ", --"
+            };
+            text.push_str(lead)?;
+            text.push_str(long)?;
+        }
+    }
+    Ok(text)
+}
+
+/// That line, the options, and where the words and options of the command are told of; or the commands.
+fn form_told(alloc: Global, words: &[String]) -> Result<String, AllocError> {
+    let name = first_word(words);
+    for mut form in forms(alloc)? {
+        if form.get_name() == name {
+            let line = form.render_usage()?;
+            let options = option_line(alloc, &form)?;
+            return format!(in alloc;
+                "{line}{options}\nFor its words and options: flowcheck help {name}"
+            );
+        }
+    }
+    let line = command_line(alloc)?.render_usage()?;
+    format!(in alloc; "{line}\n{COMMANDS}")
+}
+
+/// The start of what `clap` says is wrong, up to its first blank line, with its tips behind that: those that name what
+/// there is, and not those that name `--`, which is no word here.
+fn start_of(alloc: Global, text: &str) -> Result<String, AllocError> {
+    let Some((head, rest)) = text.split_once("\n\n") else {
+        return text.trim_end().to_string(alloc);
+    };
+    let mut start = head.to_string(alloc)?;
+    if head.starts_with("error: unexpected argument '-")
+        && !head.starts_with("error: unexpected argument '--")
+    {
+        start.push_str(DASH)?;
+    }
+    for line in rest.lines() {
+        if line.starts_with("  tip: ") && !line.contains("use '") {
+            start.push('\n')?;
+            start.push_str(line)?;
+        }
+    }
+    Ok(start)
+}
+
+/// The words that are wrong: behind `help` a word that is no command, else all.
+fn wrong_words<'a>(words: &'a [String]) -> &'a [String] {
+    match words {
+        [first, rest @ ..] if first.as_str() == "help" && rest.len() == 1 => rest,
+        _ => words,
+    }
+}
+
+/// What `clap` says is wrong with words that are no command line.
 fn wrong(alloc: Global, words: &[String]) -> Result<String, AllocError> {
-    let Err(error) = command_line(alloc)?.try_get_matches_from(words) else {
+    let Err(error) = command_line(alloc)?.try_get_matches_from(wrong_words(words)) else {
         return NARROWER.to_string(alloc);
     };
     if error.kind() == ErrorKind::OutOfMemory {
         return Err(AllocError);
     }
     let text = format!(in alloc; "{error}")?;
-    match text.as_str().split_once("\n\n") {
-        Some((head, _)) => head.to_string(alloc),
-        None => text.as_str().trim_end().to_string(alloc),
-    }
+    start_of(alloc, text.as_str())
 }
 
-/// What is wrong with words that are no command line, an empty line, and the form of their command with a line feed.
-/// Its error is want of memory.
+/// What is wrong with words that are no command line, the nearest name with it, an empty line, and the form of their
+/// command with a line feed. Its error is want of memory.
 pub fn complaint(alloc: Global, words: &[String]) -> Result<String, AllocError>
     ensures { IfOk result (λ text. IsComplaint (string_bytes text)) }
 {
     let wrong = wrong(alloc, words)?;
-    let line = form_line(alloc, words)?;
-    format!(in alloc; "{wrong}\n\n{line}\n")
+    let form = form_told(alloc, words)?;
+    format!(in alloc; "{wrong}\n\n{form}\n")
 }

@@ -37,7 +37,8 @@ fn turns<'a>(alloc: Global) -> Arg<'a> {
 
 /// The option `--regions`.
 fn regions<'a>(alloc: Global) -> Arg<'a> {
-    let help = "A region file: which registers and bytes pieces of PROG may write";
+    let help =
+        "A region file, at most 65536 bytes: which registers and bytes pieces of PROG may write";
     option(alloc, "regions", "FILE", help)
 }
 
@@ -82,14 +83,22 @@ fn judged<'a>(
     let secret = word(
         alloc,
         "SECRET",
-        "A file with a secret input; 1 to 64 of them",
+        "A file with a secret input, at most 65536 bytes; 1 to 64 of them",
     );
     bare(alloc, name)
         .bin_name(line)?
         .about(about)
-        .arg(word(alloc, "PROG", "The guest, an ELF32 program file of RV32IM"))?
-        .arg(word(alloc, "PUBLIC", "The file of its public input"))?
-        .arg(word(alloc, "CUT", "The file of the cut"))?
+        .arg(word(
+            alloc,
+            "PROG",
+            "The guest, an ELF32 program file of RV32IM, at most 16 MiB",
+        ))?
+        .arg(word(
+            alloc,
+            "PUBLIC",
+            "The file of its public input, at most 1 MiB",
+        ))?
+        .arg(word(alloc, "CUT", "The file of the cut, at most 64 MiB"))?
         .arg(budget.value_parser(ValueParser::unsigned(0, 1_048_576)))?
         .arg(secret.num_args(1..=64usize))?
         .arg(turns(alloc))?
@@ -110,9 +119,17 @@ fn bound<'a>(alloc: Global) -> Result<Command<'a>, AllocError> {
     bare(alloc, "bound")
         .bin_name("flowcheck bound")?
         .about(about)
-        .arg(word(alloc, "PROG", "The guest, an ELF32 program file of RV32IM"))?
-        .arg(word(alloc, "PUBLIC", "The file of its public input"))?
-        .arg(word(alloc, "CUT", "The file of the cut"))?
+        .arg(word(
+            alloc,
+            "PROG",
+            "The guest, an ELF32 program file of RV32IM, at most 16 MiB",
+        ))?
+        .arg(word(
+            alloc,
+            "PUBLIC",
+            "The file of its public input, at most 1 MiB",
+        ))?
+        .arg(word(alloc, "CUT", "The file of the cut, at most 64 MiB"))?
         .arg(budget.value_parser(ValueParser::unsigned(0, 1_048_576)))?
         .arg(turns(alloc))?
         .arg(regions(alloc))?
@@ -145,9 +162,21 @@ fn one_run<'a>(
     bare(alloc, name)
         .bin_name(line)?
         .about(about)
-        .arg(word(alloc, "PROG", "The guest, an ELF32 program file of RV32IM"))?
-        .arg(word(alloc, "PUBLIC", "The file of its public input"))?
-        .arg(word(alloc, "SECRET", "The file of its secret input"))?
+        .arg(word(
+            alloc,
+            "PROG",
+            "The guest, an ELF32 program file of RV32IM, at most 16 MiB",
+        ))?
+        .arg(word(
+            alloc,
+            "PUBLIC",
+            "The file of its public input, at most 1 MiB",
+        ))?
+        .arg(word(
+            alloc,
+            "SECRET",
+            "The file of its secret input, at most 65536 bytes",
+        ))?
         .arg(turns(alloc))?
         .arg(regions(alloc))?
         .arg(rules(alloc))
@@ -160,13 +189,21 @@ fn measure_all<'a>(alloc: Global) -> Result<Command<'a>, AllocError> {
     let secret = word(
         alloc,
         "SECRET",
-        "A file with a secret input, all of one length; 1 to 64 of them",
+        "A file with a secret input, at most 65536 bytes, all of one length; 1 to 64 of them",
     );
     bare(alloc, "measure-all")
         .bin_name("flowcheck measure-all")?
         .about(about)
-        .arg(word(alloc, "PROG", "The guest, an ELF32 program file of RV32IM"))?
-        .arg(word(alloc, "PUBLIC", "The file of its public input"))?
+        .arg(word(
+            alloc,
+            "PROG",
+            "The guest, an ELF32 program file of RV32IM, at most 16 MiB",
+        ))?
+        .arg(word(
+            alloc,
+            "PUBLIC",
+            "The file of its public input, at most 1 MiB",
+        ))?
         .arg(secret.num_args(1..=64usize))?
         .arg(turns(alloc))?
         .arg(regions(alloc))?
@@ -194,13 +231,26 @@ fn one_run_forms<'a>(alloc: Global) -> Result<Vec<Command<'a>>, AllocError> {
 fn learn<'a>(alloc: Global) -> Result<Command<'a>, AllocError> {
     let about =
         "Learn which registers and bytes the regions of FILE write in a run, and write the region file";
-    let file = "A region file, of which the numbers and the addresses are used";
+    let file =
+        "A region file, at most 65536 bytes, of which the numbers and the addresses are used";
     bare(alloc, "learn")
         .bin_name("flowcheck learn")?
         .about(about)
-        .arg(word(alloc, "PROG", "The guest, an ELF32 program file of RV32IM"))?
-        .arg(word(alloc, "PUBLIC", "The file of its public input"))?
-        .arg(word(alloc, "SECRET", "The file of its secret input"))?
+        .arg(word(
+            alloc,
+            "PROG",
+            "The guest, an ELF32 program file of RV32IM, at most 16 MiB",
+        ))?
+        .arg(word(
+            alloc,
+            "PUBLIC",
+            "The file of its public input, at most 1 MiB",
+        ))?
+        .arg(word(
+            alloc,
+            "SECRET",
+            "The file of its secret input, at most 65536 bytes",
+        ))?
         .arg(word(alloc, "FILE", file))?
         .arg(turns(alloc))
 }
@@ -219,16 +269,20 @@ fn one_file<'a>(
 /// The forms of the commands of one file.
 fn one_file_forms<'a>(alloc: Global) -> Result<Vec<Command<'a>>, AllocError> {
     let mut forms = Vec::new(alloc);
-    let source = word(alloc, "SOURCE", "The file of the source");
+    let source = word(alloc, "SOURCE", "The file of the source, at most 1 MiB");
     let about = "Write the program file of an assembler source";
     forms.push(one_file(alloc, "flowcheck asm", "asm", about, source)?)?;
-    let program = word(alloc, "PROG", "An ELF32 program file of RV32IM");
+    let program = word(
+        alloc,
+        "PROG",
+        "An ELF32 program file of RV32IM, at most 16 MiB",
+    );
     let about = "Write the instructions of a program file";
     forms.push(one_file(alloc, "flowcheck list", "list", about, program)?)?;
-    let certificate = word(alloc, "CERT", "The certificate file");
+    let certificate = word(alloc, "CERT", "The certificate file, at most 64 MiB");
     let about = "Say whether a certificate shows a maximum flow of its graph";
     forms.push(one_file(alloc, "flowcheck verify", "verify", about, certificate)?)?;
-    let cut = word(alloc, "CUT", "The file of the cut");
+    let cut = word(alloc, "CUT", "The file of the cut, at most 64 MiB");
     let about = "Write the cut of a cut file in version 2";
     forms.push(one_file(alloc, "flowcheck migrate", "migrate", about, cut)?)?;
     Ok(forms)

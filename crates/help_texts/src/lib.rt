@@ -1,10 +1,19 @@
-//! The texts for people that no answer of a command is: the help, the version, and what is wrong with words that are no
-//! command line.
+//! The texts for people that no answer of a command is: the help, the version, what is wrong with words that are no
+//! command line, and what another answer than the plain one means and what to change.
 #![tactic(auto)]
 
 mod asking;
 mod complaints;
+mod endings;
+mod explanations;
+mod file_meanings;
+mod findings;
 mod forms;
+mod meanings;
+mod naming;
+mod refusals;
+mod run_meanings;
 
 pub use asking::{help, text_asked};
 pub use complaints::complaint;
+pub use explanations::explanation;

@@ -1,0 +1,300 @@
+//! What is wrong with a file that is refused as malformed, and what to change.
+
+use crate::meanings::Meaning;
+
+/// A kind of file.
+#[derive(Clone, Copy)]
+pub struct FileKind {
+    /// The word of a refusal that names it.
+    pub word: &'static str,
+    /// The names that forms have for such a file; the first that a form has.
+    pub names: [&'static str; 2],
+    /// What it is called.
+    pub noun: &'static str,
+    /// What the faults of such a file mean.
+    pub meanings: &'static [Meaning],
+}
+
+/// Each kind of file.
+pub const FILE_KINDS: [FileKind; 5] = [
+    FileKind {
+        word: "program",
+        names: ["PROG", "PROG"],
+        noun: "program",
+        meanings: &PROGRAMS,
+    },
+    FileKind {
+        word: "regions",
+        names: ["regions", "FILE"],
+        noun: "region file",
+        meanings: &REGIONS,
+    },
+    FileKind {
+        word: "cut",
+        names: ["CUT", "CUT"],
+        noun: "cut",
+        meanings: &CUTS,
+    },
+    FileKind {
+        word: "source",
+        names: ["SOURCE", "SOURCE"],
+        noun: "source",
+        meanings: &SOURCES,
+    },
+    FileKind {
+        word: "certificate",
+        names: ["CERT", "CERT"],
+        noun: "certificate",
+        meanings: &CERTIFICATES,
+    },
+];
+
+const PROGRAMS: [Meaning; 18] = [
+    Meaning {
+        start: "truncated",
+        part: "",
+        text: "The file ends before its headers do, so it is no whole program. The program is the first file, then \
+            comes the public input: have two changed places? Else it was cut off: build or copy it again.",
+    },
+    Meaning {
+        start: "not-elf32 offset 0 ",
+        part: "byte 0x21",
+        text: "It begins with `!`, as an archive of object files does. Link it into a program: \
+            riscv64-unknown-elf-gcc -march=rv32im -mabi=ilp32 -static -nostdlib.",
+    },
+    Meaning {
+        start: "not-elf32 offset 0 ",
+        part: "byte 0x23",
+        text: "It begins with `#`, as a source in C and a script do. Compile it first: \
+            riscv64-unknown-elf-gcc -march=rv32im -mabi=ilp32 -static -nostdlib.",
+    },
+    Meaning {
+        start: "not-elf32 offset 0 ",
+        part: "byte 0x7b",
+        text: "It begins with `{`, as a region file does. That stands behind --regions, and the program is the first \
+            file.",
+    },
+    Meaning {
+        start: "not-elf32 offset 4 byte 0x02",
+        part: "",
+        text: "It is a 64-bit ELF file, of RV64 or of this computer. Guests are 32-bit: build it by \
+            riscv64-unknown-elf-gcc with -march=rv32im -mabi=ilp32.",
+    },
+    Meaning {
+        start: "not-elf32 offset 5 ",
+        part: "",
+        text: "It is a big-endian ELF file. Guests are little-endian: build it by riscv64-unknown-elf-gcc with \
+            -march=rv32im -mabi=ilp32.",
+    },
+    Meaning {
+        start: "not-elf32",
+        part: "",
+        text: "It is no ELF file. The program is the first file, then comes the public input: have two changed places? \
+            A source in C is compiled by riscv64-unknown-elf-gcc -march=rv32im -mabi=ilp32 -static -nostdlib, and one \
+            in assembler by flowcheck asm SOURCE.",
+    },
+    Meaning {
+        start: "wrong-kind type 1 machine 243",
+        part: "",
+        text: "It is an object file that was not linked. Leave out -c, and link it with -static -nostdlib.",
+    },
+    Meaning {
+        start: "wrong-kind type 3 machine 243",
+        part: "",
+        text: "It is a shared library, or a program that may stand anywhere. Link it with -static -no-pie and without \
+            -shared.",
+    },
+    Meaning {
+        start: "wrong-kind",
+        part: "",
+        text: "It is no program for RISC-V. Build it by riscv64-unknown-elf-gcc with -march=rv32im -mabi=ilp32 -static \
+            -nostdlib.",
+    },
+    Meaning {
+        start: "compressed",
+        part: "",
+        text: "It has compressed instructions, its own or those of a library. Build all of it with -march=rv32im \
+            (without the letter c) and -mabi=ilp32.",
+    },
+    Meaning {
+        start: "headers 0 ",
+        part: "",
+        text: "It has no program headers, so it was not linked, or they were stripped. Link it with -static -nostdlib.",
+    },
+    Meaning {
+        start: "headers",
+        part: " size 32 loads 0",
+        text: "It has more than 64 program headers, or none that loads a byte. Link it with the linker's own script, \
+            without -T.",
+    },
+    Meaning {
+        start: "headers",
+        part: "",
+        text: "Its program headers do not have 32 bytes each, so it was damaged, or made by no usual linker. Link it \
+            again.",
+    },
+    Meaning {
+        start: "dynamic",
+        part: "",
+        text: "It asks for a dynamic linker, and a guest has none. Link it with -static, and without -pie and -shared.",
+    },
+    Meaning {
+        start: "segment",
+        part: "",
+        text: "This segment, counted from 0, is beyond the file or beyond the 16 MiB of memory that begin at the \
+            program's lowest address. Keep the sections together, with one -Wl,-Ttext=0x11000 and no far -Tdata or \
+            -Tbss, and arrays small; riscv64-unknown-elf-readelf -l lists the segments.",
+    },
+    Meaning {
+        start: "overlap",
+        part: "",
+        text: "These two segments, counted from 0, share an address. With lld -Wl,-Ttext below 0x11000 puts the code \
+            over the headers: take 0x11000 or more, or leave it out. riscv64-unknown-elf-readelf -l lists the \
+            segments.",
+    },
+    Meaning {
+        start: "entry",
+        part: "",
+        text: "The entry is no address of the program, or no multiple of 4. Name the first function _start, as \
+            flowcheck.h does, or give its name by -Wl,-e,NAME.",
+    },
+];
+
+const REGIONS: [Meaning; 7] = [
+    Meaning {
+        start: "json",
+        part: "",
+        text: "It is no JSON: look for a comma, a quote or a bracket. tools/lint.py PROG CUT REGIONS shows the place.",
+    },
+    Meaning {
+        start: "shape 0",
+        part: "",
+        text: "It is not an object whose one key is `regions`, an array: {\"regions\":[..]}. tools/lint.py PROG CUT \
+            REGIONS says what was expected.",
+    },
+    Meaning {
+        start: "shape",
+        part: "",
+        text: "The region of this place, counted from 1, has the number of an earlier one, or a key or a value that no \
+            region has. It has id, enter and leave, and may have outs, keep and ranges. tools/lint.py PROG CUT REGIONS \
+            says what was expected.",
+    },
+    Meaning {
+        start: "same-address",
+        part: "",
+        text: "The region of this place, counted from 1, is left where it is entered. Take as `leave` the instruction \
+            behind the call, or the last of the function.",
+    },
+    Meaning {
+        start: "enter-twice",
+        part: "",
+        text: "The region of this place, counted from 1, is entered where an earlier one is. Remove one of them.",
+    },
+    Meaning {
+        start: "register-twice",
+        part: "",
+        text: "The region of this place, counted from 1, names this register twice in `outs` and `keep` together. \
+            Remove one of them.",
+    },
+    Meaning {
+        start: "too-many",
+        part: "",
+        text: "There are so many regions, and at most 256 are taken. Enclose fewer calls.",
+    },
+];
+
+const CUTS: [Meaning; 6] = [
+    Meaning {
+        start: "version",
+        part: "",
+        text: "Its first line is neither `flowcheck-cut 1` nor `flowcheck-cut 2`. Is this file the cut, which stands \
+            behind the public input? Or did measure refuse, and its refusal went into the file? Its lines end with a \
+            line feed alone, not as those of Windows. tools/lint.py PROG CUT shows the line.",
+    },
+    Meaning {
+        start: "line 2",
+        part: "",
+        text: "This line is of no form that may stand there. The lines are secret N, bits N, skip N, \
+            point REGION ADDRESS SLOT MASKS rest MASK, and end. tools/lint.py PROG CUT shows the place.",
+    },
+    Meaning {
+        start: "line",
+        part: "",
+        text: "This line is of no form that may stand there. A point is `point 0 0x00010018 rs rest 0x00000001`: words \
+            one space apart, eight digits in lower case. tools/lint.py PROG CUT shows the place and what was expected.",
+    },
+    Meaning {
+        start: "order",
+        part: "",
+        text: "This line does not come behind the one before it. Skips ascend, and points by region, address and slot; \
+            none stands twice. tools/lint.py PROG CUT shows the order of the slots.",
+    },
+    Meaning {
+        start: "truncated",
+        part: "",
+        text: "It ends within a line, or before the line `end`; that line ends with a line feed, too. Is this file the \
+            cut, which stands behind the public input? Is it whole? An empty one is what a shell makes before a \
+            command that fails: measure again.",
+    },
+    Meaning {
+        start: "trailing",
+        part: "",
+        text: "Something follows the line `end`, from this byte on. Remove it; two cuts in one file are none.",
+    },
+];
+
+const SOURCES: [Meaning; 7] = [
+    Meaning {
+        start: "line",
+        part: " kind 1",
+        text: "This line is no statement. Mnemonics are those of RV32IM in lower case, as `addi a0, x0, 1` and \
+            `lbu t0, 0(a1)`; beside them there are nop, ret, mv, j, li, la, .word, .byte and .zero.",
+    },
+    Meaning {
+        start: "line",
+        part: " kind 2",
+        text: "This line does not stand at a multiple of 4. Put .byte or .zero before it until it does.",
+    },
+    Meaning {
+        start: "line",
+        part: " kind 3",
+        text: "With this line the program has more than 1,048,576 bytes. Take a smaller .zero.",
+    },
+    Meaning {
+        start: "line",
+        part: "",
+        text: "There is no statement in it. Is it the right file?",
+    },
+    Meaning {
+        start: "label-twice",
+        part: "",
+        text: "The label of this line is that of an earlier line. Give one of them another name.",
+    },
+    Meaning {
+        start: "label-missing",
+        part: "",
+        text: "No line begins with the label that this line names. Is it spelled as where it stands, with a colon \
+            there?",
+    },
+    Meaning {
+        start: "range",
+        part: "",
+        text: "A number of this line, or the way to its label, does not fit the instruction. Immediates are -2048 to \
+            2047: load a greater one by `li`. A branch reaches 4 KiB: jump further by `j`.",
+    },
+];
+
+const CERTIFICATES: [Meaning; 2] = [
+    Meaning {
+        start: "line 1",
+        part: "",
+        text: "This line is of no form that may stand there; the first one is `flowcheck-graph 1`. A certificate is \
+            what flowcheck graph PROG PUBLIC SECRET writes: is this one?",
+    },
+    Meaning {
+        start: "line",
+        part: "",
+        text: "This line is of no form that may stand there, stands out of order, or is missing. Make the certificate \
+            again by flowcheck graph PROG PUBLIC SECRET.",
+    },
+];

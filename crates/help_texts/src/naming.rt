@@ -1,0 +1,132 @@
+//! What the words of a command line name.
+
+use crate::forms::command_line;
+use clap::ArgMatches;
+use clap::error::ErrorKind;
+use std::alloc::{AllocError, Global};
+
+/// What a word of a form stands for.
+#[derive(Clone, Copy)]
+pub struct Role {
+    /// The name that forms have for it.
+    pub name: &'static str,
+    /// What it is.
+    pub what: &'static str,
+    /// How many bytes such a file may have.
+    pub limit: &'static str,
+    /// What to change where it has more.
+    pub advice: &'static str,
+}
+
+const ADVICE_ON_INPUT: &str =
+    "Take a shorter one. Is it the program? That is the first file, and the public input the second.";
+
+const ADVICE_ON_REGIONS: &str = "Is it a region file? Enclose fewer calls.";
+
+/// What a file is that no form has a word for.
+const ANY_FILE: Role = Role {
+    name: "",
+    what: "a file",
+    limit: "fewer bytes",
+    advice: "Take a smaller file.",
+};
+
+const ROLES: [Role; 8] = [
+    Role {
+        name: "PROG",
+        what: "the program",
+        limit: "16 MiB",
+        advice: "Remove what only a debugger needs, by riscv64-unknown-elf-strip.",
+    },
+    Role {
+        name: "PUBLIC",
+        what: "the public input",
+        limit: "1 MiB",
+        advice: ADVICE_ON_INPUT,
+    },
+    Role {
+        name: "SECRET",
+        what: "a secret",
+        limit: "65,536 bytes",
+        advice: ADVICE_ON_INPUT,
+    },
+    Role {
+        name: "CUT",
+        what: "the cut",
+        limit: "64 MiB",
+        advice: "Measure with --cut 2, which folds masks that repeat.",
+    },
+    Role {
+        name: "regions",
+        what: "the region file",
+        limit: "65,536 bytes",
+        advice: ADVICE_ON_REGIONS,
+    },
+    Role {
+        name: "FILE",
+        what: "the region file",
+        limit: "65,536 bytes",
+        advice: ADVICE_ON_REGIONS,
+    },
+    Role {
+        name: "SOURCE",
+        what: "the source",
+        limit: "1 MiB",
+        advice: "Remove comments. Is it the source?",
+    },
+    Role {
+        name: "CERT",
+        what: "the certificate",
+        limit: "64 MiB",
+        advice: "Is it a certificate?",
+    },
+];
+
+/// What stands behind the command of a command line, by the names of its form; None where it is none.
+pub fn named<'a>(alloc: Global, words: &'a [String]) -> Result<Option<ArgMatches<'a>>, AllocError> {
+    match command_line(alloc)?.try_get_matches_from(words) {
+        Ok(mut matches) => match matches.remove_subcommand() {
+            Some((_, behind)) => Ok(Some(behind)),
+            None => Ok(None),
+        },
+        Err(error) if error.kind() == ErrorKind::OutOfMemory => Err(AllocError),
+        Err(_) => Ok(None),
+    }
+}
+
+/// The word that stands for this name of a form, or else the name.
+pub fn word_for<'a>(matches: &ArgMatches<'a>, name: &'a str) -> &'a str {
+    matches.get_str(name).unwrap_or(name)
+}
+
+/// The secret of this number, counted from 1; None where there is none.
+pub fn secret_of<'a>(matches: &ArgMatches<'a>, number: &str) -> Option<&'a str> {
+    let number = number.parse::<usize>().ok()?;
+    let secrets = matches.get_strs("SECRET")?;
+    secrets.get(number.checked_sub(1)?).copied()
+}
+
+/// What the file of this name stands for.
+pub fn role_of(matches: &ArgMatches<'_>, file: &str) -> Role {
+    for role in ROLES {
+        if let Some(words) = matches.get_strs(role.name) {
+            for word in words {
+                if *word == file {
+                    return role;
+                }
+            }
+        }
+    }
+    ANY_FILE
+}
+
+/// The options that say how a run is made, with a space before each, as they stand in words.
+pub fn run_options(alloc: Global, matches: &ArgMatches<'_>) -> Result<String, AllocError> {
+    let mut text = String::new(alloc);
+    for name in ["turns", "regions", "rules", "paths"] {
+        if let Some(value) = matches.get_str(name) {
+            write!(text, " --{name}={value}")?;
+        }
+    }
+    Ok(text)
+}

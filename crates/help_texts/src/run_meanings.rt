@@ -1,0 +1,265 @@
+//! Why a run is not measured, a secret not accepted or a path not clear, and what to change.
+
+use crate::meanings::Meaning;
+
+/// Why a run, or several together, are refused, or no declaration is learnt.
+pub const RUNS: [Meaning; 25] = [
+    Meaning {
+        start: "turns",
+        part: "",
+        text: "The run had not exited within so many turns. Give it more by --turns N, at most 20000000; if it never \
+            ends, look for a loop without an end or a missing call of exit.",
+    },
+    Meaning {
+        start: "illegal",
+        part: " word 0x00000000",
+        text: "The run came to where there is no code. Did it run past the end of a function, without ret or the call \
+            of exit, or jump by a bad pointer?",
+    },
+    Meaning {
+        start: "illegal",
+        part: "",
+        text: "This word is no instruction of RV32IM; floating point, atomics, vectors and status registers are none. \
+            Build all of it, libraries too, with -march=rv32im -mabi=ilp32.",
+    },
+    Meaning {
+        start: "fetch-outside",
+        part: "",
+        text: "The run jumped out of the guest's memory. Look for a function pointer that is null, or a return address \
+            that was overwritten.",
+    },
+    Meaning {
+        start: "fetch-unaligned",
+        part: "",
+        text: "The run jumped to no multiple of 4. Look for a return address or a function pointer that was \
+            overwritten, and build all of it with -march=rv32im.",
+    },
+    Meaning {
+        start: "load-outside",
+        part: "",
+        text: "The guest read outside of its 16 MiB of memory. Look for a null pointer or a large index; with GNU ld \
+            also give -Wl,--no-relax.",
+    },
+    Meaning {
+        start: "store-outside",
+        part: "",
+        text: "The guest wrote outside of its 16 MiB of memory. Look for a null pointer or a large index; with GNU ld \
+            also give -Wl,--no-relax.",
+    },
+    Meaning {
+        start: "breakpoint",
+        part: "",
+        text: "The guest came to ebreak, which a compiler puts where a program must not come: behind \
+            __builtin_trap, __builtin_unreachable or abort.",
+    },
+    Meaning {
+        start: "output-limit",
+        part: "",
+        text: "The guest would have written more than 1,048,576 bytes. Let it write less, or measure a shorter run.",
+    },
+    Meaning {
+        start: "secret-code",
+        part: "",
+        text: "The instruction at this address may depend on the secret: the guest wrote secret bytes over its own \
+            code. Look for an array that overflows.",
+    },
+    Meaning {
+        start: "region",
+        part: " undeclared x",
+        text: "The region wrote a register that it does not declare. Add it to `outs`, or have \
+            flowcheck learn PROG PUBLIC SECRET FILE write what the regions of FILE need.",
+    },
+    Meaning {
+        start: "region",
+        part: " undeclared 0x",
+        text: "The region wrote a byte that is in none of its ranges. Add a range, or have \
+            flowcheck learn PROG PUBLIC SECRET FILE write what the regions of FILE need.",
+    },
+    Meaning {
+        start: "region",
+        part: " keep ",
+        text: "The region left a register of `keep` with another value than at its entry. Declare it in `outs`.",
+    },
+    Meaning {
+        start: "region",
+        part: " call at",
+        text: "The region made a call, and inside of regions there is none. Leave reading, writing and exit outside of \
+            what it encloses.",
+    },
+    Meaning {
+        start: "region",
+        part: " outside",
+        text: "A range of the region, counted from 0, was not inside guest memory where the region was entered. Look \
+            at its base, offset and length.",
+    },
+    Meaning {
+        start: "region",
+        part: " secret",
+        text: "The base register of a range may depend on the secret where the region was entered, so nobody could say \
+            which bytes it is. Give the range a fixed address, or enclose more.",
+    },
+    Meaning {
+        start: "region",
+        part: " ranges ",
+        text: "The region writes at more places than the 64 ranges that it may have. Enclose less, or write one longer \
+            range by hand.",
+    },
+    Meaning {
+        start: "region",
+        part: " bytes ",
+        text: "The region writes more bytes than the 65,536 that its ranges may have. Enclose less.",
+    },
+    Meaning {
+        start: "text-size",
+        part: "",
+        text: "The region file would have more than 65,536 bytes. Learn fewer regions at a time.",
+    },
+    Meaning {
+        start: "graph-limit",
+        part: "",
+        text: "The graph of the run has more than 65,536 points or 1,048,576 links, or a capacity of 2^48 bits. \
+            Enclose the busiest function in a region, by tools/regions.py, or take a shorter run.",
+    },
+    Meaning {
+        start: "united-limit",
+        part: "",
+        text: "The graph of all runs together has more than 65,536 points or 1,048,576 links, or a capacity of 2^48 \
+            bits. Measure fewer secrets together, or enclose the busiest function in a region, by tools/regions.py.",
+    },
+    Meaning {
+        start: "budget-limit",
+        part: "",
+        text: "So many bits are more than a budget may have, 1048576. Measure fewer secrets together, or shorter ones.",
+    },
+    Meaning {
+        start: "length",
+        part: "",
+        text: "Secrets that are measured together have one length, which is public. Pad them, or measure those of each \
+            length by themselves.",
+    },
+    Meaning {
+        start: "memory",
+        part: "",
+        text: "There was not enough memory.",
+    },
+    Meaning {
+        start: "",
+        part: "",
+        text: "docs/GUIDE.md says what this means.",
+    },
+];
+
+/// Why a secret is rejected or unclear, or a path is unclear.
+pub const FINDINGS: [Meaning; 15] = [
+    Meaning {
+        start: "secret-length",
+        part: "",
+        text: "secret-length: the cut is of secrets of one length, which is public. Measure again with a secret of \
+            that length.",
+    },
+    Meaning {
+        start: "budget",
+        part: "",
+        text: "budget: more bits crossed at the cut than the budget allows. Take a greater BUDGET; the bound is \
+            2^BUDGET outputs.",
+    },
+    Meaning {
+        start: "guest",
+        part: "",
+        text: "guest: the run itself was stopped, by a fault of the guest. Mend the guest.",
+    },
+    Meaning {
+        start: "region",
+        part: " base ",
+        text: "region: where the region was entered the base register of a range may differ. Give the range a fixed \
+            address, or enclose more.",
+    },
+    Meaning {
+        start: "region",
+        part: "",
+        text: "region: the run did in the region what it does not declare. Widen its outs, keep or ranges; flowcheck \
+            learn writes what a run needs.",
+    },
+    Meaning {
+        start: "replay short",
+        part: "",
+        text: "replay: the replay went another way and asked for more bits than had crossed, so the cut lacks a point. \
+            Measure this secret together with the others, by flowcheck measure-all.",
+    },
+    Meaning {
+        start: "replay",
+        part: "",
+        text: "replay: the replay, which sees only what crosses, was stopped. The cut lacks a point: measure this \
+            secret together with the others, by flowcheck measure-all.",
+    },
+    Meaning {
+        start: "parted",
+        part: "",
+        text: "parted: the run decided by a bit that did not cross, so no budget helps. The cut lacks a point: measure \
+            this secret together with the others, by flowcheck measure-all.",
+    },
+    Meaning {
+        start: "output",
+        part: " index ",
+        text: "output: what was written has a bit that did not cross, so no budget helps. The cut lacks a point: \
+            measure this secret together with the others, by flowcheck measure-all.",
+    },
+    Meaning {
+        start: "turns",
+        part: "",
+        text: "turns: the run had not exited within so many turns. Give it more by --turns N, at most 20000000.",
+    },
+    Meaning {
+        start: "left",
+        part: "",
+        text: "left: the run decides by this value, or shows it, and the bits of the mask have not crossed. Add the \
+            point to the cut, with this mask.",
+    },
+    Meaning {
+        start: "secret-code",
+        part: "",
+        text: "secret-code: the instruction at this address may differ with the secret. Look for an array that \
+            overflows into the code.",
+    },
+    Meaning {
+        start: "paths",
+        part: "",
+        text: "paths: there are more paths than may be walked. Give more by --paths N, at most 1048576, or enclose the \
+            decisions in a region.",
+    },
+    Meaning {
+        start: "outputs",
+        part: "",
+        text: "outputs: the outputs together are too long to be told apart. Let the guest write less, or enclose the \
+            decisions in a region.",
+    },
+    Meaning {
+        start: "",
+        part: "",
+        text: "docs/GUIDE.md says what this means.",
+    },
+];
+
+/// Why a certificate is rejected.
+pub const VERDICTS: [Meaning; 4] = [
+    Meaning {
+        start: "over",
+        part: "",
+        text: "More flows through this point than its capacity.",
+    },
+    Meaning {
+        start: "unbalanced",
+        part: "",
+        text: "What flows in here differs from what flows out.",
+    },
+    Meaning {
+        start: "across",
+        part: "",
+        text: "This link leaves the source side, so the sides are no cut.",
+    },
+    Meaning {
+        start: "values",
+        part: "",
+        text: "The value, the flow out of the source and the capacity of the side are not all equal.",
+    },
+];
