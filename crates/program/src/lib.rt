@@ -2,9 +2,12 @@
 //! and texts for people.
 #![tactic(auto)]
 
+mod keeping;
+
 use commands::flowcheck;
 use flow_base::{DiskFiles, Sink, StandardOut};
-use help_texts::{complaint, text_asked};
+use help_texts::{explanation, text_asked};
+use keeping::KeepingSink;
 use std::alloc::Global;
 use std::env;
 use std::io::ErrorKind;
@@ -36,19 +39,21 @@ fn written(rt: HostRuntime, text: &str) -> u8 {
     }
 }
 
-/// Writes to standard error what is wrong with the words, which are no command line.
-fn complain(rt: HostRuntime) {
+/// Writes to standard error what an answer means and what to change, where there is something to say. `text` is what was
+/// put, or a beginning of it.
+fn explain(rt: HostRuntime, status: u8, text: &[u8]) {
     let Ok(words) = words_of(&rt, rt.alloc()) else {
         return;
     };
-    if let Ok(text) = complaint(rt.alloc(), words.as_slice()) {
-        let _ = rt.eprint(text);
+    if let Ok(Some(told)) = explanation(rt.alloc(), status, words.as_slice(), text) {
+        let _ = rt.eprint(told);
     }
 }
 
 /// Answers the words that the system gives, over files on a disk and standard output, and gives the status with which the
 /// process ends: that of the answer, 8 where the words cannot be had for want of memory, and 9 where they cannot be had
-/// for another cause. A text that is asked for is written in place of an answer.
+/// for another cause. A text that is asked for is written in place of an answer. What an answer means that is not the
+/// plain one stands on standard error.
 pub fn run(rt: HostRuntime) -> ExitCode {
     let words = match words_of(&rt, rt.alloc()) {
         Ok(words) => words,
@@ -60,11 +65,9 @@ pub fn run(rt: HostRuntime) -> ExitCode {
         Err(_) => return ExitCode::from(8),
     }
     let mut files = DiskFiles::new(rt);
-    let mut out = StandardOut::new(rt);
+    let mut out = KeepingSink::new(rt.alloc(), StandardOut::new(rt));
     let books = [book_1!(), book_2!()];
     let status = flowcheck(rt.alloc(), words, &mut files, &mut out, &books);
-    if status == 2 {
-        complain(rt);
-    }
+    explain(rt, status, out.kept());
     ExitCode::from(status)
 }
