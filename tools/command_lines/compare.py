@@ -4,8 +4,8 @@
 Runs random lists of words through an executable in an empty folder, and judges each as the definition of command lines
 does: its reading is written here once more, apart from the program. Words that are no command line must be answered by
 status 2 and `refused 2 usage`, and on standard error by what is wrong and a form; a command line by status 5 and the
-name of its first file, since the folder holds none, and by nothing on standard error; `trial`, which has no file, by
-status 0 and its line.
+name of its first file, since the folder holds none, and on standard error by that name and the form; `trial`, which has
+no file, by status 0 and its line. Words that ask for help or the version must be answered by status 0 and a text.
 COMMAND may be several words; they stand before a trial's words. A command that the program does not have yet is named
 by --without. Prints each list that differs, and last `N passed, M
 failed`; the status is 1 where one failed."""
@@ -123,15 +123,24 @@ def trial(rng):
     return words
 
 
+def ask(words):
+    """Whether words ask for the help, that of a command or the version."""
+    if len(words) == 2:
+        first, second = words
+        return first == "help" and second in OPTIONS or first in OPTIONS and second in ("--help", "-h")
+    return words in (["--help"], ["-h"], ["help"], ["--version"], ["-V"])
+
+
 def judge(command, folder, words):
-    if words in (["--help"], ["--version"]):
-        return None
     run = subprocess.run(command + words, cwd=folder, stdout=subprocess.PIPE, stderr=subprocess.PIPE, timeout=60)
     name = first_file(words)
-    wanted = (2, "refused 2 usage\n", "told") if name is None else (5, "refused 5 load %s\n" % name, "")
+    wanted = (2, "refused 2 usage\n", "told") if name is None else (5, "refused 5 load %s\n" % name, "told")
     error = run.stderr.decode(errors="replace")
-    if error.startswith("error: ") and "\n\nUsage: flowcheck " in error:
-        error = "told"
+    if error.startswith("error: " if name is None else "error: cannot read %s as " % name):
+        error = "told" if "\n\nUsage: flowcheck " in error else error
+    if ask(words):
+        told = run.returncode == 0 and run.stdout and not run.stderr
+        return None if told else "%r: no text that was asked for" % (words,)
     if name == "":
         return None if run.returncode == 0 and run.stdout.startswith(b"trial ") else "%r: no trial" % (words,)
     seen = (run.returncode, run.stdout.decode(errors="replace"), error)
