@@ -7,14 +7,25 @@ use Rattle.std.specs.Str.{bytes_eq}
 abbrev pub version : List ℕ
 version = codes "flowcheck 0.1.0\nproved with rattle-kit-13f\n"
 
+-- the word is the name of a command that judges secrets, or bounds the outputs of all
+abbrev pub is_judging : List ℕ → Bool
+is_judging word = bytes_eq word (codes "check") || bytes_eq word (codes "taint") || bytes_eq word (codes "bound")
+
+-- the word is the name of a command that runs a guest on secrets and tells of the runs
+abbrev pub is_telling : List ℕ → Bool
+is_telling word =
+    bytes_eq word (codes "measure") || bytes_eq word (codes "measure-all") || bytes_eq word (codes "graph")
+    || bytes_eq word (codes "report") || bytes_eq word (codes "learn")
+
+-- the word is the name of a command of one file or one number
+abbrev pub is_single : List ℕ → Bool
+is_single word =
+    bytes_eq word (codes "asm") || bytes_eq word (codes "list") || bytes_eq word (codes "verify")
+    || bytes_eq word (codes "migrate") || bytes_eq word (codes "trial")
+
 -- the word is the name of a command
 abbrev pub is_command : List ℕ → Bool
-is_command word =
-    bytes_eq word (codes "check") || bytes_eq word (codes "taint") || bytes_eq word (codes "bound")
-    || bytes_eq word (codes "measure") || bytes_eq word (codes "measure-all") || bytes_eq word (codes "graph")
-    || bytes_eq word (codes "report") || bytes_eq word (codes "learn") || bytes_eq word (codes "asm")
-    || bytes_eq word (codes "list") || bytes_eq word (codes "verify") || bytes_eq word (codes "migrate")
-    || bytes_eq word (codes "trial")
+is_command word = is_judging word || is_telling word || is_single word
 
 -- the word asks for help behind a command
 abbrev pub is_help_option : List ℕ → Bool

@@ -1,9 +1,9 @@
 ghost use Rattle.std.specs.Prelude.{◌≡◌, ◌∷◌, [], IfOk, Some, is_some, map, option_map, string_bytes, true};
-ghost use Rattle.help_texts.specs.Texts.{asks, asks_version, is_command, is_help, is_help_option, is_version, version};
+ghost use Rattle.help_texts.specs.Texts.{asks, asks_version, is_command, is_help, is_help_option, is_judging, is_single, is_telling, is_version, version};
 
-use crate::endings::ending_text;
-use crate::forms::{command_line, forms};
-use clap::Command;
+use crate::endings::ending;
+use crate::forms::{Form, form_named, forms};
+use crate::parsers::{command, command_line};
 use std::alloc::{AllocError, Global};
 
 const VERSION: &str = "flowcheck 0.1.0\nproved with rattle-kit-13f\n";
@@ -11,10 +11,10 @@ const VERSION: &str = "flowcheck 0.1.0\nproved with rattle-kit-13f\n";
 const BELOW: &str =
     "\nflowcheck help COMMAND tells of one command. docs/GUIDE.md says what each answer means.\n";
 
-/// The form of a command with its statuses and an example.
-fn form_text(alloc: Global, mut form: Command<'_>) -> Result<String, AllocError> {
-    let mut text = form.render_help()?;
-    let ending = ending_text(alloc, form.get_name())?;
+/// The help of a command: its form as `clap` tells it, its statuses and an example.
+fn form_text(alloc: Global, form: &Form) -> Result<String, AllocError> {
+    let mut text = command(alloc, form)?.render_help()?;
+    let ending = ending(alloc, form)?;
     text.push_str(ending.as_str())?;
     Ok(text)
 }
@@ -24,7 +24,7 @@ fn form_text(alloc: Global, mut form: Command<'_>) -> Result<String, AllocError>
 pub fn help(alloc: Global) -> Result<String, AllocError> {
     let mut text = command_line(alloc)?.render_help()?;
     text.push_str(BELOW)?;
-    for form in forms(alloc)? {
+    for form in forms() {
         text.push('\n')?;
         let shown = form_text(alloc, form)?;
         text.push_str(shown.as_str())?;
@@ -34,31 +34,42 @@ pub fn help(alloc: Global) -> Result<String, AllocError> {
 
 /// The help of the command of this name.
 fn command_help(alloc: Global, name: &str) -> Result<String, AllocError> {
-    for form in forms(alloc)? {
-        if form.get_name() == name {
-            return form_text(alloc, form);
-        }
+    match form_named(name) {
+        Some(form) => form_text(alloc, form),
+        None => help(alloc),
     }
-    help(alloc)
+}
+
+/// Whether a word is the name of a command that judges secrets, or bounds the outputs of all.
+fn is_judging_name(word: &str) -> bool
+    ensures { result ≡ is_judging word.now }
+{
+    word == "check" || word == "taint" || word == "bound"
+}
+
+/// Whether a word is the name of a command that runs a guest on secrets and tells of the runs.
+fn is_telling_name(word: &str) -> bool
+    ensures { result ≡ is_telling word.now }
+{
+    word == "measure"
+        || word == "measure-all"
+        || word == "graph"
+        || word == "report"
+        || word == "learn"
+}
+
+/// Whether a word is the name of a command of one file or one number.
+fn is_single_name(word: &str) -> bool
+    ensures { result ≡ is_single word.now }
+{
+    word == "asm" || word == "list" || word == "verify" || word == "migrate" || word == "trial"
 }
 
 /// Whether a word is the name of a command.
 fn is_command_name(word: &str) -> bool
     ensures { result ≡ is_command word.now }
 {
-    word == "check"
-        || word == "taint"
-        || word == "bound"
-        || word == "measure"
-        || word == "measure-all"
-        || word == "graph"
-        || word == "report"
-        || word == "learn"
-        || word == "asm"
-        || word == "list"
-        || word == "verify"
-        || word == "migrate"
-        || word == "trial"
+    is_judging_name(word) || is_telling_name(word) || is_single_name(word)
 }
 
 /// Whether a word behind a command asks for its help.

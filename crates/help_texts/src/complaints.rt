@@ -1,8 +1,8 @@
 ghost use Rattle.std.specs.Prelude.{IfOk, string_bytes};
 ghost use Rattle.help_texts.specs.Texts.{IsComplaint};
 
-use crate::forms::{command_line, forms};
-use clap::Command;
+use crate::forms::{Form, form_of, forms};
+use crate::parsers::{command, command_line};
 use clap::error::ErrorKind;
 use std::alloc::{AllocError, Global};
 
@@ -14,60 +14,50 @@ const NARROWER: &str =
 /// What to do where a word begins with `-` and is no option.
 const DASH: &str = "\n  tip: a file whose name begins with `-` is named with ./ before it";
 
-const COMMANDS: &str =
-    "Commands: check, taint, bound, measure, measure-all, graph, report, learn, asm, list, verify, migrate, trial\n\
-    Options stand behind the command. For all of it: flowcheck --help";
-
-/// The name of the command that the words begin with; empty where they begin with none.
-fn first_word<'a>(words: &'a [String]) -> &'a str {
-    match words {
-        [name, ..] => name.as_str(),
-        [] => "",
-    }
-}
+const BEHIND: &str = "\nOptions stand behind the command. For all of it: flowcheck --help";
 
 /// The line of the form of the command that the words begin with, or of a command line where they begin with none.
 pub fn form_line(alloc: Global, words: &[String]) -> Result<String, AllocError> {
-    let name = first_word(words);
-    for mut form in forms(alloc)? {
-        if form.get_name() == name {
-            return form.render_usage();
-        }
+    match form_of(words) {
+        Some(form) => command(alloc, form)?.render_usage(),
+        None => command_line(alloc)?.render_usage(),
     }
-    command_line(alloc)?.render_usage()
 }
 
-/// The options of a command, in a line of their own; empty where it has none.
-fn option_line(alloc: Global, form: &Command<'_>) -> Result<String, AllocError> {
-    let mut text = String::new(alloc);
-    for argument in form.get_arguments() {
-        if let Some(long) = argument.get_long() {
-            let lead = if text.is_empty() {
-                "\nOptions: --"
-            } else {
-                ", --"
-            };
-            text.push_str(lead)?;
-            text.push_str(long)?;
-        }
+/// Adds the options of a command, in a line of their own, where it has any.
+fn add_options(text: &mut String, form: &Form) -> Result<(), AllocError> {
+    let mut lead = "\nOptions: --";
+    for option in form.options {
+        text.push_str(lead)?;
+        text.push_str(option.name)?;
+        lead = ", --";
     }
-    Ok(text)
+    Ok(())
+}
+
+/// Adds the names of the commands, in a line of their own.
+fn add_commands(text: &mut String) -> Result<(), AllocError> {
+    let mut lead = "\nCommands: ";
+    for form in forms() {
+        text.push_str(lead)?;
+        text.push_str(form.name)?;
+        lead = ", ";
+    }
+    text.push_str(BEHIND)
 }
 
 /// That line, the options, and where the words and options of the command are told of; or the commands.
 fn form_told(alloc: Global, words: &[String]) -> Result<String, AllocError> {
-    let name = first_word(words);
-    for mut form in forms(alloc)? {
-        if form.get_name() == name {
-            let line = form.render_usage()?;
-            let options = option_line(alloc, &form)?;
-            return format!(in alloc;
-                "{line}{options}\nFor its words and options: flowcheck help {name}"
-            );
+    let mut text = form_line(alloc, words)?;
+    match form_of(words) {
+        Some(form) => {
+            add_options(&mut text, form)?;
+            let name = form.name;
+            write!(text, "\nFor its words and options: flowcheck help {name}")?;
         }
+        None => add_commands(&mut text)?,
     }
-    let line = command_line(alloc)?.render_usage()?;
-    format!(in alloc; "{line}\n{COMMANDS}")
+    Ok(text)
 }
 
 /// The start of what `clap` says is wrong, up to its first blank line, with its tips behind that: those that name what

@@ -2,7 +2,7 @@
 
 use crate::complaints::complaint;
 use crate::findings::findings;
-use crate::naming::named;
+use crate::naming::{named, options_last};
 use crate::refusals::{malformed, not_loaded, refused_run, too_large};
 use std::alloc::{AllocError, Global};
 
@@ -30,7 +30,8 @@ fn of_command_line(
     words: &[String],
     said: &str,
 ) -> Result<Option<String>, AllocError> {
-    let Some(matches) = named(alloc, words)? else {
+    let ordered = options_last(alloc, words)?;
+    let Some(matches) = named(alloc, ordered.as_slice())? else {
         return Ok(None);
     };
     let line = said.trim_end();

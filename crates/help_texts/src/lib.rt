@@ -8,9 +8,11 @@ mod endings;
 mod explanations;
 mod file_meanings;
 mod findings;
+mod form_table;
 mod forms;
 mod meanings;
 mod naming;
+mod parsers;
 mod refusals;
 mod run_meanings;
 

@@ -1,6 +1,7 @@
 //! What the words of a command line name.
 
-use crate::forms::command_line;
+use crate::forms::{Form, Takes, form_of};
+use crate::parsers::command_line;
 use clap::ArgMatches;
 use clap::error::ErrorKind;
 use std::alloc::{AllocError, Global};
@@ -82,8 +83,45 @@ const ROLES: [Role; 8] = [
     },
 ];
 
+/// Whether the value of an option is the word behind it: of one that takes a value, where no `=` stands in its word.
+fn takes_next(form: &Form, word: &str) -> bool {
+    let Some(name) = word.strip_prefix("--") else {
+        return false;
+    };
+    for option in form.options {
+        if option.name == name {
+            return !matches!(option.takes, Takes::Nothing);
+        }
+    }
+    false
+}
+
+/// The words of a command line, the options with their values last: `clap` takes no secret behind an option.
+pub fn options_last<'a>(alloc: Global, words: &'a [String]) -> Result<Vec<&'a str>, AllocError> {
+    let mut ordered = Vec::new(alloc);
+    let Some(form) = form_of(words) else {
+        return Ok(ordered);
+    };
+    let mut options = Vec::new(alloc);
+    let mut is_value = false;
+    for word in words {
+        let word = word.as_str();
+        if is_value || word.starts_with('-') {
+            is_value = !is_value && takes_next(form, word);
+            options.push(word)?;
+        } else {
+            ordered.push(word)?;
+        }
+    }
+    ordered.extend_from_slice(options.as_slice())?;
+    Ok(ordered)
+}
+
 /// What stands behind the command of a command line, by the names of its form; None where it is none.
-pub fn named<'a>(alloc: Global, words: &'a [String]) -> Result<Option<ArgMatches<'a>>, AllocError> {
+pub fn named<'a>(
+    alloc: Global,
+    words: &'a [&'a str],
+) -> Result<Option<ArgMatches<'a>>, AllocError> {
     match command_line(alloc)?.try_get_matches_from(words) {
         Ok(mut matches) => match matches.remove_subcommand() {
             Some((_, behind)) => Ok(Some(behind)),

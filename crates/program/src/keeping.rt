@@ -26,7 +26,9 @@ impl<S: Sink> KeepingSink<S> {
     }
 
     /// What is kept.
-    pub fn kept(&self) -> &[u8] {
+    pub fn kept(&self) -> &[u8]
+        ensures { result.now ≡ self.now.kept.items }
+    {
         self.kept.as_slice()
     }
 }
