@@ -5,7 +5,7 @@ Runs random lists of words through an executable in an empty folder, and judges 
 does: its reading is written here once more, apart from the program. Words that are no command line must be answered by
 status 2 and `refused 2 usage`, and on standard error by what is wrong and a form; a command line by status 5 and the
 name of its first file, since the folder holds none, and on standard error by that name and the form; `trial`, which has
-no file, by status 0 and its line. Where an option stands between two secrets, standard error may say nothing. Words that ask for help or the version must be answered by status 0 and a text.
+no file, by status 0 and its line. Words that ask for help or the version must be answered by status 0 and a text.
 COMMAND may be several words; they stand before a trial's words. A command that the program does not have yet is named
 by --without. Prints each list that differs, and last `N passed, M
 failed`; the status is 1 where one failed."""
@@ -23,7 +23,6 @@ OPTIONS = {"check": RUN, "taint": MEASURED, "bound": MEASURED + ("--paths",), "m
            "migrate": (), "trial": ()}
 COUNTS = {"check": (5, 68), "taint": (5, 68), "bound": (4, 4), "measure": (3, 3), "measure-all": (3, 66), "graph": (3, 3),
           "report": (3, 3), "learn": (4, 4)}
-SECRETS_FROM = {"check": 4, "taint": 4, "measure-all": 2}
 FLAGS = {"report": ("--json",), "bound": ("--list",)}
 
 
@@ -132,23 +131,6 @@ def ask(words):
     return words in (["--help"], ["-h"], ["help"], ["--version"], ["-V"])
 
 
-def is_parted(words):
-    """Whether an option stands between two secrets of a command line: clap, which reads the words again for what stands
-    on standard error, takes only secrets that stand together."""
-    plain, parted, rest = 0, False, list(words[1:])
-    while rest:
-        word = rest.pop(0)
-        if word.startswith("-"):
-            if "=" not in word and word not in ("--json", "--list"):
-                rest.pop(0)
-            parted = parted or plain > SECRETS_FROM.get(words[0], len(words))
-            continue
-        if parted:
-            return True
-        plain += 1
-    return False
-
-
 def judge(command, folder, words):
     run = subprocess.run(command + words, cwd=folder, stdout=subprocess.PIPE, stderr=subprocess.PIPE, timeout=60)
     name = first_file(words)
@@ -161,8 +143,6 @@ def judge(command, folder, words):
         return None if told else "%r: no text that was asked for" % (words,)
     if name == "":
         return None if run.returncode == 0 and run.stdout.startswith(b"trial ") else "%r: no trial" % (words,)
-    if not error and name and is_parted(words):
-        error = "told"
     seen = (run.returncode, run.stdout.decode(errors="replace"), error)
     return None if seen == wanted else "%r: %r, wanted %r" % (words, seen, wanted)
 
