@@ -3,6 +3,7 @@ use Rattle.std.proofs.Common.{◌≡◌, ℕ, ◌-◌, ◌^◌, ◌≤◌, ◌<�
 use Rattle.std.proofs.Common.{length, slice_index, refl, sym, ◌∙◌, ⊎_elim, arith}
 use Rattle.std.proofs.lemmas.Bool.{cases_Bool, ltb-true, lt-ltb, le-ltb}
 use Rattle.max_flow.specs.Networks.{Net, at_node, IsNet, IsFlow, IsSide, AreAtMost, value_of, capacity_of}
+use Rattle.max_flow.specs.Private.Balances.{IsFlowOfValue}
 use Rattle.max_flow.specs.Private.Rooms.{IsBounded, IsClosed, HasSmallSide, IsLeast}
 use Rattle.max_flow.specs.Private.Searching.{IsFound, is_found}
 use Rattle.max_flow.specs.declared.searching.Tree.{Tree}
@@ -19,7 +20,7 @@ none_at keys flow v n zeros =
     (λ (e : eqb (slice_index keys i) v ≡ false). rw e refl)
     (cases_Bool (eqb (slice_index keys i) v)))
 
-pub none_flow : (net : Net) (flow : List ℕ) → AreZeros (length net.tails) flow → IsFlow net flow
+none_flow : (net : Net) (flow : List ℕ) → AreZeros (length net.tails) flow → IsFlow net flow
 none_flow net flow zeros = record {
   count = zeros.count;
   within = λ i below. let e : slice_index flow i ≡ 0 = zeros.each i in omega arith;
@@ -27,16 +28,16 @@ none_flow net flow zeros = record {
       sym (none_at net.tails flow v (length net.tails) zeros);
 }
 
-pub none_bounded : (net : Net) (flow : List ℕ) → AreZeros (length net.tails) flow → IsBounded net flow
+none_bounded : (net : Net) (flow : List ℕ) → AreZeros (length net.tails) flow → IsBounded net flow
 none_bounded net flow zeros = record {
   count = zeros.count;
   top = λ i below. let e : slice_index flow i ≡ 0 = zeros.each i in omega arith;
 }
 
-pub none-value : (net : Net) (flow : List ℕ) → AreZeros (length net.tails) flow → value_of net flow ≡ 0
+none-value : (net : Net) (flow : List ℕ) → AreZeros (length net.tails) flow → value_of net flow ≡ 0
 none-value net flow zeros = none_at net.tails flow 0 (length net.tails) zeros
 
-pub none_most : (n : ℕ) (flow : List ℕ) → AreZeros n flow → AreAtMost 0 flow
+none_most : (n : ℕ) (flow : List ℕ) → AreZeros n flow → AreAtMost 0 flow
 none_most n flow zeros = λ i. let e : slice_index flow i ≡ 0 = zeros.each i in omega (arith, e)
 
 pub value_small : (net : Net) (flow : List ℕ) → IsNet net → HasSmallSide net → IsFlow net flow → value_of net flow < 2
@@ -99,3 +100,11 @@ pub raised_least : (net : Net) (flow : List ℕ) (value : ℕ) (tree : Tree) →
 raised_least net flow value tree is raised =
     last_least net flow value tree.places.items tree.arrivals.items tree.rooms.items tree.queue.items is
     raised.flow_is raised.value_is raised.tree_is
+
+pub none_of_value : (net : Net) (flow : List ℕ) → AreZeros (length net.tails) flow → IsFlowOfValue net flow 0
+none_of_value net flow zeros = record {
+  flow_is = none_flow net flow zeros;
+  bounded = none_bounded net flow zeros;
+  value_is = none-value net flow zeros;
+  most = none_most (length net.tails) flow zeros;
+}

@@ -11,3 +11,4 @@ pub mod FoundNodesAreMembers
 pub mod GraphAnswers
 pub mod SmallSides
 pub mod LastNodeTakenOut
+pub mod Balances

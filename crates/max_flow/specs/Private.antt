@@ -5,3 +5,4 @@ pub mod Searching
 pub mod Solving
 pub mod Marks
 pub mod Stacks
+pub mod Balances

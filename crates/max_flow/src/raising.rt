@@ -2,11 +2,13 @@ ghost use Rattle.std.specs.Prelude.{◌≡◌, ◌+◌, ◌<◌, ◌≤◌, leng
 ghost use Rattle.max_flow.specs.Networks.{AreAtMost, IsFlow, IsSide, value_of, capacity_of};
 ghost use Rattle.max_flow.specs.Private.Rooms.{IsBounded, IsClosed, HasSmallSide, IsLeast};
 ghost use Rattle.max_flow.specs.Private.Searching.{is_found};
-ghost use Rattle.max_flow.specs.Private.Solving.{net_of, IsNetwork, IsTree, IsRaised, AreZeros};
+ghost use Rattle.max_flow.specs.Private.Solving.{net_of, IsNetwork, IsTree, IsRaised};
+ghost use Rattle.max_flow.specs.Private.Balances.{IsFlowOfValue};
 
 use crate::deepening::deepen;
 use crate::networks::Network;
 use crate::searching::{Tree, search};
+use crate::warm_start::{Start, first_flow};
 use flow_base::NoMemory;
 use std::alloc::Global;
 
@@ -25,26 +27,20 @@ pub struct Raised {
     pub tree: Tree,
 }
 
-/// The flow that is 0 on each edge.
-fn no_flow(alloc: Global, network: &Network) -> Result<Vec<u64>, NoMemory>
-    ensures { IfOk result (λ flows. AreZeros (length network.now.tails.items) flows.items) }
-{
-    let flows = vec![in alloc; 0; network.edges()]?;
-    Ok(flows)
-}
-
-/// Adds walks to a flow of value 0 until the sink is not reached any more: the walk of each search, and those over the
+/// Adds walks to a flow of this value until the sink is not reached any more: the walk of each search, and those over the
 /// nodes that it placed.
-fn raise(alloc: Global, network: &Network, flows: &mut [u64]) -> Result<Raised, NoMemory>
+fn raise(
+    alloc: Global,
+    network: &Network,
+    flows: &mut [u64],
+    first: u64,
+) -> Result<Raised, NoMemory>
     requires network { IsNetwork network.now }
     requires small { HasSmallSide (net_of network.now) }
-    requires flow { IsFlow (net_of network.now) flows.old }
-    requires bounded { IsBounded (net_of network.now) flows.old }
-    requires none { value_of (net_of network.now) flows.old ≡ 0 }
-    requires most { AreAtMost 0 flows.old }
+    requires flow { IsFlowOfValue (net_of network.now) flows.old first }
     ensures { IfOk result (λ raised. IsRaised (net_of network.now) flows.new raised.value raised.tree) }
 {
-    let mut value = 0;
+    let mut value = first;
     let mut tree = search(alloc, network, flows)?;
     while tree.place(1) != 0 {
         value += deepen(alloc, network, flows, &tree)?;
@@ -66,8 +62,11 @@ pub fn solve_network(alloc: Global, network: &Network) -> Result<Answer, NoMemor
         answer.value) }
     ensures least { IfOk result (λ answer. IsLeast (net_of network.now) answer.value (is_found answer.places.items)) }
 {
-    let mut flows = no_flow(alloc, network)?;
-    let Raised { value, tree } = raise(alloc, network, &mut flows)?;
+    let Start {
+        value: first,
+        mut flows,
+    } = first_flow(alloc, network)?;
+    let Raised { value, tree } = raise(alloc, network, &mut flows, first)?;
     let Tree {
         places,
         arrivals: _,

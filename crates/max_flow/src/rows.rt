@@ -1,0 +1,166 @@
+ghost use Rattle.max_flow.specs.Private.Solving.{IsNetwork};
+
+use crate::networks::Network;
+use crate::tables::{Amounts, Table};
+use flow_base::NoMemory;
+use std::alloc::Global;
+
+/// The edges of a network by node, each edge as two arcs: one at the node that it leaves, and one back at the node that
+/// it enters. A node's arcs stand side by side, first those of the edges that leave it.
+#[derive(Drop)]
+pub struct Rows {
+    /// The number of nodes: none after these is an end of an edge.
+    pub nodes: usize,
+    /// For each node where its arcs begin, and last the number of arcs.
+    pub starts: Table,
+    /// For each node where its arcs begin that lead back over an edge.
+    pub middles: Table,
+    /// For each arc the node that it leads to.
+    pub targets: Table,
+    /// For each arc the other one of its edge.
+    pub twins: Table,
+    /// For each arc how much more it can carry: what is left of an edge's limit, or back over it what flows there.
+    pub rooms: Amounts,
+}
+
+/// The sum of a network's limits, which no flow exceeds.
+fn most_of(network: &Network) -> u64 {
+    let mut most: u64 = 0;
+    for limit in &network.limits {
+        most = most.saturating_add(*limit);
+    }
+    most
+}
+
+/// One more than the last node that is an end of an edge. Most graphs use few of the many relays.
+fn used_nodes(network: &Network) -> usize {
+    let mut last: usize = 1;
+    for tail in &network.tails {
+        last = last.max(*tail);
+    }
+    for head in &network.heads {
+        last = last.max(*head);
+    }
+    last.saturating_add(1)
+}
+
+impl Rows {
+    /// The arcs of a network over which nothing flows.
+    pub fn new(alloc: Global, network: &Network) -> Result<Rows, NoMemory>
+        requires { IsNetwork network.now }
+    {
+        let nodes = used_nodes(network);
+        let arcs = network.edges().saturating_mul(2);
+        let mut leaving = Table::filled(alloc, 0, nodes)?;
+        let mut entering = Table::filled(alloc, 0, nodes)?;
+        for tail in &network.tails {
+            leaving.put(*tail, leaving.at(*tail) + 1);
+        }
+        for head in &network.heads {
+            entering.put(*head, entering.at(*head) + 1);
+        }
+        let mut rows = Rows {
+            nodes,
+            starts: Table::filled(alloc, 0, nodes.saturating_add(1))?,
+            middles: Table::filled(alloc, 0, nodes)?,
+            targets: Table::filled(alloc, 0, arcs)?,
+            twins: Table::filled(alloc, 0, arcs)?,
+            rooms: Amounts::zeros(alloc, arcs)?,
+        };
+        rows.place(&mut leaving, &mut entering);
+        rows.fill(network, &mut leaving, &mut entering);
+        Ok(rows)
+    }
+
+    /// Gives each node as many arcs as edges leave and enter it, and writes into the counts where these begin.
+    fn place(&mut self, leaving: &mut Table, entering: &mut Table) {
+        let mut arc: usize = 0;
+        for node in 0..self.nodes {
+            let middle = arc.saturating_add(leaving.at(node));
+            let end = middle.saturating_add(entering.at(node));
+            self.starts.put(node, arc);
+            self.middles.put(node, middle);
+            leaving.put(node, arc);
+            entering.put(node, middle);
+            arc = end;
+        }
+        self.starts.put(self.nodes, arc);
+    }
+
+    /// Writes the arcs of each edge at the next place of its nodes.
+    fn fill(&mut self, network: &Network, leaving: &mut Table, entering: &mut Table)
+        requires { IsNetwork network.now }
+    {
+        let most = most_of(network);
+        for edge in 0..network.edges() {
+            let tail = network.tail(edge);
+            let head = network.head(edge);
+            let there = leaving.at(tail);
+            let back = entering.at(head);
+            leaving.put(tail, there + 1);
+            entering.put(head, back + 1);
+            self.targets.put(there, head);
+            self.targets.put(back, tail);
+            self.twins.put(there, back);
+            self.twins.put(back, there);
+            self.rooms.put(there, network.limit(edge).min(most));
+        }
+    }
+
+    /// Where the arcs of a node begin.
+    pub fn start(&self, node: usize) -> usize {
+        self.starts.at(node)
+    }
+
+    /// Where the arcs of a node end.
+    pub fn end(&self, node: usize) -> usize {
+        self.starts.at(node.saturating_add(1))
+    }
+
+    /// Where the arcs of a node begin that lead back over an edge.
+    pub fn middle(&self, node: usize) -> usize {
+        self.middles.at(node)
+    }
+
+    /// The node that an arc leads to.
+    pub fn target(&self, arc: usize) -> usize {
+        self.targets.at(arc)
+    }
+
+    /// The other arc of an arc's edge.
+    pub fn twin(&self, arc: usize) -> usize {
+        self.twins.at(arc)
+    }
+
+    /// How much more an arc can carry.
+    pub fn room(&self, arc: usize) -> u64 {
+        self.rooms.at(arc)
+    }
+
+    /// How much more the other arc of an edge can carry; for an arc of an edge that leaves a node, what flows there.
+    pub fn room_back(&self, arc: usize) -> u64 {
+        self.rooms.at(self.twin(arc))
+    }
+
+    /// Moves an amount over an arc.
+    pub fn carry(&mut self, arc: usize, amount: u64) {
+        let twin = self.twins.at(arc);
+        self.rooms.take(arc, amount);
+        self.rooms.add(twin, amount);
+    }
+
+    /// What flows over each edge of the network.
+    pub fn flows(&self, alloc: Global, network: &Network) -> Result<Vec<u64>, NoMemory> {
+        let mut places = Table::filled(alloc, 0, self.nodes)?;
+        for node in 0..self.nodes {
+            places.put(node, self.middles.at(node));
+        }
+        let mut flows = Vec::with_capacity(alloc, network.edges())?;
+        for head in &network.heads {
+            let back = places.at(*head);
+            places.put(*head, back + 1);
+            flows.push(self.rooms.at(back)).map_err(|_| NoMemory)?;
+        }
+        Ok(flows)
+    }
+}
