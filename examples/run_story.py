@@ -5,7 +5,8 @@ Call: run_story.py [--update] COMPILER STORY
 A command is a line of README.md that begins with four spaces, a dollar sign and a space; the indented lines below it
 are what it prints. Each command must end with status 0. With gcc all that is printed must be as in the text; with
 clang, whose programs have other addresses, the last line of the last command must be. `--update` writes what is printed
-into the text. FLOWCHECK is the program, as a command; without it the built one is taken, else the model."""
+into the text. FLOWCHECK is the program, as a command; without it the one that is built or installed is taken, else the
+model."""
 import os
 import shlex
 import shutil
@@ -16,7 +17,10 @@ import tempfile
 
 HERE = os.path.dirname(os.path.abspath(__file__))
 TOP = os.path.dirname(HERE)
-BUILT = os.path.join(TOP, "crates", "flowcheck", "out", "flowcheck")
+sys.path.insert(0, os.path.join(TOP, "tools", "explain"))
+
+from built_program import program_words
+
 MARK = "    $ "
 COPIED = ("examples", "tools")
 
@@ -24,7 +28,7 @@ COPIED = ("examples", "tools")
 def program():
     """The command of the program, with whole paths."""
     model = "python3 " + shlex.quote(os.path.join(TOP, "tools", "model", "flowcheck.py"))
-    words = shlex.split(os.environ.get("FLOWCHECK", BUILT if os.path.exists(BUILT) else model))
+    words = program_words() or shlex.split(model)
     return [os.path.abspath(word) if os.path.exists(word) else word for word in words]
 
 

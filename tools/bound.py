@@ -12,7 +12,7 @@ than were measured, it begins again without a point, and at last with as many pa
   --rounds N           at most so many calls of `bound` from a beginning; 100 without it
   --output FILE        the file of the cut; `bound.cut` without it
   --regions, --turns, --rules, --paths  as of `bound`
-  --flowcheck COMMAND  the program; without it crates/flowcheck/out/flowcheck, else `flowcheck`, else the model
+  --flowcheck COMMAND  the program; without it FLOWCHECK, else the one built or installed with this, else the model
 
 Prints the rounds, then in words what is bounded, or why not and what to change. The status is 0 where it is bounded."""
 import os

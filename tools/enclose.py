@@ -11,7 +11,7 @@ it. Of several that lower it alike the one is kept with which `check` accepts mo
   -j N                 so many at once; as many as there are processors without it
   --output FILE        the region file; `enclosed.regions` without it
   --turns N, --rules N as of `measure`
-  --flowcheck COMMAND  the program; without it crates/flowcheck/out/flowcheck, else `flowcheck`, else the model
+  --flowcheck COMMAND  the program; without it FLOWCHECK, else the one built or installed with this, else the model
 
 Prints a table of what was kept, and the commands that measure and check with it."""
 import os

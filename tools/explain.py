@@ -16,7 +16,7 @@ nothing beside it, or with --text a text for the terminal.
   --output FILE        the file of the page; without it `explain.html`, and `-` is standard output
   --text               a text on standard output
   --source FOLDER      where sources are that have moved; may be given more than once
-  --flowcheck COMMAND  the program; without it crates/flowcheck/out/flowcheck, else `flowcheck`, else the model
+  --flowcheck COMMAND  the program; without it FLOWCHECK, else the one built or installed with this, else the model
 
 The status is 0 where the page is made, 1 where there is no number, 2 where the words are no command line, and 3 where a
 file cannot be used. Python 3 is enough for addresses and functions; lines of sources want -g, and llvm-symbolizer or

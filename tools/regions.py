@@ -10,7 +10,7 @@ Call: regions.py PROG NAME... [--secret FILE]... [--public FILE] [--turns N] [--
   --turns N            the limit of turns of a run
   --code               declare also the registers that the code inside may write, though no run did: behind a call
                        those that the calling convention does not keep are outputs
-  --flowcheck COMMAND  the program; without it crates/flowcheck/out/flowcheck, else `flowcheck`, else the model
+  --flowcheck COMMAND  the program; without it FLOWCHECK, else the one built or installed with this, else the model
 
 What is declared is the least that the runs on these secrets need together, as `learn` says of each: registers that they
 write and give back are kept, others are outputs, and bytes that they write are ranges. Where that makes more than 64

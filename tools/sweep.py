@@ -20,6 +20,7 @@ sys.path[:0] = [os.path.join(HERE, name) for name in ("sweep", "explain", "model
 
 from bars import picture
 from batch import Check, put, read
+from built_program import program_words
 from cuts import read_cut, read_regions
 from elf_symbols import ProgramFile
 from engines import Parallel, Slurm
@@ -28,8 +29,6 @@ from merge import Contradiction, Merged, answer_of, is_judged, power, report_of,
 from misleading import of_cut
 from refusals import cut_fault, program_fault, regions_fault
 from secret_lists import Refused, lists_of
-
-BUILT = os.path.join(HERE, "..", "crates", "flowcheck", "out", "flowcheck")
 
 
 def number(lowest, highest):
@@ -59,7 +58,8 @@ def words():
                         help="batches at a time here (as many as processors)")
     engine.add_argument("--hosts", metavar="FILE", help="the sshloginfile of GNU parallel")
     engine.add_argument("--slurm", action="store_true", help="a job array of Slurm")
-    parser.add_argument("--flowcheck", metavar="FILE", default=BUILT, help="the built program (the repository's)")
+    parser.add_argument("--flowcheck", metavar="FILE",
+                        help="the program (FLOWCHECK, else the one built or installed with this)")
     parser.add_argument("--results", metavar="DIR", default="sweep-results",
                         help="where the results go (sweep-results)")
     parser.add_argument("--resume", action="store_true", help="go on with the sweep whose results are there")
@@ -72,8 +72,18 @@ def words():
     return args
 
 
+def program_file(args):
+    """The file of the program: it is hashed, and copied to where it runs."""
+    words = [args.flowcheck] if args.flowcheck is not None else program_words()
+    if not words:
+        raise Refused("there is no program: --flowcheck names its file")
+    if len(words) > 1:
+        raise Refused("FLOWCHECK is a command of several words: --flowcheck names the file of the program")
+    return shutil.which(words[0]) or words[0]
+
+
 def asked(args):
-    paths = {"flowcheck": args.flowcheck, "program": args.prog, "public": args.public, "cut": args.cut,
+    paths = {"flowcheck": program_file(args), "program": args.prog, "public": args.public, "cut": args.cut,
              "regions": args.regions}
     return Sweep(paths, args.budget, args.turns, lists_of(args), args.calls, earlier(args))
 

@@ -5,18 +5,16 @@ import shutil
 import subprocess
 
 from answers import answer_to
+from built_program import TOOLS, program_beside, program_words
 from flowcheck import Disk
-
-TOOLS = os.path.dirname(os.path.dirname(os.path.abspath(__file__)))
-BUILT = os.path.join(TOOLS, "..", "crates", "flowcheck", "out", "flowcheck")
 
 
 def command_words():
     """How the program is called from the folder where one stands: by its name, by its place, or the model."""
     if shutil.which("flowcheck"):
         return ["flowcheck"]
-    is_built = os.path.exists(BUILT)
-    return [os.path.relpath(BUILT)] if is_built else script_words(os.path.join("model", "flowcheck.py"))
+    beside = program_beside()
+    return [os.path.relpath(beside)] if beside else script_words(os.path.join("model", "flowcheck.py"))
 
 
 def script_words(name):
@@ -28,9 +26,7 @@ class Program:
     """Whoever answers command lines. `words` are the words of the built program; none are the model."""
 
     def __init__(self, command=None):
-        if command is None:
-            command = shlex.quote(BUILT) if os.path.exists(BUILT) else shutil.which("flowcheck") or ""
-        self.words = shlex.split(command)
+        self.words = program_words() if command is None else shlex.split(command)
 
     def name(self):
         """How a user calls it."""
