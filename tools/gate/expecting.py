@@ -27,7 +27,7 @@ class Expectations:
     """A folder, and what was expected and did not come."""
 
     def __init__(self, folder):
-        self.folder, self.counts, self.wrongs = folder, {}, []
+        self.folder, self.counts, self.wrongs, self.missing = folder, {}, [], []
 
     def expect(self, what, is_right, detail=""):
         """Counts an expectation, and notes it where it fails."""
@@ -35,6 +35,10 @@ class Expectations:
         self.counts[kind] = self.counts.get(kind, 0) + 1
         if not is_right:
             self.wrongs.append(f"{what} {detail[:MOST_DETAIL]}")
+
+    def leave_out(self, program):
+        """Notes a program that is not there, and whose tests are left out."""
+        self.missing.append(program)
 
     def path(self, name):
         """The path of a file in the folder."""
@@ -71,12 +75,19 @@ class Expectations:
 
 
 def run_tests(kind, description):
-    """Runs the methods whose names begin with `test_`; the status is 1 where something is wrong."""
+    """Takes no words, and runs the tests of a class."""
     argparse.ArgumentParser(description=description).parse_args()
+    return run_all(kind)
+
+
+def run_all(kind, *words):
+    """Runs the methods of a class whose names begin with `test_`; the status is 1 where something is wrong."""
     with tempfile.TemporaryDirectory(prefix="tools-") as folder:
-        tests = kind(folder)
+        tests = kind(folder, *words)
         for name in [name for name in dir(kind) if name.startswith("test_")]:
             getattr(tests, name)()
     print(", ".join(f"{count} {name}" for name, count in tests.counts.items()))
+    if tests.missing:
+        print(f"left out, for want of: {', '.join(tests.missing)}")
     print("\n".join(tests.wrongs) or "all right")
     return 1 if tests.wrongs else 0
