@@ -1,0 +1,33 @@
+# Builds Flowcheck, installs it, and makes an archive of it.
+#
+#     make            builds the program, by the Rattle kit: the first time it proves all that it stands on, for an hour
+#     make install    installs the built program with its man page, completions, scripts, guests and documents
+#     make uninstall  removes what was installed
+#     make dist       builds the program, and makes dist/flowcheck-VERSION-x86_64-linux.tar.gz with its .sha256
+#
+# PREFIX is where it is installed, /usr/local without a word, and DESTDIR a folder in front of it. PROGRAM=FILE takes a
+# program that was built elsewhere of the same commit, so that neither `rt` nor a build is wanted. Python 3 does the
+# rest, and git names the commit of an archive.
+
+PREFIX = /usr/local
+DESTDIR =
+PROGRAM = crates/flowcheck/out/flowcheck
+OUT = dist
+
+.PHONY: build install uninstall dist
+
+build:
+	@command -v rt >/dev/null || { \
+	    echo "There is no rt on the PATH. The program is built by the Rattle kit rattle-kit-13f, one folder from the" \
+	        "makers of Rattle. Without it take an archive that make dist made, or name a program that was built" \
+	        "elsewhere: make install PROGRAM=FILE" >&2; exit 1; }
+	cd crates/flowcheck && rt run -- --version
+
+install:
+	python3 tools/packaging/install.py '$(DESTDIR)$(PREFIX)' --program '$(PROGRAM)'
+
+uninstall:
+	python3 tools/packaging/install.py '$(DESTDIR)$(PREFIX)' --remove
+
+dist: $(if $(filter file,$(origin PROGRAM)),build)
+	python3 tools/packaging/archive.py '$(OUT)' --program '$(PROGRAM)'
