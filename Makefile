@@ -9,10 +9,10 @@
 # program that was built elsewhere of the same commit, so that neither `rt` nor a build is wanted. Python 3 does the
 # rest, and git names the commit of an archive.
 
-PREFIX = /usr/local
-DESTDIR =
-PROGRAM = crates/flowcheck/out/flowcheck
-OUT = dist
+PREFIX ?= /usr/local
+DESTDIR ?=
+PROGRAM ?= crates/flowcheck/out/flowcheck
+OUT ?= dist
 
 .PHONY: build install uninstall dist
 

@@ -1,4 +1,4 @@
-"""What is installed in share/flowcheck, by its names in the repository: scripts, guests, documents, and the contract."""
+"""What is installed in share/flowcheck, by its names in the repository: scripts, guests, documents, the contract."""
 import ast
 import fnmatch
 import os
