@@ -65,7 +65,7 @@ def wanted_library(program):
     kinds = [struct.unpack_from("<I", content, start + size * index)[0] for index in range(count)]
     if PT_INTERP not in kinds:
         return STATIC
-    versions = {tuple(map(int, found.split(b"."))) for found in re.findall(rb"\0GLIBC_([\d.]+)\0", content)}
+    versions = {tuple(map(int, found.split(b"."))) for found in re.findall(rb"\0GLIBC_([\d.]+)(?=\0)", content)}
     newest = ".".join(map(str, max(versions))) if versions else None
     library = f"the GNU C library, {newest} or later" if newest else "the C library of its dynamic linker"
     return DYNAMIC.format(library=library)

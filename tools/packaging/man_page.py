@@ -23,7 +23,7 @@ FILES = (
     ("examples", "guests, and stories about them; examples/guests has the header and the makefile for guests in C"),
     ("tools", "scripts: explain.py, regions.py, enclose.py, bound.py, lint.py, run.py and sweep.py"),
 )
-SEE_ALSO = "riscv64\\-unknown\\-elf\\-gcc(1), clang(1), qemu\\-user(1), parallel(1)"
+SEE_ALSO = "gcc(1), qemu\\-user(1), parallel(1)"
 
 
 def plain(text):
