@@ -124,6 +124,8 @@ class DistTests(Expectations):
         self.expect_run("program", bit, [program, "check", *run, "secret3", "secret5", "secret4"], COUNTED)
         self.expect_run("program", bit, [program, "bound", *run], BOUNDED)
         self.expect_run("program", bit, [program], "refused 2 usage", status=2)
+        libraries = self.expect_run("program", bit, ["ldd", program])
+        self.expect("program: its libraries", "not found" not in libraries, libraries)
 
     def test_readme(self):
         """The commands of the README, as they stand there, one block after the other."""
@@ -198,6 +200,9 @@ class DistTests(Expectations):
         done = subprocess.run(shown, capture_output=True, text=True, check=False)
         is_right = (done.returncode, done.stderr) == (0, "") and "measure-all" in done.stdout
         self.expect("pages: man", is_right, done.stderr)
+        looked = ["/usr/bin/env", "-i", f"PATH={os.path.join(self.tree, 'bin')}:{PATH}", "man", "-w", "flowcheck"]
+        done = subprocess.run(looked, capture_output=True, text=True, check=False)
+        self.expect("pages: man finds it", done.stdout.strip() == page, done.stdout + done.stderr)
         completion = self.inside(os.path.join(self.tree, next(name for name in COMPLETIONS if "bash" in name)))
         asked = '. "$0"; COMP_WORDS=(flowcheck meas) COMP_CWORD=1; _flowcheck; echo "${COMPREPLY[@]}"'
         self.expect_run("pages", self.work, ["bash", "-c", asked, completion], "measure measure-all\n")
