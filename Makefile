@@ -24,10 +24,10 @@ build:
 	cd crates/flowcheck && rt run -- --version
 
 install:
-	python3 tools/packaging/install.py '$(DESTDIR)$(PREFIX)' --program '$(PROGRAM)'
+	python3 -B tools/packaging/install.py '$(DESTDIR)$(PREFIX)' --program '$(PROGRAM)'
 
 uninstall:
-	python3 tools/packaging/install.py '$(DESTDIR)$(PREFIX)' --remove
+	python3 -B tools/packaging/install.py '$(DESTDIR)$(PREFIX)' --remove
 
 dist: $(if $(filter file,$(origin PROGRAM)),build)
-	python3 tools/packaging/archive.py '$(OUT)' --program '$(PROGRAM)'
+	python3 -B tools/packaging/archive.py '$(OUT)' --program '$(PROGRAM)'
