@@ -2,17 +2,55 @@ ghost use Rattle.std.specs.Prelude.{IfOk, string_bytes};
 ghost use Rattle.help_texts.specs.Texts.{IsComplaint};
 
 use crate::forms::{Form, form_of, forms};
+use crate::meanings::{Meaning, meaning_of};
 use crate::parsers::{command, command_line};
 use clap::error::ErrorKind;
 use std::alloc::{AllocError, Global};
 
-/// What is wrong where `clap` finds nothing wrong.
-const NARROWER: &str =
-    "error: no word and no value is empty, only behind `=` does a value begin with `-`, and numbers \
-    have no leading zeros";
+const EMPTY: &str = "error: a word or a value is empty: is a variable of the shell not set?";
 
-/// What to do where a word begins with `-` and is no option.
-const DASH: &str = "\n  tip: a file whose name begins with `-` is named with ./ before it";
+const DASHES: &str =
+    "error: `-` and `--` are no words here: a file of such a name is named with ./ before it, and only behind `=` does \
+    a value begin with `-`";
+
+const DIGITS: &str =
+    "error: a number is written in decimal digits alone, without a sign and without leading zeros";
+
+/// What to do beside what `clap` says is wrong, by how that begins and what it contains.
+const TIPS: [Meaning; 6] = [
+    Meaning {
+        start: "error: unexpected value '",
+        part: " for '<SECRET>...'",
+        text: "a call takes 1 to 64 secrets; tools/sweep.py judges any number by calls of check",
+    },
+    Meaning {
+        start: "error: invalid value '",
+        part: " for '<BUDGET>'",
+        text: "<BUDGET> stands behind the cut; it is a number of bits in decimal digits, as in the cut's line `bits`",
+    },
+    Meaning {
+        start: "error: invalid value '",
+        part: ": invalid digit found in string",
+        text: "a number is written in decimal digits alone",
+    },
+    Meaning {
+        start: "error: unexpected argument '--",
+        part: "",
+        text: "",
+    },
+    Meaning {
+        start: "error: unexpected argument '-",
+        part: "",
+        text: "a file whose name begins with `-` is named with ./ before it",
+    },
+    Meaning {
+        start: "error: the following required arguments were not provided",
+        part: "<SECRET>",
+        text: "a guest that reads no public input has an empty file in its place",
+    },
+];
+
+const ONE_SECRET: &str = "this command takes one secret; measure-all measures several together";
 
 const BEHIND: &str = "\nOptions stand behind the command. For all of it: flowcheck --help";
 
@@ -60,17 +98,38 @@ fn form_told(alloc: Global, words: &[String]) -> Result<String, AllocError> {
     Ok(text)
 }
 
-/// The start of what `clap` says is wrong, up to its first blank line, with its tips behind that: those that name what
-/// there is, and not those that name `--`, which is no word here.
-fn start_of(alloc: Global, text: &str) -> Result<String, AllocError> {
-    let Some((head, rest)) = text.split_once("\n\n") else {
-        return text.trim_end().to_string(alloc);
-    };
-    let mut start = head.to_string(alloc)?;
-    if head.starts_with("error: unexpected argument '-")
-        && !head.starts_with("error: unexpected argument '--")
+/// Whether words name one run to measure, and then more.
+fn is_of_one_run(words: &[String]) -> bool {
+    match words {
+        [name, _, _, _, _, ..] => {
+            let name = name.as_str();
+            name == "measure" || name == "graph" || name == "report"
+        }
+        _ => false,
+    }
+}
+
+/// What to do beside what `clap` says is wrong with words; empty where there is nothing to say.
+fn tip_of(words: &[String], head: &str) -> &'static str {
+    let tip = meaning_of(&TIPS, head);
+    if tip.is_empty()
+        && head.starts_with("error: unexpected argument '")
+        && !head.starts_with("error: unexpected argument '-")
+        && is_of_one_run(words)
     {
-        start.push_str(DASH)?;
+        return ONE_SECRET;
+    }
+    tip
+}
+
+/// The start of what `clap` says is wrong with words, up to its first blank line, with what to do behind that and with
+/// its tips: those that name what there is, and not those that name `--`, which is no word here.
+fn start_of(alloc: Global, words: &[String], text: &str) -> Result<String, AllocError> {
+    let (head, rest) = text.split_once("\n\n").unwrap_or((text, ""));
+    let mut start = head.trim_end().to_string(alloc)?;
+    let tip = tip_of(words, head);
+    if !tip.is_empty() {
+        write!(start, "\n  tip: {tip}")?;
     }
     for line in rest.lines() {
         if line.starts_with("  tip: ") && !line.contains("use '") {
@@ -79,6 +138,20 @@ fn start_of(alloc: Global, text: &str) -> Result<String, AllocError> {
         }
     }
     Ok(start)
+}
+
+/// What is wrong with words that `clap` takes.
+fn narrower(words: &[String]) -> &'static str {
+    for word in words {
+        let word = word.as_str();
+        if word.is_empty() || word.starts_with('-') && word.ends_with('=') {
+            return EMPTY;
+        }
+        if word == "-" || word == "--" {
+            return DASHES;
+        }
+    }
+    DIGITS
 }
 
 /// The words that are wrong: behind `help` a word that is no command, else all.
@@ -92,13 +165,13 @@ fn wrong_words<'a>(words: &'a [String]) -> &'a [String] {
 /// What `clap` says is wrong with words that are no command line.
 fn wrong(alloc: Global, words: &[String]) -> Result<String, AllocError> {
     let Err(error) = command_line(alloc)?.try_get_matches_from(wrong_words(words)) else {
-        return NARROWER.to_string(alloc);
+        return narrower(words).to_string(alloc);
     };
     if error.kind() == ErrorKind::OutOfMemory {
         return Err(AllocError);
     }
     let text = format!(in alloc; "{error}")?;
-    start_of(alloc, text.as_str())
+    start_of(alloc, words, text.as_str())
 }
 
 /// What is wrong with words that are no command line, the nearest name with it, an empty line, and the form of their

@@ -59,14 +59,14 @@ const PROGRAMS: [Meaning; 18] = [
     Meaning {
         start: "not-elf32 offset 0 ",
         part: "byte 0x21",
-        text: "It begins with `!`, as an archive of object files does. Link it into a program: \
-            riscv64-unknown-elf-gcc -march=rv32im -mabi=ilp32 -static -nostdlib.",
+        text: "It begins with `!`, as an archive of object files does. Link it into a program with _start: make -f \
+            PATH/examples/guests/Makefile NAME.elf gives all options.",
     },
     Meaning {
         start: "not-elf32 offset 0 ",
         part: "byte 0x23",
-        text: "It begins with `#`, as a source in C and a script do. Compile it first: \
-            riscv64-unknown-elf-gcc -march=rv32im -mabi=ilp32 -static -nostdlib.",
+        text: "It begins with `#`, as sources and scripts do. A guest is a program file. One in C is built by make -f \
+            PATH/examples/guests/Makefile NAME.elf, one in assembler by flowcheck asm SOURCE >NAME.elf.",
     },
     Meaning {
         start: "not-elf32 offset 0 ",
@@ -77,26 +77,27 @@ const PROGRAMS: [Meaning; 18] = [
     Meaning {
         start: "not-elf32 offset 4 byte 0x02",
         part: "",
-        text: "It is a 64-bit ELF file, of RV64 or of this computer. Guests are 32-bit: build it by \
-            riscv64-unknown-elf-gcc with -march=rv32im -mabi=ilp32.",
+        text: "It is a 64-bit ELF file, of RV64 or of this computer, and guests are 32-bit: give the compiler \
+            -march=rv32im -mabi=ilp32. make -f PATH/examples/guests/Makefile NAME.elf gives all options.",
     },
     Meaning {
         start: "not-elf32 offset 5 ",
         part: "",
-        text: "It is a big-endian ELF file. Guests are little-endian: build it by riscv64-unknown-elf-gcc with \
-            -march=rv32im -mabi=ilp32.",
+        text: "It is a big-endian ELF file, and guests are little-endian: give the compiler -march=rv32im -mabi=ilp32. \
+            make -f PATH/examples/guests/Makefile NAME.elf gives all options.",
     },
     Meaning {
         start: "not-elf32",
         part: "",
         text: "It is no ELF file. The program is the first file, then comes the public input: have two changed places? \
-            A source in C is compiled by riscv64-unknown-elf-gcc -march=rv32im -mabi=ilp32 -static -nostdlib, and one \
-            in assembler by flowcheck asm SOURCE.",
+            A source in C is built by make -f PATH/examples/guests/Makefile NAME.elf, one in assembler by flowcheck \
+            asm SOURCE >NAME.elf.",
     },
     Meaning {
         start: "wrong-kind type 1 machine 243",
         part: "",
-        text: "It is an object file that was not linked. Leave out -c, and link it with -static -nostdlib.",
+        text: "It is an object file that was not linked. Leave out -c; make -f PATH/examples/guests/Makefile NAME.elf \
+            gives all options.",
     },
     Meaning {
         start: "wrong-kind type 3 machine 243",
@@ -107,8 +108,8 @@ const PROGRAMS: [Meaning; 18] = [
     Meaning {
         start: "wrong-kind",
         part: "",
-        text: "It is no program for RISC-V. Build it by riscv64-unknown-elf-gcc with -march=rv32im -mabi=ilp32 -static \
-            -nostdlib.",
+        text: "It is no program for RISC-V. Build it by make -f PATH/examples/guests/Makefile NAME.elf, which gives \
+            all options.",
     },
     Meaning {
         start: "compressed",
@@ -119,7 +120,8 @@ const PROGRAMS: [Meaning; 18] = [
     Meaning {
         start: "headers 0 ",
         part: "",
-        text: "It has no program headers, so it was not linked, or they were stripped. Link it with -static -nostdlib.",
+        text: "It has no program headers, so it was not linked, or they were stripped. make -f \
+            PATH/examples/guests/Makefile NAME.elf links it with all options.",
     },
     Meaning {
         start: "headers",
@@ -164,37 +166,38 @@ const REGIONS: [Meaning; 7] = [
     Meaning {
         start: "json",
         part: "",
-        text: "It is no JSON: look for a comma, a quote or a bracket. tools/lint.py PROG CUT REGIONS shows the place.",
+        text: "It is no JSON: look for a comma, a quote or a bracket. python3 tools/lint.py PROG --regions FILE shows \
+            the place and what was expected.",
     },
     Meaning {
         start: "shape 0",
         part: "",
-        text: "It is not an object whose one key is `regions`, an array: {\"regions\":[..]}. tools/lint.py PROG CUT \
-            REGIONS says what was expected.",
+        text: "It is not an object whose one key is `regions`, an array: {\"regions\":[..]}. python3 tools/lint.py \
+            PROG --regions FILE shows the place and what was expected.",
     },
     Meaning {
         start: "shape",
         part: "",
-        text: "The region of this place, counted from 1, has the number of an earlier one, or a key or a value that no \
-            region has. It has id, enter and leave, and may have outs, keep and ranges. tools/lint.py PROG CUT REGIONS \
-            says what was expected.",
+        text: "Region N of the file, counted from 1, has the number of an earlier one, or a key or a value that no \
+            region has. It has id, enter and leave, and may have outs, keep and ranges. python3 tools/lint.py PROG \
+            --regions FILE shows the place and what was expected.",
     },
     Meaning {
         start: "same-address",
         part: "",
-        text: "The region of this place, counted from 1, is left where it is entered. Take as `leave` the instruction \
+        text: "Region N of the file, counted from 1, is left where it is entered. Take as `leave` the instruction \
             behind the call, or the last of the function.",
     },
     Meaning {
         start: "enter-twice",
         part: "",
-        text: "The region of this place, counted from 1, is entered where an earlier one is. Remove one of them.",
+        text: "Region N of the file, counted from 1, is entered where an earlier one is. Remove one of them.",
     },
     Meaning {
         start: "register-twice",
         part: "",
-        text: "The region of this place, counted from 1, names this register twice in `outs` and `keep` together. \
-            Remove one of them.",
+        text: "Region N of the file, counted from 1, names this register twice in `outs` and `keep` together. Remove \
+            one of them.",
     },
     Meaning {
         start: "too-many",
@@ -232,9 +235,9 @@ const CUTS: [Meaning; 6] = [
     Meaning {
         start: "truncated",
         part: "",
-        text: "It ends within a line, or before the line `end`; that line ends with a line feed, too. Is this file the \
-            cut, which stands behind the public input? Is it whole? An empty one is what a shell makes before a \
-            command that fails: measure again.",
+        text: "Is this file the cut? It is the third file, after the public input. A cut ends with the line `end` and \
+            a line feed, and this file ends earlier. An empty one is what a shell makes before a command that fails: \
+            measure again.",
     },
     Meaning {
         start: "trailing",

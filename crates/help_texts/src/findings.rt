@@ -102,9 +102,12 @@ fn of_paths(
             let meaning = meaning_of(&FINDINGS, cause);
             let asking = asking(alloc, matches, "bound")?;
             let options = run_options(alloc, matches)?;
+            let program = word_for(matches, "PROG");
+            let public = word_for(matches, "PUBLIC");
             let text = format!(in alloc;
-                "no answer: {cause}\n{meaning}\n{asking}{options} --text says where and why, and \
-                tools/bound.py looks for a cut by itself.\n"
+                "no answer: {cause}\n{meaning}\n{asking}{options} --text says where and why.\n\
+                python3 tools/bound.py {program} {public} LENGTH{options} looks for a cut by itself; LENGTH is that \
+                of the secrets in bytes.\n"
             )?;
             return Ok(Some(text));
         }

@@ -83,8 +83,8 @@ pub const RUNS: [Meaning; 25] = [
     Meaning {
         start: "region",
         part: " call at",
-        text: "The region made a call, and inside of regions there is none. Leave reading, writing and exit outside of \
-            what it encloses.",
+        text: "Inside the region the guest made a call of its own: it read, wrote or exited (ECALL). Calls of \
+            functions may stand in a region, these may not: enclose less, so that reading and writing stand outside.",
     },
     Meaning {
         start: "region",
@@ -134,8 +134,8 @@ pub const RUNS: [Meaning; 25] = [
     Meaning {
         start: "length",
         part: "",
-        text: "Secrets that are measured together have one length, which is public. Pad them, or measure those of each \
-            length by themselves.",
+        text: "Secrets that are measured together have one length, which is public. Did `echo` write a line feed at \
+            the end of one? `printf` writes none. Else pad them, or measure those of each length by themselves.",
     },
     Meaning {
         start: "memory",
@@ -154,19 +154,21 @@ pub const FINDINGS: [Meaning; 15] = [
     Meaning {
         start: "secret-length",
         part: "",
-        text: "secret-length: the cut is of secrets of one length, which is public. Measure again with a secret of \
-            that length.",
+        text: "secret-length: the cut is of secrets of another length than this file. Did `echo` write a line feed at \
+            its end? `printf` writes none. If the length is meant, measure with this secret: each length has a cut of \
+            its own, since the length is public.",
     },
     Meaning {
         start: "budget",
         part: "",
-        text: "budget: more bits crossed at the cut than the budget allows. Take a greater BUDGET; the bound is \
-            2^BUDGET outputs.",
+        text: "budget: more bits crossed at the cut than the budget allows. Take a BUDGET of at least the number \
+            behind `needed`; at most 2^BUDGET outputs arise then.",
     },
     Meaning {
         start: "guest",
         part: "",
-        text: "guest: the run itself was stopped, by a fault of the guest. Mend the guest.",
+        text: "guest: the run on this secret was stopped by a fault of the guest, as by a bad pointer; no cut helps. \
+            Mend the guest: explain.py names the line.",
     },
     Meaning {
         start: "region",
@@ -177,32 +179,37 @@ pub const FINDINGS: [Meaning; 15] = [
     Meaning {
         start: "region",
         part: "",
-        text: "region: the run did in the region what it does not declare. Widen its outs, keep or ranges; flowcheck \
-            learn writes what a run needs.",
+        text: "region: the run did in the region what it does not declare. What the run of one secret needs is often \
+            too narrow for the next: give both secrets to tools/regions.py, and measure again with the file that it \
+            writes.",
     },
     Meaning {
         start: "replay short",
         part: "",
-        text: "replay: the replay went another way and asked for more bits than had crossed, so the cut lacks a point. \
-            Measure this secret together with the others, by flowcheck measure-all.",
+        text: "replay: the replay went another way and asked for more bits than had crossed. The cut lacks a point: \
+            write a new one by flowcheck measure-all PROG PUBLIC SECRET... >cut, of the secrets that it was measured \
+            of and this one, and check all secrets again.",
     },
     Meaning {
         start: "replay",
         part: "",
-        text: "replay: the replay, which sees only what crosses, was stopped. The cut lacks a point: measure this \
-            secret together with the others, by flowcheck measure-all.",
+        text: "replay: the replay, which sees only what crosses, was stopped. The cut lacks a point: write a new one \
+            by flowcheck measure-all PROG PUBLIC SECRET... >cut, of the secrets that it was measured of and this one, \
+            and check all secrets again.",
     },
     Meaning {
         start: "parted",
         part: "",
-        text: "parted: the run decided by a bit that did not cross, so no budget helps. The cut lacks a point: measure \
-            this secret together with the others, by flowcheck measure-all.",
+        text: "parted: the run decided by a bit that did not cross, so no budget helps. The cut lacks a point: write a \
+            new one by flowcheck measure-all PROG PUBLIC SECRET... >cut, of the secrets that it was measured of and \
+            this one, and check all secrets again.",
     },
     Meaning {
         start: "output",
         part: " index ",
-        text: "output: what was written has a bit that did not cross, so no budget helps. The cut lacks a point: \
-            measure this secret together with the others, by flowcheck measure-all.",
+        text: "output: what was written has a bit that did not cross, so no budget helps. The cut lacks a point: write \
+            a new one by flowcheck measure-all PROG PUBLIC SECRET... >cut, of the secrets that it was measured of and \
+            this one, and check all secrets again.",
     },
     Meaning {
         start: "turns",
@@ -212,8 +219,8 @@ pub const FINDINGS: [Meaning; 15] = [
     Meaning {
         start: "left",
         part: "",
-        text: "left: the run decides by this value, or shows it, and the bits of the mask have not crossed. Add the \
-            point to the cut, with this mask.",
+        text: "left: the run decides by this value, or shows it, and the bits of the mask have not crossed. Add to the \
+            cut the line `point REGION ADDRESS SLOT rest MASK` with the words behind `left`, so that addresses ascend.",
     },
     Meaning {
         start: "secret-code",
