@@ -1,15 +1,16 @@
 """Finds in a cut and a region file what their exact formats take in silence and nobody means, or why they are refused.
 
-Call: lint.py PROG [CUT] [REGIONS] [--public FILE] [--secret FILE]... [--turns N] [--quiet]
+Call: lint.py PROG [CUT] [REGIONS] [--regions FILE] [--public FILE] [--secret FILE]... [--turns N] [--quiet]
 
-Without a cut it looks at the runs on the secrets alone.
+Without a cut it looks at the region file that --regions names, and at the runs on the secrets.
 
+  --regions FILE the region file, as REGIONS
   --secret FILE  a secret; may be given more than once. The guest is run on each, by the model: how much of it the guest
                  reads is looked at, and which points of the cut no run passes
   --public FILE  the public input of these runs; without it, none
   --turns N      the turns within which these runs must exit; 1000000 without it
   --quiet        print findings alone, on standard error, and leave out runs of more than 200,000 turns
-  --regions FILE, --rules N, --cut N   as of `measure`, so that its options can be handed on
+  --rules N, --cut N   as of `measure`, so that its options can be handed on
 
 It prints a line for each finding, with a line of the file. The status is 1 where there is one, and 3 where a file is
 refused or cannot be read; of a refused cut or region file the line is shown with a caret below it, and what was
@@ -21,7 +22,7 @@ import sys
 HERE = os.path.dirname(os.path.abspath(__file__))
 sys.path[:0] = [os.path.join(HERE, "explain"), os.path.join(HERE, "model")]
 
-from cuts import read_cut, read_regions
+from cuts import Cut, read_cut, read_regions
 from faults_of_text import cut_text_fault, regions_text_fault
 from linting import Lint
 from misleading import of_number, of_passed, of_reads
@@ -38,7 +39,7 @@ def arguments():
     parser.add_argument("program", metavar="PROG")
     parser.add_argument("cut_name", metavar="CUT", nargs="?")
     parser.add_argument("regions_name", metavar="REGIONS", nargs="?")
-    parser.add_argument("--regions", metavar="FILE", help=argparse.SUPPRESS)
+    parser.add_argument("--regions", metavar="FILE")
     for name in ("--rules", "--cut"):
         parser.add_argument(name, metavar="N", help=argparse.SUPPRESS)
     parser.add_argument("--public", metavar="FILE", default=os.devnull)
@@ -47,8 +48,8 @@ def arguments():
     parser.add_argument("--quiet", action="store_true")
     words = parser.parse_intermixed_args()
     words.regions = words.regions_name or words.regions
-    if not words.cut_name and not words.secret:
-        parser.error("name a cut, or a secret by --secret")
+    if not words.cut_name and not words.secret and not words.regions:
+        parser.error("name a cut, a region file by --regions, or a secret by --secret")
     return words
 
 
@@ -83,7 +84,7 @@ def main():
         return 3
     cut = read_cut(read(words.cut_name)) if words.cut_name else None
     regions = read_regions(read(words.regions)) if words.regions else None
-    findings = Lint(program, cut, regions).all() if cut else []
+    findings = Lint(program, cut or Cut(0), regions).all()
     findings += found_by_runs(words, program.image, cut, regions or [])
     if findings or not words.quiet:
         print("\n".join(findings) or "nothing found", file=sys.stderr if words.quiet else sys.stdout)

@@ -125,6 +125,19 @@ class ToolsTests(Expectations):
             _, text, _ = self.call("lint.py", other, CUT, self.path("regions"))
             self.expect(f"regions: another by {compiler}", "of another program" in text, text)
 
+    def test_alone(self):
+        """lint.py of a region file without a cut."""
+        program = os.path.join(TOP, "examples/bit/program")
+        self.write(comma='{"regions":[{"id":1,"enter":"0x10018","leave":"0x1001c"},]}\n')
+        for words, expected, told in (
+            ([program, "--regions", os.path.join(TOP, "examples/bit/regions")], 0, "nothing found"),
+            ([OTHER, "--regions", os.path.join(TOP, "examples/bit/regions")], 1, "of another program"),
+            ([program, "--regions", self.path("comma")], 3, "line 1: refused 3 regions json"),
+            ([program], 2, "a region file by --regions"),
+        ):
+            status, text, error = self.call("lint.py", *words)
+            self.expect(f"alone: {told}", status == expected and told in text + error, text + error)
+
 
 if __name__ == "__main__":
     sys.exit(run_tests(ToolsTests, __doc__))
