@@ -14,7 +14,8 @@ than were measured, it begins again without a point, and at last with as many pa
   --regions, --turns, --rules, --paths  as of `bound`
   --flowcheck COMMAND  the program; without it FLOWCHECK, else the one built or installed with this, else the model
 
-Prints the rounds, then in words what is bounded, or why not and what to change. The status is 0 where it is bounded."""
+Prints the rounds, then in words what is bounded, or why not and what to change. On a terminal it says meanwhile which
+call of `bound` it waits for. The status is 0 where it is bounded."""
 import os
 import sys
 

@@ -13,7 +13,8 @@ it. Of several that lower it alike the one is kept with which `check` accepts mo
   --turns N, --rules N as of `measure`
   --flowcheck COMMAND  the program; without it FLOWCHECK, else the one built or installed with this, else the model
 
-Prints a table of what was kept, and the commands that measure and check with it."""
+Prints a table of what was kept, and the commands that measure and check with it. On a terminal it says meanwhile how
+many measurements were made."""
 import os
 import shlex
 import sys
@@ -62,7 +63,10 @@ def find(words):
     rules = ["--rules", words.rules] if words.rules else []
     search = Search(learner, words.secrets, rules, words.most, words.jobs)
     candidates = candidates_of(program, Places(words.program, program), search.passed())
-    return search.search(candidates), len(candidates), search.measured
+    try:
+        return search.search(candidates), len(candidates), search.measured
+    finally:
+        search.progress.show("")
 
 
 def table_of(kept, others):

@@ -7,6 +7,7 @@ from bounds import Task
 from cuts import Cut, point_order, read_cut
 from guest import shown
 from run_facts import read
+from tool import Progress
 from verdicts import MOST_BUDGET, USUAL_TURNS
 from walk_tracing import traced
 
@@ -93,6 +94,7 @@ class Bounding:
         if not all(word.isdigit() for word in words):
             raise NoBound("refused 2 usage")
         self.table, self.turns, self.paths = map(int, words)
+        self.progress, self.calls = Progress(), 0
 
     def answer(self, cut, budget, paths=None):
         """What `bound` answers about a cut, with as many paths as are allowed or fewer."""
@@ -101,7 +103,10 @@ class Bounding:
             file.write(cut.text())
             file.flush()
             words = ["bound", self.inputs.program, self.inputs.public, file.name, str(budget)]
+            self.calls += 1
+            self.progress.show(f"call {self.calls:,} of bound, with at most {paths or self.paths:,} paths")
             status, text = self.asked.answer([*words, *options])
+        self.progress.show("")
         if status not in (0, 1) or not text.startswith(("output", "stopped", "bounded", "unclear")):
             raise NoBound(text.strip() or f"status {status}")
         return Answer(text, cut, budget)

@@ -9,6 +9,7 @@ from code_graph import CodeGraph
 from cuts import read_cut
 from region_finding import Calls, NoRegion, around_calls, around_places
 from region_joining import Declaration, pretty_text
+from tool import Progress
 
 BETRAYING = {"ad", "de", "nr", "a0", "a1", "a2"}
 MOST_TIES, MOST_CHECKED = 8, 64
@@ -82,7 +83,7 @@ class Search:
     def __init__(self, learner, secrets, rules, most, jobs):
         self.learner, self.secrets, self.rules, self.most = learner, secrets, rules, most
         self.calls, self.measured, self.lock = Calls(learner.program), 0, threading.Lock()
-        self.pool = concurrent.futures.ThreadPoolExecutor(jobs)
+        self.progress, self.pool = Progress(), concurrent.futures.ThreadPoolExecutor(jobs)
 
     def ask(self, command, *words):
         """The status and the text of a command on the program."""
@@ -117,6 +118,7 @@ class Search:
             return None
         with self.lock:
             self.measured += 1
+            self.progress.show(f"measurement {self.measured:,} of at most {self.most:,}")
         with self.region_file(regions) as file:
             status, cut = self.ask("measure", self.secrets[0], "--regions", file.name, *self.rules)
         return None if status else Trial(chosen, regions, read_cut(cut.encode()).bits, cut)

@@ -37,6 +37,18 @@ def counted(number, word):
     return f"{number:,} {word}{'' if number == 1 else 's'}"
 
 
+class Progress:
+    """A line on standard error that says how far a script has come; it is on a terminal alone."""
+
+    def __init__(self):
+        self.is_shown = sys.stderr.isatty()
+
+    def show(self, text):
+        """Shows a text in the place of the one before it; an empty one takes the line away."""
+        if self.is_shown:
+            print(f"\r\033[K{text}", end="", file=sys.stderr, flush=True)
+
+
 def finish(main, unusable=3):
     """Ends the process with the status that `main` gives, with `unusable` and a line where a file cannot be used."""
     try:

@@ -145,12 +145,12 @@ class Slurm:
         self.cancel(folder)
 
     def wait(self, folder, job, batches):
-        """Waits until no task of the array is left, and tells how many batches are done."""
+        """Waits until no task of the array is left, and tells on a terminal how many batches are done."""
         done = -1
         while True:
             left = subprocess.run(["squeue", "-h", "-r", "-j", job], capture_output=True, text=True).stdout.split("\n")
             now = sum(name.isdigit() for name in os.listdir(os.path.join(folder, "answers")))
-            if now != done:
+            if now != done and sys.stderr.isatty():
                 print(f"{now} of {batches} batches answered, {len(left) - 1} tasks left", file=sys.stderr)
                 done = now
             if len(left) == 1:
