@@ -1,4 +1,4 @@
-/* SHA-256, without a decision on what is hashed. */
+/* SHA-256 (FIPS 180-4), without a decision on what is hashed. */
 #ifndef SHA256_H
 #define SHA256_H
 
@@ -82,7 +82,7 @@ static void hash_last(uint32_t *state, const unsigned char *bytes, int count, ui
 }
 
 /* Writes the first bytes of the hash in hexadecimal, as a line. Each byte passes one mask of eight bits. */
-static void write_hash(const uint32_t *state, int count)
+static inline void write_hash(const uint32_t *state, int count)
 {
     char line[2 * HASH + 1];
     for (int at = 0; at < count; at++) {
