@@ -7,9 +7,9 @@
 enum { LINE = 12, BEGIN = 0, END = 6, HALVES = 16 };
 
 /* The half hour, counted from nine, of a time as 09:30. */
-static inline unsigned half_hour(const unsigned char *time)
+static inline int half_hour(const unsigned char *time)
 {
-    unsigned hour = 10 * (time[0] - '0') + (time[1] - '0');
+    int hour = 10 * (time[0] - '0') + (time[1] - '0');
     return 2 * (hour - 9) + (time[3] == '3');
 }
 

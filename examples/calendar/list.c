@@ -1,25 +1,6 @@
-/* The free times of a day. The secret is a list of appointments, a line each, as 09:30-11:00: from nine to five, by
- * half hours. The guest writes each half hour that is free. */
-#include "flowcheck.h"
-
-enum { LINE = 12, BEGIN = 0, END = 6, HALVES = 16 };
-
-/* The half hour, counted from nine, of a time as 09:30. */
-static int half_hour(const unsigned char *time)
-{
-    int hour = 10 * (time[0] - '0') + (time[1] - '0');
-    return 2 * (hour - 9) + (time[3] == '3');
-}
-
-static void write_time(int half)
-{
-    unsigned char time[] = "00:00\n";
-    int hour = 9 + half / 2;
-    time[0] += hour / 10;
-    time[1] += hour % 10;
-    time[3] += half % 2 * 3;
-    write_output(time, sizeof time - 1);
-}
+/* The free times of a day. The secret is a list of appointments, a line each, as in day.h. The guest marks each half
+ * hour of an appointment as taken, and writes each one that is free. */
+#include "day.h"
 
 int main(void)
 {
