@@ -83,7 +83,8 @@ def compare(results, rows, program):
         if output != first or (len(output[0]), output[1]) != (int(row["output"]), int(row["status"])):
             failed += 1
             if failed <= MOST_TOLD:
-                print(f"secret {row['number']}, crossing {row['crossing']}: {output}, and of the first {first}")
+                seen, earlier = (f"{output_text(content)} status {status}" for content, status in (output, first))
+                print(f"secret {row['number']}, crossing {row['crossing']}: {seen}, and of the first {earlier}")
     return outputs, failed
 
 
