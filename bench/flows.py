@@ -9,6 +9,7 @@ that reads the same line with one more word, which makes it no graph. All four m
     apt-get install g++ libboost-graph-dev
 
 Without numbers a graph has 65,536 points and about 1,000,000 links. Linux with Python 3."""
+import argparse
 import pathlib
 import random
 import subprocess
@@ -52,11 +53,14 @@ def run(command, text):
 
 
 def main():
-    if len(sys.argv) not in (2, 4):
-        print(__doc__, file=sys.stderr)
-        return 2
-    program = str(pathlib.Path(sys.argv[1]).resolve())
-    points, links = (int(word) for word in sys.argv[2:]) if len(sys.argv) == 4 else (65_536, 960_000)
+    parser = argparse.ArgumentParser(description=__doc__, formatter_class=argparse.RawDescriptionHelpFormatter)
+    parser.add_argument("program", metavar="PROGRAM", help="the built program flow_rows")
+    parser.add_argument("points", metavar="POINTS", type=int, nargs="?", default=65_536)
+    parser.add_argument("links", metavar="LINKS", type=int, nargs="?", default=960_000)
+    words = parser.parse_args()
+    if not pathlib.Path(words.program).is_file():
+        parser.error(f"there is no file {words.program}")
+    program, points, links = str(pathlib.Path(words.program).resolve()), words.points, words.links
     source = pathlib.Path(__file__).with_name("flows.cpp")
     print(f"{'graph':10}{'links':>10}{'flow_rows':>13}{'dinic':>9}{'boykov-kolmogorov':>19}{'push-relabel':>14}")
     with tempfile.TemporaryDirectory() as folder:

@@ -1,12 +1,13 @@
 """Runs the commands of a story as they stand in its text, in a copy of its folder.
 
-Call: run_story.py [--update] COMPILER STORY
+Call: run_story.py [--update] COMPILER STORY, where COMPILER is gcc or clang and STORY a folder beside this file.
 
 A command is a line of README.md that begins with four spaces, a dollar sign and a space; the indented lines below it
 are what it prints. Each command must end with status 0. With gcc all that is printed must be as in the text; with
 clang, whose programs have other addresses, the last line of the last command must be. `--update` writes what is printed
 into the text. FLOWCHECK is the program, as a command; without it the one that is built or installed is taken, else the
 model."""
+import argparse
 import os
 import shlex
 import shutil
@@ -55,7 +56,7 @@ def run(command, folder, environment):
     return lines
 
 
-def copy(folder):
+def copy(folder, compiler):
     """Copies the scripts and the stories, and makes `flowcheck` the program. The environment for the commands."""
     for name in COPIED:
         ignored = shutil.ignore_patterns("__pycache__", "*.elf", "*.cut", "*.report", "*.html", "*.regions", "secrets")
@@ -66,18 +67,31 @@ def copy(folder):
         file.write(f'#!/bin/sh\nexec {shlex.join(program())} "$@"\n')
     os.chmod(command, os.stat(command).st_mode | stat.S_IXUSR)
     path = os.path.dirname(command) + os.pathsep + os.environ["PATH"]
-    return os.environ | {"PATH": path, "FLOWCHECK": command, "COMPILER": sys.argv[-2]}
+    return os.environ | {"PATH": path, "FLOWCHECK": command, "COMPILER": compiler}
+
+
+def arguments():
+    """The words of the command line."""
+    parser = argparse.ArgumentParser(description=__doc__, formatter_class=argparse.RawDescriptionHelpFormatter)
+    parser.add_argument("compiler", metavar="COMPILER", choices=("gcc", "clang"))
+    parser.add_argument("story", metavar="STORY")
+    parser.add_argument("--update", action="store_true")
+    words = parser.parse_args()
+    if not os.path.exists(os.path.join(HERE, words.story, "README.md")):
+        parser.error(f"there is no story {words.story}")
+    return words
 
 
 def main():
     """Runs the story."""
-    compiler, story = sys.argv[-2:]
+    words = arguments()
+    compiler, story = words.compiler, words.story
     name = os.path.join(HERE, story, "README.md")
     with open(name, encoding="utf-8") as file:
         lines = file.read().split("\n")
     steps, printed, faults = steps_of(lines), [], []
     with tempfile.TemporaryDirectory(prefix="story-") as folder:
-        environment = copy(folder)
+        environment = copy(folder, compiler)
         for number, command, expected in steps:
             printed.append(run(command, os.path.join(folder, "examples", story), environment))
             is_last = number == steps[-1][0]
@@ -86,7 +100,7 @@ def main():
                 is_same = printed[-1][-1:] == expected[-1:] if is_last else bool(printed[-1]) == bool(expected)
             if not is_same:
                 faults.append("\n".join([f"line {number + 1}: {command}", *(f"    {line}" for line in printed[-1])]))
-    if "--update" in sys.argv:
+    if words.update:
         for (number, _, expected), text in reversed(list(zip(steps, printed))):
             lines[number + 1 : number + 1 + len(expected)] = ["    " + line if line else "" for line in text]
         with open(name, "w", encoding="utf-8") as file:

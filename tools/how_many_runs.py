@@ -169,7 +169,7 @@ def main():
     parser.add_argument("--runs", type=int, nargs="+", default=[1, 8, 64], metavar="N", help="ascending")
     parser.add_argument("--seed", type=int, default=1, metavar="N")
     parser.add_argument("--guest", nargs="+", default=[guest[0] for guest in GUESTS], metavar="NAME")
-    parser.add_argument("--compiler", default="gcc", metavar="NAME")
+    parser.add_argument("--compiler", default="gcc", choices=("gcc", "clang"))
     parser.add_argument("--flowcheck", metavar="COMMAND")
     words = parser.parse_args()
     asked = Program(words.flowcheck)

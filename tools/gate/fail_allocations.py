@@ -8,6 +8,7 @@ secret bit, one that counts bits in a loop and one that looks a secret up in a t
 both versions of cuts and both tables of mask rules, and one of each refusal; `trial 6` is among them. A check of a loop
 must have as many allocations whatever the number of turns. Prints a line for each command line, and last how many
 allocations failed. Linux with gcc and the GNU C library."""
+import argparse
 import os
 import pathlib
 import subprocess
@@ -173,10 +174,12 @@ def same_number(executable, folder, shim):
 
 
 def main():
-    if len(sys.argv) != 2:
-        print(__doc__, file=sys.stderr)
-        return 2
-    executable, total, wrong = str(pathlib.Path(sys.argv[1]).resolve()), 0, 0
+    parser = argparse.ArgumentParser(description=__doc__, formatter_class=argparse.RawDescriptionHelpFormatter)
+    parser.add_argument("executable", metavar="EXECUTABLE", help="the built program")
+    words = parser.parse_args()
+    if not os.path.isfile(words.executable):
+        parser.error(f"there is no file {words.executable}")
+    executable, total, wrong = str(pathlib.Path(words.executable).resolve()), 0, 0
     with tempfile.TemporaryDirectory() as name:
         folder = pathlib.Path(name)
         shim = folder / "shim.so"

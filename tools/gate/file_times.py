@@ -8,6 +8,7 @@ with nothing to do takes, is the file's time. What a file keeps for others does 
 front end takes some tenths of a second more or less each time, and so is each time wrong by as much.
 
 It works in the crate's out/ folder. Python 3 and the kit's `rt` on the PATH."""
+import argparse
 import pathlib
 import resource
 import subprocess
@@ -37,7 +38,13 @@ def files_of(crate):
 
 
 def main():
-    crate, least = sys.argv[1], float(sys.argv[2]) if len(sys.argv) > 2 else 0.5
+    parser = argparse.ArgumentParser(description=__doc__, formatter_class=argparse.RawDescriptionHelpFormatter)
+    parser.add_argument("crate", metavar="CRATE", help="the name of a crate")
+    parser.add_argument("least", metavar="LEAST", type=float, nargs="?", default=0.5)
+    words = parser.parse_args()
+    if not (TOP / "crates" / words.crate).is_dir():
+        parser.error(f"there is no crate {words.crate}")
+    crate, least = words.crate, words.least
     first = spent(crate)
     none = min(spent(crate) for _ in range(3))
     times = []

@@ -5,6 +5,7 @@ Runs `rt ci` at the top of the repository, with the names that are given or none
 the end how many processor minutes each crate took: its proof, its tests and its must-fail edits. The shares are read
 off the running checks twice a second, so a check shorter than that may be missed. Other checks on the machine that
 work in other checkouts are not counted. Linux with Python 3."""
+import argparse
 import os
 import pathlib
 import subprocess
@@ -61,8 +62,10 @@ def watch(run, shares):
 
 
 def main():
-    begin = time.time()
-    run = subprocess.Popen(["rt", "ci", *sys.argv[1:]])
+    parser = argparse.ArgumentParser(description=__doc__, formatter_class=argparse.RawDescriptionHelpFormatter)
+    parser.add_argument("names", metavar="NAME", nargs="*")
+    words, begin = parser.parse_args(), time.time()
+    run = subprocess.Popen(["rt", "ci", *words.names])
     shares = {}
     watcher = threading.Thread(target=watch, args=(run, shares))
     watcher.start()

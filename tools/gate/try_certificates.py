@@ -7,6 +7,7 @@ PROGRAM is the built program certificate_rows. Each right certificate, of a flow
 verified; each changed one must be rejected, or its value is the maximum flow that networkx finds of the changed graph.
 Each verdict must be that of tools/tables/make_certificate_rows.py too.
 """
+import argparse
 import random
 import re
 import subprocess
@@ -88,9 +89,14 @@ def is_right(text, value):
 
 
 def main():
-    program = sys.argv[1]
-    trials = int(sys.argv[2]) if len(sys.argv) > 2 else 2000
-    chance = random.Random(int(sys.argv[3]) if len(sys.argv) > 3 else 1)
+    parser = argparse.ArgumentParser(description=__doc__, formatter_class=argparse.RawDescriptionHelpFormatter)
+    parser.add_argument("program", metavar="PROGRAM", help="the built program certificate_rows")
+    parser.add_argument("trials", metavar="TRIALS", type=int, nargs="?", default=2000)
+    parser.add_argument("seed", metavar="SEED", type=int, nargs="?", default=1)
+    words = parser.parse_args()
+    if not Path(words.program).is_file():
+        parser.error(f"there is no file {words.program}")
+    program, trials, chance = words.program, words.trials, random.Random(words.seed)
     with tempfile.TemporaryDirectory() as folder:
         texts = []
         while len(texts) < 2 * trials:

@@ -34,5 +34,6 @@ class GuestFolder:
         self.write(name, content(source))
         target = os.path.splitext(name)[0] + ".elf"
         words = ["make", "-s", "-B", "-f", MAKEFILE, f"COMPILER={compiler}", *options, target]
-        subprocess.run(words, cwd=self.folder, check=True)
+        if subprocess.run(words, cwd=self.folder, check=False).returncode:
+            raise SystemExit(f"{compiler} does not build {source}")
         return self.path(target)

@@ -4,6 +4,7 @@
 Starts a Slurm cluster of one node on this machine (munged, slurmctld, slurmd), runs the command with SLURM_CONF in its
 environment, and ends the cluster. Nothing of it lies outside a temporary folder. Linux, as root, with Debian munge,
 slurmctld, slurmd and slurm-client; its ports are 6917 and 6918 of this machine."""
+import argparse
 import contextlib
 import os
 import pathlib
@@ -105,14 +106,15 @@ def one_node(processors=1, most=1001):
 
 
 def main():
-    if len(sys.argv) < 2:
-        print(__doc__, file=sys.stderr)
-        return 2
+    parser = argparse.ArgumentParser(description=__doc__, formatter_class=argparse.RawDescriptionHelpFormatter)
+    parser.add_argument("command", metavar="COMMAND")
+    parser.add_argument("words", metavar="WORD", nargs=argparse.REMAINDER)
+    words = parser.parse_args()
     if what_is_missing():
         print(what_is_missing(), file=sys.stderr)
         return 2
     with one_node() as environment:
-        return subprocess.run(sys.argv[1:], env=environment).returncode
+        return subprocess.run([words.command, *words.words], env=environment).returncode
 
 
 if __name__ == "__main__":

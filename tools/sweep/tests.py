@@ -1,9 +1,10 @@
 #!/usr/bin/env python3
-"""tests.py [FLOWCHECK]
+"""tests.py [FLOWCHECK] [TEST...]
 
 The tests of `tools/sweep.py` on this machine, some minutes with one processor: with a program that stands in for
 `check` and dies when it is told to, and, where the built program is named, with that too. Wants GNU parallel (Debian
 parallel)."""
+import argparse
 import csv
 import hashlib
 import json
@@ -375,6 +376,9 @@ class Built(Sweeps):
 
 
 if __name__ == "__main__":
-    if len(sys.argv) > 1 and os.path.isfile(sys.argv[1]):
-        BUILT = pathlib.Path(sys.argv.pop(1)).resolve()
-    unittest.main(verbosity=2)
+    parser = argparse.ArgumentParser(description=__doc__, formatter_class=argparse.RawDescriptionHelpFormatter)
+    parser.add_argument("words", metavar="WORD", nargs="*", help="the built program, and names of tests")
+    words = parser.parse_args().words
+    if words and os.path.isfile(words[0]):
+        BUILT = pathlib.Path(words.pop(0)).resolve()
+    unittest.main(argv=[sys.argv[0], *words], verbosity=2)

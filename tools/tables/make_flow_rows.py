@@ -14,8 +14,8 @@ point of which the first half alone is inside, or the second.
 Each value and each residual network is networkx's; the least minimum side is what its source still reaches. Each side
 is tried again: no open link leaves it, its capacity is the value, and no smaller side of that capacity is found by
 leaving out what does not lead on."""
+import argparse
 import random
-import sys
 from pathlib import Path
 
 import networkx
@@ -118,7 +118,11 @@ def rows():
 
 
 def main():
-    folder = Path(sys.argv[1])
+    parser = argparse.ArgumentParser(description=__doc__, formatter_class=argparse.RawDescriptionHelpFormatter)
+    parser.add_argument("folder", metavar="FOLDER", type=Path)
+    folder = parser.parse_args().folder
+    if not folder.is_dir():
+        parser.error(f"there is no folder {folder}")
     table = list(rows())
     (folder / "stdin").write_text("".join(graph + "\n" for graph, _ in table))
     (folder / "stdout").write_text("".join(line + "\n" for _, line in table))

@@ -21,7 +21,7 @@ The operations are computed from the RISC-V Unprivileged ISA; nothing here is ta
 
 With the word `compare` the script prints instead, for random operands with any secret bits, in how many cases of each
 class table 2 is narrower than table 1; it stops where table 2 has a bit that table 1 does not have."""
-import sys
+import argparse
 import random
 
 ALL = 0xFFFFFFFF
@@ -307,8 +307,10 @@ def compare(choose):
 
 
 def main():
+    parser = argparse.ArgumentParser(description=__doc__, formatter_class=argparse.RawDescriptionHelpFormatter)
+    parser.add_argument("word", metavar="compare", nargs="?", choices=["compare"])
     choose = random.Random(20)
-    if sys.argv[1:] == ["compare"]:
+    if parser.parse_args().word:
         return compare(choose)
     worked_rows()
     for instruction in INSTRUCTIONS:

@@ -8,6 +8,7 @@ The guests are those of event_guests.py; GNU as makes their words. What must be 
 `tools/model`, which was written from the rules in words: it makes the real run turn by turn and follows it with labels
 by table 1, and here each passing and each link is told as it comes, in the order in which events stand. The table needs
 riscv64-unknown-elf-as and -objcopy."""
+import argparse
 import pathlib
 import struct
 import subprocess
@@ -119,9 +120,15 @@ def print_rows(lines):
             inputs[word] = bytes(int(number, 16) for number in rest.split(" "))
 
 
-if sys.argv[1:] == ["table"]:
-    print_table()
-elif sys.argv[1:] == ["rows"]:
-    print_rows(sys.stdin)
-else:
-    sys.exit(__doc__)
+def main():
+    """Prints the table, or its rows."""
+    parser = argparse.ArgumentParser(description=__doc__, formatter_class=argparse.RawDescriptionHelpFormatter)
+    parser.add_argument("word", choices=["table", "rows"])
+    if parser.parse_args().word == "table":
+        print_table()
+    else:
+        print_rows(sys.stdin)
+
+
+if __name__ == "__main__":
+    main()
