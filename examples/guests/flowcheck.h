@@ -2,7 +2,8 @@
  * themselves.
  *
  * Include it in each file that uses it, and write `int main(void)` in one. The guest exits with what main returns. In
- * C++ there are no exceptions, no library and no constructors of global objects.
+ * C++ there are no exceptions, no library and no constructors of global objects. With FLOWCHECK_CALLS_ALONE defined
+ * before it there are the calls alone, for guests with a start and a C library, as ../hosted/hosted.c.
  *
  *     gcc:   riscv64-unknown-elf-gcc -march=rv32im -mabi=ilp32 -O2 -g -static -nostartfiles -nostdlib -ffreestanding
  *                guest.c -lgcc -o guest.elf
@@ -17,14 +18,12 @@
 #include <stddef.h>
 #include <stdint.h>
 
-enum { CALL_READ = 63, CALL_WRITE = 64, CALL_EXIT = 93 };
+enum { CALL_READ = 63, CALL_WRITE = 64, CALL_EXIT = 93, CALL_BREAK = 214 };
 enum { DESCRIPTOR_PUBLIC = 0, DESCRIPTOR_OUTPUT = 1, DESCRIPTOR_SECRET = 3 };
 
 #ifdef __cplusplus
 extern "C" {
 #endif
-
-int main(void);
 
 /* One guest call, with its number in a7 and its arguments in a0, a1 and a2. */
 static inline int guest_call(int number, int first, const void *second, size_t third)
@@ -61,6 +60,10 @@ __attribute__((noreturn)) static inline void exit_with(int status)
     guest_call(CALL_EXIT, status, 0, 0);
     for (;;) { }
 }
+
+#ifndef FLOWCHECK_CALLS_ALONE
+
+int main(void);
 
 /* Compilers call these four by themselves. They are weak, so that a guest may bring its own, and work byte by byte; the
  * empty statement keeps a compiler from making a call of the loop itself. memcmp stops at the first difference, which
@@ -126,6 +129,8 @@ __asm__(".section .text._start, \"ax\", @progbits\n"
         "    ecall\n"
         ".size _start, . - _start\n"
         ".text\n");
+
+#endif
 
 #ifdef __cplusplus
 }

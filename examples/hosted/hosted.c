@@ -4,29 +4,19 @@
  * function that reads it. The output is kept until its buffer is full or the guest exits. */
 #include "hosted.h"
 
+#define FLOWCHECK_CALLS_ALONE
+#include "../guests/flowcheck.h"
+
 #include <stdlib.h>
 #include <string.h>
 #include <unistd.h>
 
-enum { CALL_READ = 63, CALL_WRITE = 64, CALL_EXIT = 93, CALL_BREAK = 214 };
-enum { DESCRIPTOR_PUBLIC = 0, DESCRIPTOR_OUTPUT = 1, DESCRIPTOR_SECRET = 3 };
 enum { LONGEST_SECRET = 65536, BUFFER = 4096 };
 
 int main(int count, char **words);
 
 static char secret_bytes[LONGEST_SECRET], public_bytes[BUFFER], output_bytes[BUFFER];
 static int secret_next, secret_end, public_next, public_end, output_end;
-
-/* One guest call, with its number in a7 and its arguments in a0, a1 and a2. */
-static int guest_call(int number, int first, const void *second, size_t third)
-{
-    register int a0 __asm__("a0") = first;
-    register const void *a1 __asm__("a1") = second;
-    register size_t a2 __asm__("a2") = third;
-    register int a7 __asm__("a7") = number;
-    __asm__ volatile("ecall" : "+r"(a0) : "r"(a1), "r"(a2), "r"(a7) : "memory");
-    return a0;
-}
 
 static int get_secret(FILE *file)
 {
@@ -39,7 +29,7 @@ static int get_public(FILE *file)
     (void)file;
     if (public_next == public_end) {
         public_next = 0;
-        public_end = guest_call(CALL_READ, DESCRIPTOR_PUBLIC, public_bytes, BUFFER);
+        public_end = read_public(public_bytes, BUFFER);
     }
     return public_next < public_end ? (unsigned char)public_bytes[public_next++] : _FDEV_EOF;
 }
@@ -47,7 +37,7 @@ static int get_public(FILE *file)
 static int flush_output(FILE *file)
 {
     (void)file;
-    guest_call(CALL_WRITE, DESCRIPTOR_OUTPUT, output_bytes, output_end);
+    write_output(output_bytes, output_end);
     output_end = 0;
     return 0;
 }
@@ -84,15 +74,14 @@ void *sbrk(ptrdiff_t more)
 void _exit(int status)
 {
     flush_output(stdout);
-    guest_call(CALL_EXIT, status, NULL, 0);
-    for (;;) { }
+    exit_with(status);
 }
 
 /* Called by the start. */
 __attribute__((used, noreturn)) static void begin(void)
 {
     static char name[] = "guest", *words[] = {name, NULL};
-    secret_end = guest_call(CALL_READ, DESCRIPTOR_SECRET, secret_bytes, LONGEST_SECRET);
+    secret_end = read_secret(secret_bytes, LONGEST_SECRET);
     exit(main(1, words));
 }
 
