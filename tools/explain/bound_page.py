@@ -142,7 +142,8 @@ def choices_section(bounded, program, places):
     blocks = [Table(["Choices", "Point", "Place", "Instruction", "What passes", "Source"], rows, None, "points")]
     if walk and counted:
         blocks.append(Words(advice_at(max(counted, key=counted.get))))
-    told = "Choices of the path that is unclear." if walk else "The most choices of a path."
+    of_paths = "on the path that is unclear" if walk else "on one path, at most"
+    told = f"Choices: how many bits were chosen at the point {of_paths}."
     told = told if walk or bounded.walks else "There are many paths, so that their choices are not counted."
     return Section("Where bits cross", Words(told, "dim"), *blocks)
 
@@ -159,7 +160,8 @@ def bound_page(bounded, program, places):
         choices[point[1]] = choices.get(point[1], 0) + count
     cut = {point[1] for point in bounded.cut.points}
     marks = Marks({}, cut | set(choices), None if answer.is_bounded else bounded.walk.begin)
-    sections.append(Section("The source", Words("Marked: where bits cross.", "dim"), *source_blocks(places, marks)))
+    key = "Marked: where bits cross." if answer.is_bounded else "Marked: where it is unclear, and where bits cross."
+    sections.append(Section("The source", Words(key, "dim"), *source_blocks(places, marks)))
     sections.append(Section("The listing", *listing_blocks(program, places, marks)))
     again = [*command_words(), "bound", inputs.program, inputs.public, bounded.cut_name, str(bounded.budget)]
     lines = [shlex.join([*again, *inputs.options, "--list"])]

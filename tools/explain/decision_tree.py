@@ -61,7 +61,7 @@ class DecisionTree:
 
     def lines_of(self, walks, depth, indent):
         """The lines of the walks that have their first choices alike. Of two halves of which one is a leaf, the other
-        goes on below it."""
+        goes on below it, with the next decision in the same column."""
         lines = []
         while len(walks) > 1:
             place = walks[0].places[depth]
@@ -71,12 +71,11 @@ class DecisionTree:
             for value in leaves:
                 lines.append(f"{indent}  {self.answer(place, value)} -> {self.leaf(halves[value][0])}")
             rest = [value for value in (0, 1) if value not in leaves]
-            for value in rest:
-                lines.append(f"{indent}  {self.answer(place, value)}:")
             if len(rest) < 2:
+                lines += [f"{indent}  {self.answer(place, value)} -> the next decision" for value in rest]
                 walks = halves[rest[0]] if rest else []
                 continue
-            lines.pop()
+            lines.append(f"{indent}  {self.answer(place, 0)}:")
             lines += self.lines_of(halves[0], depth, indent + "    ")
             lines.append(f"{indent}  {self.answer(place, 1)}:")
             return lines + self.lines_of(halves[1], depth, indent + "    ")

@@ -14,16 +14,18 @@ class Section:
 
 
 class Words:
-    """A paragraph. `text` are its words on a terminal, where they are others: there are no colours."""
+    """A paragraph. `text` are its words on a terminal, where they are others: there are no colours. `head` are the first
+    of the words, where they stand out."""
 
-    def __init__(self, words, kind="", number=None, text=None):
-        self.words, self.kind, self.number, self.on_terminal = words, kind, number, text or words
+    def __init__(self, words, kind="", number=None, text=None, head=""):
+        self.words, self.kind, self.number, self.on_terminal, self.head = words, kind, number, text or words, head
 
     def html(self):
         """As HTML; a number that tests look for is an attribute."""
         mark = f' class="{self.kind}"' if self.kind else ""
         mark += f' data-number="{self.number}"' if self.number is not None else ""
-        return f"<p{mark}>{html.escape(self.words)}</p>"
+        begin = f"<strong>{html.escape(self.head)}</strong>" if self.head else ""
+        return f"<p{mark}>{begin}{html.escape(self.words.removeprefix(self.head))}</p>"
 
     def text(self):
         """As lines."""

@@ -10,7 +10,7 @@ class Remedy:
 
     def blocks(self):
         """The remedy as blocks of a page."""
-        return [Words(f"{self.name}: {self.when}"), Commands(self.lines, "remedy")]
+        return [Words(f"{self.name}: {self.when}", head=self.name), Commands(self.lines, "remedy")]
 
 
 REGION = Remedy(
