@@ -4,12 +4,13 @@
 # Call: run.sh [gcc|clang]... It wants Debian's gcc-riscv64-unknown-elf, picolibc-riscv64-unknown-elf, clang, lld,
 # qemu-user and make, and Python 3. It takes the built program, or the model in tools/model where FLOWCHECK is not set
 # and there is none. See run_story.py.
-set -e
-cd "$(dirname "$0")"
+cd "$(dirname "$0")" || exit 1
+status=0
 for compiler in ${*:-gcc clang}; do
     stories='password redactor auction bound battleship picture calendar digest'
     [ "$compiler" = clang ] || stories="$stories hosted"
     for story in $stories; do
-        python3 run_story.py "$compiler" "$story"
+        python3 run_story.py "$compiler" "$story" || status=1
     done
 done
+exit $status

@@ -3,10 +3,10 @@
 Call: run_story.py [--update] COMPILER STORY, where COMPILER is gcc or clang and STORY a folder beside this file.
 
 A command is a line of README.md that begins with four spaces, a dollar sign and a space; the indented lines below it
-are what it prints. Each command must end with status 0. With gcc all that is printed must be as in the text; with
-clang, whose programs have other addresses, the last line of the last command must be. `--update` writes what is printed
-into the text. FLOWCHECK is the program, as a command; without it the one that is built or installed is taken, else the
-model."""
+are what it prints. What `flowcheck` says on standard error, as of secrets that are rejected, is left out. Each command
+must end with status 0. With gcc all that is printed must be as in the text; with clang, whose programs have other
+addresses, the last line of the last command must be. `--update` writes what is printed into the text. FLOWCHECK is the
+program, as a command; without it the one that is built or installed is taken, else the model."""
 import argparse
 import os
 import shlex
@@ -64,7 +64,7 @@ def copy(folder, compiler):
     command = os.path.join(folder, "bin", "flowcheck")
     os.mkdir(os.path.dirname(command))
     with open(command, "w", encoding="utf-8") as file:
-        file.write(f'#!/bin/sh\nexec {shlex.join(program())} "$@"\n')
+        file.write(f'#!/bin/sh\nexec {shlex.join(program())} "$@" 2>/dev/null\n')
     os.chmod(command, os.stat(command).st_mode | stat.S_IXUSR)
     path = os.path.dirname(command) + os.pathsep + os.environ["PATH"]
     return os.environ | {"PATH": path, "FLOWCHECK": command, "COMPILER": compiler}
