@@ -10,27 +10,32 @@ use Rattle.command_line.specs.declared.tellings.Telling.{Telling}
 use Rattle.command_line.specs.declared.tellings.Telling.TheVariants.{CutText, Report, Declaration}
 use Rattle.command_line.specs.declared.tellings.Telling.TheVariants as telling
 use Rattle.command_line.specs.CommandLines.{Command}
-use Rattle.commands.specs.declared.refusals.Refusal.{Refusal}
-use Rattle.commands.specs.declared.refusals.Refusal.TheVariants.{Usage, Load, Program, Regions, Cut, Source, Certificate, Run, Runs, Learn, TooLarge, Memory}
-use Rattle.commands.specs.declared.statuses.Status.TheVariants.{Done, Rejected}
-use Rattle.commands.specs.Answers.{Answer, told}
-use Rattle.commands.specs.FileLimits.{limit_of}
-use Rattle.commands.specs.Lines.{IsOneLine}
-use Rattle.commands.specs.Loading.{Want, IsLoadRefusal}
-use Rattle.commands.specs.Names.{shown}
-use Rattle.commands.specs.Refusals.{refusal_text}
-use Rattle.commands.specs.Replies.{AnswersCommand}
-use Rattle.commands.specs.AllSecrets.{AllSecretsTask, AnswersBound, bound_of}
-use Rattle.commands.specs.Checks.{CheckTask, AnswersBy}
 use Rattle.every_secret.specs.Bounds.{Answer as BoundAnswer, IsBounded, IsUnclear}
-use Rattle.commands.specs.ManyRuns.{ManyRunsTask, AnswersMany}
-use Rattle.commands.specs.Runs.{RunTask, AnswersRun}
-use Rattle.commands.specs.Tellings.{AnswersTelling, IsCertificateText, IsCutOfRun, IsReport, Tells}
-use Rattle.commands.specs.Trials.{TellsTrial, run_of_number}
-use Rattle.commands.specs.Tasks.{Task, BoundAll, JudgeSecrets, TellRun, MeasureAll, WriteProgram, ListProgram, VerifyCertificate, MigrateCut, TryNumber, AnswersTask, AnswersFiles, wants_of}
-use Rattle.commands.specs.Verifications.{verdict_reply}
-use Rattle.commands.proofs.OneLine.{Clean, literal, joined, cut_fault, region, program, run_fault, many_fault, learn_fault, source_fault, form_fault, name, number}
-use Rattle.commands.proofs.OneTask.{form-status}
+use Rattle.command_tasks.specs.declared.refusals.Refusal.{Refusal}
+use Rattle.command_tasks.specs.declared.refusals.Refusal.TheVariants.{Usage, Load, Program, Regions, Cut, Source}
+use Rattle.command_tasks.specs.declared.refusals.Refusal.TheVariants.{Certificate, Run, Runs, Learn, TooLarge, Memory}
+use Rattle.command_tasks.specs.declared.statuses.Status.TheVariants.{Done, Rejected}
+use Rattle.command_tasks.specs.FileLimits.{limit_of}
+use Rattle.command_tasks.specs.Loading.{Want, IsLoadRefusal}
+use Rattle.command_tasks.specs.Names.{shown}
+use Rattle.command_tasks.specs.Refusals.{refusal_text}
+use Rattle.command_tasks.specs.Tasks.{AllSecretsTask, CheckTask, ManyRunsTask, RunTask, Task, BoundAll, JudgeSecrets}
+use Rattle.command_tasks.specs.Tasks.{TellRun, MeasureAll, WriteProgram, ListProgram, VerifyCertificate, MigrateCut}
+use Rattle.command_tasks.specs.Tasks.{TryNumber, wants_of}
+use Rattle.task_answers.specs.Answers.{Answer, told}
+use Rattle.task_answers.specs.AllSecrets.{AnswersBound, bound_of}
+use Rattle.task_answers.specs.Checks.{AnswersBy}
+use Rattle.task_answers.specs.ManyRuns.{AnswersMany}
+use Rattle.task_answers.specs.Runs.{AnswersRun}
+use Rattle.task_answers.specs.Tellings.{AnswersTelling, IsCertificateText, IsCutOfRun, IsReport, Tells}
+use Rattle.task_answers.specs.Trials.{TellsTrial, run_of_number}
+use Rattle.task_answers.specs.TaskAnswers.{AnswersTask}
+use Rattle.task_answers.specs.Verifications.{verdict_reply}
+use Rattle.commands.specs.Lines.{IsOneLine}
+use Rattle.commands.specs.Replies.{AnswersCommand, AnswersFiles}
+use Rattle.commands.proofs.OneLine.{Clean, literal, joined, cut_fault, region, program, run_fault, many_fault}
+use Rattle.commands.proofs.OneLine.{learn_fault, source_fault, form_fault, name, number}
+use Rattle.commands.proofs.FormStatuses.{form-status}
 use Rattle.commands.proofs.Readings.{status_of}
 
 -- ---- refusals

@@ -28,34 +28,36 @@ use Rattle.command_line.specs.declared.judgings.Judging.TheVariants.{Replay, Mas
 use Rattle.command_line.specs.declared.tellings.Telling.{Telling}
 use Rattle.command_line.specs.declared.tellings.Telling.TheVariants.{CutText, Certificate, Report, Declaration}
 use Rattle.command_line.specs.CommandLines.{AllSecrets, Bounds, Check, ManyRuns, Run, Command, Checks, Tells, MeasuresAll, Assembles, Lists, Verifies, Migrates, Tries, IsCommand}
-use Rattle.commands.specs.declared.kinds.FileKind.TheVariants as kinds
-use Rattle.commands.specs.declared.refusals.Refusal.{Refusal}
-use Rattle.commands.specs.declared.statuses.Status.TheVariants.{Done, Rejected}
-use Rattle.commands.specs.Answers.{Answer, done_by, told}
 use Rattle.every_secret.specs.Bounds.{Answer as BoundAnswer, IsBounded, IsUnclear}
-use Rattle.commands.specs.AllSecrets.{AllSecretsTask, AnswersBound, bound_of}
+use Rattle.command_tasks.specs.declared.kinds.FileKind.TheVariants as kinds
+use Rattle.command_tasks.specs.declared.refusals.Refusal.{Refusal}
+use Rattle.command_tasks.specs.declared.statuses.Status.TheVariants.{Done, Rejected}
+use Rattle.command_tasks.specs.Tasks.{AllSecretsTask, CheckTask, RunTask, ManyRunsTask, Task, TellRun, MeasureAll}
+use Rattle.command_tasks.specs.Tasks.{IsAllSecretsTask, IsCheckTask, IsFormRefusal, IsManyRunsTask, IsRunTask, IsTaskOf}
+use Rattle.command_tasks.specs.Tasks.{wants_of}
+use Rattle.command_tasks.specs.Loading.{Want, IsLoadRefusal, Loads, want}
+use Rattle.command_tasks.specs.Statuses.{number_of}
+use Rattle.task_answers.specs.Answers.{Answer, done_by, told}
+use Rattle.task_answers.specs.AllSecrets.{AnswersBound, bound_of}
+use Rattle.task_answers.specs.Checks.{AnswersBy, judged_by, judgements_of}
+use Rattle.task_answers.specs.Declarations.{IsDeclaration, IsLearnRefusal, TellsRegions}
+use Rattle.task_answers.specs.Findings.{AreFindings, findings_reply}
+use Rattle.task_answers.specs.Runs.{IsMeasured, IsRunRefusal, start_of}
+use Rattle.task_answers.specs.CutTexts.{IsCutText, IsInVersion}
+use Rattle.task_answers.specs.ManyRuns.{AreMeasured, IsRunsRefusal, TellsAll, setup_in}
+use Rattle.task_answers.specs.Tellings.{IsCutOfRun, Tells as TellsOf}
+use Rattle.task_answers.specs.TaskAnswers.{AnswersTask}
+use Rattle.task_answers.specs.Texts.{accepted_count, check_text, clean_count, findings_text}
 use Rattle.commands.specs.BoundHeadline.{BoundHeadline, Shows, named_task}
-use Rattle.commands.specs.Checks.{CheckTask, AnswersBy, judged_by, judgements_of}
 use Rattle.commands.specs.Clauses.{Carries, JudgingCarries, TellingCarries}
 use Rattle.commands.specs.CleanHeadline.{AllFound, CleanHeadline, IsAcceptedThen}
-use Rattle.commands.specs.Declarations.{IsDeclaration, IsLearnRefusal, TellsRegions}
-use Rattle.commands.specs.Findings.{AreFindings, findings_reply}
 use Rattle.commands.specs.LearntHeadline.{LearntHeadline}
 use Rattle.commands.specs.Headline.{Says, AllSay, IsAmong, AreFewOfAll, AreFew, Headline, limits_of}
-use Rattle.commands.specs.Loading.{Want, IsLoadRefusal, Loads, want}
 use Rattle.commands.specs.MeasuredHeadline.{HasAccepted, IsGraphOfRun, IsGraphOfRuns, MeasuredHeadline}
-use Rattle.commands.specs.Replies.{AnswersCommand, AnswersWords, IsUsage, reply_of}
-use Rattle.commands.specs.Runs.{RunTask, IsMeasured, IsRunRefusal, start_of}
-use Rattle.commands.specs.CutTexts.{IsCutText, IsInVersion}
-use Rattle.commands.specs.ManyRuns.{ManyRunsTask, AreMeasured, IsRunsRefusal, TellsAll, setup_in}
-use Rattle.commands.specs.Tellings.{IsCutOfRun, Tells as TellsOf}
-use Rattle.commands.specs.Statuses.{number_of}
-use Rattle.commands.specs.Tasks.{Task, TellRun, MeasureAll, AnswersFiles, AnswersTask, IsAllSecretsTask, IsCheckTask, IsFormRefusal, IsManyRunsTask, IsRunTask, IsTaskOf, wants_of}
-use Rattle.commands.specs.Texts.{accepted_count, check_text, clean_count, findings_text}
+use Rattle.commands.specs.Replies.{AnswersCommand, AnswersWords, IsUsage, reply_of, AnswersFiles}
 use Rattle.commands.proofs.HeldFiles.{all-held, guest_held, secret_short}
-use Rattle.commands.proofs.OneReply.{words_reading}
-use Rattle.commands.proofs.OneTask.{form-status}
-use Rattle.commands.proofs.Readings.{reads_it, reads_low, status_of}
+use Rattle.commands.proofs.Readings.{words_reading, reads_it, reads_low, status_of}
+use Rattle.commands.proofs.FormStatuses.{form-status}
 
 -- ---- each judgement says what it means
 

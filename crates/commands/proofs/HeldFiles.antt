@@ -6,11 +6,11 @@ use Rattle.flow_base.specs.declared.loading.LoadFault.{LoadFault}
 use Rattle.flow_base.specs.declared.loading.LoadFault.TheVariants as faults
 use Rattle.flow_base.specs.Loads.{Told, after_load, next_answer, held_answer}
 use Rattle.command_line.specs.CommandLines.{GuestNames}
-use Rattle.commands.specs.declared.refusals.Refusal.{Refusal}
-use Rattle.commands.specs.FileLimits.{limit_of}
-use Rattle.commands.specs.Guests.{GuestFiles, AreGuestFiles, and_others, guest_wants, region_wants, secret_wants}
+use Rattle.command_tasks.specs.declared.refusals.Refusal.{Refusal}
+use Rattle.command_tasks.specs.FileLimits.{limit_of}
+use Rattle.command_tasks.specs.Guests.{GuestFiles, AreGuestFiles, and_others, guest_wants, region_wants, secret_wants}
+use Rattle.command_tasks.specs.Loading.{Want, AreWithin, Loads, and_load, loaded_from}
 use Rattle.commands.specs.Headline.{AreGuestHeld, AreHeld, IsHeld}
-use Rattle.commands.specs.Loading.{Want, AreWithin, Loads, and_load, loaded_from}
 
 -- ---- what is loaded is held
 

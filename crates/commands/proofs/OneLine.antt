@@ -36,8 +36,8 @@ use Rattle.region_learn.specs.declared.faults.LearnFault.TheVariants as learn
 use Rattle.region_learn.specs.FaultTexts.{learn_fault_text}
 use Rattle.rv32im_machine.specs.FaultTexts.{stop_text}
 use Rattle.run_labels.specs.FaultTexts.{run_fault_text}
+use Rattle.command_tasks.specs.Names.{escape, is_control, shown}
 use Rattle.commands.specs.Lines.{has_line_feed}
-use Rattle.commands.specs.Names.{escape, is_control, shown}
 
 pub record Clean (text : List ℕ) : Type 0 where
   pub none : has_line_feed text ≡ false

@@ -1,9 +1,12 @@
 -- What is read is one thing, and where it is, nothing is wrong with it: so the answers to it are one, and are those to
 -- what it is known to be.
-use Rattle.std.proofs.Common.{◌≡◌, ◌≤◌, ◌<◌, ◌∙◌, inl, inr, ℕ, Err, sym, ap, subst, arith}
-use Rattle.commands.specs.declared.refusals.Refusal.{Refusal}
-use Rattle.commands.specs.Answers.{Answer, Reads, told}
-use Rattle.commands.specs.Statuses.{number_of}
+use Rattle.std.proofs.Common.{◌≡◌, ◌≤◌, ◌<◌, ◌∙◌, inl, inr, ℕ, List, Err, sym, ap, subst, arith}
+use Rattle.command_line.specs.CommandLines.{Command, IsCommand}
+use Rattle.command_line.proofs.OneCommand.{one_command}
+use Rattle.command_tasks.specs.declared.refusals.Refusal.{Refusal}
+use Rattle.command_tasks.specs.Statuses.{number_of}
+use Rattle.task_answers.specs.Answers.{Answer, Reads, told}
+use Rattle.commands.specs.Replies.{IsUsage}
 
 -- the status that an answer is told with
 abbrev pub status_of : Answer → ℕ
@@ -51,3 +54,12 @@ reads_low A Is IsRefused Answers high answer low (inl (refusal, refused, e)) =
     too-high : (n m : ℕ) → n ≡ m → n ≤ 1 → 1 < m → ⊥
     too-high n m e low above = omega arith
 reads_low A Is IsRefused Answers high answer low (inr (it, is, answers)) = (it, is, answers)
+
+-- ---- words
+
+pub words_reading : (words : List (List ℕ)) → IsReading Command (IsCommand words) (IsUsage words)
+words_reading words = record {
+  one = one_command words;
+  none = λ command refusal is (none, e). none command is;
+  refused = λ first second (none, e) (also, f). e ∙ sym f;
+}

@@ -4,15 +4,15 @@ use Rattle.flow_base.specs.Counts.{Rose}
 use Rattle.flow_base.specs.Loads.{Told}
 use Rattle.flow_base.specs.Puts.{Taken, after_put}
 use Rattle.command_line.specs.CommandLines.{IsNoCommand}
-use Rattle.commands.specs.declared.refusals.Refusal.{Refusal}
-use Rattle.commands.specs.declared.refusals.Refusal.TheVariants.{Load, Memory, Usage}
-use Rattle.commands.specs.declared.replies.Reply.{Reply as MadeReply}
-use Rattle.commands.specs.Answers.{Answer, told}
+use Rattle.command_tasks.specs.declared.refusals.Refusal.{Refusal}
+use Rattle.command_tasks.specs.declared.refusals.Refusal.TheVariants.{Load, Memory, Usage}
+use Rattle.command_tasks.specs.LoadCounts.{HasCause, KeepsCount}
+use Rattle.command_tasks.specs.Statuses.{number_of}
+use Rattle.task_answers.specs.declared.replies.Reply.{Reply as MadeReply}
+use Rattle.task_answers.specs.Answers.{Answer, told}
 use Rattle.commands.specs.Clauses.{CountsFaults, IsPut, IsReply}
 use Rattle.commands.specs.Lines.{IsOneLine}
 use Rattle.commands.specs.Replies.{AnswersWords, Reply, reply_of}
-use Rattle.commands.specs.Private.SingleLoads.{HasCause, KeepsCount}
-use Rattle.commands.specs.Statuses.{number_of}
 use Rattle.commands.proofs.FineAnswers.{command_fine}
 use Rattle.commands.proofs.Headlines.{headline_of}
 use Rattle.commands.proofs.OneLine.{literal}

@@ -6,9 +6,10 @@ use Rattle.flow_base.specs.Loads.{Told}
 use Rattle.every_secret.specs.AllSecrets.{AreAll}
 use Rattle.every_secret.specs.Bounds.{Answer as BoundAnswer, Found, IsBounded, IsLeastPower, IsUnclear, output_count}
 use Rattle.command_line.specs.CommandLines.{AllSecrets}
-use Rattle.commands.specs.AllSecrets.{AllSecretsTask, bound_of, bounded_text, task_in}
-use Rattle.commands.specs.BoundTexts.{unclear_line}
-use Rattle.commands.specs.Guests.{Guest, GuestFiles, IsGuest}
+use Rattle.command_tasks.specs.Tasks.{AllSecretsTask}
+use Rattle.command_tasks.specs.Guests.{Guest, GuestFiles, IsGuest}
+use Rattle.task_answers.specs.AllSecrets.{bound_of, bounded_text, task_in}
+use Rattle.task_answers.specs.BoundTexts.{unclear_line}
 use Rattle.commands.specs.Headline.{AreGuestHeld}
 use Rattle.commands.specs.Replies.{Reply}
 

@@ -7,11 +7,11 @@ use Rattle.cut_file.specs.Texts.{CutText}
 use Rattle.lockstep_replay.specs.Tasks.{Task, Limits}
 use Rattle.taint_check.specs.Tainted.{Finding, IsClean, IsUnclear, IsVerdict}
 use Rattle.command_line.specs.CommandLines.{Check}
-use Rattle.commands.specs.Checks.{judged_by}
-use Rattle.commands.specs.Guests.{Guest, GuestFiles, IsGuest}
+use Rattle.command_tasks.specs.Guests.{Guest, GuestFiles, IsGuest}
+use Rattle.task_answers.specs.Checks.{judged_by}
+use Rattle.task_answers.specs.Texts.{clean_count, findings_text}
 use Rattle.commands.specs.Headline.{AreFewOfAll, AreGuestHeld, IsAccepted, limits_of}
 use Rattle.commands.specs.Replies.{Reply}
-use Rattle.commands.specs.Texts.{clean_count, findings_text}
 
 -- a clean secret is accepted, with the bits and the output that are found
 abbrev pub IsAcceptedThen : Task → Limits → List ℕ → Finding → Type 0

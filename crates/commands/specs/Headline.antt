@@ -13,10 +13,10 @@ use Rattle.lockstep_replay.specs.Acceptance.{Accept, Done, HasExited, IsOutput}
 use Rattle.lockstep_replay.specs.Verdicts.{Judgement, Accepts, Rejects, First}
 use Rattle.lockstep_replay.specs.VerdictLaws.{Cause}
 use Rattle.command_line.specs.CommandLines.{Check, GuestNames}
-use Rattle.commands.specs.Checks.{judged_by}
-use Rattle.commands.specs.Guests.{Guest, GuestFiles, IsGuest}
+use Rattle.command_tasks.specs.Guests.{Guest, GuestFiles, IsGuest}
+use Rattle.task_answers.specs.Checks.{judged_by}
+use Rattle.task_answers.specs.Texts.{check_text, accepted_count}
 use Rattle.commands.specs.Replies.{Reply}
-use Rattle.commands.specs.Texts.{check_text, accepted_count}
 
 -- the source holds these files under these names; where it tells nothing, they are as many
 abbrev pub AreHeld : Option Told → List (List ℕ) → List (List ℕ) → Type 0

@@ -4,8 +4,8 @@ use Rattle.flow_base.specs.Loads.{Told}
 use Rattle.enclosure_regions.specs.declared.region_parts.Region.{Region}
 use Rattle.enclosure_regions.specs.Reading.{Spells}
 use Rattle.command_line.specs.CommandLines.{Run}
-use Rattle.commands.specs.Declarations.{IsDeclaration}
-use Rattle.commands.specs.Guests.{Guest, GuestFiles, IsGuest}
+use Rattle.command_tasks.specs.Guests.{Guest, GuestFiles, IsGuest}
+use Rattle.task_answers.specs.Declarations.{IsDeclaration}
 use Rattle.commands.specs.Headline.{AreGuestHeld}
 use Rattle.commands.specs.Replies.{Reply}
 

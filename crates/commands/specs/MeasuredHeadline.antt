@@ -17,12 +17,12 @@ use Rattle.measuring.specs.Measures.{Measures}
 use Rattle.many_runs.specs.declared.many.Many.{Many}
 use Rattle.many_runs.specs.Measures.{MeasuresAll}
 use Rattle.command_line.specs.CommandLines.{GuestNames, highest_budget}
-use Rattle.commands.specs.Checks.{judged_by}
-use Rattle.commands.specs.Guests.{Guest, GuestFiles, IsGuest}
+use Rattle.command_tasks.specs.Guests.{Guest, GuestFiles, IsGuest}
+use Rattle.task_answers.specs.Checks.{judged_by}
+use Rattle.task_answers.specs.ManyRuns.{setup_in}
+use Rattle.task_answers.specs.Runs.{start_of}
 use Rattle.commands.specs.Headline.{AreGuestHeld}
 use Rattle.commands.specs.Replies.{Reply}
-use Rattle.commands.specs.ManyRuns.{setup_in}
-use Rattle.commands.specs.Runs.{start_of}
 
 -- a secret is accepted, with some output
 abbrev pub HasAccepted : Task → Limits → List ℕ → Type 0

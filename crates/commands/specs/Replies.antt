@@ -2,12 +2,17 @@
 use Rattle.std.specs.Prelude.{◌≡◌, ◌⊎◌, ℕ, List, Option, Ok, Err}
 use Rattle.flow_base.specs.Loads.{Told}
 use Rattle.command_line.specs.CommandLines.{Command, IsCommand, IsNoCommand}
-use Rattle.commands.specs.declared.refusals.Refusal.{Refusal}
-use Rattle.commands.specs.declared.refusals.Refusal.TheVariants.{Usage}
-use Rattle.commands.specs.Answers.{Answer, Reads, told}
-use Rattle.commands.specs.Loading.{Leaves, LeavesPart, Loads}
-use Rattle.commands.specs.Statuses.{number_of}
-use Rattle.commands.specs.Tasks.{AnswersFiles, wants_of}
+use Rattle.command_tasks.specs.declared.refusals.Refusal.{Refusal}
+use Rattle.command_tasks.specs.declared.refusals.Refusal.TheVariants.{Usage}
+use Rattle.command_tasks.specs.Loading.{Leaves, LeavesPart, Loads}
+use Rattle.command_tasks.specs.Statuses.{number_of}
+use Rattle.command_tasks.specs.Tasks.{IsFormRefusal, IsTaskOf, wants_of}
+use Rattle.task_answers.specs.Answers.{Answer, Reads, told}
+use Rattle.task_answers.specs.TaskAnswers.{AnswersTask}
+
+-- the answer of a command to its files
+abbrev pub AnswersFiles : Command → List (List ℕ) → Answer → Type 0
+AnswersFiles command files answer = Reads (IsTaskOf command files) (IsFormRefusal command files) AnswersTask answer
 
 -- the answer of a command to what its loads give: a load is refused, or these are its files
 abbrev pub AnswersCommand : Option Told → Command → Answer → Type 0

@@ -1,13 +1,13 @@
-ghost use Rattle.std.specs.Prelude.{◌≡◌, ◌≢◌, ◌≤◌, ◌∷◌, [], map, string_bytes, IfOk, IsTrue};
+ghost use Rattle.std.specs.Prelude.{◌≡◌, ◌≢◌, ◌≤◌, ◌∷◌, [], map, string_bytes, IsTrue};
+ghost use Rattle.command_tasks.specs.Statuses.{is_one_of};
 ghost use Rattle.commands.specs.Clauses.{CountsFaults, IsPut, IsReply};
 ghost use Rattle.commands.specs.Replies.{LeavesWords, LeavesWordsPart, Reply as WholeReply};
-ghost use Rattle.commands.specs.Statuses.{is_one_of, number_of};
 
 use crate::answering::answer;
-use crate::replies::{Reply, reply_of};
-use crate::statuses::Status;
+use command_tasks::Status;
 use flow_base::{Files, NoMemory, Sink};
 use std::alloc::Global;
+use task_answers::{Reply, reply_of};
 use transfer_rules::RuleBook;
 
 /// Answers the words of a command line, which are those after the program's name: files are loaded from `files`, the
@@ -20,8 +20,8 @@ use transfer_rules::RuleBook;
 /// it; 5 where a load failed; 6 where a file has more bytes than its limit; 7 where the put failed; and 8 for want of
 /// memory, and then nothing is put. `books` has the books of the mask rules of table 1 and of table 2, by which runs are
 /// measured, secrets followed and outputs bounded. What the reply is, where words have one alone, and which status files
-/// that are well formed have, say the laws [`replies_are_one`](crate::replies_are_one) and
-/// [`replies_are_complete`](crate::replies_are_complete).
+/// that are well formed have, say the laws `replies_are_one` and
+/// `replies_are_complete` of `reply_laws`.
 pub fn flowcheck<F: Files, K: Sink>(
     alloc: Global,
     words: Vec<String>,

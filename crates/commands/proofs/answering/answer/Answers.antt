@@ -1,9 +1,9 @@
 use Rattle.std.proofs.Common.{◌≡◌, Ok, Err, None, inl, inr, refl, arith}
 use Rattle.std.proofs.lemmas.Grind.{common_steps}
 use Rattle.command_line.specs.Words.{command_of}
-use Rattle.commands.specs.Private.ReadTasks.{task_in}
+use Rattle.command_tasks.specs.ReadTasks.{task_in}
+use Rattle.command_tasks.proofs.Refusing.{err_apart, known_refusal}
 use Rattle.commands.proofs.FineAnswers.{task_blames_no_load}
-use Rattle.commands.proofs.Refusing.{err_apart, known_refusal}
 use Rattle.commands.proofs.answering.answer.Goals as goal
 
 pub returns-in_default-clause-answers : goal.returns-in_default-clause-answers

@@ -1,6 +1,6 @@
 use Rattle.std.proofs.Common.{◌≡◌, ap, arith, map, string_bytes}
+use Rattle.command_tasks.specs.Statuses.{number_of}
 use Rattle.commands.specs.Replies.{reply_of}
-use Rattle.commands.specs.Statuses.{number_of}
 use Rattle.commands.proofs.WholeReplies.{faults_put, is_reply, put_part, put_whole}
 use Rattle.commands.proofs.top.flowcheck.Goals as goal
 

@@ -1,0 +1,12 @@
+pub mod Names
+pub mod FileLimits
+pub mod Statuses
+pub mod Refusals
+pub mod Loading
+pub mod LoadCounts
+pub mod Guests
+pub mod CertificateFiles
+pub mod Tasks
+pub mod ReadTasks
+pub mod Wants
+pub mod Private

@@ -1,0 +1,114 @@
+-- What is read of the files of a command line, and the limits of that.
+use Rattle.std.specs.Prelude.{◌≡◌, ◌≤◌, true, ℕ, List, length, All}
+use Rattle.cut_file.specs.Pictures.{picture_of as cut_of}
+use Rattle.elf32_loader.specs.Images.{picture_of}
+use Rattle.lockstep_replay.specs.Tasks.{Limits as CheckLimits}
+use Rattle.command_line.specs.declared.limits.Limits.{Limits}
+use Rattle.command_line.specs.CommandLines.{highest_turns, is_known}
+use Rattle.command_tasks.specs.declared.guests.Guest.{Guest as ReadGuest}
+use Rattle.command_tasks.specs.declared.tasks.AllSecretsTask.{AllSecretsTask as ReadAllSecrets}
+use Rattle.command_tasks.specs.declared.tasks.CheckTask.{CheckTask as ReadCheck}
+use Rattle.command_tasks.specs.declared.tasks.ManyRunsTask.{ManyRunsTask as ReadManyRuns}
+use Rattle.command_tasks.specs.declared.tasks.RunTask.{RunTask as ReadRun}
+use Rattle.command_tasks.specs.declared.tasks.Task.{Task as ReadTask}
+use Rattle.command_tasks.specs.declared.tasks.Task.TheVariants as tasks
+use Rattle.command_tasks.specs.Tasks.{AllSecretsTask, CheckTask, ManyRunsTask, RunTask, Task, JudgeSecrets, TellRun}
+use Rattle.command_tasks.specs.Tasks.{WriteProgram, ListProgram, VerifyCertificate, BoundAll, MeasureAll, MigrateCut}
+use Rattle.command_tasks.specs.Tasks.{TryNumber}
+use Rattle.command_tasks.specs.Guests.{Guest}
+
+abbrev pub guest_in : ReadGuest → Guest
+guest_in guest = record {
+  program = picture_of guest.image;
+  public_input = guest.public_input.now;
+  regions = guest.regions.items;
+}
+
+abbrev pub limits_in : Limits → CheckLimits
+limits_in limits = record { budget = limits.budget; turns = limits.turns }
+
+abbrev pub check_in : ReadCheck → CheckTask
+check_in check = record {
+  guest = guest_in check.guest;
+  cut = cut_of check.cut;
+  secrets = check.secrets.now;
+  limits = limits_in check.limits;
+  judging = check.judging;
+}
+
+abbrev pub all_secrets_in : ReadAllSecrets → AllSecretsTask
+all_secrets_in all = record {
+  guest = guest_in all.guest;
+  cut = cut_of all.cut;
+  limits = limits_in all.limits;
+  table = all.table;
+  paths = all.paths;
+  listed = all.listed;
+}
+
+abbrev pub run_in : ReadRun → RunTask
+run_in run = record { guest = guest_in run.guest; secret = run.secret.now; turns = run.turns; table = run.table }
+
+abbrev pub many_runs_in : ReadManyRuns → ManyRunsTask
+many_runs_in runs = record {
+  guest = guest_in runs.guest;
+  secrets = runs.secrets.now;
+  turns = runs.turns;
+  table = runs.table;
+}
+
+abbrev pub task_in : ReadTask → Task
+task_in (tasks.JudgeSecrets check) = JudgeSecrets (check_in check)
+task_in (tasks.BoundAll all) = BoundAll (all_secrets_in all)
+task_in (tasks.TellRun telling run) = TellRun telling (run_in run)
+task_in (tasks.MeasureAll version runs) = MeasureAll version (many_runs_in runs)
+task_in (tasks.WriteProgram image) = WriteProgram (picture_of image)
+task_in (tasks.ListProgram image) = ListProgram (picture_of image)
+task_in (tasks.VerifyCertificate certificate) = VerifyCertificate certificate.graph certificate.solved
+task_in (tasks.MigrateCut cut) = MigrateCut (cut_of cut)
+task_in (tasks.TryNumber number) = TryNumber number
+
+-- ---- limits
+
+-- each secret is within its limit
+abbrev pub AreShort : List (List ℕ) → Type 0
+AreShort secrets = All (λ secret. length secret ≤ 65536) secrets
+
+-- the secrets are within their limits, and a table is 1 or 2
+pub record IsBoundedCheck (check : ReadCheck) : Type 0 where
+  pub secrets : AreShort check.secrets.now
+  pub known : is_known check.judging ≡ true
+
+-- a path may be walked, and the table is 1 or 2
+pub record IsBoundedAll (all : ReadAllSecrets) : Type 0 where
+  pub some : 1 ≤ all.paths
+  pub first : 1 ≤ all.table
+  pub last : all.table ≤ 2
+
+-- the secret and the turns are within their limits, and the table is 1 or 2
+pub record IsBoundedRun (run : ReadRun) : Type 0 where
+  pub secret : length run.secret.now ≤ 65536
+  pub turns : run.turns ≤ highest_turns
+  pub first : 1 ≤ run.table
+  pub last : run.table ≤ 2
+
+-- there are 1 to 64 secrets, each within its limit, the turns are within theirs, and the table is 1 or 2
+pub record AreBoundedRuns (runs : ReadManyRuns) : Type 0 where
+  pub secrets : AreShort runs.secrets.now
+  pub some : 1 ≤ length runs.secrets.now
+  pub most : length runs.secrets.now ≤ 64
+  pub turns : runs.turns ≤ highest_turns
+  pub first : 1 ≤ runs.table
+  pub last : runs.table ≤ 2
+
+-- what is read is within the limits of what answers it
+abbrev pub IsBounded : ReadTask → Type 0
+IsBounded (tasks.JudgeSecrets check) = IsBoundedCheck check
+IsBounded (tasks.BoundAll all) = IsBoundedAll all
+IsBounded (tasks.TellRun telling run) = IsBoundedRun run
+IsBounded (tasks.MeasureAll version runs) = AreBoundedRuns runs
+IsBounded (tasks.WriteProgram image) = length image.segments ≤ 64
+IsBounded (tasks.ListProgram image) = Unit {0}
+IsBounded (tasks.VerifyCertificate certificate) = Unit {0}
+IsBounded (tasks.MigrateCut cut) = Unit {0}
+IsBounded (tasks.TryNumber number) = Unit {0}

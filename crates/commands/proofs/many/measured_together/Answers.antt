@@ -1,5 +1,0 @@
-use Rattle.commands.proofs.Others.{short-tested}
-use Rattle.commands.proofs.many.measured_together.Goals as goal
-
-pub measure_all-requires-clause-short : goal.measure_all-requires-clause-short
-measure_all-requires-clause-short g c = short-tested c.args.runs.now.secrets.now c.requires.bounded.secrets

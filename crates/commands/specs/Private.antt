@@ -1,4 +1,0 @@
--- Definitions that only functions of this crate have in their contracts; no public contract stands on them.
-pub mod SingleLoads
-pub mod Wants
-pub mod ReadTasks

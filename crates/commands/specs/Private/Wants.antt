@@ -1,6 +1,0 @@
--- What a wanted file is, by the bytes of its name.
-use Rattle.commands.specs.declared.loads.Want.{Want as WantedFile}
-use Rattle.commands.specs.Loading.{Want}
-
-abbrev pub want_of : WantedFile → Want
-want_of want = record { name = want.name.now; kind = want.kind }

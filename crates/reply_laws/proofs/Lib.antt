@@ -1,0 +1,10 @@
+pub mod OneCertificate
+pub mod OneGuest
+pub mod OneTask
+pub mod OneFinding
+pub mod OneLearning
+pub mod CutTexts
+pub mod OneUnion
+pub mod OneBound
+pub mod OneReply
+pub mod CompleteReplies

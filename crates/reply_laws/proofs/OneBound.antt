@@ -1,0 +1,46 @@
+-- A bound is one, and so are its number of outputs and the bits that suffice for them: so the answers to `bound` are one.
+use Rattle.std.proofs.Common.{◌≡◌, ◌∙◌, ℕ, Ok, refl, sym, ap, arith}
+use Rattle.every_secret.specs.Bounds.{Answer as BoundAnswer, Found, IsBounded, IsLeastPower, IsUnclear}
+use Rattle.command_tasks.specs.declared.statuses.Status.TheVariants.{Done}
+use Rattle.command_tasks.specs.Tasks.{AllSecretsTask}
+use Rattle.task_answers.specs.AllSecrets.{AnswersAllSecrets, AnswersBound, bound_of, bounded_text}
+use Rattle.task_answers.specs.Answers.{Answer}
+use Rattle.commands.proofs.Readings.{status_of}
+use Rattle.reply_laws.specs.ReplyLaws.{CompletesBound}
+
+one-power : (outputs a b : ℕ) → IsLeastPower outputs a → IsLeastPower outputs b → a ≡ b
+one-power outputs a b one other =
+    let low = one.least b other.enough in
+    let high = other.least a one.enough in
+    omega (arith, low, high)
+
+same-bound : (all : AllSecretsTask) (known : BoundAnswer) (first second : Answer) → AnswersBound all known first →
+    AnswersBound all known second → first ≡ second
+same-bound all (IsBounded found) first second (tells, (a, one, e)) (also, (b, other, f)) =
+    e ∙ (ap (λ bits. Ok (record { status = Done; text = bounded_text all found bits })) (one-power _ a b one other)
+    ∙ sym f)
+same-bound all (IsUnclear bits why) first second e f = e ∙ sym f
+
+pub bound_same : (all : AllSecretsTask) (first second : Answer) → AnswersAllSecrets all first →
+    AnswersAllSecrets all second → first ≡ second
+bound_same all first second one other = same-bound all (bound_of all) first second one other
+
+completes : (all : AllSecretsTask) (known : BoundAnswer) (answer : Answer) → bound_of all ≡ known →
+    AnswersBound all known answer → CompletesBound all (status_of answer)
+completes all (IsBounded found) answer is (tells, (bits, least, e)) =
+    let zero : status_of answer ≡ 0 = ap status_of e in
+    record { known = omega (arith, zero); bounded = λ z. (found, is); done = λ has. zero }
+completes all (IsUnclear bits why) answer is e =
+    let one : status_of answer ≡ 1 = ap status_of e in
+    record {
+      known = omega (arith, one);
+      bounded = λ z. absurd (omega (arith, one, z));
+      done = λ has. absurd (no-bound has.0 (sym is ∙ has.1));
+    }
+  where
+    no-bound : (found : Found) → IsUnclear bits why ≡ IsBounded found → ⊥
+    no-bound found f = cc
+
+pub bound_completes : (all : AllSecretsTask) (answer : Answer) → AnswersAllSecrets all answer →
+    CompletesBound all (status_of answer)
+bound_completes all answer h = completes all (bound_of all) answer refl h

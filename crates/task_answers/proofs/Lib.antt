@@ -1,0 +1,4 @@
+pub mod Judgements
+pub mod TrialRuns
+pub mod FindingLines
+pub mod TableRules

@@ -1,0 +1,41 @@
+-- All secrets of a guest, whose outputs are bounded by a cut.
+use Rattle.std.specs.Prelude.{◌≡◌, ◌==◌, ◌++◌, ℕ, List, length, Ok, if◌then◌else◌}
+use Rattle.lockstep_replay.specs.Tasks.{Task as BoundTask, task_of}
+use Rattle.transfer_rules.specs.Table1.{mask_by_table_1}
+use Rattle.transfer_rules.specs.Table2.{mask_by_table_2}
+use Rattle.every_secret.specs.Bounds.{Answer as BoundAnswer, Bounds, Found, IsBounded, IsLeastPower, IsUnclear, output_count}
+use Rattle.every_secret.specs.AllSecrets.{AreAll}
+use Rattle.every_secret.specs.Rules.{Rules, rules_of}
+use Rattle.command_tasks.specs.declared.statuses.Status.TheVariants.{Done, Rejected}
+use Rattle.command_tasks.specs.Tasks.{AllSecretsTask}
+use Rattle.task_answers.specs.Answers.{Answer}
+use Rattle.task_answers.specs.BoundTexts.{bounded_line, listing, unclear_line}
+
+-- the mask rules of table 1, and for every other number those of table 2
+abbrev pub rules_by : ℕ → Rules
+rules_by table = if table == 1 then rules_of mask_by_table_1 else rules_of mask_by_table_2
+
+-- what the secrets are those of
+abbrev pub task_in : AllSecretsTask → BoundTask
+task_in all = task_of all.guest.program all.guest.public_input all.guest.regions all.cut
+
+-- the bound for all secrets
+abbrev pub bound_of : AllSecretsTask → BoundAnswer
+bound_of all = Bounds (rules_by all.table) (task_in all) all.limits all.paths
+
+-- the text of what is found, where so many bits suffice for the outputs
+abbrev pub bounded_text : AllSecretsTask → Found → ℕ → List ℕ
+bounded_text all found bits =
+    listing all.listed found ++ bounded_line all.cut.secret_len (length all.guest.regions) found bits
+
+-- what is found tells of all secrets, and its text has the least number of bits for its outputs
+abbrev pub AnswersBound : AllSecretsTask → BoundAnswer → Answer → Type 0
+AnswersBound all (IsBounded found) answer =
+    AreAll (task_in all) all.limits found
+    × ((bits : ℕ) × IsLeastPower (output_count found.patterns) bits
+    × (answer ≡ Ok (record { status = Done; text = bounded_text all found bits })))
+AnswersBound all (IsUnclear bits why) answer =
+    answer ≡ Ok (record { status = Rejected; text = unclear_line bits why })
+
+abbrev pub AnswersAllSecrets : AllSecretsTask → Answer → Type 0
+AnswersAllSecrets all answer = AnswersBound all (bound_of all) answer

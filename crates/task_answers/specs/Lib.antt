@@ -1,0 +1,14 @@
+pub mod Answers
+pub mod Texts
+pub mod Findings
+pub mod Checks
+pub mod Runs
+pub mod Declarations
+pub mod CutTexts
+pub mod Tellings
+pub mod ManyRuns
+pub mod BoundTexts
+pub mod AllSecrets
+pub mod Trials
+pub mod Verifications
+pub mod TaskAnswers

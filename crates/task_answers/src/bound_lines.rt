@@ -1,0 +1,223 @@
+//! The lines of a bound.
+
+ghost use Rattle.std.specs.Prelude.{◌≡◌, ◌++◌, ℕ, option_map, IfOk};
+ghost use Rattle.every_secret.specs.Bounds.{IsLeastPower, found_of, halt_of, output_count as output_count_of};
+ghost use Rattle.task_answers.specs.BoundTexts.{bounded_line as bounded_line_of, count_text as count_text_of};
+ghost use Rattle.task_answers.specs.BoundTexts.{hex_bytes as hex_bytes_of, listing as listing_of};
+ghost use Rattle.task_answers.specs.BoundTexts.{mask_text as mask_text_of, path_text as path_text_of};
+ghost use Rattle.task_answers.specs.BoundTexts.{paths_text as paths_text_of, status_text as status_text_of};
+ghost use Rattle.task_answers.specs.BoundTexts.{pattern_line as pattern_line_of, pattern_lines as pattern_lines_of};
+ghost use Rattle.task_answers.specs.BoundTexts.{stop_line as stop_line_of, unclear_line as unclear_line_of};
+
+use crate::texts::next;
+use crossing_bits::Bits;
+use every_secret::{
+    Bounded, Pattern, StoppedPath, UnclearWhy, free_bits, output_bits, output_count,
+};
+use flow_base::{Bytes, List, NoMemory};
+use std::alloc::Global;
+
+/// Bytes as hexadecimal digits, `-` where there are none.
+fn hex_bytes(alloc: Global, bytes: &[u8]) -> Result<Bytes, NoMemory>
+    ensures { IfOk result (λ text. text ≡ hex_bytes_of bytes.now) }
+{
+    if bytes.is_empty() {
+        return List::from_slice(alloc, b"-");
+    }
+    let text = hex::encode(alloc, bytes).map_err(|_| NoMemory)?;
+    Ok(List::from_vec(text.into_bytes()))
+}
+
+/// The choices of a path.
+fn path_text(alloc: Global, bits: &Bits) -> Result<Bytes, NoMemory>
+    ensures { IfOk result (λ text. text ≡ path_text_of bits.now.bits) }
+{
+    let hex = bits.hex_text(alloc)?;
+    let count = bits.count();
+    let head = format!(in alloc; " path ")?;
+    let tail = format!(in alloc; " bits {count}")?;
+    let mut text = head.into_bytes();
+    text.extend_from_slice(hex.as_slice())?;
+    text.extend_from_slice(tail.as_bytes())?;
+    Ok(Bytes::from_vec(text))
+}
+
+/// The line of the path that is unclear.
+pub fn unclear_line(alloc: Global, bits: &Bits, why: UnclearWhy) -> Result<Bytes, NoMemory>
+    ensures { IfOk result (λ text. text ≡ unclear_line_of bits.now.bits why) }
+{
+    let path = path_text(alloc, bits)?;
+    let head = format!(in alloc; "unclear")?;
+    let tail = format!(in alloc; " {why}\n")?;
+    let mut text = head.into_bytes();
+    text.extend_from_slice(path.as_slice())?;
+    text.extend_from_slice(tail.as_bytes())?;
+    Ok(Bytes::from_vec(text))
+}
+
+/// A number of bits in 64; the error is want of memory, which is answered too where there are more.
+fn counted(bits: u128) -> Result<u64, NoMemory>
+    ensures { IfOk result (λ count. count ≡ bits) }
+{
+    if bits >= 1 << 64 {
+        return Err(NoMemory);
+    }
+    Ok(bits as u64)
+}
+
+/// The masks of a pattern with so many free bits; nothing where it has none.
+fn mask_text(alloc: Global, free: u64, pattern: &Pattern) -> Result<Bytes, NoMemory>
+    ensures { IfOk result (λ text. text ≡ mask_text_of free pattern.now) }
+{
+    if free == 0 {
+        return Ok(Bytes::new(alloc));
+    }
+    let masks = hex_bytes(alloc, pattern.byte_masks.as_slice())?;
+    let status = hex_bytes(alloc, &[pattern.status_mask])?;
+    let head = format!(in alloc; " mask ")?;
+    let middle = format!(in alloc; " ")?;
+    let mut text = head.into_bytes();
+    text.extend_from_slice(masks.as_slice())?;
+    text.extend_from_slice(middle.as_bytes())?;
+    text.extend_from_slice(status.as_slice())?;
+    Ok(Bytes::from_vec(text))
+}
+
+/// The end of the line of a pattern with so many free bits.
+fn status_text(alloc: Global, free: u64, pattern: &Pattern) -> Result<Bytes, NoMemory>
+    ensures { IfOk result (λ text. text ≡ status_text_of free pattern.now) }
+{
+    let status = pattern.status;
+    let masks = mask_text(alloc, free, pattern)?;
+    let head = format!(in alloc; " status {status}")?;
+    let tail = format!(in alloc; "\n")?;
+    let mut text = head.into_bytes();
+    text.extend_from_slice(masks.as_slice())?;
+    text.extend_from_slice(tail.as_bytes())?;
+    Ok(Bytes::from_vec(text))
+}
+
+/// The line of the pattern with a number.
+fn pattern_line(alloc: Global, number: u32, pattern: &Pattern) -> Result<Bytes, NoMemory>
+    ensures { IfOk result (λ text. text ≡ pattern_line_of number pattern.now) }
+{
+    let free = counted(free_bits(pattern))?;
+    let bytes = hex_bytes(alloc, pattern.bytes.as_slice())?;
+    let tail = status_text(alloc, free, pattern)?;
+    let head = format!(in alloc; "output {number} free {free} bytes ")?;
+    let mut text = head.into_bytes();
+    text.extend_from_slice(bytes.as_slice())?;
+    text.extend_from_slice(tail.as_slice())?;
+    Ok(Bytes::from_vec(text))
+}
+
+/// The lines of patterns, counted from 1.
+fn pattern_lines(alloc: Global, patterns: &[Pattern]) -> Result<Vec<u8>, NoMemory>
+    ensures { IfOk result (λ text. text.items ≡ pattern_lines_of 1 patterns.now) }
+{
+    let mut text = Vec::new(alloc);
+    let mut number: u32 = 0;
+    for pattern in patterns {
+        number = next(number)?;
+        let line = pattern_line(alloc, number, pattern)?;
+        text.extend_from_slice(line.as_slice())?;
+    }
+    Ok(text)
+}
+
+/// The line of a path that stops.
+fn halt_line(alloc: Global, stopped: &StoppedPath) -> Result<Bytes, NoMemory>
+    ensures { IfOk result (λ text. text ≡ stop_line_of (Some (halt_of stopped.now))) }
+{
+    let path = path_text(alloc, &stopped.bits)?;
+    let stop = stopped.stop;
+    let head = format!(in alloc; "stopped")?;
+    let tail = format!(in alloc; " {stop}\n")?;
+    let mut text = head.into_bytes();
+    text.extend_from_slice(path.as_slice())?;
+    text.extend_from_slice(tail.as_bytes())?;
+    Ok(Bytes::from_vec(text))
+}
+
+/// The line of the first path that stops, if one does.
+fn stop_line(alloc: Global, first: &Option<StoppedPath>) -> Result<Bytes, NoMemory>
+    ensures { IfOk result (λ text. text ≡ stop_line_of (option_map (λ stopped. halt_of stopped) first.now)) }
+{
+    match first {
+        Some(stopped) => halt_line(alloc, stopped),
+        None => Ok(Bytes::new(alloc)),
+    }
+}
+
+/// A line for each pattern, and one for the first path that stops, where they are to be listed.
+pub fn listing(alloc: Global, listed: bool, found: &Bounded) -> Result<Vec<u8>, NoMemory>
+    ensures { IfOk result (λ text. text.items ≡ listing_of listed (found_of found.now)) }
+{
+    if !listed {
+        return Ok(Vec::new(alloc));
+    }
+    let mut text = pattern_lines(alloc, found.patterns.as_slice())?;
+    let stop = stop_line(alloc, &found.first_stop)?;
+    text.extend_from_slice(stop.as_slice())?;
+    Ok(text)
+}
+
+/// A number of outputs, `-` where it is 2^64 or more.
+fn count_text(alloc: Global, patterns: &[Pattern]) -> Result<Bytes, NoMemory>
+    ensures { IfOk result (λ text. text ≡ count_text_of (output_count_of patterns.now)) }
+{
+    match output_count(patterns) {
+        Some(count) => {
+            let text = format!(in alloc; "{count}")?;
+            Ok(Bytes::from_vec(text.into_bytes()))
+        }
+        None => List::from_slice(alloc, b"-"),
+    }
+}
+
+/// How many paths there are, how many of them stop, and for how many outputs the patterns stand.
+fn paths_text(alloc: Global, found: &Bounded) -> Result<Bytes, NoMemory>
+    ensures { IfOk result (λ text. text ≡ paths_text_of (found_of found.now)) }
+{
+    let paths = found.paths;
+    let stopped = found.stopped;
+    let outputs = count_text(alloc, found.patterns.as_slice())?;
+    let head = format!(in alloc; " paths {paths} stopped {stopped} outputs ")?;
+    let mut text = head.into_bytes();
+    text.extend_from_slice(outputs.as_slice())?;
+    Ok(Bytes::from_vec(text))
+}
+
+/// The line of a bound, where so many bits suffice for the outputs.
+fn bounded_text(
+    alloc: Global,
+    secret_length: u32,
+    regions: usize,
+    found: &Bounded,
+    bits: u64,
+) -> Result<Bytes, NoMemory>
+    ensures { IfOk result (λ text. text ≡ bounded_line_of secret_length regions (found_of found.now) bits) }
+{
+    let paths = paths_text(alloc, found)?;
+    let head = format!(in alloc; "bounded secret {secret_length} regions {regions}")?;
+    let tail = format!(in alloc; " bits {bits}\n")?;
+    let mut text = head.into_bytes();
+    text.extend_from_slice(paths.as_slice())?;
+    text.extend_from_slice(tail.as_bytes())?;
+    Ok(Bytes::from_vec(text))
+}
+
+/// The line of a bound.
+pub fn bounded_line(
+    alloc: Global,
+    secret_length: u32,
+    regions: usize,
+    found: &Bounded,
+) -> Result<Bytes, NoMemory>
+    ensures { IfOk result (λ text. (bits : ℕ) × IsLeastPower (output_count_of found.now.patterns) bits
+        × (text ≡ bounded_line_of secret_length regions (found_of found.now) bits)) }
+{
+    let bits = counted(output_bits(alloc, found.patterns.as_slice())?)?;
+    let text = bounded_text(alloc, secret_length, regions, found, bits)?;
+    Ok(text)
+}

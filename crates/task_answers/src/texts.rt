@@ -1,0 +1,39 @@
+ghost use Rattle.std.specs.Prelude.{◌≡◌, ◌+◌, ◌==◌, IfOk, if◌then◌else◌};
+ghost use Rattle.command_tasks.specs.declared.statuses.Status.TheVariants.{Done, Rejected};
+ghost use Rattle.task_answers.specs.Texts.{counts_line as counts_line_of};
+
+use command_tasks::Status;
+use flow_base::{Bytes, NoMemory};
+use std::alloc::Global;
+
+/// The line of counts, with a word for the secrets that are taken.
+pub fn counts_line(
+    alloc: Global,
+    word: &str,
+    checked: usize,
+    taken: usize,
+    budget: u32,
+) -> Result<Bytes, NoMemory>
+    ensures { IfOk result (λ text. text ≡ counts_line_of word.now checked taken budget) }
+{
+    let text = format!(in alloc; "checked {checked} {word} {taken} budget {budget}\n")?;
+    Ok(Bytes::from_vec(text.into_bytes()))
+}
+
+/// Done where all secrets that are checked are taken.
+pub fn status_of(taken: usize, checked: usize) -> Status
+    ensures { result ≡ (if taken == checked then Done else Rejected) }
+{
+    if taken == checked {
+        Status::Done
+    } else {
+        Status::Rejected
+    }
+}
+
+/// The number of the next secret; the error is want of memory, which is answered too behind 2^32 secrets.
+pub fn next(number: u32) -> Result<u32, NoMemory>
+    ensures { IfOk result (λ after. after ≡ number + 1) }
+{
+    number.checked_add(1).ok_or(NoMemory)
+}
