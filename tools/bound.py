@@ -1,4 +1,4 @@
-"""Looks for a cut with which `bound` says all outputs that a program can have, whatever the secret is.
+"""Looks for a cut with which `bound` says all outputs that secrets of one length can give.
 
 Call: bound.py PROG PUBLIC LENGTH|SECRET... [--regions FILE] [--turns N] [--rules N] [--paths N] [--rounds N]
                [--output FILE] [--flowcheck COMMAND]
@@ -14,8 +14,9 @@ than were measured, it begins again without a point, and at last with as many pa
   --regions, --turns, --rules, --paths  as of `bound`
   --flowcheck COMMAND  the program; without it FLOWCHECK, else the one built or installed with this, else the model
 
-Prints the rounds, then in words what is bounded, or why not and what to change. On a terminal it says meanwhile which
-call of `bound` it waits for. The status is 0 where it is bounded."""
+Prints the rounds, then in words what is bounded, or why not and what to change. Where no region is listed and no path
+stops, that is said of every secret; else of every secret whose run ends and breaks no region. On a terminal it says
+meanwhile which call of `bound` it waits for. The status is 0 where it is bounded."""
 import os
 import sys
 

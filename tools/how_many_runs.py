@@ -3,11 +3,12 @@
 
 Call: how_many_runs.py [--others N] [--runs N...] [--seed N] [--guest NAME...] [--compiler NAME] [--flowcheck COMMAND]
 
-The guests are those of the stories under examples/ and two of guests/. Of each it draws runs, 1,000 trials, and N other
-secrets (1,000 without the option), which are none of these, by the seed (1 without it). `measure-all` measures the
-first so many runs (1, 8 and 64) together, and `check` judges the others with that cut and number, and with the cut of
-the fewest runs and the number of the most. Then the runs are chosen: it begins with the first, checks the trials, adds
-the first that is rejected to the runs, measures again, and so on until no trial is rejected or there are 64 runs.
+The guests are those of three stories under examples/ (password, redactor, auction) and two of guests/. Of each it draws
+runs, 1,000 trials, and N other secrets (1,000 without the option), which are none of these, by the seed (1 without it).
+`measure-all` measures the first so many runs (1, 8 and 64) together, and `check` judges the others with that cut and
+number, and with the cut of the fewest runs and the number of the most. Then the runs are chosen: it begins with the
+first, checks the trials, adds the first that is rejected to the runs, measures again, and so on until no trial is
+rejected or there are 64 runs.
 
 Prints for each guest the bits, how many of the others are accepted, and why the rest is rejected, by the first word of
 the reason that `check` gives. The program is the option, or the built one, or the model, which takes hours."""
