@@ -1,5 +1,5 @@
-"""The page of `bound`: all outputs that a program can have, whatever the secret is, with the choices that lead to them;
-or why that is unclear, and what to change."""
+"""The page of `bound`: all outputs that a program can have, of every secret whose run ends and breaks no region, with
+the choices that lead to them; or why that is unclear, and what to change."""
 import shlex
 from collections import Counter
 from os.path import basename as base

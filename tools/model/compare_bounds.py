@@ -1,8 +1,8 @@
 #!/usr/bin/env python3
 """compare_bounds.py [EXECUTABLE] [--first SEED] [--count N] [--secrets N]
 
-Bounds the outputs of N random guests (400 without the option) from this seed (1 without it) on, whatever the secret is,
-by the model, by either table, and before them of some guests that were made by hand. Of the cuts some are measured of a
+Bounds the outputs of N random guests (400 without the option) from this seed (1 without it) on, over all secrets, by
+the model, by either table, and before them of some guests that were made by hand. Of the cuts some are measured of a
 secret, some of several, some made at random, and some get the lines at which a walk of theirs was unclear. Where a
 guest is bounded, random secrets of the cut's length are tried, 50 without the option: each must be accepted by the
 model of `check` and have an output of the list, or its run must be stopped, break a region or not exit. Without regions

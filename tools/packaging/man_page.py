@@ -4,7 +4,7 @@ import re
 DESCRIPTION = (
     "It runs one guest, a free-standing RV32IM ELF file, on a public input and a secret. It says how many bits of the "
     "secret the output of the run can have given away, and at which places of the program they pass: a cut. With a cut "
-    "it judges other secrets, or bounds the outputs whatever the secret is.",
+    "it judges other secrets, or bounds the outputs of every secret whose run ends and breaks no region.",
     "Of any secrets that \\fBcheck\\fR accepts for one program, public input, region file, cut, budget k and limit of "
     "turns, at most 2^k different outputs arise, bytes and exit status together. Where \\fBbound\\fR answers for no "
     "regions and no path that stops, its number holds of every secret of the cut's length. A number of \\fBmeasure\\fR "

@@ -1,4 +1,4 @@
--- The files behind the cut.
+-- The files after the cut.
 use Rattle.std.proofs.Common.{◌≡◌, ◌∙◌, ◌≤◌, ◌-◌, suc, ap, ℕ, List, [], ◌∷◌, ◌++◌, true, false, length, take, drop, Option, Some, None, is_some, option_map, refl, sym, subst, arith}
 use Rattle.std.proofs.Math.Seq.{take-length}
 use Rattle.std.proofs.lemmas.Grind.{common_steps}

@@ -39,7 +39,7 @@ loaded_from told [] = Ok []
 loaded_from told (w ∷ wants) =
     and_load w (next_answer told w.name (limit_of w.kind)) (loaded_from (after_load told) wants)
 
--- the source after these loads: no load is made behind the first that is refused
+-- the source after these loads: no load is made after the first that is refused
 abbrev pub after_answer : Result (List ℕ) LoadFault → Told → Told → Told
 after_answer (Ok file) told later = later
 after_answer (Err fault) told later = told

@@ -1,4 +1,4 @@
--- The statuses and the texts of refusals. Want of memory is never told.
+-- The statuses and the texts of refusals. Out of memory is never printed.
 use Rattle.std.specs.Prelude.{◌≡◌, ◌≢◌, ℕ, List, ◌++◌, codes, Option, None, Some, Err}
 use Rattle.std.specs.Fmt.{decimal}
 use Rattle.elf32_loader.specs.declared.fault.ElfFault.{ElfFault}
@@ -64,7 +64,7 @@ refusal_text (Load name) = codes "refused 5 load " ++ name
 refusal_text (TooLarge name number) = codes "refused 6 too-large " ++ (name ++ (codes " " ++ decimal number))
 refusal_text Memory = codes "memory"
 
--- the refusal by a fault of a file; want of memory stays what it is
+-- the refusal by a fault of a file; out of memory stays what it is
 abbrev pub RefusesProgram : ElfFault → Refusal → Type 0
 RefusesProgram fault refusal =
     (fault ≡ NoRoomForProgram → refusal ≡ Memory) × (fault ≢ NoRoomForProgram → refusal ≡ Program fault)

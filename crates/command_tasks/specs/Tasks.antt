@@ -51,7 +51,8 @@ pub record ManyRunsTask : Type 0 where
   pub table : ℕ
 
 -- to judge secrets, to bound the outputs of all secrets, to tell of a run, to tell the one cut of several runs in a
--- version, to write the program file of an image, to list a program, to verify a certificate, to write a cut in version 2, or to try the tool by a number
+-- version, to write the program file of an image, to list a program, to verify a certificate, to write a cut in
+-- version 2, or to try the tool by a number
 pub data Task : Type 0 where
   JudgeSecrets : CheckTask → Task
   BoundAll : AllSecretsTask → Task

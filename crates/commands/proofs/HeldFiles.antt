@@ -83,7 +83,7 @@ none-held : (source : Option Told) → IsHeld source None None
 none-held None = tt
 none-held (Some told) = tt
 
--- behind some first files the region file, where one is named, is held apart
+-- after some first files the region file, where one is named, is held apart
 held-apart : (source : Option Told) (front front_files : List (List ℕ)) (name file : Option (List ℕ))
     (names files : List (List ℕ)) → length front ≡ length front_files → is_some file ≡ is_some name →
     AreHeld source (front ++ region-names name names) (front_files ++ and_others file files) →

@@ -17,7 +17,7 @@ use transfer_rules::RuleBook;
 /// is known, of a certificate where it is verified; 1 where some secret is rejected or unclear, a path of a bound is
 /// unclear, or the certificate is rejected; 2 where the words are no command line; 3 where a program, a region file, a
 /// cut, a source or a certificate is malformed; 4 where the run of a guest is not measured or no declaration is learnt of
-/// it; 5 where a load failed; 6 where a file has more bytes than its limit; 7 where the put failed; and 8 for want of
+/// it; 5 where a load failed; 6 where a file has more bytes than its limit; 7 where the put failed; and 8 out of
 /// memory, and then nothing is put. `books` has the books of the mask rules of table 1 and of table 2, by which runs are
 /// measured, secrets followed and outputs bounded. What the reply is, where words have one alone, and which status files
 /// that are well formed have, say the laws `replies_are_one` and

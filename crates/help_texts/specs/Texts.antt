@@ -27,7 +27,7 @@ is_single word =
 abbrev pub is_command : List ℕ → Bool
 is_command word = is_judging word || is_telling word || is_single word
 
--- the word asks for help behind a command
+-- the word asks for help after a command
 abbrev pub is_help_option : List ℕ → Bool
 is_help_option word = bytes_eq word (codes "--help") || bytes_eq word (codes "-h")
 

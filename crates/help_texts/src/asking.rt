@@ -20,7 +20,7 @@ fn form_text(alloc: Global, form: &Form) -> Result<String, AllocError> {
 }
 
 /// The text of the help: the commands, and then the form of each, as `clap` tells them, with its statuses and an
-/// example. Its error is want of memory.
+/// example. Its error is out of memory.
 pub fn help(alloc: Global) -> Result<String, AllocError> {
     let mut text = command_line(alloc)?.render_help()?;
     text.push_str(BELOW)?;
@@ -72,7 +72,7 @@ fn is_command_name(word: &str) -> bool
     is_judging_name(word) || is_telling_name(word) || is_single_name(word)
 }
 
-/// Whether a word behind a command asks for its help.
+/// Whether a word after a command asks for its help.
 fn is_option_of_help(word: &str) -> bool
     ensures { result ≡ is_help_option word.now }
 {
@@ -121,7 +121,7 @@ fn text_of_pair(alloc: Global, first: &str, second: &str) -> Result<Option<Strin
 }
 
 /// The text that words ask for: `--help`, `-h` or `help`, `--version` or `-V`, or of a command `help COMMAND`,
-/// `COMMAND --help` or `COMMAND -h`. None exactly where they ask for none. Its error is want of memory.
+/// `COMMAND --help` or `COMMAND -h`. None exactly where they ask for none. Its error is out of memory.
 pub fn text_asked(alloc: Global, words: &[String]) -> Result<Option<String>, AllocError>
     ensures asked { IfOk result (λ text. is_some text ≡ asks (map string_bytes words.now)) }
     ensures version { asks_version (map string_bytes words.now) ≡ true

@@ -10,7 +10,7 @@ use std::alloc::{AllocError, Global};
 const EMPTY: &str = "error: a word or a value is empty: is a variable of the shell not set?";
 
 const DASHES: &str =
-    "error: `-` and `--` are no words here: a file of such a name is named with ./ before it, and only behind `=` does \
+    "error: `-` and `--` are no words here: a file of such a name is named with ./ before it, and only after `=` does \
     a value begin with `-`";
 
 const DIGITS: &str =
@@ -26,7 +26,7 @@ const TIPS: [Meaning; 6] = [
     Meaning {
         start: "error: invalid value '",
         part: " for '<BUDGET>'",
-        text: "<BUDGET> stands behind the cut; it is a number of bits in decimal digits, as in the cut's line `bits`",
+        text: "<BUDGET> stands after the cut; it is a number of bits in decimal digits, as in the cut's line `bits`",
     },
     Meaning {
         start: "error: invalid value '",
@@ -52,7 +52,7 @@ const TIPS: [Meaning; 6] = [
 
 const ONE_SECRET: &str = "this command takes one secret; measure-all measures several together";
 
-const BEHIND: &str = "\nOptions stand behind the command. For all of it: flowcheck --help";
+const OPTIONS: &str = "\nOptions stand after the command. For all of it: flowcheck --help";
 
 /// The line of the form of the command that the words begin with, or of a command line where they begin with none.
 pub fn form_line(alloc: Global, words: &[String]) -> Result<String, AllocError> {
@@ -81,7 +81,7 @@ fn add_commands(text: &mut String) -> Result<(), AllocError> {
         text.push_str(form.name)?;
         lead = ", ";
     }
-    text.push_str(BEHIND)
+    text.push_str(OPTIONS)
 }
 
 /// That line, the options, and where the words and options of the command are told of; or the commands.
@@ -122,7 +122,7 @@ fn tip_of(words: &[String], head: &str) -> &'static str {
     tip
 }
 
-/// The start of what `clap` says is wrong with words, up to its first blank line, with what to do behind that and with
+/// The start of what `clap` says is wrong with words, up to its first blank line, with what to do after that and with
 /// its tips: those that name what there is, and not those that name `--`, which is no word here.
 fn start_of(alloc: Global, words: &[String], text: &str) -> Result<String, AllocError> {
     let (head, rest) = text.split_once("\n\n").unwrap_or((text, ""));
@@ -154,7 +154,7 @@ fn narrower(words: &[String]) -> &'static str {
     DIGITS
 }
 
-/// The words that are wrong: behind `help` a word that is no command, else all.
+/// The words that are wrong: after `help` a word that is no command, else all.
 fn wrong_words<'a>(words: &'a [String]) -> &'a [String] {
     match words {
         [first, rest @ ..] if first.as_str() == "help" && rest.len() == 1 => rest,
@@ -175,7 +175,7 @@ fn wrong(alloc: Global, words: &[String]) -> Result<String, AllocError> {
 }
 
 /// What is wrong with words that are no command line, the nearest name with it, an empty line, and the form of their
-/// command with a line feed. Its error is want of memory.
+/// command with a line feed. Its error is out of memory.
 pub fn complaint(alloc: Global, words: &[String]) -> Result<String, AllocError>
     ensures { IfOk result (λ text. IsComplaint (string_bytes text)) }
 {

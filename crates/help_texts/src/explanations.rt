@@ -54,7 +54,7 @@ fn of_command_line(
 }
 
 /// What the answer to words means and what to change, by its status and by the text that was put, or a beginning of it;
-/// None where there is nothing to say. Its error is want of memory.
+/// None where there is nothing to say. Its error is out of memory.
 pub fn explanation(
     alloc: Global,
     status: u8,

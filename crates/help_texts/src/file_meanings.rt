@@ -71,7 +71,7 @@ const PROGRAMS: [Meaning; 18] = [
     Meaning {
         start: "not-elf32 offset 0 ",
         part: "byte 0x7b",
-        text: "It begins with `{`, as a region file does. That stands behind --regions, and the program is the first \
+        text: "It begins with `{`, as a region file does. That stands after --regions, and the program is the first \
             file.",
     },
     Meaning {
@@ -186,7 +186,7 @@ const REGIONS: [Meaning; 7] = [
         start: "same-address",
         part: "",
         text: "Region N of the file, counted from 1, is left where it is entered. Take as `leave` the instruction \
-            behind the call, or the last of the function.",
+            after the call, or the last of the function.",
     },
     Meaning {
         start: "enter-twice",
@@ -211,7 +211,7 @@ const CUTS: [Meaning; 6] = [
         start: "version",
         part: "",
         text: "Its first line is neither `flowcheck-cut 1` nor `flowcheck-cut 2`. Is this file the cut, which stands \
-            behind the public input? Or did measure refuse, and its refusal went into the file? Its lines end with a \
+            after the public input? Or did measure refuse, and its refusal went into the file? Its lines end with a \
             line feed alone, not as those of Windows. tools/lint.py PROG CUT shows the line.",
     },
     Meaning {
@@ -229,7 +229,7 @@ const CUTS: [Meaning; 6] = [
     Meaning {
         start: "order",
         part: "",
-        text: "This line does not come behind the one before it. Skips ascend, and points by region, address and slot; \
+        text: "This line does not follow the one before it in order. Skips ascend, and points by region, address and slot; \
             none stands twice. tools/lint.py PROG CUT shows the order of the slots.",
     },
     Meaning {

@@ -17,8 +17,8 @@ fn finding<'a>(line: &'a str) -> Option<(&'a str, &'a str)> {
 /// Why a path is unclear, as a line `unclear path H bits N WHY` says.
 fn path_cause<'a>(line: &'a str) -> Option<&'a str> {
     let rest = line.strip_prefix("unclear path ")?;
-    let (_, behind) = rest.split_once(" bits ")?;
-    let (_, cause) = behind.split_once(' ')?;
+    let (_, after) = rest.split_once(" bits ")?;
+    let (_, cause) = after.split_once(' ')?;
     Some(cause)
 }
 

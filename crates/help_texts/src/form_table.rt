@@ -114,7 +114,7 @@ pub const FORMS: [Form; 13] = [
     },
     Form {
         name: "bound",
-        about: "Bound the outputs of PROG whatever the secret is, by walking all that can cross a cut",
+        about: "Bound the outputs of PROG for every secret whose run ends and breaks no region",
         words: &BOUND_WORDS,
         options: &[
             TURNS,

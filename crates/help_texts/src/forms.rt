@@ -30,7 +30,7 @@ pub struct Form {
     pub name: &'static str,
     /// What it does.
     pub about: &'static str,
-    /// The words behind the command, in their order.
+    /// The words after the command, in their order.
     pub words: &'static [Item],
     /// Its options.
     pub options: &'static [Item],

@@ -1,6 +1,6 @@
 //! How the meaning of a text that the program has put is looked up.
 
-/// What a text means that begins so and has this part behind it.
+/// What a text means that begins so and has this part after it.
 pub struct Meaning {
     /// The beginning.
     pub start: &'static str,

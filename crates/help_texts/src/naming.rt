@@ -83,7 +83,7 @@ const ROLES: [Role; 8] = [
     },
 ];
 
-/// Whether the value of an option is the word behind it: of one that takes a value, where no `=` stands in its word.
+/// Whether the value of an option is the word after it: of one that takes a value, where no `=` stands in its word.
 fn takes_next(form: &Form, word: &str) -> bool {
     let Some(name) = word.strip_prefix("--") else {
         return false;
@@ -96,7 +96,7 @@ fn takes_next(form: &Form, word: &str) -> bool {
     false
 }
 
-/// The words of a command line, the options with their values last: `clap` takes no secret behind an option.
+/// The words of a command line, the options with their values last: `clap` takes no secret after an option.
 pub fn options_last<'a>(alloc: Global, words: &'a [String]) -> Result<Vec<&'a str>, AllocError> {
     let mut ordered = Vec::new(alloc);
     let Some(form) = form_of(words) else {
@@ -117,14 +117,14 @@ pub fn options_last<'a>(alloc: Global, words: &'a [String]) -> Result<Vec<&'a st
     Ok(ordered)
 }
 
-/// What stands behind the command of a command line, by the names of its form; None where it is none.
+/// What stands after the command of a command line, by the names of its form; None where it is none.
 pub fn named<'a>(
     alloc: Global,
     words: &'a [&'a str],
 ) -> Result<Option<ArgMatches<'a>>, AllocError> {
     match command_line(alloc)?.try_get_matches_from(words) {
         Ok(mut matches) => match matches.remove_subcommand() {
-            Some((_, behind)) => Ok(Some(behind)),
+            Some((_, after)) => Ok(Some(after)),
             None => Ok(None),
         },
         Err(error) if error.kind() == ErrorKind::OutOfMemory => Err(AllocError),

@@ -45,7 +45,7 @@ pub fn malformed(
     Ok(Some(format!(in alloc; "error: {noun} {file}: {fault}\n{meaning}\n")?))
 }
 
-/// The number of a run of several and what stands behind it, where a fault begins so.
+/// The number of a run of several and what stands after it, where a fault begins so.
 fn numbered<'a>(fault: &'a str) -> Option<(&'a str, &'a str)> {
     let (word, rest) = fault.split_once(' ')?;
     if word != "run" && word != "length" {

@@ -49,7 +49,7 @@ pub const RUNS: [Meaning; 25] = [
     Meaning {
         start: "breakpoint",
         part: "",
-        text: "The guest came to ebreak, which a compiler puts where a program must not come: behind \
+        text: "The guest came to ebreak, which a compiler puts where a program must not come: after \
             __builtin_trap, __builtin_unreachable or abort.",
     },
     Meaning {
@@ -162,7 +162,7 @@ pub const FINDINGS: [Meaning; 15] = [
         start: "budget",
         part: "",
         text: "budget: more bits crossed at the cut than the budget allows. Take a BUDGET of at least the number \
-            behind `needed`; at most 2^BUDGET outputs arise then.",
+            after `needed`; at most 2^BUDGET outputs arise then.",
     },
     Meaning {
         start: "guest",
@@ -220,7 +220,7 @@ pub const FINDINGS: [Meaning; 15] = [
         start: "left",
         part: "",
         text: "left: the run decides by this value, or shows it, and the bits of the mask have not crossed. Add to the \
-            cut the line `point REGION ADDRESS SLOT rest MASK` with the words behind `left`, so that addresses ascend.",
+            cut the line `point REGION ADDRESS SLOT rest MASK` with the words after `left`, so that addresses ascend.",
     },
     Meaning {
         start: "secret-code",

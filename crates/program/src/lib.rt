@@ -1,5 +1,5 @@
-//! What the program does: the answer to its words over files on a disk and standard output, by books of both tables of mask rules;
-//! and texts for people.
+//! What the program does: the answer to its words over files on a disk and standard output, by books of both tables of
+//! mask rules; and texts for people.
 #![tactic(auto)]
 
 mod keeping;
@@ -14,7 +14,7 @@ use std::io::ErrorKind;
 use std::process::ExitCode;
 use transfer_rules::{book_1, book_2};
 
-/// The words after the program's name, or the status where they cannot be had: 8 for want of memory, else 9.
+/// The words after the program's name, or the status where they cannot be had: 8 where memory is out, else 9.
 fn words_of(rt: &HostRuntime, alloc: Global) -> Result<Vec<String>, u8> {
     let mut words = Vec::new(alloc);
     let args = match env::args(rt) {
@@ -51,7 +51,7 @@ fn explain(rt: HostRuntime, status: u8, text: &[u8]) {
 }
 
 /// Answers the words that the system gives, over files on a disk and standard output, and gives the status with which the
-/// process ends: that of the answer, 8 where the words cannot be had for want of memory, and 9 where they cannot be had
+/// process ends: that of the answer, 8 where the words cannot be had since memory is out, and 9 where they cannot be had
 /// for another cause. A text that is asked for is written in place of an answer. What an answer means that is not the
 /// plain one stands on standard error.
 pub fn run(rt: HostRuntime) -> ExitCode {

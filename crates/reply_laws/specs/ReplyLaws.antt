@@ -89,7 +89,7 @@ pub record CompletesBound (all : AllSecretsTask) (status : ℕ) : Type 0 where
   pub bounded : status ≡ 0 → HasBound all
   pub done : HasBound all → status ≡ 0
 
--- nothing refuses the run but want of memory, of which nothing is said
+-- nothing refuses the run but out of memory, of which nothing is said
 abbrev pub HasNoCause : RunTask → Type 0
 HasNoCause run =
     (fault : MeasureFault) → HasCause run.table run.guest.regions (start_of run) run.turns fault
@@ -101,7 +101,7 @@ pub record CompletesRun (run : RunTask) (status : ℕ) : Type 0 where
   pub measured : status ≡ 0 → HasNoCause run
   pub done : HasNoCause run → status ≡ 0
 
--- nothing refuses the runs together but want of memory
+-- nothing refuses the runs together but out of memory
 abbrev pub HaveNoCause : ManyRunsTask → Type 0
 HaveNoCause runs = (fault : ManyFault) → HasManyCause (setup_in runs) runs.secrets fault → fault ≡ NoRoomForRuns
 

@@ -55,7 +55,7 @@ pub fn unclear_line(alloc: Global, bits: &Bits, why: UnclearWhy) -> Result<Bytes
     Ok(Bytes::from_vec(text))
 }
 
-/// A number of bits in 64; the error is want of memory, which is answered too where there are more.
+/// A number of bits in 64; the error is out of memory, which also comes where there are more.
 fn counted(bits: u128) -> Result<u64, NoMemory>
     ensures { IfOk result (λ count. count ≡ bits) }
 {

@@ -28,7 +28,7 @@ impl Reply {
     }
 }
 
-/// The reply that an answer is told by: a refusal by its line. For want of memory there is none.
+/// The reply that an answer is told by: a refusal by its line. Out of memory there is none.
 pub fn reply_of(alloc: Global, answer: Result<Reply, Refusal>) -> Result<Reply, NoMemory>
     ensures { IfOk result (λ reply. (answer ≢ Err Memory) × (reply ≡ told answer)) }
 {

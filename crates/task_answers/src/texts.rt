@@ -31,7 +31,7 @@ pub fn status_of(taken: usize, checked: usize) -> Status
     }
 }
 
-/// The number of the next secret; the error is want of memory, which is answered too behind 2^32 secrets.
+/// The number of the next secret; the error is out of memory, which also comes after 2^32 secrets.
 pub fn next(number: u32) -> Result<u32, NoMemory>
     ensures { IfOk result (λ after. after ≡ number + 1) }
 {
