@@ -23,11 +23,11 @@ import tarfile
 import tempfile
 
 HERE = os.path.dirname(os.path.abspath(__file__))
-sys.path.insert(0, HERE)
+sys.path[:0] = [os.path.join(os.path.dirname(HERE), name) for name in ("packaging", "explain", "model")]
 
-from contents import TOP, Missing
-from help_table import NoTable
+from contents import TOP
 from install import BUILT, PROGRAM, install, needed, put, read
+from tool import Unusable, finish
 
 MACHINE = "x86_64-linux"
 X86_64 = 62
@@ -41,9 +41,9 @@ def git(*words):
     try:
         done = subprocess.run(["git", "-C", TOP, *words], capture_output=True, text=True, check=False)
     except OSError as fault:
-        raise Missing("git is not there: the archive is that of a commit") from fault
+        raise Unusable("git is not there: the archive is that of a commit") from fault
     if done.returncode:
-        raise Missing(f"git {words[0]}: {done.stderr.strip()}")
+        raise Unusable(f"git {words[0]}: {done.stderr.strip()}")
     return done.stdout.strip()
 
 
@@ -51,7 +51,7 @@ def commit():
     """The commit that is checked out, and its time in seconds; all must be committed."""
     changed = git("status", "--porcelain")
     if changed:
-        raise Missing(f"changed and not committed:\n{changed}")
+        raise Unusable(f"changed and not committed:\n{changed}")
     name, seconds = git("log", "-1", "--format=%H %ct").split()
     return name, int(seconds)
 
@@ -60,7 +60,7 @@ def wanted_library(program):
     """Which libraries an executable wants, in a sentence; it must be one for x86-64."""
     content = read(program)
     if content[:5] != b"\x7fELF\x02" or struct.unpack_from("<H", content, 18)[0] != X86_64:
-        raise Missing(f"{program} is no ELF file for x86-64")
+        raise Unusable(f"{program} is no ELF file for x86-64")
     start, size, count = (struct.unpack_from(form, content, at)[0] for form, at in (("<Q", 32), ("<H", 54), ("<H", 56)))
     kinds = [struct.unpack_from("<I", content, start + size * index)[0] for index in range(count)]
     if PT_INTERP not in kinds:
@@ -123,16 +123,9 @@ def main():
     parser.add_argument("folder", metavar="FOLDER")
     parser.add_argument("--program", metavar="FILE", default=BUILT)
     words = parser.parse_args()
-    try:
-        print(make(os.path.abspath(words.folder), words.program))
-    except (Missing, NoTable) as fault:
-        print(fault, file=sys.stderr)
-        return 3
-    except OSError as fault:
-        print(f"{fault.filename}: {fault.strerror}", file=sys.stderr)
-        return 3
+    print(make(os.path.abspath(words.folder), words.program))
     return 0
 
 
 if __name__ == "__main__":
-    sys.exit(main())
+    finish(main)

@@ -6,6 +6,8 @@ import re
 import subprocess
 import sys
 
+from tool import Unusable
+
 HERE = os.path.dirname(os.path.abspath(__file__))
 TOP = os.path.dirname(os.path.dirname(HERE))
 PARTS = ("explain", "model", "sweep", "guests")
@@ -20,10 +22,6 @@ CODE = (
 )
 # What stands in .gitignore: what stories make.
 MADE = ("__pycache__", "secrets", "*.elf", "*.cut", "*.report", "*.html", "*.new", "*.regions")
-
-
-class Missing(Exception):
-    """Something that belongs to the contents is not there; the text says what."""
 
 
 def files_below(folder):
@@ -73,7 +71,7 @@ def contract():
     done = subprocess.run(words, cwd=TOP, capture_output=True, text=True, check=False)
     found = set(re.findall(r"(?m)^ *\d+  (crates/\S+)  ", done.stdout))
     if done.returncode or not found:
-        raise Missing(f"tools/gate/definitions.py finds no definitions of {CALL}: {done.stderr.strip()}")
+        raise Unusable(f"tools/gate/definitions.py finds no definitions of {CALL}: {done.stderr.strip()}")
     return found
 
 
@@ -83,5 +81,5 @@ def contents():
     names = {*scripts(), *files_below("examples"), *files_below("docs"), *guests, *contract(), *DOCUMENTS, *CODE}
     absent = [name for name in names if not os.path.isfile(os.path.join(TOP, name))]
     if absent:
-        raise Missing(f"not there: {', '.join(sorted(absent))}")
+        raise Unusable(f"not there: {', '.join(sorted(absent))}")
     return sorted(names)

@@ -3,12 +3,10 @@ import dataclasses
 import re
 import subprocess
 
+from tool import Unusable
+
 SIZED = re.compile(r"at most \d+ (?:bytes|MiB)")
 CHOICE = re.compile(r"\b(\d) or (\d)\b")
-
-
-class NoTable(Exception):
-    """The program has no help that can be read; the text says why."""
 
 
 @dataclasses.dataclass(frozen=True)
@@ -71,9 +69,9 @@ def answer(program, *words):
     try:
         done = subprocess.run([*program, *words], capture_output=True, text=True, check=False)
     except OSError as fault:
-        raise NoTable(f"{program[0]}: {fault.strerror}") from fault
+        raise Unusable(f"{program[0]}: {fault.strerror}") from fault
     if done.returncode:
-        raise NoTable(f"{' '.join([*program, *words])} ends with status {done.returncode}")
+        raise Unusable(f"{' '.join([*program, *words])} ends with status {done.returncode}")
     return done.stdout
 
 
@@ -115,7 +113,7 @@ def command_of(program, name):
     about, form, sections = sections_of(answer(program, "help", name))
     title = next((title for title in sections if title.startswith("Example")), None)
     if not form.startswith(f"flowcheck {name}") or title is None or "Status" not in sections:
-        raise NoTable(f"flowcheck help {name} has no form, no statuses or no example")
+        raise Unusable(f"flowcheck help {name} has no form, no statuses or no example")
     statuses = tuple((int(number), told) for number, told in map(pair_of, sections["Status"]))
     return Command(
         name, about, form, tuple(map(word_of, sections.get("Arguments", []))),
@@ -129,6 +127,6 @@ def table_of(program):
     version, _, kit = answer(program, "--version").partition("\n")
     about, _, sections = sections_of(answer(program, "--help").split("\n\nflowcheck help ")[0])
     if not version.startswith("flowcheck ") or "Commands" not in sections:
-        raise NoTable("the program prints no version, or no list of commands")
+        raise Unusable("the program prints no version, or no list of commands")
     names = [pair_of(line)[0] for line in sections["Commands"]]
     return Table(version, kit.strip(), about, tuple(command_of(program, name) for name in names))

@@ -16,11 +16,12 @@ import shutil
 import sys
 
 HERE = os.path.dirname(os.path.abspath(__file__))
-sys.path.insert(0, HERE)
+sys.path[:0] = [os.path.join(os.path.dirname(HERE), name) for name in ("packaging", "explain", "model")]
 
-from contents import TOP, Missing, contents
-from help_table import NoTable, table_of
+from contents import TOP, contents
+from help_table import table_of
 from pages import COMPLETIONS, PAGE, texts_of
+from tool import Unusable, finish
 
 PROGRAM = "bin/flowcheck"
 SHARED = "share/flowcheck"
@@ -44,7 +45,7 @@ def read(path):
 def needed(program):
     """The path of a program, which must be there."""
     if not os.access(program, os.X_OK) or os.path.isdir(program):
-        raise Missing(f"{program} is no built program: `make` builds it where the Rattle kit is, and PROGRAM=FILE "
+        raise Unusable(f"{program} is no built program: `make` builds it where the Rattle kit is, and PROGRAM=FILE "
                       "names one that was built elsewhere")
     return os.path.abspath(program)
 
@@ -67,7 +68,7 @@ def remove(prefix):
     """Removes what was installed, where anything was; folders that others use stay."""
     shared = os.path.join(prefix, SHARED)
     if os.path.isdir(shared) and not os.path.exists(os.path.join(shared, "tools", "explain.py")):
-        raise Missing(f"{shared} has no tools/explain.py: it was not installed by this script, and stays")
+        raise Unusable(f"{shared} has no tools/explain.py: it was not installed by this script, and stays")
     for name in (PROGRAM, PAGE, *COMPLETIONS):
         path = os.path.join(prefix, name)
         if os.path.exists(path):
@@ -83,19 +84,12 @@ def main():
     parser.add_argument("--program", metavar="FILE", default=BUILT)
     parser.add_argument("--remove", action="store_true")
     words = parser.parse_args()
-    try:
-        if words.remove:
-            remove(words.prefix)
-        else:
-            install(words.prefix, words.program)
-    except (Missing, NoTable) as fault:
-        print(fault, file=sys.stderr)
-        return 3
-    except OSError as fault:
-        print(f"{fault.filename}: {fault.strerror}", file=sys.stderr)
-        return 3
+    if words.remove:
+        remove(words.prefix)
+    else:
+        install(words.prefix, words.program)
     return 0
 
 
 if __name__ == "__main__":
-    sys.exit(main())
+    finish(main)

@@ -16,12 +16,13 @@ import shlex
 import sys
 
 HERE = os.path.dirname(os.path.abspath(__file__))
-sys.path[:0] = [HERE, os.path.join(os.path.dirname(HERE), "explain")]
+sys.path[:0] = [os.path.join(os.path.dirname(HERE), name) for name in ("packaging", "explain", "model")]
 
 from built_program import program_words
 from completions import bash_completion, fish_completion, zsh_completion
-from help_table import NoTable, table_of
+from help_table import table_of
 from man_page import man_page
+from tool import finish
 
 PAGE = "share/man/man1/flowcheck.1"
 COMPLETIONS = {
@@ -46,20 +47,13 @@ def main():
     program = program_words() if words.flowcheck is None else shlex.split(words.flowcheck)
     if not program:
         parser.error("there is no built program: --flowcheck names one")
-    try:
-        for name, text in texts_of(table_of(program), words.date).items():
-            path = os.path.join(words.folder, name)
-            os.makedirs(os.path.dirname(path), exist_ok=True)
-            with open(path, "w", encoding="utf-8") as file:
-                file.write(text)
-    except NoTable as fault:
-        print(fault, file=sys.stderr)
-        return 3
-    except OSError as fault:
-        print(f"{fault.filename}: {fault.strerror}", file=sys.stderr)
-        return 3
+    for name, text in texts_of(table_of(program), words.date).items():
+        path = os.path.join(words.folder, name)
+        os.makedirs(os.path.dirname(path), exist_ok=True)
+        with open(path, "w", encoding="utf-8") as file:
+            file.write(text)
     return 0
 
 
 if __name__ == "__main__":
-    sys.exit(main())
+    finish(main)
