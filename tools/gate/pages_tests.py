@@ -15,7 +15,7 @@ import subprocess
 import sys
 
 HERE = os.path.dirname(os.path.abspath(__file__))
-sys.path[:0] = [HERE, os.path.join(os.path.dirname(HERE), "packaging"), os.path.join(os.path.dirname(HERE), "explain")]
+sys.path[:0] = [HERE, *(os.path.join(os.path.dirname(HERE), name) for name in ("packaging", "explain", "model"))]
 
 from built_program import program_words
 from expecting import Expectations, run_all
