@@ -2,8 +2,8 @@
 """tests.py [FLOWCHECK] [TEST...]
 
 The tests of `tools/sweep.py` on this machine, some minutes with one processor: with a program that stands in for
-`check` and dies when it is told to, and, where the built program is named, with that too. Wants GNU parallel (Debian
-parallel)."""
+`check` and dies when it is told to, and, where the built program is named, with that too. It needs GNU parallel and
+rsync (Debian's packages parallel and rsync)."""
 import argparse
 import csv
 import hashlib
