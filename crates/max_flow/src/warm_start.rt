@@ -1,11 +1,14 @@
 ghost use Rattle.std.specs.Prelude.{length, IfOk};
 ghost use Rattle.max_flow.specs.Private.Balances.{IsFlowOfValue};
+ghost use Rattle.max_flow.specs.Private.Rooms.{HasSmallSide};
 ghost use Rattle.max_flow.specs.Private.Solving.{net_of, IsNetwork, AreZeros};
 
+use crate::deepening::deepen;
 use crate::feasible::value_of_flow;
 use crate::networks::Network;
 use crate::preflow::Preflow;
 use crate::returning::make_flow;
+use crate::searching::search;
 use flow_base::NoMemory;
 use std::alloc::Global;
 
@@ -16,11 +19,20 @@ pub struct Start {
     pub flows: Vec<u64>,
 }
 
+/// So many zeros.
+fn zeros(alloc: Global, count: usize) -> Result<Vec<u64>, NoMemory>
+    ensures { IfOk result (λ numbers. AreZeros count numbers.items) }
+{
+    let numbers = vec![in alloc; 0; count]?;
+    Ok(numbers)
+}
+
 /// The flow that is 0 on each edge.
 fn no_flow(alloc: Global, network: &Network) -> Result<Vec<u64>, NoMemory>
-    ensures { IfOk result (λ flows. AreZeros (length network.now.tails.items) flows.items) }
+    requires { IsNetwork network.now }
+    ensures { IfOk result (λ flows. IsFlowOfValue (net_of network.now) flows.items 0) }
 {
-    let flows = vec![in alloc; 0; network.edges()]?;
+    let flows = zeros(alloc, network.edges())?;
     Ok(flows)
 }
 
@@ -34,15 +46,47 @@ fn guess(alloc: Global, network: &Network) -> Result<Vec<u64>, NoMemory>
     preflow.rows.flows(alloc, network)
 }
 
-/// The flow that the search begins with: the numbers of a preflow where they are a flow, or else none.
-pub fn first_flow(alloc: Global, network: &Network) -> Result<Start, NoMemory>
-    requires { IsNetwork network.now }
+/// Adds the walk of one search to no flow, and those over the nodes that it placed. Gives the value.
+fn raise_once(alloc: Global, network: &Network, flows: &mut [u64]) -> Result<u64, NoMemory>
+    requires network { IsNetwork network.now }
+    requires small { HasSmallSide (net_of network.now) }
+    requires none { IsFlowOfValue (net_of network.now) flows.old 0 }
+    ensures { IfOk result (λ value. IsFlowOfValue (net_of network.now) flows.new value) }
+{
+    let tree = search(alloc, network, flows)?;
+    if tree.place(1) == 0 {
+        return Ok(0);
+    }
+    let value = deepen(alloc, network, flows, &tree)?;
+    Ok(value)
+}
+
+/// The flow of one round of the search.
+fn first_round(alloc: Global, network: &Network) -> Result<Start, NoMemory>
+    requires network { IsNetwork network.now }
+    requires small { HasSmallSide (net_of network.now) }
     ensures { IfOk result (λ start. IsFlowOfValue (net_of network.now) start.flows.items start.value) }
 {
-    let flows = guess(alloc, network)?;
-    if let Some(value) = value_of_flow(alloc, network, &flows)? {
-        return Ok(Start { value, flows });
+    let mut flows = no_flow(alloc, network)?;
+    let value = raise_once(alloc, network, &mut flows)?;
+    Ok(Start { value, flows })
+}
+
+/// The flow that the search goes on from: that of its first round; or where the sink is still reached then, the numbers
+/// of a preflow, if they are a flow.
+pub fn first_flow(alloc: Global, network: &Network) -> Result<Start, NoMemory>
+    requires network { IsNetwork network.now }
+    requires small { HasSmallSide (net_of network.now) }
+    ensures { IfOk result (λ start. IsFlowOfValue (net_of network.now) start.flows.items start.value) }
+{
+    let first = first_round(alloc, network)?;
+    let tree = search(alloc, network, &first.flows)?;
+    if tree.place(1) == 0 {
+        return Ok(first);
     }
-    let flows = no_flow(alloc, network)?;
-    Ok(Start { value: 0, flows })
+    let flows = guess(alloc, network)?;
+    match value_of_flow(alloc, network, &flows)? {
+        Some(value) => Ok(Start { value, flows }),
+        None => Ok(first),
+    }
 }
