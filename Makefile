@@ -18,7 +18,7 @@ OUT ?= dist
 
 build:
 	@command -v rt >/dev/null || { \
-	    echo "There is no rt on the PATH. The program is built by the Rattle kit rattle-kit-13f, one folder from the" \
+	    echo "There is no rt on the PATH. The program is built by the Rattle kit rattle-kit-13, one folder from the" \
 	        "makers of Rattle. Without it take an archive that make dist made, or name a program that was built" \
 	        "elsewhere: make install PROGRAM=FILE" >&2; exit 1; }
 	cd crates/flowcheck && rt run -- --version

@@ -8,7 +8,7 @@ use Rattle.cut_file.specs.Cuts.{CutPicture}
 use Rattle.cut_file.specs.Texts.{CutText}
 use Rattle.cut_file.specs.Faults.{FirstCutFault}
 use Rattle.cut_file.specs.Pictures.{picture_of}
-use Rattle.cut_file.specs.Reading.{cut_in}
+use Rattle.cut_file.specs.Private.Reading.{cut_in}
 use Rattle.cut_file.proofs.FileReads.{CutAnswer, cut-answer}
 use Rattle.cut_file.proofs.FileTexts.{cut-own, fault-own, faulty, faulty-same, fine}
 

@@ -11,8 +11,8 @@ use Rattle.cut_file.specs.Cuts.{CutPicture, is_empty, is_valid}
 use Rattle.cut_file.specs.Faults.{FirstCutFault, HasLine, IsOpen, IsOutOfOrder, MayStand, Stands, has_feed}
 use Rattle.cut_file.specs.Fronts.{Front, followed, front_text, is_front, is_whole, lines_before, version_of}
 use Rattle.cut_file.specs.Fronts.Front.{Nothing, Versioned, Sized, Listed, Whole}
-use Rattle.cut_file.specs.Reading.{◌>>◌, Read, cut_in, is_in_order, line_in, lines_in, or_fault, parts, unfit}
-use Rattle.cut_file.specs.Reading.{unless_whole, whole_cut, with_line, with_text}
+use Rattle.cut_file.specs.Private.Reading.{◌>>◌, Read, cut_in, is_in_order, line_in, lines_in, or_fault, parts, unfit}
+use Rattle.cut_file.specs.Private.Reading.{unless_whole, whole_cut, with_line, with_text}
 use Rattle.cut_file.specs.Texts.{CutText, cut_text, joined}
 use Rattle.cut_file.proofs.Fronts.{next-lines, next-ordered}
 use Rattle.cut_file.proofs.LineTexts.{line-found, line-own}

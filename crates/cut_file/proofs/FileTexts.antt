@@ -16,8 +16,8 @@ use Rattle.cut_file.specs.Cuts.{is_version, is_word, stands_before}
 use Rattle.cut_file.specs.Faults.{FirstCutFault, HasLine, IsOpen, MayStand, Stands}
 use Rattle.cut_file.specs.Fronts.{Front, followed, front_text, is_front, is_whole, lines_before, version_of}
 use Rattle.cut_file.specs.Fronts.Front.{Nothing, Versioned, Sized, Listed, Whole}
-use Rattle.cut_file.specs.Reading.{◌>>◌, Read, cut_in, is_in_order, lines_in, or_fault, parts, unfit}
-use Rattle.cut_file.specs.Reading.{unless_whole, whole_cut, with_line, with_text}
+use Rattle.cut_file.specs.Private.Reading.{◌>>◌, Read, cut_in, is_in_order, lines_in, or_fault, parts, unfit}
+use Rattle.cut_file.specs.Private.Reading.{unless_whole, whole_cut, with_line, with_text}
 use Rattle.cut_file.specs.Texts.{CutText, cut_text, is_line, joined, line_text, lines_text, open_lines}
 use Rattle.cut_file.proofs.FileReads.{TextAnswer, feed-byte, text-answer}
 use Rattle.cut_file.proofs.Following.{is_kept, kept-step}

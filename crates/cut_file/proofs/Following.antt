@@ -11,7 +11,7 @@ use Rattle.cut_file.specs.Cuts.{are_points, are_points_of, are_regions, is_valid
 use Rattle.cut_file.specs.Cuts.{is_region, is_single, is_word, neighbours_pass, stands_before}
 use Rattle.cut_file.specs.declared.cuts.Cut.{Cut}
 use Rattle.cut_file.specs.Pictures.{picture_of}
-use Rattle.cut_file.specs.Reading.{may_follow}
+use Rattle.cut_file.specs.Private.Reading.{may_follow}
 
 pub may_follow-last : {A : Type 0} (test : A → A → Bool) (items : List A) (item last : A) → 0 < length items →
     may_follow test items item ≡ test (get_or items (length items - 1) last) item

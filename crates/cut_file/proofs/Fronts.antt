@@ -12,7 +12,7 @@ use Rattle.cut_file.specs.Cuts.{CutPicture, are_points_of, are_regions, is_empty
 use Rattle.cut_file.specs.Cuts.{is_version, is_word, neighbours_pass, stands_before}
 use Rattle.cut_file.specs.Fronts.{Front, bare_cut, followed, front_text, is_front, lines_before, version_of}
 use Rattle.cut_file.specs.Fronts.Front.{Nothing, Versioned, Sized, Listed, Whole}
-use Rattle.cut_file.specs.Reading.{is_in_order, may_follow}
+use Rattle.cut_file.specs.Private.Reading.{is_in_order, may_follow}
 use Rattle.cut_file.specs.Texts.{is_line, line_text, lines_text, open_lines}
 use Rattle.cut_file.proofs.Following.{all-push, neighbours-push}
 use Rattle.cut_file.proofs.Pieces.{lines-append}

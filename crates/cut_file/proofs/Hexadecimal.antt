@@ -5,7 +5,7 @@ use Rattle.std.specs.Prelude.{map}
 use Rattle.std.specs.Str.{bytes_eq}
 use Rattle.std.proofs.lemmas.Slice.Eq.{bytes_eq-Decides}
 use Rattle.flow_base.specs.HexWords.{hex_digit, hex_word}
-use Rattle.cut_file.specs.Reading.{nibble_of, word_in, word_of}
+use Rattle.cut_file.specs.Private.Reading.{nibble_of, word_in, word_of}
 use Rattle.cut_file.proofs.Parts.{has_byte}
 use Rattle.cut_file.proofs.Numbers.{clean-cons, some-same}
 

@@ -12,8 +12,8 @@ use Rattle.cut_file.specs.Cuts.{CutPicture, is_empty}
 use Rattle.cut_file.specs.Fronts.{Front, followed, is_front, is_whole, version_of}
 use Rattle.cut_file.specs.Fronts.Front.{Nothing, Whole}
 use Rattle.cut_file.specs.Pictures.{front_of}
-use Rattle.cut_file.specs.Reading.{◌>>◌, cut_in, divided, is_in_order, lines_in, or_fault, parts, unfit}
-use Rattle.cut_file.specs.Reading.{whole_cut, with_line, with_text}
+use Rattle.cut_file.specs.Private.Reading.{◌>>◌, cut_in, divided, is_in_order, lines_in, or_fault, parts, unfit}
+use Rattle.cut_file.specs.Private.Reading.{whole_cut, with_line, with_text}
 use Rattle.cut_file.specs.Texts.{is_line}
 use Rattle.cut_file.proofs.FileTexts.{file-finish, fine, fine-same, faulty, lines-end, lines-fail, lines-go}
 use Rattle.cut_file.proofs.Following.{is_true}

@@ -13,8 +13,8 @@ use Rattle.flow_base.proofs.WantedTexts.{after-found, after-own}
 use Rattle.cut_file.specs.declared.points.CutPoint.{CutPoint}
 use Rattle.cut_file.specs.Cuts.{is_region, is_version, is_word}
 use Rattle.cut_file.specs.Texts.{is_line, line_text}
-use Rattle.cut_file.specs.Reading.{is_short, line_in, number_behind, number_in}
-use Rattle.cut_file.specs.Reading.{number_line_in, point_in, tested_number}
+use Rattle.cut_file.specs.Private.Reading.{is_short, line_in, number_behind, number_in}
+use Rattle.cut_file.specs.Private.Reading.{number_line_in, point_in, tested_number}
 use Rattle.cut_file.proofs.Numbers.{clean-append, decimal-clean, number-found, number-own}
 use Rattle.cut_file.proofs.Parts.{has_byte}
 use Rattle.cut_file.proofs.PointLines.{point-found, point-own, point_line-clean}

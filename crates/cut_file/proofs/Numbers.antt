@@ -6,7 +6,7 @@ use Rattle.std.specs.Fmt.{decimal}
 use Rattle.std.proofs.lemmas.Fmt.{decimal_by_steps, decimal_digit, decimal_step, decimal_nonempty, first_decimal}
 use Rattle.std.proofs.lemmas.Bool.{ne_eqb, cases_eq}
 use Rattle.std.proofs.lemmas.List.{append-nil}
-use Rattle.cut_file.specs.Reading.{digits_in, has_leading_zero, is_digit, number_in}
+use Rattle.cut_file.specs.Private.Reading.{digits_in, has_leading_zero, is_digit, number_in}
 use Rattle.cut_file.proofs.Parts.{has_byte}
 
 -- ---- what is written is read

@@ -6,7 +6,7 @@ use Rattle.std.proofs.lemmas.Bool.{and_parts, cases_Bool, cond-false, cond-true,
 use Rattle.std.proofs.lemmas.Bool.{or_parts}
 use Rattle.cut_file.specs.Texts.{joined}
 use Rattle.cut_file.specs.Cuts.{is_empty}
-use Rattle.cut_file.specs.Reading.{divided, with_byte, onto_first, parts}
+use Rattle.cut_file.specs.Private.Reading.{divided, with_byte, onto_first, parts}
 
 -- the halves behind bytes without a separator
 abbrev pub with_front : List ℕ → Option (List ℕ × List ℕ) → Option (List ℕ × List ℕ)

@@ -23,11 +23,11 @@ use Rattle.flow_base.specs.TextPieces.{after_text}
 use Rattle.flow_base.proofs.WantedTexts.{after-found, after-own}
 use Rattle.cut_file.specs.declared.lines.Line.TheVariants as forms
 use Rattle.cut_file.specs.Texts.{joined, line_text, point_words, rest_text, run_text}
-use Rattle.cut_file.specs.Reading.{◌>>=◌, divided, first_of, may_follow}
-use Rattle.cut_file.specs.Reading.{number_in, others_of, parts}
-use Rattle.cut_file.specs.Reading.{only_mask_in, pattern_in, place_in, point_in, point_in_words, rest_in}
-use Rattle.cut_file.specs.Reading.{run_in, runs_in, single_in}
-use Rattle.cut_file.specs.Reading.{slot_in, word_in}
+use Rattle.cut_file.specs.Private.Reading.{◌>>=◌, divided, first_of, may_follow}
+use Rattle.cut_file.specs.Private.Reading.{number_in, others_of, parts}
+use Rattle.cut_file.specs.Private.Reading.{only_mask_in, pattern_in, place_in, point_in, point_in_words, rest_in}
+use Rattle.cut_file.specs.Private.Reading.{run_in, runs_in, single_in}
+use Rattle.cut_file.specs.Private.Reading.{slot_in, word_in}
 use Rattle.cut_file.proofs.Parts.{clean_words, divided-found, divided-own, has_byte, joined-parts, parts-joined}
 use Rattle.cut_file.proofs.Following.{kept-step, list-push}
 use Rattle.cut_file.proofs.Numbers.{clean-append, clean-cons, decimal-clean, number-found, number-own}

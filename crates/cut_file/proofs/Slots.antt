@@ -10,7 +10,7 @@ use Rattle.flow_base.specs.declared.points.Slot.{Slot}
 use Rattle.flow_base.specs.declared.points.Slot.TheVariants.{First, Second, Address, Result, Decision, Number, Arg0}
 use Rattle.flow_base.specs.declared.points.Slot.TheVariants.{Arg1, Arg2, SecretIn, ByteOut, Status, OutReg, OutRange}
 use Rattle.flow_base.specs.Points.{is_slot, slot_text}
-use Rattle.cut_file.specs.Reading.{named_slot, number_in, numbered_slot, or_else, slot_in, slot_of}
+use Rattle.cut_file.specs.Private.Reading.{named_slot, number_in, numbered_slot, or_else, slot_in, slot_of}
 use Rattle.cut_file.proofs.Parts.{has_byte}
 use Rattle.cut_file.proofs.Numbers.{clean-cons, decimal-begins, decimal-clean, number-found, number-own}
 

@@ -3,7 +3,7 @@ use Rattle.std.proofs.Common.{◌≡◌, ◌⊎◌, ℕ, ◌<◌, Bool, true, fa
 use Rattle.std.proofs.Common.{Option, Some, None, refl, ap, subst, arith}
 use Rattle.std.specs.Prelude.{option_map}
 use Rattle.cut_file.specs.Cuts.{is_word}
-use Rattle.cut_file.specs.Reading.{◌>>=◌, or_else}
+use Rattle.cut_file.specs.Private.Reading.{◌>>=◌, or_else}
 
 pub record IsThen {A B : Type 0} (first : Option A) (next : A → Option B) (answer : B) : Type 0 where
   pub value : A

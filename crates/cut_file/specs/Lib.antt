@@ -6,7 +6,6 @@ pub mod FaultTexts
 pub mod Masks
 pub mod Folds
 pub mod Pictures
-pub mod Reading
 pub mod CutLaws
 pub mod TextLengths
 pub mod Private

@@ -1,8 +1,8 @@
 ghost use Rattle.std.specs.Prelude.{◌≡◌, [], codes, option_map, IfOk, OnSome};
 ghost use Rattle.cut_file.specs.Cuts.{have_other_masks, is_region, is_version, is_word};
-ghost use Rattle.cut_file.specs.Reading.{is_short, line_in, may_follow, number_behind as number_behind_text};
-ghost use Rattle.cut_file.specs.Reading.{number_line_in, only_mask_in, others_of, pattern_in, place_in, point_in};
-ghost use Rattle.cut_file.specs.Reading.{point_in_words, rest_in, runs_in, single_in, tested_number};
+ghost use Rattle.cut_file.specs.Private.Reading.{is_short, line_in, may_follow, number_behind as number_behind_text};
+ghost use Rattle.cut_file.specs.Private.Reading.{number_line_in, only_mask_in, others_of, pattern_in, place_in, point_in};
+ghost use Rattle.cut_file.specs.Private.Reading.{point_in_words, rest_in, runs_in, single_in, tested_number};
 
 use crate::line_words::LineWords;
 use crate::lines::Line;

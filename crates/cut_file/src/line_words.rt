@@ -1,5 +1,5 @@
 ghost use Rattle.std.specs.Prelude.{◌≡◌, option_map};
-ghost use Rattle.cut_file.specs.Reading.{first_of, others_of, parts};
+ghost use Rattle.cut_file.specs.Private.Reading.{first_of, others_of, parts};
 
 use crate::words::divide;
 use std::marker::Model;
@@ -12,7 +12,7 @@ pub(crate) struct LineWords<'a> {
 
 impl<'a> Model for LineWords<'a> {
     ghost use Rattle.std.specs.Prelude.{List, ℕ};
-    ghost use Rattle.cut_file.specs.Reading.{words_left};
+    ghost use Rattle.cut_file.specs.Private.Reading.{words_left};
 
     ghost Value = { List (List ℕ) };
 

@@ -6,8 +6,8 @@ ghost use Rattle.cut_file.specs.Faults.{FirstCutFault};
 ghost use Rattle.cut_file.specs.Fronts.{bare_cut as bare, is_front, version_of};
 ghost use Rattle.cut_file.specs.Fronts.Front.{Listed, Nothing};
 ghost use Rattle.cut_file.specs.Pictures.{front_of, picture_of};
-ghost use Rattle.cut_file.specs.Reading.{cut_in, is_short, lines_in, may_follow, parts, unfit as unfit_line};
-ghost use Rattle.cut_file.specs.Reading.{with_line as lined, with_text as texted};
+ghost use Rattle.cut_file.specs.Private.Reading.{cut_in, is_short, lines_in, may_follow, parts, unfit as unfit_line};
+ghost use Rattle.cut_file.specs.Private.Reading.{with_line as lined, with_text as texted};
 ghost use Rattle.cut_file.specs.Texts.{CutText, is_line};
 
 use crate::cuts::Cut;

@@ -1,8 +1,8 @@
 ghost use Rattle.std.specs.Prelude.{◌≡◌, ◌≤◌, ◌<◌, ◌+◌, length, option_map, IfSome};
-ghost use Rattle.cut_file.specs.Reading.{digits_in, divided, nibble_of};
-ghost use Rattle.cut_file.specs.Reading.{has_leading_zero as begins_with_zero};
-ghost use Rattle.cut_file.specs.Reading.{named_slot as slot_named, number_in, numbered_slot as slot_numbered, run_in};
-ghost use Rattle.cut_file.specs.Reading.{slot_in, slot_of as slot_from, word_in, word_of};
+ghost use Rattle.cut_file.specs.Private.Reading.{digits_in, divided, nibble_of};
+ghost use Rattle.cut_file.specs.Private.Reading.{has_leading_zero as begins_with_zero};
+ghost use Rattle.cut_file.specs.Private.Reading.{named_slot as slot_named, number_in, numbered_slot as slot_numbered, run_in};
+ghost use Rattle.cut_file.specs.Private.Reading.{slot_in, slot_of as slot_from, word_in, word_of};
 
 use crate::points::Run;
 use flow_base::{Slot, digit, hex_word};

@@ -5,7 +5,7 @@ use Rattle.std.specs.List.{list_all}
 use Rattle.std.proofs.lemmas.Bool.{and_parts, and_from, lt-ltb}
 use Rattle.std.proofs.lemmas.List.{append-nil, replicate-append-replicate}
 use Rattle.cut_file.specs.Cuts.{neighbours_pass}
-use Rattle.cut_file.specs.Reading.{may_follow}
+use Rattle.cut_file.specs.Private.Reading.{may_follow}
 use Rattle.cut_file.proofs.Following.{neighbours-push, all-push, is_true, is_so, list-push}
 use Rattle.measuring.specs.declared.point_visits.VisitRun.{VisitRun}
 use Rattle.measuring.specs.VisitRuns.{run_masks, is_visit_run, have_other_masks, are_visit_runs}

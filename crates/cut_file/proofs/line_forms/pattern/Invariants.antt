@@ -1,5 +1,5 @@
 use Rattle.std.proofs.Common.{◌≡◌, [], length}
-use Rattle.cut_file.specs.Reading.{pattern_in}
+use Rattle.cut_file.specs.Private.Reading.{pattern_in}
 use Rattle.cut_file.proofs.line_forms.pattern.Given as goal
 
 abbrev pub decreases-loop-word : goal.decreases-loop-word

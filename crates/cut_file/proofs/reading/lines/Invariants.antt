@@ -3,7 +3,7 @@ use Rattle.std.proofs.Common.{IsTrue}
 use Rattle.cut_file.specs.Fronts.{is_front}
 use Rattle.cut_file.specs.Fronts.Front.{Nothing}
 use Rattle.cut_file.specs.Pictures.{front_of}
-use Rattle.cut_file.specs.Reading.{lines_in, parts}
+use Rattle.cut_file.specs.Private.Reading.{lines_in, parts}
 use Rattle.cut_file.proofs.reading.lines.Given as goal
 
 abbrev pub decreases-loop-text : goal.decreases-loop-text

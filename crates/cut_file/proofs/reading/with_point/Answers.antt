@@ -3,7 +3,7 @@ use Rattle.std.proofs.lemmas.Grind.{common_steps}
 use Rattle.std.proofs.Common.{IsTrue, List, subst, sym}
 use Rattle.cut_file.specs.declared.points.CutPoint.{CutPoint}
 use Rattle.cut_file.specs.Cuts.{are_points, stands_before}
-use Rattle.cut_file.specs.Reading.{may_follow}
+use Rattle.cut_file.specs.Private.Reading.{may_follow}
 use Rattle.cut_file.proofs.Following.{point-known, points-known, points-push}
 use Rattle.cut_file.proofs.reading.with_point.Goals as goal
 

@@ -1,6 +1,6 @@
 use Rattle.std.proofs.Common.{◌≡◌, ◌++◌, ◌∷◌, [], nat_lt, true, arith}
 use Rattle.std.proofs.lemmas.Grind.{common_steps}
-use Rattle.cut_file.specs.Reading.{may_follow}
+use Rattle.cut_file.specs.Private.Reading.{may_follow}
 use Rattle.cut_file.proofs.Following.{regions-push}
 use Rattle.cut_file.proofs.reading.with_region.Goals as goal
 

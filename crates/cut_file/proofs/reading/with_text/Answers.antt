@@ -1,7 +1,7 @@
 use Rattle.std.proofs.Common.{◌≡◌, ◌≤◌, length, Some, sym, ap, ◌∙◌, arith}
 use Rattle.cut_file.specs.Fronts.{version_of}
 use Rattle.cut_file.specs.Pictures.{front_of}
-use Rattle.cut_file.specs.Reading.{line_in}
+use Rattle.cut_file.specs.Private.Reading.{line_in}
 use Rattle.cut_file.proofs.LineDrafts.{always-ok, next-ok}
 use Rattle.cut_file.proofs.Following.{is_so, is_true}
 use Rattle.cut_file.proofs.LineTexts.{line-found, line-long}

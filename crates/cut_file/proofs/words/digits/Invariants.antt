@@ -1,5 +1,5 @@
 use Rattle.std.proofs.Common.{◌≡◌, length}
-use Rattle.cut_file.specs.Reading.{digits_in}
+use Rattle.cut_file.specs.Private.Reading.{digits_in}
 use Rattle.cut_file.proofs.words.digits.Given as goal
 
 abbrev pub decreases-loop-rest : goal.decreases-loop-rest

@@ -1,5 +1,5 @@
 use Rattle.std.proofs.Common.{◌≡◌, take, drop}
-use Rattle.cut_file.specs.Reading.{divided}
+use Rattle.cut_file.specs.Private.Reading.{divided}
 use Rattle.cut_file.proofs.Parts.{with_front}
 use Rattle.cut_file.proofs.words.divide.Given as goal
 

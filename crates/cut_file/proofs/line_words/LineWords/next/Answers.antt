@@ -1,6 +1,6 @@
 use Rattle.std.proofs.Common.{◌≡◌, Some, None, sym, ap, ◌∙◌, arith}
 use Rattle.std.proofs.lemmas.Grind.{common_steps}
-use Rattle.cut_file.specs.Reading.{divided, first_of, others_of, parts, words_left}
+use Rattle.cut_file.specs.Private.Reading.{divided, first_of, others_of, parts, words_left}
 use Rattle.cut_file.proofs.Parts.{parts-alone, parts-divided}
 use Rattle.cut_file.proofs.line_words.LineWords.next.Goals as goal
 
