@@ -69,7 +69,7 @@ fn skipped_region(text: &[u8]) -> Option<u16>
 }
 
 // The point of the first three words.
-#[tactic(auto, unfolding(crate::specs::Reading::place_in))]
+#[tactic(auto, unfolding(crate::specs::Private::Reading::place_in))]
 fn place(words: &mut LineWords) -> Option<Point>
     ensures point { result ≡ place_in words.old }
     ensures left { OnSome result (words.new ≡ others_of (others_of (others_of words.old))) }
@@ -99,7 +99,7 @@ fn may_follow_runs(runs: &[Run], run: &Run) -> bool
 }
 
 // The runs of the words before `rest`.
-#[tactic(auto, unfolding(crate::specs::Reading::runs_in))]
+#[tactic(auto, unfolding(crate::specs::Private::Reading::runs_in))]
 fn runs(alloc: Global, words: &mut LineWords) -> Result<Option<List<Run>>, NoMemory>
     ensures { IfOk result (λ found. option_map (λ runs. (runs, words.new)) found ≡ runs_in [] words.old) }
 {
@@ -120,7 +120,7 @@ fn runs(alloc: Global, words: &mut LineWords) -> Result<Option<List<Run>>, NoMem
 }
 
 // The mask of the one word that is left.
-#[tactic(auto, unfolding(crate::specs::Reading::only_mask_in))]
+#[tactic(auto, unfolding(crate::specs::Private::Reading::only_mask_in))]
 fn only_mask(words: &mut LineWords) -> Option<u32>
     ensures { result ≡ only_mask_in words.old }
 {
@@ -132,7 +132,7 @@ fn only_mask(words: &mut LineWords) -> Option<u32>
 }
 
 // The mask of the one word that is left, for one visit.
-#[tactic(auto, unfolding(crate::specs::Reading::single_in))]
+#[tactic(auto, unfolding(crate::specs::Private::Reading::single_in))]
 fn single(alloc: Global, words: &mut LineWords) -> Result<Option<List<Run>>, NoMemory>
     ensures { IfOk result (λ found. found ≡ single_in words.old) }
 {
@@ -145,7 +145,7 @@ fn single(alloc: Global, words: &mut LineWords) -> Result<Option<List<Run>>, NoM
 }
 
 // The runs of the words that are left.
-#[tactic(auto, unfolding(crate::specs::Reading::pattern_in))]
+#[tactic(auto, unfolding(crate::specs::Private::Reading::pattern_in))]
 fn pattern(alloc: Global, words: &mut LineWords) -> Result<Option<List<Run>>, NoMemory>
     ensures { IfOk result (λ found. found ≡ pattern_in [] words.old) }
 {
@@ -167,7 +167,7 @@ fn pattern(alloc: Global, words: &mut LineWords) -> Result<Option<List<Run>>, No
 }
 
 // The pattern of the words behind `rest`.
-#[tactic(auto, unfolding(crate::specs::Reading::rest_in))]
+#[tactic(auto, unfolding(crate::specs::Private::Reading::rest_in))]
 fn rest(alloc: Global, version: u8, words: &mut LineWords) -> Result<Option<List<Run>>, NoMemory>
     ensures { IfOk result (λ found. found ≡ rest_in version words.old) }
 {
@@ -179,7 +179,7 @@ fn rest(alloc: Global, version: u8, words: &mut LineWords) -> Result<Option<List
 }
 
 // The point of a line of that form.
-#[tactic(auto, unfolding(crate::specs::Reading::point_in_words))]
+#[tactic(auto, unfolding(crate::specs::Private::Reading::point_in_words))]
 fn point_of_words(
     alloc: Global,
     version: u8,
@@ -200,7 +200,7 @@ fn point_of_words(
 }
 
 // The point in a line of that form, in a text of that version.
-#[tactic(auto, unfolding(crate::specs::Reading::point_in))]
+#[tactic(auto, unfolding(crate::specs::Private::Reading::point_in))]
 fn cut_point(alloc: Global, version: u8, line: &[u8]) -> Result<Option<CutPoint>, NoMemory>
     ensures { IfOk result (λ found. found ≡ point_in version line.now) }
 {
@@ -212,7 +212,7 @@ fn cut_point(alloc: Global, version: u8, line: &[u8]) -> Result<Option<CutPoint>
 }
 
 // The line of a number that has this text.
-#[tactic(auto, unfolding(crate::specs::Reading::number_line_in))]
+#[tactic(auto, unfolding(crate::specs::Private::Reading::number_line_in))]
 fn number_line(text: &[u8]) -> Option<Line>
     ensures { result ≡ number_line_in text.now }
 {
@@ -230,7 +230,7 @@ fn number_line(text: &[u8]) -> Option<Line>
 }
 
 /// The line that has this text, in a cut of that version.
-#[tactic(auto, unfolding(crate::specs::Reading::line_in))]
+#[tactic(auto, unfolding(crate::specs::Private::Reading::line_in))]
 pub(crate) fn line(alloc: Global, version: u8, text: &[u8]) -> Result<Option<Line>, NoMemory>
     ensures { IfOk result (λ found. found ≡ line_in version text.now) }
 {

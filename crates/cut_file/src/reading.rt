@@ -54,7 +54,7 @@ fn may_follow_points(points: &[CutPoint], point: &CutPoint) -> bool
 }
 
 // The cut with a region behind its own, by the line of that number.
-#[tactic(auto, unfolding(crate::specs::Reading::with_line))]
+#[tactic(auto, unfolding(crate::specs::Private::Reading::with_line))]
 fn with_region(cut: Cut, number: u32, region: u16) -> Result<Cut, CutFault>
     requires { IsTrue (is_region region) }
     ensures ok { IfOk result (λ longer. lined number (Listed (picture_of cut)) (forms.Skip region)
@@ -86,7 +86,7 @@ fn with_region(cut: Cut, number: u32, region: u16) -> Result<Cut, CutFault>
 }
 
 // The cut with a point behind its own, by the line of that number.
-#[tactic(auto, unfolding(crate::specs::Reading::with_line))]
+#[tactic(auto, unfolding(crate::specs::Private::Reading::with_line))]
 fn with_point(cut: Cut, number: u32, point: CutPoint) -> Result<Cut, CutFault>
     requires { IsTrue (is_point_of cut.version point) }
     ensures ok { IfOk result (λ longer. lined number (Listed (picture_of cut)) (forms.Point point)
@@ -130,7 +130,7 @@ fn bare_cut(alloc: Global, version: u8, secret_len: u32, bits: u32) -> Cut
 }
 
 // The draft with one more line, of that number.
-#[tactic(auto, unfolding(crate::specs::Reading::with_line))]
+#[tactic(auto, unfolding(crate::specs::Private::Reading::with_line))]
 fn with_line(alloc: Global, draft: Draft, number: u32, line: Line) -> Result<Draft, CutFault>
     requires draft { IsTrue (is_front (front_of draft)) }
     requires line { IsTrue (is_line (version_of (front_of draft)) line) }
@@ -166,7 +166,7 @@ fn version(draft: &Draft) -> u8
 }
 
 // The draft with the line of that number and text.
-#[tactic(auto, unfolding(crate::specs::Reading::with_text))]
+#[tactic(auto, unfolding(crate::specs::Private::Reading::with_text))]
 fn with_text(alloc: Global, draft: Draft, number: u32, text: &[u8]) -> Result<Draft, CutFault>
     requires { IsTrue (is_front (front_of draft)) }
     ensures ok { IfOk result (λ longer. texted number (front_of draft) text.now ≡ Ok (front_of longer)) }
@@ -203,7 +203,7 @@ fn lines(alloc: Global, file: &[u8]) -> Result<(Cut, &[u8]), CutFault>
 }
 
 // The cut of a file, or its first fault.
-#[tactic(auto, unfolding(crate::specs::Reading::cut_in))]
+#[tactic(auto, unfolding(crate::specs::Private::Reading::cut_in))]
 fn cut_of(alloc: Global, file: &[u8]) -> Result<Cut, CutFault>
     requires { length file.now < 2 ^ 32 }
     ensures ok { IfOk result (λ cut. cut_in file.now ≡ Ok (picture_of cut)) }

@@ -82,7 +82,7 @@ fn word_behind(bytes: &[u8]) -> u32
 }
 
 /// The word that stands as 0x and eight hexadecimal digits in lower case.
-#[tactic(auto, unfolding(crate::specs::Reading::word_in))]
+#[tactic(auto, unfolding(crate::specs::Private::Reading::word_in))]
 pub(crate) fn word(bytes: &[u8]) -> Option<u32>
     ensures { result ≡ word_in bytes.now }
 {
@@ -98,7 +98,7 @@ pub(crate) fn word(bytes: &[u8]) -> Option<u32>
 }
 
 // The slot of a text of two letters.
-#[tactic(auto, unfolding(crate::specs::Reading::named_slot))]
+#[tactic(auto, unfolding(crate::specs::Private::Reading::named_slot))]
 fn named_slot(word: &[u8]) -> Option<Slot>
     ensures { result ≡ slot_named word.now }
 {
@@ -133,7 +133,7 @@ fn slot_of(letter: u8, number: u32) -> Option<Slot>
 }
 
 // The slot of an output register or a byte of a range.
-#[tactic(auto, unfolding(crate::specs::Reading::numbered_slot))]
+#[tactic(auto, unfolding(crate::specs::Private::Reading::numbered_slot))]
 fn numbered_slot(word: &[u8]) -> Option<Slot>
     ensures { result ≡ slot_numbered word.now }
 {
@@ -144,7 +144,7 @@ fn numbered_slot(word: &[u8]) -> Option<Slot>
 }
 
 /// The slot that has this text.
-#[tactic(auto, unfolding(crate::specs::Reading::slot_in))]
+#[tactic(auto, unfolding(crate::specs::Private::Reading::slot_in))]
 pub(crate) fn slot(word: &[u8]) -> Option<Slot>
     ensures { result ≡ slot_in word.now }
 {
@@ -155,7 +155,7 @@ pub(crate) fn slot(word: &[u8]) -> Option<Slot>
 }
 
 /// The run of a count, * and a mask.
-#[tactic(auto, unfolding(crate::specs::Reading::run_in))]
+#[tactic(auto, unfolding(crate::specs::Private::Reading::run_in))]
 pub(crate) fn run(bytes: &[u8]) -> Option<Run>
     ensures { result ≡ run_in bytes.now }
 {
