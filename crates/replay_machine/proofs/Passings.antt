@@ -1,9 +1,9 @@
 -- One passing of a replay.
 use Rattle.std.proofs.Common.{◌≡◌, ℕ, zero, suc, ◌-◌, ◌≤◌, ◌<◌, List, length, take, drop, Bool, refl, ap}
-use Rattle.std.proofs.Common.{◌∙◌, subst, arith, Result, Ok, Err}
+use Rattle.std.proofs.Common.{◌∙◌, subst, sym, arith, [], ◌∷◌, Result, Ok, Err}
 use Rattle.flow_base.specs.declared.points.Point.{Point}
 use Rattle.flow_base.specs.Words.{bit_count, patched}
-use Rattle.crossing_bits.specs.Askers.{Asker, Asks, Fed, Fed', Short, feed}
+use Rattle.crossing_bits.specs.Askers.{Asker, Asks, Over, Fed, Fed', Short, feed}
 use Rattle.crossing_bits.specs.Streams.{Stream, left_of}
 use Rattle.crossing_bits.proofs.Feeding.{feed_enough, feed_few}
 use Rattle.rv32im_machine.specs.State.{State}
@@ -129,3 +129,49 @@ comes-so P masks past walk bits before (Fed' place rest) reached end so e h none
     subst P h.state (replayed_at_end P masks past walk bits place rest so e)
 comes-so P masks past walk bits before (Short missing) reached end so e h none =
     absurd (omega (arith, none, h.missing, h.some))
+
+-- ---- where no bits are left
+
+none_left : (bits : List Bool) → length bits ≡ 0 → bits ≡ []
+none_left [] none = refl
+none_left (bit ∷ bits) none = absurd (omega (arith, none))
+
+drop_none : (count : ℕ) (bits : List Bool) → bits ≡ [] → drop count bits ≡ []
+drop_none zero bits none = none
+drop_none (suc count) bits none = rw none refl
+
+-- an asker that is over after no bits has left none
+fed_none : (asker : Asker Place) (place : Place) (rest : List Bool) → feed asker [] ≡ Fed' place rest → rest ≡ []
+fed_none (Over other) place rest h = cc
+fed_none (Asks zero go) place rest h = fed_none (go []) place rest h
+fed_none (Asks (suc count) go) place rest h =
+    let short : feed (Asks (suc count) go) [] ≡ Short (suc count - 0) = feed_few (suc count) go [] (omega arith) in
+    absurd (cc)
+
+unlent : (masks : Masks) (own before : Stream) (asker : Asker Place) (fed : Fed Place) (reached : State) (end : Side) →
+    feed asker [] ≡ fed → left_of before ≡ [] → Comes masks own fed reached end →
+    Comes masks before fed reached (record { ahead = end.ahead; stream = before; missing = end.missing })
+unlent masks own before asker (Fed' place rest) reached end e none h =
+    record {
+      state = h.state;
+      outside = h.outside;
+      ahead = h.ahead;
+      left = none ∙ sym (fed_none asker place rest e);
+      missing = h.missing;
+      bits = refl;
+      room = refl;
+    }
+unlent masks own before asker (Short missing) reached end e none h =
+    record { some = h.some; missing = h.missing; bits = refl; room = refl }
+
+-- a turn that has played on an empty string, where no bits are left of another
+pub comes-unlent : (masks : Masks) (own before : Stream) (asker : Asker Place) (reached : State) (end : Side) →
+    own.bits ≡ [] → length (left_of before) ≡ 0 → Comes masks own (feed asker (left_of own)) reached end →
+    Comes masks before (feed asker (left_of before)) reached
+    (record { ahead = end.ahead; stream = before; missing = end.missing })
+comes-unlent masks own before asker reached end empty none h =
+    let left : left_of before ≡ [] = none_left (left_of before) none in
+    let owned = rw (drop_none own.taken own.bits empty) at h in
+    subst (λ (bits : List Bool). Comes masks before (feed asker bits) reached
+    (record { ahead = end.ahead; stream = before; missing = end.missing })) (sym left)
+    (unlent masks own before asker (feed asker []) reached end refl left owned)

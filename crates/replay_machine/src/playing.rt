@@ -1,4 +1,4 @@
-ghost use Rattle.std.specs.Prelude.{◌≡◌, ◌≢◌, IsTrue, Option as Maybe, None, List as Seq};
+ghost use Rattle.std.specs.Prelude.{◌≡◌, ◌≢◌, [], length, IsTrue, Option as Maybe, None, List as Seq};
 ghost use Rattle.flow_base.specs.declared.points.Point.{Point as ThePoint};
 ghost use Rattle.crossing_bits.specs.Askers.{feed};
 ghost use Rattle.crossing_bits.specs.Streams.{left_of};
@@ -54,9 +54,37 @@ fn outside_at(machine: &Machine, turn: GuestTurn<'_>) -> Option<Outside>
     }
 }
 
-/// One turn of this kind on the bits that are left.
+/// One turn of this kind where no bits are left, which the side of the replay then need not be lent: it has none of its
+/// own.
 #[inline(always)]
-fn play_turn(
+fn play_unlent(
+    machine: &mut Machine,
+    side: &mut Replaying,
+    turn: GuestTurn<'_>,
+    skip: &[u16],
+    _bits: &Bits,
+)
+    requires missing { side.old.missing ≡ 0 }
+    requires own { side.old.bits.bits ≡ [] }
+    requires none { length (left_of _bits.now) ≡ 0 }
+    requires rules { IsTrue (has_rules (seen turn)) }
+    requires leave { IsTrue (can_leave (seen turn) machine.old.store.kept machine.old.setting.base) }
+    requires skip { IsTrue (can_skip (seen turn) machine.old.store.registers machine.old.setting.base) }
+    ensures own { side.new.bits.bits ≡ [] }
+    ensures comes { (regions : Seq TheRegion) (masks : Masks) (past : Seq ThePoint) →
+        IsAhead side.old.masks masks past →
+        Comes masks _bits.now
+        (feed (replayed masks past
+        (replay_kind_walk (record { regions = regions; skip = skip.now }) (seen turn.entry) machine.old))
+        (left_of _bits.now)) machine.new
+        (record { ahead = side.new.masks; stream = _bits.now; missing = side.new.missing }) }
+{
+    let _ = replay_turn_by(machine, side, turn, skip);
+}
+
+/// One turn of this kind, to which the bits that are left are lent.
+#[inline(never)]
+fn play_lent(
     machine: &mut Machine,
     side: &mut Replaying,
     turn: GuestTurn<'_>,
@@ -64,10 +92,13 @@ fn play_turn(
     bits: &mut Bits,
 )
     requires missing { side.old.missing ≡ 0 }
+    requires own { side.old.bits.bits ≡ [] }
     requires rules { IsTrue (has_rules (seen turn)) }
     requires leave { IsTrue (can_leave (seen turn) machine.old.store.kept machine.old.setting.base) }
     requires skip { IsTrue (can_skip (seen turn) machine.old.store.registers machine.old.setting.base) }
-    ensures { (regions : Seq TheRegion) (masks : Masks) (past : Seq ThePoint) → IsAhead side.old.masks masks past →
+    ensures own { side.new.bits.bits ≡ [] }
+    ensures comes { (regions : Seq TheRegion) (masks : Masks) (past : Seq ThePoint) →
+        IsAhead side.old.masks masks past →
         Comes masks bits.old
         (feed (replayed masks past
         (replay_kind_walk (record { regions = regions; skip = skip.now }) (seen turn.entry) machine.old))
@@ -77,6 +108,36 @@ fn play_turn(
     mem::swap(&mut side.bits, bits);
     let _ = replay_turn_by(machine, side, turn, skip);
     mem::swap(&mut side.bits, bits);
+}
+
+/// One turn of this kind on the bits that are left. Mostly none are, and nothing is then lent.
+#[inline(always)]
+fn play_turn(
+    machine: &mut Machine,
+    side: &mut Replaying,
+    turn: GuestTurn<'_>,
+    skip: &[u16],
+    bits: &mut Bits,
+)
+    requires missing { side.old.missing ≡ 0 }
+    requires own { side.old.bits.bits ≡ [] }
+    requires rules { IsTrue (has_rules (seen turn)) }
+    requires leave { IsTrue (can_leave (seen turn) machine.old.store.kept machine.old.setting.base) }
+    requires skip { IsTrue (can_skip (seen turn) machine.old.store.registers machine.old.setting.base) }
+    ensures own { side.new.bits.bits ≡ [] }
+    ensures comes { (regions : Seq TheRegion) (masks : Masks) (past : Seq ThePoint) →
+        IsAhead side.old.masks masks past →
+        Comes masks bits.old
+        (feed (replayed masks past
+        (replay_kind_walk (record { regions = regions; skip = skip.now }) (seen turn.entry) machine.old))
+        (left_of bits.old)) machine.new
+        (record { ahead = side.new.masks; stream = bits.new; missing = side.new.missing }) }
+{
+    if bits.left() == 0 {
+        play_unlent(machine, side, turn, skip, bits);
+    } else {
+        play_lent(machine, side, turn, skip, bits);
+    }
 }
 
 /// One turn on the bits that are left of a replay that skips the regions with these numbers; where it is the entry of a
@@ -90,7 +151,9 @@ pub(crate) fn play(
     bits: &mut Bits,
 ) -> Option<Outside>
     requires missing { side.old.missing ≡ 0 }
+    requires own { side.old.bits.bits ≡ [] }
     requires leave { IsTrue (may_leave marked.now.regions.items machine.old) }
+    ensures own { side.new.bits.bits ≡ [] }
     ensures outside { result ≡ range_outside marked.now.regions.items machine.old }
     ensures still { result ≢ None →
         (machine.new ≡ machine.old) × (side.new ≡ side.old) × (bits.new ≡ bits.old) }

@@ -49,7 +49,7 @@ pub struct Replay {
 }
 
 impl Model for Replay {
-    ghost use Rattle.std.specs.Prelude.{◌≡◌, ◌<◌, ◌^◌, IsTrue};
+    ghost use Rattle.std.specs.Prelude.{◌≡◌, ◌<◌, ◌^◌, [], IsTrue};
     ghost use Rattle.replay_machine.specs.Standing.{Standing};
     ghost use Rattle.region_machine.specs.Within.{may_leave};
 
@@ -64,7 +64,7 @@ impl Model for Replay {
       taken = r.taken;
     } };
 
-    ghost invariant = { λ r. (r.taken < 2 ^ 64)
+    ghost invariant = { λ r. (r.taken < 2 ^ 64) × (r.side.bits.bits ≡ [])
         × (r.side.missing ≡ 0 → IsTrue (may_leave r.marked.regions.items r.machine)) };
 }
 

@@ -57,6 +57,7 @@ fn decode_by_opcode(word: u32) -> Option<Instr>
     }
 }
 
+#[inline(always)]
 fn decode_jalr(word: u32) -> Option<Instr>
     ensures { result ≡ decoded_jalr word }
 {
@@ -71,6 +72,7 @@ fn decode_jalr(word: u32) -> Option<Instr>
     }
 }
 
+#[inline(always)]
 fn decode_branch(word: u32) -> Option<Instr>
     ensures { result ≡ decoded_branch word }
 {
@@ -83,6 +85,7 @@ fn decode_branch(word: u32) -> Option<Instr>
     })
 }
 
+#[inline(always)]
 fn decode_load(word: u32) -> Option<Instr>
     ensures { result ≡ decoded_load word }
 {
@@ -95,6 +98,7 @@ fn decode_load(word: u32) -> Option<Instr>
     })
 }
 
+#[inline(always)]
 fn decode_store(word: u32) -> Option<Instr>
     ensures { result ≡ decoded_store word }
 {
@@ -107,6 +111,7 @@ fn decode_store(word: u32) -> Option<Instr>
     })
 }
 
+#[inline(always)]
 fn decode_op_imm(word: u32) -> Option<Instr>
     ensures { result ≡ decoded_op_imm word }
 {
@@ -119,6 +124,7 @@ fn decode_op_imm(word: u32) -> Option<Instr>
     })
 }
 
+#[inline(always)]
 fn decode_op(word: u32) -> Option<Instr>
     ensures { result ≡ decoded_op word }
 {
@@ -131,6 +137,7 @@ fn decode_op(word: u32) -> Option<Instr>
     })
 }
 
+#[inline(always)]
 fn decode_fence(word: u32) -> Option<Instr>
     ensures { result ≡ decoded_fence word }
 {
@@ -145,6 +152,7 @@ fn decode_fence(word: u32) -> Option<Instr>
     }
 }
 
+#[inline(always)]
 fn decode_system(word: u32) -> Option<Instr>
     ensures { result ≡ decoded_system word }
 {
@@ -155,6 +163,7 @@ fn decode_system(word: u32) -> Option<Instr>
     }
 }
 
+#[inline(always)]
 fn operand(kind: ImmKind, word: u32) -> i32
     ensures { result ≡ immediate_of kind word }
 {

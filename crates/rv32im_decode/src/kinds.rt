@@ -127,6 +127,7 @@ impl OpKind {
 }
 
 /// The branch with this funct3.
+#[inline(always)]
 pub fn find_branch(funct3: u32) -> Option<BranchKind>
     ensures { result ≡ branch_kind funct3 }
 {
@@ -142,6 +143,7 @@ pub fn find_branch(funct3: u32) -> Option<BranchKind>
 }
 
 /// The load with this funct3.
+#[inline(always)]
 pub fn find_load(funct3: u32) -> Option<LoadKind>
     ensures { result ≡ load_kind funct3 }
 {
@@ -156,6 +158,7 @@ pub fn find_load(funct3: u32) -> Option<LoadKind>
 }
 
 /// The store with this funct3.
+#[inline(always)]
 pub fn find_store(funct3: u32) -> Option<StoreKind>
     ensures { result ≡ store_kind funct3 }
 {
@@ -168,6 +171,7 @@ pub fn find_store(funct3: u32) -> Option<StoreKind>
 }
 
 /// The register-immediate operation with this funct3 and, if it is a shift, this funct7.
+#[inline(always)]
 pub fn find_imm(funct7: u32, funct3: u32) -> Option<ImmKind>
     ensures { result ≡ imm_kind funct7 funct3 }
 {
@@ -184,6 +188,7 @@ pub fn find_imm(funct7: u32, funct3: u32) -> Option<ImmKind>
     }
 }
 
+#[inline(always)]
 fn find_left_shift(funct7: u32) -> Option<ImmKind>
     ensures { result ≡ left_shift funct7 }
 {
@@ -194,6 +199,7 @@ fn find_left_shift(funct7: u32) -> Option<ImmKind>
     }
 }
 
+#[inline(always)]
 fn find_right_shift(funct7: u32) -> Option<ImmKind>
     ensures { result ≡ right_shift funct7 }
 {
@@ -205,6 +211,7 @@ fn find_right_shift(funct7: u32) -> Option<ImmKind>
 }
 
 /// The register-register operation with this funct7 and funct3.
+#[inline(always)]
 pub fn find_op(funct7: u32, funct3: u32) -> Option<OpKind>
     ensures { result ≡ op_kind funct7 funct3 }
 {
@@ -216,6 +223,7 @@ pub fn find_op(funct7: u32, funct3: u32) -> Option<OpKind>
     }
 }
 
+#[inline(always)]
 fn find_plain_op(funct3: u32) -> Option<OpKind>
     ensures { result ≡ plain_op funct3 }
 {
@@ -232,6 +240,7 @@ fn find_plain_op(funct3: u32) -> Option<OpKind>
     }
 }
 
+#[inline(always)]
 fn find_other_op(funct3: u32) -> Option<OpKind>
     ensures { result ≡ other_op funct3 }
 {
@@ -242,6 +251,7 @@ fn find_other_op(funct3: u32) -> Option<OpKind>
     }
 }
 
+#[inline(always)]
 fn find_multiply_op(funct3: u32) -> Option<OpKind>
     ensures { result ≡ multiply_op funct3 }
 {

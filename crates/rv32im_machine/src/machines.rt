@@ -212,7 +212,10 @@ impl Machine {
         ensures inside { result ≡ is_inside self.now.setting.base address count }
         ensures below { IsTrue result → address + count ≤ 2 ^ 32 }
     {
-        flow_base::is_inside(self.base, address, count)
+        count == 0
+            || (self.base <= address
+                && count <= MEMORY_SIZE
+                && address - self.base <= MEMORY_SIZE - count)
     }
 
     /// The byte of guest memory at an address.
@@ -229,12 +232,12 @@ impl Machine {
         ensures { result ≡ word_at self.now.setting.base self.now.store address }
     {
         let index = (address - self.base) as usize;
-        let byte0 = self.memory.byte(index);
-        let byte1 = self.memory.byte(index + 1);
-        let byte2 = self.memory.byte(index + 2);
-        let byte3 = self.memory.byte(index + 3);
-        u32::from(byte0)
-            + 256 * (u32::from(byte1) + 256 * (u32::from(byte2) + 256 * u32::from(byte3)))
+        u32::from_le_bytes([
+            self.memory.byte(index),
+            self.memory.byte(index + 1),
+            self.memory.byte(index + 2),
+            self.memory.byte(index + 3),
+        ])
     }
 
     /// Sets a register, 0 to 31; a write to register 0 changes nothing.

@@ -20,5 +20,5 @@ returns-in-None-clause-leave c = λ none.
     (replay_kind_keeps enclosures kind c.args.machine.now c.args.marked.now.regions.keeps_rules c.requires.leave
     (sym c.next_turn-turn.ensures.kind) (c.in-None.ensures.inside refl))
     refl
-    (c.play_turn.ensures c.args.marked.now.regions.items (MaskAt c.args.side.now.masks) [] (ahead-self c.args.side.now.masks))
+    (c.play_turn.ensures.comes c.args.marked.now.regions.items (MaskAt c.args.side.now.masks) [] (ahead-self c.args.side.now.masks))
     none
