@@ -63,18 +63,18 @@ fn note_mask<E: Events>(
     events: &mut E,
     shadow: &mut Shadow,
     held: &mut Held,
-    passing: &Passing,
+    passing: Passing,
     mask: u32,
 ) -> Result<(), NoMemory>
-    requires aim { IsAim (Some shadow.old.base) passing.now.aim }
-    requires sources { AreSources (Some shadow.old.base) passing.now.sources }
+    requires aim { IsAim (Some shadow.old.base) passing.aim }
+    requires sources { AreSources (Some shadow.old.base) passing.sources }
     ensures base { shadow.new.base ≡ shadow.old.base }
-    ensures labels { OnOk result ((answer : ℕ) → mask ≡ mask_of (labels_of shadow.old held.old) answer passing.now →
-        labels_of shadow.new held.new ≡ labels_after (labels_of shadow.old held.old) answer passing.now) }
+    ensures labels { OnOk result ((answer : ℕ) → mask ≡ mask_of (labels_of shadow.old held.old) answer passing →
+        labels_of shadow.new held.new ≡ labels_after (labels_of shadow.old held.old) answer passing) }
     ensures events { OnOk result (Appends (E.stands_for events.old) (E.stands_for events.new)
-        (masked_events (labels_of shadow.old held.old) mask passing.now)) }
+        (masked_events (labels_of shadow.old held.old) mask passing)) }
 {
-    add_passing(events, shadow, *held, *passing, mask)?;
+    add_passing(events, shadow, *held, passing, mask)?;
     put_aimed(shadow, held, passing.aim, labelled(mask, passing.point))
 }
 
@@ -102,7 +102,7 @@ pub(crate) fn note_passing<E: Events>(
             } else if gives_again(shadow, *held, &passing, mask) {
                 note_again(events, passing.point, mask)
             } else {
-                note_mask(events, shadow, held, &passing, mask)
+                note_mask(events, shadow, held, passing, mask)
             }
         }
         None => Err(NoMemory),
