@@ -70,6 +70,18 @@ pub(crate) fn earlier(
     }
 }
 
+/// The first refusal stays. Where there is no other, nothing is written.
+#[inline(always)]
+pub(crate) fn note_fault(refused: &mut Option<MeasureFault>, fault: Option<MeasureFault>)
+    ensures { refused.new ≡ first_fault refused.old fault }
+{
+    match (*refused, fault) {
+        (None, Some(_)) => *refused = fault,
+        (None, None) => {}
+        (Some(_), _) => {}
+    }
+}
+
 /// The label of what moves from a place with this label; none where its mask is no word, as in no turn of a guest.
 fn shaped_label(shape: Shape, label: Label) -> Option<Label>
     ensures label { IfSome result (λ moved. moved ≡ label_of (shaped shape (label.mask ∷ [])) label.point) }
