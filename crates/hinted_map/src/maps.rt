@@ -46,19 +46,19 @@ impl<K: Ord + Hash, V> HintedMap<K, V> {
 
     /// Whether a key stands at an index.
     #[inline(always)]
-    fn stands_at(&self, index: usize, key: &K) -> bool
+    pub fn stands_at(&self, index: usize, key: &K) -> bool
         ensures { OnTrue result (StandsAt (eq_by_cmp K.cmp) self.now.map.entries key.now index) }
     {
         let _count = self.len();
         match self.map.get_index(index) {
-            Some((stored, _)) => stored == key,
+            Some((stored, _)) => *stored == *key,
             None => false,
         }
     }
 
     /// The index of a key, by its hash; None exactly where it has no entry.
     #[inline(never)]
-    fn find_anywhere(&self, key: &K) -> Option<usize>
+    pub fn find_anywhere(&self, key: &K) -> Option<usize>
         ensures at { IfSome result (StandsAt (eq_by_cmp K.cmp) self.now.map.entries key.now) }
         ensures none { IfNone result (lookup (eq_by_cmp K.cmp key.now) self.now.map.entries ≡ None) }
     {

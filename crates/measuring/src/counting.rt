@@ -57,9 +57,24 @@ impl VisitCounts {
         self.rows.map[index].set(column, count)
     }
 
-    /// The index of the row of a page, which is made where there is none.
+    /// The index of the row of a page, which is made where there is none. Mostly it stands where the latest one of its
+    /// slot does.
     #[inline(always)]
     fn row_of(&mut self, page: Point) -> Result<usize, NoMemory>
+        ensures at { IfOk result (StandsAt is_same self.new.rows.map.entries page) }
+        ensures counts { OnOk result ((q : ThePoint) (column : ℕ) →
+            count_at self.new.rows.map.entries q column ≡ count_at self.old.rows.map.entries q column) }
+    {
+        let hint = self.latest[lane_of(page.slot)];
+        if self.rows.stands_at(hint, &page) {
+            return Ok(hint);
+        }
+        self.row_elsewhere(page)
+    }
+
+    /// The same, wherever the row stands.
+    #[inline(never)]
+    fn row_elsewhere(&mut self, page: Point) -> Result<usize, NoMemory>
         ensures at { IfOk result (StandsAt is_same self.new.rows.map.entries page) }
         ensures counts { OnOk result ((q : ThePoint) (column : ℕ) →
             count_at self.new.rows.map.entries q column ≡ count_at self.old.rows.map.entries q column) }

@@ -18,6 +18,7 @@ use rv32im_machine::{Place, Seen, Shape, Source};
 use shadow_masks::{Label, Shadow};
 
 /// A look at the word at an address.
+#[inline(always)]
 fn code_fault(shadow: &Shadow, address: u32) -> Option<MeasureFault>
     requires { IsSeen (Some shadow.now.base) (Seen.Word address) }
     ensures { (region : ℕ) (held : TheHeld) →
@@ -45,6 +46,7 @@ fn base_fault(shadow: &Shadow, region: u16, register: u8) -> Option<MeasureFault
 
 /// Whether a run may look there: at the word at an address, or at a base register in the entry of the region with this
 /// number.
+#[inline(always)]
 pub(crate) fn look_fault(shadow: &Shadow, region: u16, seen: Seen) -> Option<MeasureFault>
     requires { IsSeen (Some shadow.now.base) seen }
     ensures { (held : TheHeld) → result ≡ fault_of_look region (labels_of shadow.now held) seen }
@@ -65,6 +67,18 @@ pub(crate) fn earlier(
     match first {
         Some(fault) => Some(fault),
         None => second,
+    }
+}
+
+/// The first refusal stays. Where there is no other, nothing is written.
+#[inline(always)]
+pub(crate) fn note_fault(refused: &mut Option<MeasureFault>, fault: Option<MeasureFault>)
+    ensures { refused.new ≡ first_fault refused.old fault }
+{
+    match (*refused, fault) {
+        (None, Some(_)) => *refused = fault,
+        (None, None) => {}
+        (Some(_), _) => {}
     }
 }
 

@@ -21,10 +21,10 @@ use transfer_rules::RuleBook;
 
 /// The mask of a passing, by the book's rules; none where it is no word, as in no turn of a guest.
 #[inline(always)]
-fn passing_mask(shadow: &Shadow, held: Held, book: &RuleBook, passing: Passing) -> Option<u32>
-    requires slot { IsTrue (is_slot passing.point.slot) }
-    requires sources { AreSources (Some shadow.now.base) passing.sources }
-    ensures { Answers book.now.table (labels_of shadow.now held) passing result }
+fn passing_mask(shadow: &Shadow, held: Held, book: &RuleBook, passing: &Passing) -> Option<u32>
+    requires slot { IsTrue (is_slot passing.now.point.slot) }
+    requires sources { AreSources (Some shadow.now.base) passing.now.sources }
+    ensures { Answers book.now.table (labels_of shadow.now held) passing.now result }
 {
     let masks = masks_of_sources(shadow, held, passing.sources);
     let answer = answer_of(book, passing.work, masks);
@@ -39,14 +39,14 @@ fn note_clean<E: Events>(
     events: &mut E,
     shadow: &mut Shadow,
     held: &mut Held,
-    passing: Passing,
+    passing: &Passing,
 ) -> Result<(), NoMemory>
-    requires aim { IsAim (Some shadow.old.base) passing.aim }
+    requires aim { IsAim (Some shadow.old.base) passing.now.aim }
     ensures base { shadow.new.base ≡ shadow.old.base }
-    ensures labels { OnOk result ((answer : ℕ) → 0 ≡ mask_of (labels_of shadow.old held.old) answer passing →
-        labels_of shadow.new held.new ≡ labels_after (labels_of shadow.old held.old) answer passing) }
+    ensures labels { OnOk result ((answer : ℕ) → 0 ≡ mask_of (labels_of shadow.old held.old) answer passing.now →
+        labels_of shadow.new held.new ≡ labels_after (labels_of shadow.old held.old) answer passing.now) }
     ensures events { OnOk result (Appends (E.stands_for events.old) (E.stands_for events.new)
-        (masked_events (labels_of shadow.old held.old) 0 passing)) }
+        (masked_events (labels_of shadow.old held.old) 0 passing.now)) }
 {
     events.add(Event::Pass {
         point: passing.point,
@@ -63,18 +63,18 @@ fn note_mask<E: Events>(
     events: &mut E,
     shadow: &mut Shadow,
     held: &mut Held,
-    passing: &Passing,
+    passing: Passing,
     mask: u32,
 ) -> Result<(), NoMemory>
-    requires aim { IsAim (Some shadow.old.base) passing.now.aim }
-    requires sources { AreSources (Some shadow.old.base) passing.now.sources }
+    requires aim { IsAim (Some shadow.old.base) passing.aim }
+    requires sources { AreSources (Some shadow.old.base) passing.sources }
     ensures base { shadow.new.base ≡ shadow.old.base }
-    ensures labels { OnOk result ((answer : ℕ) → mask ≡ mask_of (labels_of shadow.old held.old) answer passing.now →
-        labels_of shadow.new held.new ≡ labels_after (labels_of shadow.old held.old) answer passing.now) }
+    ensures labels { OnOk result ((answer : ℕ) → mask ≡ mask_of (labels_of shadow.old held.old) answer passing →
+        labels_of shadow.new held.new ≡ labels_after (labels_of shadow.old held.old) answer passing) }
     ensures events { OnOk result (Appends (E.stands_for events.old) (E.stands_for events.new)
-        (masked_events (labels_of shadow.old held.old) mask passing.now)) }
+        (masked_events (labels_of shadow.old held.old) mask passing)) }
 {
-    add_passing(events, shadow, *held, *passing, mask)?;
+    add_passing(events, shadow, *held, passing, mask)?;
     put_aimed(shadow, held, passing.aim, labelled(mask, passing.point))
 }
 
@@ -95,14 +95,14 @@ pub(crate) fn note_passing<E: Events>(
     ensures notes { OnOk result (Notes book.now.table (labels_of shadow.old held.old) (E.stands_for events.old) passing
         (labels_of shadow.new held.new) (E.stands_for events.new)) }
 {
-    match passing_mask(shadow, *held, book, passing) {
+    match passing_mask(shadow, *held, book, &passing) {
         Some(mask) => {
             if mask == 0 {
-                note_clean(events, shadow, held, passing)
+                note_clean(events, shadow, held, &passing)
             } else if gives_again(shadow, *held, &passing, mask) {
                 note_again(events, passing.point, mask)
             } else {
-                note_mask(events, shadow, held, &passing, mask)
+                note_mask(events, shadow, held, passing, mask)
             }
         }
         None => Err(NoMemory),

@@ -104,7 +104,10 @@ impl<'a> Tracked<'a> {
             &self.marked,
             self.book,
         );
-        self.spent = spent_after(answer);
+        match answer {
+            Ok(TrackedTurn::Ran) => {}
+            _ => self.spent = spent_after(answer),
+        }
         answer
     }
 

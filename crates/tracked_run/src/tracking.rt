@@ -1,4 +1,4 @@
-use crate::changes::{earlier, look_fault, note_move, note_restore, note_save};
+use crate::changes::{look_fault, note_fault, note_move, note_restore, note_save};
 use crate::held::Held;
 use crate::noting::note_passing;
 use flow_base::NoMemory;
@@ -58,7 +58,7 @@ impl<E: Events> Passer for Tracking<'_, E> {
     #[inline(always)]
     fn look(&mut self, seen: Seen, _value: u32) -> Result<(), NoMemory> {
         let fault = look_fault(self.shadow, self.region, seen);
-        self.refused = earlier(self.refused, fault);
+        note_fault(&mut self.refused, fault);
         Ok(())
     }
 

@@ -63,13 +63,30 @@ fn answer_in(fault: Option<MeasureFault>, mode: Stepped) -> TrackedTurn
     }
 }
 
-/// What a turn answers: whether it is refused for a look at what may depend on the secret, for what breaks a region, or
-/// for the stop of the guest, in this order.
-fn decided(refused: Option<MeasureFault>, broken: Option<Break>, mode: Stepped) -> TrackedTurn
-    ensures { result ≡ turn_answer (fault_of refused broken mode) mode }
+/// What a turn answers that leaves the machine so: whether it is refused for a look at what may depend on the secret, for
+/// what breaks a region, or for the stop of the guest, in this order.
+#[inline(never)]
+fn decided_late(
+    machine: &Machine,
+    refused: Option<MeasureFault>,
+    broken: Option<Break>,
+) -> TrackedTurn
+    ensures { result ≡ turn_answer (fault_of refused broken machine.now.control.mode) machine.now.control.mode }
 {
+    let mode = machine.mode();
     let later = earlier(break_fault(broken), stop_fault(mode));
     answer_in(earlier(refused, later), mode)
+}
+
+/// The same. Most turns have nothing to decide, and nothing is copied for them.
+#[inline(always)]
+fn decided(machine: &Machine, refused: &Option<MeasureFault>, broken: &Option<Break>) -> TrackedTurn
+    ensures { result ≡ turn_answer (fault_of refused.now broken.now machine.now.control.mode) machine.now.control.mode }
+{
+    match (machine.mode(), refused, broken) {
+        (Stepped::Ran, None, None) => TrackedTurn::Ran,
+        _ => decided_late(machine, *refused, *broken),
+    }
 }
 
 /// One turn of a measured run that begins with no operand and no refusal.
@@ -94,7 +111,7 @@ fn play_turn<E: Events>(
     ensures events { IfOk result (λ turn. side.new.events.ghost_name ≡ side.old.events.ghost_name) }
 {
     let turn = real_turn_by(machine, side, marked, &[])?;
-    Ok(decided(side.refused, turn.broken, machine.mode()))
+    Ok(decided(machine, &side.refused, &turn.broken))
 }
 
 /// One turn of a measured run, whose events are added.

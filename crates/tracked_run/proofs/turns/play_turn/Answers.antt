@@ -6,7 +6,7 @@ pub returns-clause-turns : goal.returns-clause-turns
 returns-clause-turns g c = λ run stands.
     let kind = kind_of c.args.marked.now.regions.items c.args.machine.now.control in
     let t = c.in_ok-turn.ensures.plays (never_enclosed c.args.marked.now.regions.items kind) in
-    rw (c.decided.ensures, c.mode.ensures)
+    rw c.decided.ensures
     (turned g.E.Events.stands_for c.args.side.now.book.now.table c.args.marked.now.regions.items c.args.machine.now
     (record {
       shades = c.args.side.now.shadow.now;
@@ -36,7 +36,7 @@ returns-clause-leave g c = λ ran.
     leave-stays c.args.marked.now.regions.items c.args.machine.now c.real_turn_by.new.machine
     c.real_turn_by.new.observer.refused c.in_ok-turn.turn.broken c.real_turn_by.new.machine.control.mode
     c.args.marked.now.regions.keeps_rules c.requires.leave c.in_ok-turn.ensures.state c.in_ok-turn.ensures.broken
-    (rw (c.decided.ensures, c.mode.ensures) at ran)
+    (rw c.decided.ensures at ran)
 
 pub returns-clause-shadow : goal.returns-clause-shadow
 returns-clause-shadow g c =

@@ -15,6 +15,6 @@ returns-clause-goes g c = λ walk out after.
       shadow_lent = c.args.self.now.shadow.ghost_name;
       events_lent = c.args.self.now.events.ghost_name;
     })
-    c.earlier-self.result c.args.seen c.args._value walk out
-    (c.earlier-self.ensures ∙ ap (λ fault. first_fault c.args.self.now.refused fault)
+    c.note_fault.new.refused c.args.seen c.args._value walk out
+    (c.note_fault.ensures ∙ ap (λ fault. first_fault c.args.self.now.refused fault)
     (c.look_fault-fault.ensures c.args.self.now.held)) after
