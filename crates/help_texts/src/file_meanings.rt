@@ -3,7 +3,6 @@
 use crate::meanings::Meaning;
 
 /// A kind of file.
-#[derive(Clone, Copy)]
 pub struct FileKind {
     /// The word of a refusal that names it.
     pub word: &'static str,
@@ -16,7 +15,7 @@ pub struct FileKind {
 }
 
 /// Each kind of file.
-pub const FILE_KINDS: [FileKind; 5] = [
+static FILE_KINDS: [FileKind; 5] = [
     FileKind {
         word: "program",
         names: ["PROG", "PROG"],
@@ -48,6 +47,11 @@ pub const FILE_KINDS: [FileKind; 5] = [
         meanings: &CERTIFICATES,
     },
 ];
+
+/// The kinds of files.
+pub fn file_kinds<'a>() -> &'a [FileKind] {
+    &FILE_KINDS
+}
 
 const PROGRAMS: [Meaning; 18] = [
     Meaning {
