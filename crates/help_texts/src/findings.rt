@@ -53,7 +53,7 @@ fn add_secrets<'a>(
 }
 
 /// The meanings of the causes, each once.
-fn meanings<'a, 'b>(
+fn meanings<'a>(
     alloc: Global,
     matches: &ArgMatches<'a>,
     said: &'a str,

@@ -1,7 +1,7 @@
 //! What a refusal means, and what to change.
 
 use crate::complaints::add_form_line;
-use crate::file_meanings::{FileKind, file_kinds};
+use crate::file_meanings::{FileKind, file_kinds, meaning_of_file};
 use crate::meanings::meaning_of;
 use crate::naming::{add_run_options, role_of, secret_of, word_for};
 use crate::run_meanings::RUNS;
@@ -41,7 +41,7 @@ pub fn malformed(
     };
     let file = file_of(matches, kind);
     let noun = kind.noun;
-    let meaning = meaning_of(kind.meanings, fault);
+    let meaning = meaning_of_file(kind.word, fault);
     Ok(Some(format!(in alloc; "error: {noun} {file}: {fault}\n{meaning}\n")?))
 }
 
