@@ -14,15 +14,19 @@ pub struct Stores {
     sink: MemorySink,
 }
 
+/// A file in memory.
+fn held(alloc: Global, name: &str, text: &str) -> Result<Held, NoMemory> {
+    let name = Bytes::from_slice(alloc, name.as_bytes())?;
+    let bytes = Bytes::from_slice(alloc, text.as_bytes())?;
+    Ok(Held { name, bytes })
+}
+
 /// The files in memory; one name is held twice.
 fn memory_files(alloc: Global) -> Result<MemoryFiles, NoMemory> {
     let mut names = List::new(alloc);
-    for (name, bytes) in [("a", "12345"), ("b", ""), ("a", "second")] {
-        names.push(Held {
-            name: Bytes::from_slice(alloc, name.as_bytes())?,
-            bytes: Bytes::from_slice(alloc, bytes.as_bytes())?,
-        })?;
-    }
+    names.push(held(alloc, "a", "12345")?)?;
+    names.push(held(alloc, "b", "")?)?;
+    names.push(held(alloc, "a", "second")?)?;
     let mut fails = List::new(alloc);
     fails.push(2)?;
     Ok(MemoryFiles {
