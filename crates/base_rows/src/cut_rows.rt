@@ -7,8 +7,7 @@ use crate::input::put_line;
 use crate::texts::bytes_of;
 use cut_file::{CutFault, read_cut};
 use flow_base::Bytes;
-use std::alloc::Global;
-use std::io;
+use std::alloc::{AllocError, Global};
 
 /// How many bytes a file may have at most.
 const LONGEST: usize = 1_048_576;
@@ -24,18 +23,22 @@ fn file_of(alloc: Global, row: &str) -> Option<Vec<u8>>
     Some(file)
 }
 
+/// Adds the text of a cut with one point, which lists so many rounds of 64 masks and then more.
+fn add_rounds(text: &mut String, count: u16, more: &str) -> Result<(), AllocError> {
+    text.push_str("flowcheck-cut 1/secret 1/bits 1/point 0 0x00000000 u1 ")?;
+    for _ in 0..count {
+        text.push_str("63*0x00000001 1*0x00000002 ")?;
+    }
+    text.push_str(more)?;
+    text.push_str("/end/")
+}
+
 /// The text of a cut with one point, which lists so many rounds of 64 masks and then what a row says.
 fn rounds_of(alloc: Global, row: &str) -> Option<String> {
     let (count, more) = row.split_once(' ')?;
     let count = count.parse::<u16>().ok()?;
     let mut text = String::new(alloc);
-    text.push_str("flowcheck-cut 1/secret 1/bits 1/point 0 0x00000000 u1 ")
-        .ok()?;
-    for _ in 0..count {
-        text.push_str("63*0x00000001 1*0x00000002 ").ok()?;
-    }
-    text.push_str(more).ok()?;
-    text.push_str("/end/").ok()?;
+    add_rounds(&mut text, count, more).ok()?;
     Some(text)
 }
 
@@ -48,76 +51,85 @@ fn others_of(alloc: Global, file: &[u8]) -> Option<(Bytes, Bytes)>
     if cut.version != 1 {
         return None;
     }
-    Some((
-        fold_text(alloc, &cut).ok()?,
-        migrated_text(alloc, &cut).ok()?,
-    ))
+    let folded = fold_text(alloc, &cut).ok()?;
+    let migrated = migrated_text(alloc, &cut).ok()?;
+    Some((folded, migrated))
+}
+
+/// These texts of the file that a row spells.
+fn others_of_row(alloc: Global, row: &str) -> Option<(Bytes, Bytes)> {
+    let file = file_of(alloc, row)?;
+    others_of(alloc, file.as_slice())
+}
+
+/// Prints whether what is written of a file is that file.
+fn print_whether_same(rt: &HostRuntime, same: bool) -> bool {
+    if same {
+        println!(rt; "read and written back").is_ok()
+    } else {
+        println!(rt; "another text is written").is_ok()
+    }
 }
 
 /// Prints that a file is read and written back as it is, or its first fault.
-fn print_cut(rt: &HostRuntime, row: &str) -> io::Result<bool> {
+fn print_cut(rt: &HostRuntime, row: &str) -> bool {
     let Some(file) = file_of(rt.alloc(), row) else {
-        return Ok(false);
+        return false;
     };
     match written(rt.alloc(), file.as_slice()) {
-        Ok(text) if text.as_slice() == file.as_slice() => println!(rt; "read and written back")?,
-        Ok(_) => println!(rt; "another text is written")?,
-        Err(CutFault::Memory) => return Ok(false),
-        Err(fault) => println!(rt; "{fault}")?,
+        Ok(text) => print_whether_same(rt, text.as_slice() == file.as_slice()),
+        Err(CutFault::Memory) => false,
+        Err(fault) => println!(rt; "{fault}").is_ok(),
     }
-    Ok(true)
 }
 
 /// Prints the texts of the fold of a cut, and of the cut in version 2.
-fn print_fold(rt: &HostRuntime, row: &str) -> io::Result<bool> {
-    let Some(file) = file_of(rt.alloc(), row) else {
-        return Ok(false);
-    };
-    let Some((folded, migrated)) = others_of(rt.alloc(), file.as_slice()) else {
-        return Ok(false);
-    };
-    Ok(put_line(rt, folded.as_slice()) && put_line(rt, migrated.as_slice()))
+fn print_fold(rt: &HostRuntime, row: &str) -> bool {
+    match others_of_row(rt.alloc(), row) {
+        Some((folded, migrated)) => {
+            put_line(rt, folded.as_slice()) && put_line(rt, migrated.as_slice())
+        }
+        None => false,
+    }
 }
 
 /// Prints the text of the fold of a cut of so many rounds, or that the fold is the cut in version 2.
-fn print_rounds(rt: &HostRuntime, row: &str) -> io::Result<bool> {
+fn print_rounds(rt: &HostRuntime, row: &str) -> bool {
     let Some(text) = rounds_of(rt.alloc(), row) else {
-        return Ok(false);
+        return false;
     };
-    let Some(file) = file_of(rt.alloc(), text.as_str()) else {
-        return Ok(false);
-    };
-    let Some((folded, migrated)) = others_of(rt.alloc(), file.as_slice()) else {
-        return Ok(false);
-    };
-    if folded.as_slice() == migrated.as_slice() {
-        println!(rt; "all masks are kept")?;
-        return Ok(true);
+    match others_of_row(rt.alloc(), text.as_str()) {
+        Some((folded, migrated)) => {
+            if folded.as_slice() == migrated.as_slice() {
+                println!(rt; "all masks are kept").is_ok()
+            } else {
+                put_line(rt, folded.as_slice())
+            }
+        }
+        None => false,
     }
-    Ok(put_line(rt, folded.as_slice()))
 }
 
 /// Prints the mask at a visit of the first point of a cut.
-fn print_mask(rt: &HostRuntime, row: &str) -> io::Result<bool> {
+fn print_mask(rt: &HostRuntime, row: &str) -> bool {
     let (visit, text) = row.split_once(' ').unwrap_or((row, ""));
     let Some(file) = file_of(rt.alloc(), text) else {
-        return Ok(false);
+        return false;
     };
     let visit = visit.parse::<u64>().unwrap_or(0);
     match first_mask(rt.alloc(), file.as_slice(), visit) {
-        Some(mask) => println!(rt; "mask {mask:x}")?,
-        None => println!(rt; "no mask")?,
+        Some(mask) => println!(rt; "mask {mask:x}").is_ok(),
+        None => println!(rt; "no mask").is_ok(),
     }
-    Ok(true)
 }
 
-/// Prints the answer of a row; whether it is one of these rows, and memory is not short.
-pub fn print(rt: &HostRuntime, name: &str, row: &str) -> io::Result<bool> {
+/// Prints the answer of a row; whether it is one of these rows, is printed, and memory is not short.
+pub fn print(rt: &HostRuntime, name: &str, row: &str) -> bool {
     match name {
         "cut" => print_cut(rt, row),
         "fold" => print_fold(rt, row),
         "rounds" => print_rounds(rt, row),
         "mask" => print_mask(rt, row),
-        _ => Ok(false),
+        _ => false,
     }
 }

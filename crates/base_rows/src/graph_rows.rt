@@ -4,7 +4,6 @@ use crate::events::{event_of, link_of, point};
 use flow_base::{List, NoMemory};
 use flow_graph::{Arc, EventList, Events, Graph, Node, graph_of, has_few_events};
 use std::alloc::Global;
-use std::io;
 
 /// The events that rows add.
 #[derive(Drop)]
@@ -12,16 +11,31 @@ pub struct Graphs {
     events: EventList,
 }
 
-/// Prints the points of a graph, its relays and its links.
-fn print_graph(rt: &HostRuntime, graph: &Graph) -> io::Result<()> {
-    for node in graph.points.as_slice() {
-        println!(rt; "{:?} capacity {}", node.point, node.capacity)?;
+/// Prints the points of a graph; whether they were taken.
+fn print_points(rt: &HostRuntime, points: &[Node]) -> bool {
+    for node in points {
+        if println!(rt; "{:?} capacity {}", node.point, node.capacity).is_err() {
+            return false;
+        }
     }
-    println!(rt; "relays {:?}", graph.relays.as_slice())?;
-    for link in graph.links.as_slice() {
-        println!(rt; "from {:?} to {:?}", link.source, link.target)?;
+    true
+}
+
+/// Prints the links of a graph; whether they were taken.
+fn print_links(rt: &HostRuntime, links: &[Arc]) -> bool {
+    for link in links {
+        if println!(rt; "from {:?} to {:?}", link.source, link.target).is_err() {
+            return false;
+        }
     }
-    Ok(())
+    true
+}
+
+/// Prints the points of a graph, its relays and its links; whether they were taken.
+fn print_graph(rt: &HostRuntime, graph: &Graph) -> bool {
+    print_points(rt, graph.points.as_slice())
+        && println!(rt; "relays {:?}", graph.relays.as_slice()).is_ok()
+        && print_links(rt, graph.links.as_slice())
 }
 
 /// The points at 1, 2 and 3, with capacity 2.
@@ -49,19 +63,20 @@ fn lists_of(alloc: Global, row: &str) -> Option<(List<u16>, List<Arc>)> {
     Some((relays, links))
 }
 
+/// Whether the lists of a row are those of a graph of three points; None where it has no lists, or memory is short.
+fn are_of_graph(alloc: Global, row: &str) -> Option<bool> {
+    let (relays, links) = lists_of(alloc, row)?;
+    let points = three_points(alloc).ok()?;
+    Some(Graph::from_lists(points, relays, links).is_some())
+}
+
 /// Prints whether the lists of a row are those of a graph of three points.
-fn print_lists(rt: &HostRuntime, row: &str) -> io::Result<bool> {
-    let Some((relays, links)) = lists_of(rt.alloc(), row) else {
-        return Ok(false);
-    };
-    let Ok(points) = three_points(rt.alloc()) else {
-        return Ok(false);
-    };
-    match Graph::from_lists(points, relays, links) {
-        Some(_) => println!(rt; "a graph")?,
-        None => println!(rt; "no graph")?,
+fn print_lists(rt: &HostRuntime, row: &str) -> bool {
+    match are_of_graph(rt.alloc(), row) {
+        Some(true) => println!(rt; "a graph").is_ok(),
+        Some(false) => println!(rt; "no graph").is_ok(),
+        None => false,
     }
-    Ok(true)
 }
 
 impl Graphs {
@@ -73,28 +88,33 @@ impl Graphs {
     }
 
     /// Prints the graph of the events, and how many there are.
-    fn print_events(&self, rt: &HostRuntime) -> io::Result<bool> {
+    fn print_events(&self, rt: &HostRuntime) -> bool {
         if !has_few_events(&self.events) {
-            return Ok(false);
+            return false;
         }
-        println!(rt; "{} events", self.events.events().len())?;
-        let Ok(graph) = graph_of(rt.alloc(), &self.events) else {
-            return Ok(false);
-        };
-        print_graph(rt, &graph)?;
-        Ok(true)
+        if println!(rt; "{} events", self.events.events().len()).is_err() {
+            return false;
+        }
+        match graph_of(rt.alloc(), &self.events) {
+            Ok(graph) => print_graph(rt, &graph),
+            Err(_) => false,
+        }
     }
 
-    /// Prints the answer of a row; whether it is one of these rows, and memory is not short.
-    pub fn print(&mut self, rt: &HostRuntime, name: &str, row: &str) -> io::Result<bool> {
-        match name {
-            "graph" => return self.print_events(rt),
-            "lists" => return print_lists(rt, row),
-            _ => {}
-        }
+    /// Adds the event of a row; whether it is one of these rows, and memory is not short.
+    fn add(&mut self, name: &str, row: &str) -> bool {
         match event_of(name, row) {
-            Some(event) => Ok(self.events.add(event).is_ok()),
-            None => Ok(false),
+            Some(event) => self.events.add(event).is_ok(),
+            None => false,
+        }
+    }
+
+    /// Prints the answer of a row; whether it is one of these rows, is printed, and memory is not short.
+    pub fn print(&mut self, rt: &HostRuntime, name: &str, row: &str) -> bool {
+        match name {
+            "graph" => self.print_events(rt),
+            "lists" => print_lists(rt, row),
+            _ => self.add(name, row),
         }
     }
 }

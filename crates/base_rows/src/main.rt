@@ -16,6 +16,7 @@ mod visit_rows;
 mod word_rows;
 
 use graph_rows::Graphs;
+use std::alloc::Global;
 use std::io;
 use store_rows::Stores;
 use string_rows::Strings;
@@ -31,38 +32,49 @@ struct Table {
 }
 
 impl Table {
-    /// Prints the answer of a row, whose name says which table it is of.
-    fn print(&mut self, rt: &HostRuntime, row: &str) -> io::Result<()> {
-        let (name, rest) = row.split_once(' ').unwrap_or((row, ""));
-        if cut_rows::print(rt, name, rest)?
-            || word_rows::print(rt, name, rest)?
-            || call_rows::print(rt, name, rest)?
-            || self.stores.print(rt, name, rest)?
-            || self.strings.print(rt, name, rest)?
-            || self.graphs.print(rt, name, rest)?
-            || self.visits.print(rt, name, rest)?
-        {
-            return Ok(());
-        }
-        println!(rt; "no row, or memory is short: {row}")
+    /// Prints the answer of a row to which those before it are something; whether it is one.
+    fn print(&mut self, rt: &HostRuntime, name: &str, rest: &str) -> bool {
+        self.stores.print(rt, name, rest)
+            || self.strings.print(rt, name, rest)
+            || self.graphs.print(rt, name, rest)
+            || self.visits.print(rt, name, rest)
     }
 }
 
-fn main(rt: HostRuntime) -> io::Result<()> {
-    let Some(stores) = Stores::new(rt.alloc()) else {
-        return println!(rt; "memory is short");
-    };
-    let Some(strings) = Strings::new(rt.alloc()) else {
-        return println!(rt; "memory is short");
-    };
-    let mut table = Table {
+/// Prints the answer of a row to which rows before it are nothing; whether it is one.
+fn print_alone(rt: &HostRuntime, name: &str, rest: &str) -> bool {
+    cut_rows::print(rt, name, rest)
+        || word_rows::print(rt, name, rest)
+        || call_rows::print(rt, name, rest)
+}
+
+/// Prints the answer of a row, whose name says which table it is of.
+fn print(rt: &HostRuntime, table: &mut Table, row: &str) -> io::Result<()> {
+    let (name, rest) = row.split_once(' ').unwrap_or((row, ""));
+    if print_alone(rt, name, rest) || table.print(rt, name, rest) {
+        return Ok(());
+    }
+    println!(rt; "no row, or memory is short: {row}")
+}
+
+/// What no rows have left; None where memory is short.
+fn table_of(alloc: Global) -> Option<Table> {
+    let stores = Stores::new(alloc)?;
+    let strings = Strings::new(alloc)?;
+    Some(Table {
         stores,
         strings,
-        graphs: Graphs::new(rt.alloc()),
-        visits: Visits::new(rt.alloc()),
+        graphs: Graphs::new(alloc),
+        visits: Visits::new(alloc),
+    })
+}
+
+fn main(rt: HostRuntime) -> io::Result<()> {
+    let Some(mut table) = table_of(rt.alloc()) else {
+        return println!(rt; "memory is short");
     };
     for line in rt.lines(rt.alloc()) {
-        table.print(&rt, line?.as_str())?;
+        print(&rt, &mut table, line?.as_str())?;
     }
     Ok(())
 }

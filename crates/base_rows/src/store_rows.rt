@@ -6,7 +6,6 @@ use flow_base::{
     StandardOut,
 };
 use std::alloc::Global;
-use std::io;
 
 /// The files in memory, whose second load fails, and a sink for six bytes, whose second put takes one and fails.
 #[derive(Drop)]
@@ -15,15 +14,19 @@ pub struct Stores {
     sink: MemorySink,
 }
 
+/// A file in memory.
+fn held(alloc: Global, name: &str, text: &str) -> Result<Held, NoMemory> {
+    let name = Bytes::from_slice(alloc, name.as_bytes())?;
+    let bytes = Bytes::from_slice(alloc, text.as_bytes())?;
+    Ok(Held { name, bytes })
+}
+
 /// The files in memory; one name is held twice.
 fn memory_files(alloc: Global) -> Result<MemoryFiles, NoMemory> {
     let mut names = List::new(alloc);
-    for (name, bytes) in [("a", "12345"), ("b", ""), ("a", "second")] {
-        names.push(Held {
-            name: Bytes::from_slice(alloc, name.as_bytes())?,
-            bytes: Bytes::from_slice(alloc, bytes.as_bytes())?,
-        })?;
-    }
+    names.push(held(alloc, "a", "12345")?)?;
+    names.push(held(alloc, "b", "")?)?;
+    names.push(held(alloc, "a", "second")?)?;
     let mut fails = List::new(alloc);
     fails.push(2)?;
     Ok(MemoryFiles {
@@ -41,33 +44,32 @@ fn memory_sink(alloc: Global) -> Result<MemorySink, NoMemory> {
     MemorySink::new(alloc, 6, fails)
 }
 
+/// The name and the limit of a row.
+fn name_and_limit<'a>(row: &'a str) -> Option<(&'a str, u32)> {
+    let (name, limit) = row.split_once(' ')?;
+    Some((name, number(Some(limit))?))
+}
+
 /// Prints what a load of a name within a limit answers.
-fn print_load<F: Files>(rt: &HostRuntime, files: &mut F, row: &str) -> io::Result<bool> {
-    let Some((name, limit)) = row.split_once(' ') else {
-        return Ok(false);
-    };
-    let Some(limit) = number(Some(limit)) else {
-        return Ok(false);
+fn print_load<F: Files>(rt: &HostRuntime, files: &mut F, row: &str) -> bool {
+    let Some((name, limit)) = name_and_limit(row) else {
+        return false;
     };
     if limit == u32::MAX {
-        return Ok(false);
+        return false;
     }
     match files.load(rt.alloc(), name, limit) {
-        Ok(bytes) => Ok(put_line(rt, bytes.as_slice())),
-        Err(fault) => {
-            println!(rt; "{fault:?}")?;
-            Ok(true)
-        }
+        Ok(bytes) => put_line(rt, bytes.as_slice()),
+        Err(fault) => println!(rt; "{fault:?}").is_ok(),
     }
 }
 
 /// Prints what a put of bytes answers.
-fn print_put<S: Sink>(rt: &HostRuntime, sink: &mut S, bytes: &[u8]) -> io::Result<bool> {
+fn print_put<S: Sink>(rt: &HostRuntime, sink: &mut S, bytes: &[u8]) -> bool {
     match sink.put(bytes) {
-        Ok(()) => println!(rt; "taken")?,
-        Err(fault) => println!(rt; "{fault:?}")?,
+        Ok(()) => println!(rt; "taken").is_ok(),
+        Err(fault) => println!(rt; "{fault:?}").is_ok(),
     }
-    Ok(true)
 }
 
 impl Stores {
@@ -78,19 +80,18 @@ impl Stores {
         Some(Stores { files, sink })
     }
 
-    /// Prints the answer of a row; whether it is one of these rows, and memory is not short.
-    pub fn print(&mut self, rt: &HostRuntime, name: &str, row: &str) -> io::Result<bool> {
+    /// Prints the answer of a row; whether it is one of these rows, is printed, and memory is not short.
+    pub fn print(&mut self, rt: &HostRuntime, name: &str, row: &str) -> bool {
         match name {
             "load" => print_load(rt, &mut self.files, row),
             "disk" => print_load(rt, &mut DiskFiles::new(*rt), row),
             "put" => print_put(rt, &mut self.sink, row.as_bytes()),
             "stdout" => print_put(rt, &mut StandardOut::new(*rt), row.as_bytes()),
             "loads" => {
-                println!(rt; "loads {} faults {}", self.files.loads, self.files.faults)?;
-                Ok(true)
+                println!(rt; "loads {} faults {}", self.files.loads, self.files.faults).is_ok()
             }
-            "sink" => Ok(put_line(rt, self.sink.taken())),
-            _ => Ok(false),
+            "sink" => put_line(rt, self.sink.taken()),
+            _ => false,
         }
     }
 }

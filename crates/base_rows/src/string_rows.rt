@@ -3,7 +3,6 @@
 use crate::input::{hexadecimal, number, put_line};
 use crossing_bits::{Bits, bit_count};
 use std::alloc::Global;
-use std::io;
 
 /// The string that rows push to and take from.
 #[derive(Drop)]
@@ -18,12 +17,19 @@ fn pair_of(row: &str) -> Option<(u32, u32)> {
 }
 
 /// Prints the word that was made of bits, if there is one.
-fn print_word(rt: &HostRuntime, word: Option<u32>) -> io::Result<bool> {
+fn print_word(rt: &HostRuntime, word: Option<u32>) -> bool {
     match word {
-        Some(word) => println!(rt; "word {word:x}")?,
-        None => println!(rt; "too few bits")?,
+        Some(word) => println!(rt; "word {word:x}").is_ok(),
+        None => println!(rt; "too few bits").is_ok(),
     }
-    Ok(true)
+}
+
+/// Prints how many bits the mask of a row has.
+fn print_ones(rt: &HostRuntime, row: &str) -> bool {
+    match hexadecimal(Some(row)) {
+        Some(mask) => print_word(rt, Some(bit_count(mask))),
+        None => false,
+    }
 }
 
 impl Strings {
@@ -34,42 +40,39 @@ impl Strings {
     }
 
     /// A new string with room for so many bits.
-    fn start(&mut self, rt: &HostRuntime, row: &str) -> io::Result<bool> {
+    fn start(&mut self, rt: &HostRuntime, row: &str) -> bool {
         let Some(room) = number(Some(row)) else {
-            return Ok(false);
+            return false;
         };
-        let Ok(bits) = Bits::with_room(rt.alloc(), room) else {
-            return Ok(false);
-        };
-        self.bits = bits;
-        println!(rt; "no bits")?;
-        Ok(true)
+        match Bits::with_room(rt.alloc(), room) {
+            Ok(bits) => {
+                self.bits = bits;
+                println!(rt; "no bits").is_ok()
+            }
+            Err(_) => false,
+        }
     }
 
     /// Pushes the bits of a value under a mask, while there are at most 65,536.
-    fn push(&mut self, rt: &HostRuntime, row: &str) -> io::Result<bool> {
+    fn push(&mut self, rt: &HostRuntime, row: &str) -> bool {
         let Some((value, mask)) = pair_of(row) else {
-            return Ok(false);
+            return false;
         };
         if self.bits.count() > 65_504 || bit_count(mask) > 32 {
-            return Ok(false);
+            return false;
         }
-        if self.bits.push_masked(value, mask).is_err() {
-            return Ok(false);
-        }
-        println!(rt; "pushed")?;
-        Ok(true)
+        self.bits.push_masked(value, mask).is_ok() && println!(rt; "pushed").is_ok()
     }
 
     /// Prints all bits, how many there are, and how many are left.
-    fn print_bits(&self, rt: &HostRuntime) -> io::Result<bool> {
+    fn print_bits(&self, rt: &HostRuntime) -> bool {
         let bits = self.bits.as_slice();
         println!(rt;
             "{bits:?} count {} left {}",
             self.bits.count(),
             self.bits.left()
-        )?;
-        Ok(true)
+        )
+        .is_ok()
     }
 
     /// Prints the bits as hex text.
@@ -80,26 +83,33 @@ impl Strings {
         }
     }
 
-    /// Prints the answer of a row; whether it is one of these rows, and memory is not short.
-    pub fn print(&mut self, rt: &HostRuntime, name: &str, row: &str) -> io::Result<bool> {
+    /// Prints the word that the bits under the mask of a row make.
+    fn take(&mut self, rt: &HostRuntime, row: &str) -> bool {
+        match hexadecimal(Some(row)) {
+            Some(mask) => print_word(rt, self.bits.take_masked(mask)),
+            None => false,
+        }
+    }
+
+    /// Prints the value of a row with bits in place of those under its mask.
+    fn patch(&mut self, rt: &HostRuntime, row: &str) -> bool {
+        match pair_of(row) {
+            Some((value, mask)) => print_word(rt, self.bits.patch(value, mask)),
+            None => false,
+        }
+    }
+
+    /// Prints the answer of a row; whether it is one of these rows, is printed, and memory is not short.
+    pub fn print(&mut self, rt: &HostRuntime, name: &str, row: &str) -> bool {
         match name {
             "room" => self.start(rt, row),
             "push" => self.push(rt, row),
             "bits" => self.print_bits(rt),
-            "hex" => Ok(self.print_hex(rt)),
-            "take" => match hexadecimal(Some(row)) {
-                Some(mask) => print_word(rt, self.bits.take_masked(mask)),
-                None => Ok(false),
-            },
-            "patch" => match pair_of(row) {
-                Some((value, mask)) => print_word(rt, self.bits.patch(value, mask)),
-                None => Ok(false),
-            },
-            "ones" => match hexadecimal(Some(row)) {
-                Some(mask) => print_word(rt, Some(bit_count(mask))),
-                None => Ok(false),
-            },
-            _ => Ok(false),
+            "hex" => self.print_hex(rt),
+            "take" => self.take(rt, row),
+            "patch" => self.patch(rt, row),
+            "ones" => print_ones(rt, row),
+            _ => false,
         }
     }
 }

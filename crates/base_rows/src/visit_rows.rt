@@ -4,7 +4,6 @@ use crate::input::hexadecimal;
 use flow_base::{Point, Slot};
 use measuring::VisitCounts;
 use std::alloc::Global;
-use std::io;
 
 /// The visits that rows count.
 #[derive(Drop)]
@@ -39,37 +38,32 @@ impl Visits {
     }
 
     /// Counts a visit, and prints whether it is counted.
-    fn visit(&mut self, rt: &HostRuntime, point: &Point) -> io::Result<bool> {
+    fn visit(&mut self, rt: &HostRuntime, point: &Point) -> bool {
         match self.counts.more(point) {
-            Ok(true) => println!(rt; "counted")?,
-            Ok(false) => println!(rt; "not counted")?,
-            Err(_) => return Ok(false),
+            Ok(true) => println!(rt; "counted").is_ok(),
+            Ok(false) => println!(rt; "not counted").is_ok(),
+            Err(_) => false,
         }
-        Ok(true)
     }
 
     /// Forgets the visits of a point, and prints how many they were.
-    fn clear(&mut self, rt: &HostRuntime, point: &Point) -> io::Result<bool> {
+    fn clear(&mut self, rt: &HostRuntime, point: &Point) -> bool {
         match self.counts.clear(point) {
-            Ok(count) => println!(rt; "cleared {count}")?,
-            Err(_) => return Ok(false),
+            Ok(count) => println!(rt; "cleared {count}").is_ok(),
+            Err(_) => false,
         }
-        Ok(true)
     }
 
-    /// Prints the answer of a row; whether it is one of these rows, and memory is not short.
-    pub fn print(&mut self, rt: &HostRuntime, name: &str, row: &str) -> io::Result<bool> {
+    /// Prints the answer of a row; whether it is one of these rows, is printed, and memory is not short.
+    pub fn print(&mut self, rt: &HostRuntime, name: &str, row: &str) -> bool {
         let Some(point) = point_of(row) else {
-            return Ok(false);
+            return false;
         };
         match name {
             "visit" => self.visit(rt, &point),
             "clear" => self.clear(rt, &point),
-            "visits" => {
-                println!(rt; "visits {}", self.counts.count(&point))?;
-                Ok(true)
-            }
-            _ => Ok(false),
+            "visits" => println!(rt; "visits {}", self.counts.count(&point)).is_ok(),
+            _ => false,
         }
     }
 }

@@ -6,7 +6,6 @@ ghost use Rattle.flow_base.specs.Points.{is_slot};
 use crate::input::{number, put_line};
 use flow_base::{Bytes, List, Output, Registers, Slot, hex_digits, hex_word};
 use std::alloc::Global;
-use std::io;
 
 /// The list of the numbers of a row.
 fn list_of(alloc: Global, row: &str) -> Option<List<u32>> {
@@ -18,9 +17,9 @@ fn list_of(alloc: Global, row: &str) -> Option<List<u32>> {
 }
 
 /// Prints how many numbers a list has, the second and the third of them, and all.
-fn print_list(rt: &HostRuntime, row: &str) -> io::Result<bool> {
+fn print_list(rt: &HostRuntime, row: &str) -> bool {
     let Some(numbers) = list_of(rt.alloc(), row) else {
-        return Ok(false);
+        return false;
     };
     let count = numbers.len();
     let second = numbers.get(1).copied();
@@ -29,39 +28,46 @@ fn print_list(rt: &HostRuntime, row: &str) -> io::Result<bool> {
     println!(rt;
         "{count} numbers, {second:?}, {third:?}, {:?}",
         all.as_slice()
-    )?;
-    Ok(true)
+    )
+    .is_ok()
+}
+
+/// The two numbers of a row.
+fn pair_of(row: &str) -> Option<(u32, u32)> {
+    let (first, second) = row.split_once(' ')?;
+    Some((number(Some(first))?, number(Some(second))?))
 }
 
 /// Prints what a register holds after a write.
-fn print_register(rt: &HostRuntime, row: &str) -> io::Result<bool> {
-    let Some((register, value)) = row.split_once(' ') else {
-        return Ok(false);
-    };
-    let (Some(register), Some(value)) = (number(Some(register)), number(Some(value))) else {
-        return Ok(false);
+fn print_register(rt: &HostRuntime, row: &str) -> bool {
+    let Some((register, value)) = pair_of(row) else {
+        return false;
     };
     if register > 31 {
-        return Ok(false);
+        return false;
     }
     let mut registers = Registers::new();
     registers.set(register as u8, value);
-    println!(rt; "register {}", registers.get(register as u8))?;
-    Ok(true)
+    println!(rt; "register {}", registers.get(register as u8)).is_ok()
+}
+
+/// The output of the status and the bytes of a row.
+fn output_of(alloc: Global, row: &str) -> Option<Output> {
+    let (status, text) = row.split_once(' ').unwrap_or((row, ""));
+    let status = status.parse::<u8>().ok()?;
+    let bytes = Bytes::from_slice(alloc, text.as_bytes()).ok()?;
+    Some(Output { bytes, status })
 }
 
 /// Prints an output of a status and bytes.
-fn print_output(rt: &HostRuntime, row: &str) -> io::Result<bool> {
-    let (status, text) = row.split_once(' ').unwrap_or((row, ""));
-    let (Ok(status), Ok(bytes)) = (
-        status.parse::<u8>(),
-        Bytes::from_slice(rt.alloc(), text.as_bytes()),
-    ) else {
-        return Ok(false);
-    };
-    let output = Output { bytes, status };
-    println!(rt; "status {}", output.status)?;
-    Ok(put_line(rt, output.bytes.as_slice()))
+fn print_output(rt: &HostRuntime, row: &str) -> bool {
+    match output_of(rt.alloc(), row) {
+        Some(output) => {
+            println!(rt; "status {}", output.status).is_ok()
+                && put_line(rt, output.bytes.as_slice())
+        }
+        None => false,
+    }
 }
 
 /// The slot that a row names.
@@ -81,30 +87,29 @@ fn slot_of(row: &str) -> Option<Slot>
 }
 
 /// Prints the number and the width of a slot.
-fn print_slot(rt: &HostRuntime, row: &str) -> io::Result<bool> {
-    let Some(slot) = slot_of(row) else {
-        return Ok(false);
-    };
-    println!(rt; "slot {} width {:x}", slot.number(), slot.width())?;
-    Ok(true)
+fn print_slot(rt: &HostRuntime, row: &str) -> bool {
+    match slot_of(row) {
+        Some(slot) => println!(rt; "slot {} width {:x}", slot.number(), slot.width()).is_ok(),
+        None => false,
+    }
 }
 
 /// Prints the digits of a word, and the word.
-fn print_word(rt: &HostRuntime, row: &str) -> io::Result<bool> {
-    let Some(word) = number(Some(row)) else {
-        return Ok(false);
-    };
-    Ok(put_line(rt, &hex_digits(word)) && put_line(rt, &hex_word(word)))
+fn print_word(rt: &HostRuntime, row: &str) -> bool {
+    match number(Some(row)) {
+        Some(word) => put_line(rt, &hex_digits(word)) && put_line(rt, &hex_word(word)),
+        None => false,
+    }
 }
 
-/// Prints the answer of a row; whether it is one of these rows, and memory is not short.
-pub fn print(rt: &HostRuntime, name: &str, row: &str) -> io::Result<bool> {
+/// Prints the answer of a row; whether it is one of these rows, is printed, and memory is not short.
+pub fn print(rt: &HostRuntime, name: &str, row: &str) -> bool {
     match name {
         "list" => print_list(rt, row),
         "register" => print_register(rt, row),
         "output" => print_output(rt, row),
         "slot" => print_slot(rt, row),
         "word" => print_word(rt, row),
-        _ => Ok(false),
+        _ => false,
     }
 }

@@ -69,18 +69,21 @@ fn print_verdict(rt: &HostRuntime, name: &str, verdict: &BoundVerdict) -> io::Re
     }
 }
 
+/// Prints the answer to a line.
+fn answer(rt: &HostRuntime, files: &mut DiskFiles, line: &str) -> io::Result<()> {
+    let Some(row) = parse(line) else {
+        return println!(rt; "{line}: no row");
+    };
+    match verdict(rt.alloc(), files, &row) {
+        Some(verdict) => print_verdict(rt, row.name, &verdict),
+        None => println!(rt; "{line}: no files, or memory is short"),
+    }
+}
+
 fn main(rt: HostRuntime) -> io::Result<()> {
     let mut files = DiskFiles::new(rt);
     for line in rt.lines(rt.alloc()) {
-        let line = line?;
-        let Some(row) = parse(line.as_str()) else {
-            println!(rt; "{line}: no row")?;
-            continue;
-        };
-        match verdict(rt.alloc(), &mut files, &row) {
-            Some(verdict) => print_verdict(&rt, row.name, &verdict)?,
-            None => println!(rt; "{line}: no files, or memory is short")?,
-        }
+        answer(&rt, &mut files, line?.as_str())?;
     }
     Ok(())
 }

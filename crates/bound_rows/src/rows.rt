@@ -1,3 +1,5 @@
+ghost use Rattle.std.specs.Prelude.{◌≤◌};
+
 use cut_file::{Cut, read_cut};
 use elf32_loader::{Image, load_image};
 use enclosure_regions::{Regions, read_regions};
@@ -45,6 +47,18 @@ pub fn parse<'a>(line: &'a str) -> Option<Row<'a>> {
     })
 }
 
+/// The program of a file.
+fn image_of<F: Files>(alloc: Global, files: &mut F, name: &str) -> Option<Image> {
+    let file = files.load(alloc, name, FILE_LIMIT).ok()?;
+    load_image(alloc, file.as_slice()).ok()
+}
+
+/// The cut of a file.
+fn cut_of<F: Files>(alloc: Global, files: &mut F, name: &str) -> Option<Cut> {
+    let file = files.load(alloc, name, FILE_LIMIT).ok()?;
+    read_cut(alloc, file.as_slice()).ok()
+}
+
 /// The regions of a file; none where its name is a dash.
 fn regions_of<F: Files>(alloc: Global, files: &mut F, name: &str) -> Option<Regions> {
     if name == "-" {
@@ -52,6 +66,44 @@ fn regions_of<F: Files>(alloc: Global, files: &mut F, name: &str) -> Option<Regi
     }
     let file = files.load(alloc, name, FILE_LIMIT).ok()?;
     read_regions(alloc, file.as_slice()).ok()
+}
+
+/// The answer by the rules of table 1.
+fn answer_1(
+    alloc: Global,
+    image: &Image,
+    regions: &Regions,
+    cut: &Cut,
+    row: &Row<'_>,
+) -> Option<BoundVerdict>
+    requires few { row.now.budget ≤ 1048576 }
+    requires some { 1 ≤ row.now.paths }
+{
+    let book = book_1!();
+    let public = Bytes::new(alloc);
+    bound(
+        alloc, image, &public, regions, cut, &book, row.budget, row.turns, row.paths,
+    )
+    .ok()
+}
+
+/// The answer by the rules of table 2.
+fn answer_2(
+    alloc: Global,
+    image: &Image,
+    regions: &Regions,
+    cut: &Cut,
+    row: &Row<'_>,
+) -> Option<BoundVerdict>
+    requires few { row.now.budget ≤ 1048576 }
+    requires some { 1 ≤ row.now.paths }
+{
+    let book = book_2!();
+    let public = Bytes::new(alloc);
+    bound(
+        alloc, image, &public, regions, cut, &book, row.budget, row.turns, row.paths,
+    )
+    .ok()
 }
 
 /// The answer by the rules of table 1, or of table 2.
@@ -62,30 +114,20 @@ fn answer(
     cut: &Cut,
     row: &Row<'_>,
 ) -> Option<BoundVerdict> {
-    let public = Bytes::from_slice(alloc, b"").ok()?;
     if row.budget > MOST_BITS || row.paths == 0 {
         return None;
     }
-    let answered = if row.table == 2 {
-        let book = book_2!();
-        bound(
-            alloc, image, &public, regions, cut, &book, row.budget, row.turns, row.paths,
-        )
+    if row.table == 2 {
+        answer_2(alloc, image, regions, cut, row)
     } else {
-        let book = book_1!();
-        bound(
-            alloc, image, &public, regions, cut, &book, row.budget, row.turns, row.paths,
-        )
-    };
-    answered.ok()
+        answer_1(alloc, image, regions, cut, row)
+    }
 }
 
 /// The answer to a row.
 pub fn verdict<F: Files>(alloc: Global, files: &mut F, row: &Row<'_>) -> Option<BoundVerdict> {
-    let program = files.load(alloc, row.program, FILE_LIMIT).ok()?;
-    let image = load_image(alloc, program.as_slice()).ok()?;
-    let text = files.load(alloc, row.cut, FILE_LIMIT).ok()?;
-    let cut = read_cut(alloc, text.as_slice()).ok()?;
+    let image = image_of(alloc, files, row.program)?;
+    let cut = cut_of(alloc, files, row.cut)?;
     let regions = regions_of(alloc, files, row.regions)?;
     answer(alloc, &image, &regions, &cut, row)
 }

@@ -1,7 +1,7 @@
 ghost use Rattle.std.specs.Prelude.{◌≡◌, ◌∷◌, [], IfOk, Some, is_some, map, option_map, string_bytes, true};
 ghost use Rattle.help_texts.specs.Texts.{asks, asks_version, is_command, is_help, is_help_option, is_judging, is_single, is_telling, is_version, version};
 
-use crate::endings::ending;
+use crate::endings::add_ending;
 use crate::forms::{Form, form_named, forms};
 use crate::parsers::{command, command_line};
 use std::alloc::{AllocError, Global};
@@ -11,23 +11,37 @@ const VERSION: &str = "flowcheck 0.1.0\nproved with rattle-kit-13f\n";
 const BELOW: &str =
     "\nflowcheck help COMMAND tells of one command. docs/GUIDE.md says what each answer means.\n";
 
+/// The form of a command as `clap` tells it.
+fn form_alone(alloc: Global, form: &Form) -> Result<String, AllocError> {
+    command(alloc, form)?.render_help()
+}
+
+/// The commands as `clap` tells them.
+fn names_alone(alloc: Global) -> Result<String, AllocError> {
+    command_line(alloc)?.render_help()
+}
+
 /// The help of a command: its form as `clap` tells it, its statuses and an example.
 fn form_text(alloc: Global, form: &Form) -> Result<String, AllocError> {
-    let mut text = command(alloc, form)?.render_help()?;
-    let ending = ending(alloc, form)?;
-    text.push_str(ending.as_str())?;
+    let mut text = form_alone(alloc, form)?;
+    add_ending(&mut text, form)?;
     Ok(text)
+}
+
+/// Adds an empty line and the help of a command.
+fn add_form(alloc: Global, text: &mut String, form: &Form) -> Result<(), AllocError> {
+    text.push('\n')?;
+    let shown = form_text(alloc, form)?;
+    text.push_str(shown.as_str())
 }
 
 /// The text of the help: the commands, and then the form of each, as `clap` tells them, with its statuses and an
 /// example. Its error is out of memory.
 pub fn help(alloc: Global) -> Result<String, AllocError> {
-    let mut text = command_line(alloc)?.render_help()?;
+    let mut text = names_alone(alloc)?;
     text.push_str(BELOW)?;
     for form in forms() {
-        text.push('\n')?;
-        let shown = form_text(alloc, form)?;
-        text.push_str(shown.as_str())?;
+        add_form(alloc, &mut text, form)?;
     }
     Ok(text)
 }

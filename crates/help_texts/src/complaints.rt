@@ -4,6 +4,7 @@ ghost use Rattle.help_texts.specs.Texts.{IsComplaint};
 use crate::forms::{Form, form_of, forms};
 use crate::meanings::{Meaning, meaning_of};
 use crate::parsers::{command, command_line};
+use clap::Command;
 use clap::error::ErrorKind;
 use std::alloc::{AllocError, Global};
 
@@ -54,12 +55,23 @@ const ONE_SECRET: &str = "this command takes one secret; measure-all measures se
 
 const OPTIONS: &str = "\nOptions stand after the command. For all of it: flowcheck --help";
 
-/// The line of the form of the command that the words begin with, or of a command line where they begin with none.
-pub fn form_line(alloc: Global, words: &[String]) -> Result<String, AllocError> {
+/// The command that the words begin with, or a command line where they begin with none.
+fn command_of<'a>(alloc: Global, words: &[String]) -> Result<Command<'a>, AllocError> {
     match form_of(words) {
-        Some(form) => command(alloc, form)?.render_usage(),
-        None => command_line(alloc)?.render_usage(),
+        Some(form) => command(alloc, form),
+        None => command_line(alloc),
     }
+}
+
+/// The line of the form of the command that the words begin with, or of a command line where they begin with none.
+fn form_line(alloc: Global, words: &[String]) -> Result<String, AllocError> {
+    command_of(alloc, words)?.render_usage()
+}
+
+/// Adds an empty line, and that line.
+pub fn add_form_line(alloc: Global, text: &mut String, words: &[String]) -> Result<(), AllocError> {
+    let form = form_line(alloc, words)?;
+    write!(text, "\n{form}\n")
 }
 
 /// Adds the options of a command, in a line of their own, where it has any.
@@ -122,8 +134,19 @@ fn tip_of(words: &[String], head: &str) -> &'static str {
     tip
 }
 
+/// Adds the tips of `clap`, but those that name `--`, which is no word here.
+fn add_tips(start: &mut String, rest: &str) -> Result<(), AllocError> {
+    for line in rest.lines() {
+        if line.starts_with("  tip: ") && !line.contains("use '") {
+            start.push('\n')?;
+            start.push_str(line)?;
+        }
+    }
+    Ok(())
+}
+
 /// The start of what `clap` says is wrong with words, up to its first blank line, with what to do after that and with
-/// its tips: those that name what there is, and not those that name `--`, which is no word here.
+/// its tips.
 fn start_of(alloc: Global, words: &[String], text: &str) -> Result<String, AllocError> {
     let (head, rest) = text.split_once("\n\n").unwrap_or((text, ""));
     let mut start = head.trim_end().to_string(alloc)?;
@@ -131,12 +154,7 @@ fn start_of(alloc: Global, words: &[String], text: &str) -> Result<String, Alloc
     if !tip.is_empty() {
         write!(start, "\n  tip: {tip}")?;
     }
-    for line in rest.lines() {
-        if line.starts_with("  tip: ") && !line.contains("use '") {
-            start.push('\n')?;
-            start.push_str(line)?;
-        }
-    }
+    add_tips(&mut start, rest)?;
     Ok(start)
 }
 

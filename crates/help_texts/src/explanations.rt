@@ -4,6 +4,7 @@ use crate::complaints::complaint;
 use crate::findings::findings;
 use crate::naming::{named, options_last};
 use crate::refusals::{malformed, not_loaded, refused_run, too_large};
+use clap::ArgMatches;
 use std::alloc::{AllocError, Global};
 
 const NOT_WRITTEN: &str =
@@ -23,6 +24,28 @@ fn text_of(bytes: &[u8]) -> &str {
     }
 }
 
+/// What a line means that says why words are refused.
+fn of_refusal(
+    alloc: Global,
+    words: &[String],
+    matches: &ArgMatches<'_>,
+    line: &str,
+) -> Result<Option<String>, AllocError> {
+    if let Some(refused) = line.strip_prefix("refused 3 ") {
+        return malformed(alloc, matches, refused);
+    }
+    if let Some(fault) = line.strip_prefix("refused 4 ") {
+        return refused_run(alloc, matches, fault);
+    }
+    if let Some(file) = line.strip_prefix("refused 5 load ") {
+        return not_loaded(alloc, words, matches, file);
+    }
+    if let Some(refused) = line.strip_prefix("refused 6 too-large ") {
+        return too_large(alloc, words, matches, refused);
+    }
+    Ok(None)
+}
+
 /// What the answer to words means, of a command line, by its status and the text that was put, or a beginning of it.
 fn of_command_line(
     alloc: Global,
@@ -34,23 +57,10 @@ fn of_command_line(
     let Some(matches) = named(alloc, ordered.as_slice())? else {
         return Ok(None);
     };
-    let line = said.trim_end();
     if status == 1 {
         return findings(alloc, &matches, said);
     }
-    if let Some(refused) = line.strip_prefix("refused 3 ") {
-        return malformed(alloc, &matches, refused);
-    }
-    if let Some(fault) = line.strip_prefix("refused 4 ") {
-        return refused_run(alloc, &matches, fault);
-    }
-    if let Some(file) = line.strip_prefix("refused 5 load ") {
-        return not_loaded(alloc, words, &matches, file);
-    }
-    if let Some(refused) = line.strip_prefix("refused 6 too-large ") {
-        return too_large(alloc, words, &matches, refused);
-    }
-    Ok(None)
+    of_refusal(alloc, words, &matches, said.trim_end())
 }
 
 /// What the answer to words means and what to change, by its status and by the text that was put, or a beginning of it;

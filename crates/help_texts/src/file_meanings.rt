@@ -1,9 +1,8 @@
 //! What is wrong with a file that is refused as malformed, and what to change.
 
-use crate::meanings::Meaning;
+use crate::meanings::{Meaning, meaning_of};
 
 /// A kind of file.
-#[derive(Clone, Copy)]
 pub struct FileKind {
     /// The word of a refusal that names it.
     pub word: &'static str,
@@ -11,43 +10,59 @@ pub struct FileKind {
     pub names: [&'static str; 2],
     /// What it is called.
     pub noun: &'static str,
-    /// What the faults of such a file mean.
-    pub meanings: &'static [Meaning],
 }
 
 /// Each kind of file.
-pub const FILE_KINDS: [FileKind; 5] = [
+static FILE_KINDS: [FileKind; 5] = [
     FileKind {
         word: "program",
         names: ["PROG", "PROG"],
         noun: "program",
-        meanings: &PROGRAMS,
     },
     FileKind {
         word: "regions",
         names: ["regions", "FILE"],
         noun: "region file",
-        meanings: &REGIONS,
     },
     FileKind {
         word: "cut",
         names: ["CUT", "CUT"],
         noun: "cut",
-        meanings: &CUTS,
     },
     FileKind {
         word: "source",
         names: ["SOURCE", "SOURCE"],
         noun: "source",
-        meanings: &SOURCES,
     },
     FileKind {
         word: "certificate",
         names: ["CERT", "CERT"],
         noun: "certificate",
-        meanings: &CERTIFICATES,
     },
 ];
+
+/// The kinds of files.
+pub fn file_kinds<'a>() -> &'a [FileKind] {
+    &FILE_KINDS
+}
+
+/// What a fault means of a file of the kind that a word of a refusal names, and what to change.
+pub fn meaning_of_file<'a>(word: &str, fault: &str) -> &'a str {
+    let meanings = match word {
+        "program" => programs(),
+        "regions" => regions(),
+        "cut" => cuts(),
+        "source" => sources(),
+        "certificate" => certificates(),
+        _ => &[],
+    };
+    meaning_of(meanings, fault)
+}
+
+/// What the faults of a program mean.
+fn programs<'a>() -> &'a [Meaning] {
+    &PROGRAMS
+}
 
 const PROGRAMS: [Meaning; 18] = [
     Meaning {
@@ -162,6 +177,11 @@ const PROGRAMS: [Meaning; 18] = [
     },
 ];
 
+/// What the faults of a region file mean.
+fn regions<'a>() -> &'a [Meaning] {
+    &REGIONS
+}
+
 const REGIONS: [Meaning; 7] = [
     Meaning {
         start: "json",
@@ -206,6 +226,11 @@ const REGIONS: [Meaning; 7] = [
     },
 ];
 
+/// What the faults of a cut mean.
+fn cuts<'a>() -> &'a [Meaning] {
+    &CUTS
+}
+
 const CUTS: [Meaning; 6] = [
     Meaning {
         start: "version",
@@ -245,6 +270,11 @@ const CUTS: [Meaning; 6] = [
         text: "Something follows the line `end`, from this byte on. Remove it; two cuts in one file are none.",
     },
 ];
+
+/// What the faults of a source mean.
+fn sources<'a>() -> &'a [Meaning] {
+    &SOURCES
+}
 
 const SOURCES: [Meaning; 7] = [
     Meaning {
@@ -286,6 +316,11 @@ const SOURCES: [Meaning; 7] = [
             2047: load a greater one by `li`. A branch reaches 4 KiB: jump further by `j`.",
     },
 ];
+
+/// What the faults of a certificate mean.
+fn certificates<'a>() -> &'a [Meaning] {
+    &CERTIFICATES
+}
 
 const CERTIFICATES: [Meaning; 2] = [
     Meaning {

@@ -7,7 +7,6 @@ use clap::error::ErrorKind;
 use std::alloc::{AllocError, Global};
 
 /// What a word of a form stands for.
-#[derive(Clone, Copy)]
 pub struct Role {
     /// The name that forms have for it.
     pub name: &'static str,
@@ -83,6 +82,11 @@ const ROLES: [Role; 8] = [
     },
 ];
 
+/// What words of forms stand for.
+fn roles<'a>() -> &'a [Role] {
+    &ROLES
+}
+
 /// Whether the value of an option is the word after it: of one that takes a value, where no `=` stands in its word.
 fn takes_next(form: &Form, word: &str) -> bool {
     let Some(name) = word.strip_prefix("--") else {
@@ -117,16 +121,19 @@ pub fn options_last<'a>(alloc: Global, words: &'a [String]) -> Result<Vec<&'a st
     Ok(ordered)
 }
 
+/// What stands after the command.
+fn after_command<'a>(mut matches: ArgMatches<'a>) -> Option<ArgMatches<'a>> {
+    let (_, after) = matches.remove_subcommand()?;
+    Some(after)
+}
+
 /// What stands after the command of a command line, by the names of its form; None where it is none.
 pub fn named<'a>(
     alloc: Global,
     words: &'a [&'a str],
 ) -> Result<Option<ArgMatches<'a>>, AllocError> {
     match command_line(alloc)?.try_get_matches_from(words) {
-        Ok(mut matches) => match matches.remove_subcommand() {
-            Some((_, after)) => Ok(Some(after)),
-            None => Ok(None),
-        },
+        Ok(matches) => Ok(after_command(matches)),
         Err(error) if error.kind() == ErrorKind::OutOfMemory => Err(AllocError),
         Err(_) => Ok(None),
     }
@@ -144,27 +151,36 @@ pub fn secret_of<'a>(matches: &ArgMatches<'a>, number: &str) -> Option<&'a str> 
     secrets.get(number.checked_sub(1)?).copied()
 }
 
-/// What the file of this name stands for.
-pub fn role_of(matches: &ArgMatches<'_>, file: &str) -> Role {
-    for role in ROLES {
-        if let Some(words) = matches.get_strs(role.name) {
-            for word in words {
-                if *word == file {
-                    return role;
-                }
-            }
-        }
+/// Whether a file is among what stands for this name of a form.
+fn stands_for(matches: &ArgMatches<'_>, name: &str, file: &str) -> bool {
+    match matches.get_strs(name) {
+        Some(words) => words.contains(&file),
+        None => false,
     }
-    ANY_FILE
 }
 
-/// The options that say how a run is made, with a space before each, as they stand in words.
-pub fn run_options(alloc: Global, matches: &ArgMatches<'_>) -> Result<String, AllocError> {
-    let mut text = String::new(alloc);
-    for name in ["turns", "regions", "rules", "paths"] {
-        if let Some(value) = matches.get_str(name) {
-            write!(text, " --{name}={value}")?;
+/// What the file of this name stands for.
+pub fn role_of<'a>(matches: &ArgMatches<'_>, file: &str) -> &'a Role {
+    for role in roles() {
+        if stands_for(matches, role.name, file) {
+            return role;
         }
     }
-    Ok(text)
+    &ANY_FILE
+}
+
+/// Adds an option, with a space before it, as it stands in words, where it does.
+fn add_option(text: &mut String, matches: &ArgMatches<'_>, name: &str) -> Result<(), AllocError> {
+    match matches.get_str(name) {
+        Some(value) => write!(text, " --{name}={value}"),
+        None => Ok(()),
+    }
+}
+
+/// Adds the options that say how a run is made, with a space before each, as they stand in words.
+pub fn add_run_options(text: &mut String, matches: &ArgMatches<'_>) -> Result<(), AllocError> {
+    add_option(text, matches, "turns")?;
+    add_option(text, matches, "regions")?;
+    add_option(text, matches, "rules")?;
+    add_option(text, matches, "paths")
 }

@@ -38,18 +38,28 @@ fn option<'a>(alloc: Global, item: &'a Item) -> Arg<'a> {
     }
 }
 
-/// The command of a form.
-pub fn command<'a>(alloc: Global, form: &'a Form) -> Result<Command<'a>, AllocError> {
-    let name = form.name;
-    let line = format!(in alloc; "flowcheck {name}")?;
-    let mut command = bare(alloc, name).bin_name(line.as_str())?.about(form.about);
+/// The words and the options of a form.
+fn args<'a>(alloc: Global, form: &'a Form) -> Result<Vec<Arg<'a>>, AllocError> {
+    let mut args: Vec<Arg<'a>> = Vec::new(alloc);
     for item in form.words {
-        command = command.arg(word(alloc, item))?;
+        args.push(word(alloc, item))?;
     }
     for item in form.options {
-        command = command.arg(option(alloc, item))?;
+        args.push(option(alloc, item))?;
     }
-    Ok(command)
+    Ok(args)
+}
+
+/// A command of this name without words.
+fn wordless<'a>(alloc: Global, name: &'a str) -> Result<Command<'a>, AllocError> {
+    let line = format!(in alloc; "flowcheck {name}")?;
+    bare(alloc, name).bin_name(line.as_str())
+}
+
+/// The command of a form.
+pub fn command<'a>(alloc: Global, form: &'a Form) -> Result<Command<'a>, AllocError> {
+    let args = args(alloc, form)?;
+    wordless(alloc, form.name)?.about(form.about).args(args)
 }
 
 /// The commands of all forms.

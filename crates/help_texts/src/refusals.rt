@@ -1,16 +1,16 @@
 //! What a refusal means, and what to change.
 
-use crate::complaints::form_line;
-use crate::file_meanings::{FILE_KINDS, FileKind};
+use crate::complaints::add_form_line;
+use crate::file_meanings::{FileKind, file_kinds, meaning_of_file};
 use crate::meanings::meaning_of;
-use crate::naming::{role_of, run_options, secret_of, word_for};
+use crate::naming::{add_run_options, role_of, secret_of, word_for};
 use crate::run_meanings::RUNS;
 use clap::ArgMatches;
 use std::alloc::{AllocError, Global};
 
 /// The kind of file that a word of a refusal names.
-fn kind_of(word: &str) -> Option<FileKind> {
-    for kind in FILE_KINDS {
+fn kind_of<'a>(word: &str) -> Option<&'a FileKind> {
+    for kind in file_kinds() {
         if kind.word == word {
             return Some(kind);
         }
@@ -39,9 +39,9 @@ pub fn malformed(
     let Some(kind) = kind_of(word) else {
         return Ok(None);
     };
-    let file = file_of(matches, &kind);
+    let file = file_of(matches, kind);
     let noun = kind.noun;
-    let meaning = meaning_of(kind.meanings, fault);
+    let meaning = meaning_of_file(kind.word, fault);
     Ok(Some(format!(in alloc; "error: {noun} {file}: {fault}\n{meaning}\n")?))
 }
 
@@ -54,23 +54,37 @@ fn numbered<'a>(fault: &'a str) -> Option<(&'a str, &'a str)> {
     rest.split_once(' ')
 }
 
-/// Where tools tell more of a run that is refused.
-fn more_of_run(
-    alloc: Global,
+/// Adds where tools tell more of a run that is refused.
+fn add_more_of_run(
+    text: &mut String,
     matches: &ArgMatches<'_>,
     fault: &str,
     secret: &str,
-) -> Result<String, AllocError> {
+) -> Result<(), AllocError> {
     if !fault.contains("0x") || matches.get_str("FILE").is_some() {
-        return Ok(String::new(alloc));
+        return Ok(());
     }
     let program = word_for(matches, "PROG");
     let public = word_for(matches, "PUBLIC");
-    let options = run_options(alloc, matches)?;
-    format!(in alloc;
-        "python3 tools/explain.py {program} {public} {secret}{options} --text says in which line that \
-        is.\n"
-    )
+    write!(text, "python3 tools/explain.py {program} {public} {secret}")?;
+    add_run_options(text, matches)?;
+    text.push_str(" --text says in which line that is.\n")
+}
+
+/// The secret of a run that is refused, where its number or the words name it.
+fn refused_secret<'a>(matches: &ArgMatches<'a>, fault: &str) -> Option<&'a str> {
+    match numbered(fault) {
+        Some((number, _)) => secret_of(matches, number),
+        None => matches.get_str("SECRET"),
+    }
+}
+
+/// The fault of one run: what stands after the number of a run of several.
+fn fault_of_run<'a>(fault: &'a str) -> &'a str {
+    match numbered(fault) {
+        Some((_, rest)) if fault.starts_with("run") => rest,
+        _ => fault,
+    }
 }
 
 /// Of a run, or several, that are refused for a fault.
@@ -80,21 +94,12 @@ pub fn refused_run(
     fault: &str,
 ) -> Result<Option<String>, AllocError> {
     let program = word_for(matches, "PROG");
-    let (secret, cause) = match numbered(fault) {
-        Some((number, rest)) => (
-            secret_of(matches, number),
-            if fault.starts_with("run") {
-                rest
-            } else {
-                fault
-            },
-        ),
-        None => (matches.get_str("SECRET"), fault),
-    };
-    let secret = secret.unwrap_or("SECRET");
+    let secret = refused_secret(matches, fault).unwrap_or("SECRET");
+    let cause = fault_of_run(fault);
     let meaning = meaning_of(&RUNS, cause);
-    let more = more_of_run(alloc, matches, cause, secret)?;
-    Ok(Some(format!(in alloc; "error: run of {program} on {secret}: {fault}\n{meaning}\n{more}")?))
+    let mut text = format!(in alloc; "error: run of {program} on {secret}: {fault}\n{meaning}\n")?;
+    add_more_of_run(&mut text, matches, cause, secret)?;
+    Ok(Some(text))
 }
 
 const NO_NUMBER: &str =
@@ -116,8 +121,9 @@ pub fn not_loaded(
     } else {
         NO_FILE
     };
-    let form = form_line(alloc, words)?;
-    Ok(Some(format!(in alloc; "error: cannot read {file} as {what}\n{advice}\n\n{form}\n")?))
+    let mut text = format!(in alloc; "error: cannot read {file} as {what}\n{advice}\n")?;
+    add_form_line(alloc, &mut text, words)?;
+    Ok(Some(text))
 }
 
 /// Of a file that has too many bytes, as `FILE NUMBER` says.
@@ -134,8 +140,9 @@ pub fn too_large(
     let what = role.what;
     let limit = role.limit;
     let advice = role.advice;
-    let form = form_line(alloc, words)?;
-    Ok(Some(format!(in alloc;
-        "error: {file} is too large for {what}, which may have {limit}\n{advice}\n\n{form}\n"
-    )?))
+    let mut text = format!(in alloc;
+        "error: {file} is too large for {what}, which may have {limit}\n{advice}\n"
+    )?;
+    add_form_line(alloc, &mut text, words)?;
+    Ok(Some(text))
 }

@@ -1,7 +1,7 @@
 //! The lines of a table.
 
 /// A part of a guest.
-#[derive(Clone, Copy, Debug, PartialEq, Eq)]
+#[derive(Clone, Copy)]
 pub enum Part {
     /// `code WORD ..`: words of the program, which stands at 0x10000 and begins there.
     Code,

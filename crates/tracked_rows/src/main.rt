@@ -34,51 +34,55 @@ fn print_row(rt: &HostRuntime, events: &EventList, answer: TrackedTurn) -> io::R
     println!(rt; "{answer}")
 }
 
-fn main(rt: HostRuntime) -> io::Result<()> {
+/// Makes the run of a guest and prints its first turns, up to its end, but at most so many.
+fn print_run(rt: &HostRuntime, guest: &Guest, turns: u32) -> io::Result<()> {
     let book = book_1!();
+    let Some(image) = program(rt.alloc(), guest.code()) else {
+        return println!(rt; "no program");
+    };
+    let Ok(mut tracked) = Tracked::new(
+        rt.alloc(),
+        &image,
+        guest.public(),
+        guest.secret(),
+        guest.regions(),
+        &book,
+    ) else {
+        return println!(rt; "memory is short");
+    };
+    for _ in 0..turns {
+        let mut events = EventList::new(rt.alloc());
+        let Ok(answer) = tracked.turn(&mut events) else {
+            return println!(rt; "memory is short");
+        };
+        print_row(rt, &events, answer)?;
+        if answer != TrackedTurn::Ran {
+            return Ok(());
+        }
+    }
+    Ok(())
+}
+
+/// Does what a line of the table says.
+fn follow(rt: &HostRuntime, guest: &mut Guest, line: &str) -> io::Result<()> {
+    match read_line(line) {
+        Some(Line::Guest(name)) => {
+            *guest = Guest::new(rt.alloc());
+            println!(rt; "guest {name}")
+        }
+        Some(Line::Part(part, text)) => match guest.put(rt.alloc(), part, text) {
+            Some(()) => Ok(()),
+            None => println!(rt; "no part of a guest"),
+        },
+        Some(Line::Turns(turns)) => print_run(rt, guest, turns),
+        None => println!(rt; "no line of a table"),
+    }
+}
+
+fn main(rt: HostRuntime) -> io::Result<()> {
     let mut guest = Guest::new(rt.alloc());
     for line in rt.lines(rt.alloc()) {
-        let line = line?;
-        match read_line(line.as_str()) {
-            Some(Line::Guest(name)) => {
-                guest = Guest::new(rt.alloc());
-                println!(rt; "guest {name}")?;
-            }
-            Some(Line::Part(part, text)) => {
-                if guest.put(rt.alloc(), part, text).is_none() {
-                    println!(rt; "no part of a guest")?;
-                }
-            }
-            Some(Line::Turns(turns)) => {
-                let Some(image) = program(rt.alloc(), guest.code()) else {
-                    println!(rt; "no program")?;
-                    continue;
-                };
-                let Ok(mut tracked) = Tracked::new(
-                    rt.alloc(),
-                    &image,
-                    guest.public(),
-                    guest.secret(),
-                    guest.regions(),
-                    &book,
-                ) else {
-                    println!(rt; "memory is short")?;
-                    continue;
-                };
-                for _ in 0..turns {
-                    let mut events = EventList::new(rt.alloc());
-                    let Ok(answer) = tracked.turn(&mut events) else {
-                        println!(rt; "memory is short")?;
-                        break;
-                    };
-                    print_row(&rt, &events, answer)?;
-                    if answer != TrackedTurn::Ran {
-                        break;
-                    }
-                }
-            }
-            None => println!(rt; "no line of a table")?,
-        }
+        follow(&rt, &mut guest, line?.as_str())?;
     }
     Ok(())
 }

@@ -4,6 +4,9 @@ use std::alloc::Global;
 /// How many bytes a program may have.
 const LONGEST: usize = 65_536;
 
+/// How many bytes its file may have.
+const LONGEST_FILE: usize = 65_620;
+
 /// A program file (ELF32, System V ABI) of one segment at 0x10000, up to the segment's size.
 const HEAD: [u8; 68] = [
     0x7f, 0x45, 0x4c, 0x46, 1, 1, 1, 0, 0, 0, 0, 0, 0, 0, 0, 0, 2, 0, 243, 0, 1, 0, 0, 0, 0, 0, 1,
@@ -21,10 +24,12 @@ pub fn program(alloc: Global, code: &[u8]) -> Option<Image> {
         return None;
     }
     let size = (code.len() as u32).to_le_bytes();
-    let mut file = HEAD.to_vec(alloc).ok()?;
-    file.extend_from_slice(&size).ok()?;
-    file.extend_from_slice(&size).ok()?;
-    file.extend_from_slice(&TAIL).ok()?;
-    file.extend_from_slice(code).ok()?;
+    let mut file = Vec::new(alloc);
+    for part in [HEAD.as_slice(), &size, &size, &TAIL, code] {
+        file.extend_from_slice(part).ok()?;
+    }
+    if file.len() > LONGEST_FILE {
+        return None;
+    }
     load_image(alloc, file.as_slice()).ok()
 }
