@@ -21,6 +21,8 @@ pub struct Rows {
     pub twins: Table,
     /// For each arc how much more it can carry: what is left of an edge's limit, or back over it what flows there.
     pub rooms: Amounts,
+    /// The limit of an open edge.
+    most: u64,
 }
 
 /// The sum of a network's limits, which no flow exceeds.
@@ -66,6 +68,7 @@ impl Rows {
             targets: Table::filled(alloc, 0, arcs)?,
             twins: Table::filled(alloc, 0, arcs)?,
             rooms: Amounts::zeros(alloc, arcs)?,
+            most: most_of(network),
         };
         rows.place(&mut leaving, &mut entering);
         rows.fill(network, &mut leaving, &mut entering);
@@ -91,7 +94,6 @@ impl Rows {
     fn fill(&mut self, network: &Network, leaving: &mut Table, entering: &mut Table)
         requires { IsNetwork network.now }
     {
-        let most = most_of(network);
         for edge in 0..network.edges() {
             let tail = network.tail(edge);
             let head = network.head(edge);
@@ -103,7 +105,7 @@ impl Rows {
             self.targets.put(back, tail);
             self.twins.put(there, back);
             self.twins.put(back, there);
-            self.rooms.put(there, network.limit(edge).min(most));
+            self.rooms.put(there, network.limit(edge).min(self.most));
         }
     }
 
@@ -142,6 +144,12 @@ impl Rows {
         self.rooms.at(self.twin(arc))
     }
 
+    /// Whether something flows over the edge of an arc that leads along it. An open edge with all its room has no flow,
+    /// which is seen here without a look at the other arc.
+    pub fn has_flow(&self, arc: usize) -> bool {
+        self.room(arc) != self.most && self.room_back(arc) != 0
+    }
+
     /// Moves an amount over an arc.
     pub fn carry(&mut self, arc: usize, amount: u64) {
         let twin = self.twins.at(arc);
@@ -150,16 +158,21 @@ impl Rows {
     }
 
     /// What flows over each edge of the network.
-    pub fn flows(&self, alloc: Global, network: &Network) -> Result<Vec<u64>, NoMemory> {
+    pub fn flows(&self, alloc: Global, network: &Network) -> Result<Vec<u64>, NoMemory>
+        requires { IsNetwork network.now }
+    {
         let mut places = Table::filled(alloc, 0, self.nodes)?;
         for node in 0..self.nodes {
-            places.put(node, self.middles.at(node));
+            places.put(node, self.starts.at(node));
         }
         let mut flows = Vec::with_capacity(alloc, network.edges())?;
-        for head in &network.heads {
-            let back = places.at(*head);
-            places.put(*head, back + 1);
-            flows.push(self.rooms.at(back)).map_err(|_| NoMemory)?;
+        for edge in 0..network.edges() {
+            let tail = network.tail(edge);
+            let there = places.at(tail);
+            places.put(tail, there + 1);
+            let limit = network.limit(edge).min(self.most);
+            let flow = limit.saturating_sub(self.rooms.at(there));
+            flows.push(flow).map_err(|_| NoMemory)?;
         }
         Ok(flows)
     }
