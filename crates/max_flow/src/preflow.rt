@@ -130,7 +130,7 @@ impl Preflow {
     /// Pushes the excess of the active nodes on. Gives whether none is active any more; it ends earlier where as much was
     /// looked at as it costs to measure the distances anew.
     fn push_all(&mut self) -> bool {
-        let enough = self.rows.targets.items.len();
+        let enough = self.rows.arcs.items.len();
         let mut looked: usize = 0;
         while looked < enough {
             let Some(node) = self.active.pop() else {

@@ -1,7 +1,7 @@
 ghost use Rattle.max_flow.specs.Private.Solving.{IsNetwork};
 
 use crate::networks::Network;
-use crate::tables::{Amounts, Table};
+use crate::tables::{Amounts, Arcs, Table};
 use flow_base::NoMemory;
 use std::alloc::Global;
 
@@ -15,10 +15,8 @@ pub struct Rows {
     pub starts: Table,
     /// For each node where its arcs begin that lead back over an edge.
     pub middles: Table,
-    /// For each arc the node that it leads to.
-    pub targets: Table,
-    /// For each arc the other one of its edge.
-    pub twins: Table,
+    /// For each arc where it leads.
+    pub arcs: Arcs,
     /// For each arc how much more it can carry: what is left of an edge's limit, or back over it what flows there.
     pub rooms: Amounts,
     /// The limit of an open edge.
@@ -65,8 +63,7 @@ impl Rows {
             nodes,
             starts: Table::filled(alloc, 0, nodes.saturating_add(1))?,
             middles: Table::filled(alloc, 0, nodes)?,
-            targets: Table::filled(alloc, 0, arcs)?,
-            twins: Table::filled(alloc, 0, arcs)?,
+            arcs: Arcs::unset(alloc, arcs)?,
             rooms: Amounts::zeros(alloc, arcs)?,
             most: most_of(network),
         };
@@ -101,10 +98,8 @@ impl Rows {
             let back = entering.at(head);
             leaving.put(tail, there + 1);
             entering.put(head, back + 1);
-            self.targets.put(there, head);
-            self.targets.put(back, tail);
-            self.twins.put(there, back);
-            self.twins.put(back, there);
+            self.arcs.put(there, head, back);
+            self.arcs.put(back, tail, there);
             self.rooms.put(there, network.limit(edge).min(self.most));
         }
     }
@@ -126,12 +121,12 @@ impl Rows {
 
     /// The node that an arc leads to.
     pub fn target(&self, arc: usize) -> usize {
-        self.targets.at(arc)
+        self.arcs.target(arc)
     }
 
     /// The other arc of an arc's edge.
     pub fn twin(&self, arc: usize) -> usize {
-        self.twins.at(arc)
+        self.arcs.twin(arc)
     }
 
     /// How much more an arc can carry.
@@ -152,7 +147,7 @@ impl Rows {
 
     /// Moves an amount over an arc.
     pub fn carry(&mut self, arc: usize, amount: u64) {
-        let twin = self.twins.at(arc);
+        let twin = self.arcs.twin(arc);
         self.rooms.take(arc, amount);
         self.rooms.add(twin, amount);
     }
