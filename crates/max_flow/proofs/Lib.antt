@@ -12,3 +12,4 @@ pub mod GraphAnswers
 pub mod SmallSides
 pub mod LastNodeTakenOut
 pub mod Balances
+pub mod IdleNodes

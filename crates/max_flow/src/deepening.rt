@@ -187,7 +187,8 @@ fn retreat(network: &Network, flows: &[u64], tree: &mut Tree, at: usize)
     tree.pop();
 }
 
-/// Adds walks along which each node is deeper than the one before, until no more is found. Gives what they add.
+/// Adds walks along which each node is deeper than the one before, until no more is found, or so many steps are taken.
+/// Gives what they add.
 fn add_walks(
     network: &Network,
     flows: &mut [u64],
@@ -195,6 +196,7 @@ fn add_walks(
     leaving: &mut [usize],
     entering: &mut [usize],
     levels: &[usize],
+    steps: u64,
 ) -> Result<u64, NoMemory>
     requires network { IsNetwork network.now }
     requires small { HasSmallSide (net_of network.now) }
@@ -212,7 +214,7 @@ fn add_walks(
     ensures most { OnOk result (AreAtMost (value_of (net_of network.now) flows.new) flows.new) }
 {
     let mut total = 0;
-    for _ in 0..u64::MAX {
+    for _ in 0..steps {
         let at = tree.queued(tree.count() - 1);
         if at == 1 {
             total += augment(network, flows, tree);
@@ -234,12 +236,13 @@ fn add_walks(
 }
 
 /// Adds the walk by which a search found the sink, and then walks over the nodes that it has placed, each deeper than the
-/// one before, until no more is found. Gives what they add to the value, at least 1.
+/// one before, until no more is found, or so many steps are taken. Gives what they add to the value, at least 1.
 pub fn deepen(
     alloc: Global,
     network: &Network,
     flows: &mut [u64],
     found: &Tree,
+    steps: u64,
 ) -> Result<u64, NoMemory>
     requires network { IsNetwork network.now }
     requires small { HasSmallSide (net_of network.now) }
@@ -266,6 +269,7 @@ pub fn deepen(
         &mut leaving,
         &mut entering,
         found.places.as_slice(),
+        steps,
     )?;
     Ok(first + more)
 }

@@ -97,26 +97,40 @@ impl Preflow {
     /// Labels the nodes from which an arc with room leads to this one.
     fn look_back(&mut self, node: usize) {
         let label = self.layers.label(node) + 1;
-        for arc in self.rows.start(node)..self.rows.end(node) {
+        let middle = self.rows.middle(node);
+        for arc in self.rows.start(node)..middle {
             let from = self.rows.target(arc);
-            if self.layers.label(from) == self.layers.nodes()
-                && from != SOURCE
-                && self.rows.room_back(arc) != 0
-            {
-                self.layers.enter(from, label);
-                self.cursors.put(from, self.rows.start(from));
-                self.measured.push(from);
-                if self.excesses.at(from) != 0 {
-                    self.active.push(from);
-                }
+            if self.is_unlabelled(from) && self.rows.has_flow(arc) {
+                self.measure_one(from, label);
             }
+        }
+        for arc in middle..self.rows.end(node) {
+            let from = self.rows.target(arc);
+            if self.is_unlabelled(from) && self.rows.room_back(arc) != 0 {
+                self.measure_one(from, label);
+            }
+        }
+    }
+
+    /// Whether a node has no label yet, and is not the source.
+    fn is_unlabelled(&self, node: usize) -> bool {
+        self.layers.label(node) == self.layers.nodes() && node != SOURCE
+    }
+
+    /// Labels a node, and makes it active where it has excess.
+    fn measure_one(&mut self, node: usize, label: usize) {
+        self.layers.enter(node, label);
+        self.cursors.put(node, self.rows.start(node));
+        self.measured.push(node);
+        if self.excesses.at(node) != 0 {
+            self.active.push(node);
         }
     }
 
     /// Pushes the excess of the active nodes on. Gives whether none is active any more; it ends earlier where as much was
     /// looked at as it costs to measure the distances anew.
     fn push_all(&mut self) -> bool {
-        let enough = self.rows.targets.items.len();
+        let enough = self.rows.arcs.items.len();
         let mut looked: usize = 0;
         while looked < enough {
             let Some(node) = self.active.pop() else {

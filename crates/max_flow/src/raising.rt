@@ -2,8 +2,7 @@ ghost use Rattle.std.specs.Prelude.{◌≡◌, ◌+◌, ◌<◌, ◌≤◌, leng
 ghost use Rattle.max_flow.specs.Networks.{AreAtMost, IsFlow, IsSide, value_of, capacity_of};
 ghost use Rattle.max_flow.specs.Private.Rooms.{IsBounded, IsClosed, HasSmallSide, IsLeast};
 ghost use Rattle.max_flow.specs.Private.Searching.{is_found};
-ghost use Rattle.max_flow.specs.Private.Solving.{net_of, IsNetwork, IsTree, IsRaised};
-ghost use Rattle.max_flow.specs.Private.Balances.{IsFlowOfValue};
+ghost use Rattle.max_flow.specs.Private.Solving.{net_of, IsNetwork, IsTree, IsSearched, IsRaised};
 
 use crate::deepening::deepen;
 use crate::networks::Network;
@@ -28,22 +27,23 @@ pub struct Raised {
 }
 
 /// Adds walks to a flow of this value until the sink is not reached any more: the walk of each search, and those over the
-/// nodes that it placed.
+/// nodes that it placed. The first search is made already.
 fn raise(
     alloc: Global,
     network: &Network,
     flows: &mut [u64],
     first: u64,
+    found: Tree,
 ) -> Result<Raised, NoMemory>
     requires network { IsNetwork network.now }
     requires small { HasSmallSide (net_of network.now) }
-    requires flow { IsFlowOfValue (net_of network.now) flows.old first }
+    requires flow { IsSearched (net_of network.now) flows.old first found }
     ensures { IfOk result (λ raised. IsRaised (net_of network.now) flows.new raised.value raised.tree) }
 {
     let mut value = first;
-    let mut tree = search(alloc, network, flows)?;
+    let mut tree = found;
     while tree.place(1) != 0 {
-        value += deepen(alloc, network, flows, &tree)?;
+        value += deepen(alloc, network, flows, &tree, u64::MAX)?;
         tree = search(alloc, network, flows)?;
     }
     Ok(Raised { value, tree })
@@ -65,8 +65,9 @@ pub fn solve_network(alloc: Global, network: &Network) -> Result<Answer, NoMemor
     let Start {
         value: first,
         mut flows,
+        tree: found,
     } = first_flow(alloc, network)?;
-    let Raised { value, tree } = raise(alloc, network, &mut flows, first)?;
+    let Raised { value, tree } = raise(alloc, network, &mut flows, first, found)?;
     let Tree {
         places,
         arrivals: _,

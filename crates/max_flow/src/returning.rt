@@ -74,7 +74,7 @@ impl Walk {
             self.go_back(node);
             return;
         }
-        if rows.room_back(arc) == 0 {
+        if !rows.has_flow(arc) {
             self.cursors.put(node, arc + 1);
             return;
         }

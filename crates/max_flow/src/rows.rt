@@ -1,7 +1,7 @@
 ghost use Rattle.max_flow.specs.Private.Solving.{IsNetwork};
 
 use crate::networks::Network;
-use crate::tables::{Amounts, Table};
+use crate::tables::{Amounts, Arcs, Table};
 use flow_base::NoMemory;
 use std::alloc::Global;
 
@@ -15,12 +15,12 @@ pub struct Rows {
     pub starts: Table,
     /// For each node where its arcs begin that lead back over an edge.
     pub middles: Table,
-    /// For each arc the node that it leads to.
-    pub targets: Table,
-    /// For each arc the other one of its edge.
-    pub twins: Table,
+    /// For each arc where it leads.
+    pub arcs: Arcs,
     /// For each arc how much more it can carry: what is left of an edge's limit, or back over it what flows there.
     pub rooms: Amounts,
+    /// The limit of an open edge.
+    most: u64,
 }
 
 /// The sum of a network's limits, which no flow exceeds.
@@ -63,9 +63,9 @@ impl Rows {
             nodes,
             starts: Table::filled(alloc, 0, nodes.saturating_add(1))?,
             middles: Table::filled(alloc, 0, nodes)?,
-            targets: Table::filled(alloc, 0, arcs)?,
-            twins: Table::filled(alloc, 0, arcs)?,
+            arcs: Arcs::unset(alloc, arcs)?,
             rooms: Amounts::zeros(alloc, arcs)?,
+            most: most_of(network),
         };
         rows.place(&mut leaving, &mut entering);
         rows.fill(network, &mut leaving, &mut entering);
@@ -91,7 +91,6 @@ impl Rows {
     fn fill(&mut self, network: &Network, leaving: &mut Table, entering: &mut Table)
         requires { IsNetwork network.now }
     {
-        let most = most_of(network);
         for edge in 0..network.edges() {
             let tail = network.tail(edge);
             let head = network.head(edge);
@@ -99,11 +98,9 @@ impl Rows {
             let back = entering.at(head);
             leaving.put(tail, there + 1);
             entering.put(head, back + 1);
-            self.targets.put(there, head);
-            self.targets.put(back, tail);
-            self.twins.put(there, back);
-            self.twins.put(back, there);
-            self.rooms.put(there, network.limit(edge).min(most));
+            self.arcs.put(there, head, back);
+            self.arcs.put(back, tail, there);
+            self.rooms.put(there, network.limit(edge).min(self.most));
         }
     }
 
@@ -124,12 +121,12 @@ impl Rows {
 
     /// The node that an arc leads to.
     pub fn target(&self, arc: usize) -> usize {
-        self.targets.at(arc)
+        self.arcs.target(arc)
     }
 
     /// The other arc of an arc's edge.
     pub fn twin(&self, arc: usize) -> usize {
-        self.twins.at(arc)
+        self.arcs.twin(arc)
     }
 
     /// How much more an arc can carry.
@@ -142,24 +139,35 @@ impl Rows {
         self.rooms.at(self.twin(arc))
     }
 
+    /// Whether something flows over the edge of an arc that leads along it. An open edge with all its room has no flow,
+    /// which is seen here without a look at the other arc.
+    pub fn has_flow(&self, arc: usize) -> bool {
+        self.room(arc) != self.most && self.room_back(arc) != 0
+    }
+
     /// Moves an amount over an arc.
     pub fn carry(&mut self, arc: usize, amount: u64) {
-        let twin = self.twins.at(arc);
+        let twin = self.arcs.twin(arc);
         self.rooms.take(arc, amount);
         self.rooms.add(twin, amount);
     }
 
     /// What flows over each edge of the network.
-    pub fn flows(&self, alloc: Global, network: &Network) -> Result<Vec<u64>, NoMemory> {
+    pub fn flows(&self, alloc: Global, network: &Network) -> Result<Vec<u64>, NoMemory>
+        requires { IsNetwork network.now }
+    {
         let mut places = Table::filled(alloc, 0, self.nodes)?;
         for node in 0..self.nodes {
-            places.put(node, self.middles.at(node));
+            places.put(node, self.starts.at(node));
         }
         let mut flows = Vec::with_capacity(alloc, network.edges())?;
-        for head in &network.heads {
-            let back = places.at(*head);
-            places.put(*head, back + 1);
-            flows.push(self.rooms.at(back)).map_err(|_| NoMemory)?;
+        for edge in 0..network.edges() {
+            let tail = network.tail(edge);
+            let there = places.at(tail);
+            places.put(tail, there + 1);
+            let limit = network.limit(edge).min(self.most);
+            let flow = limit.saturating_sub(self.rooms.at(there));
+            flows.push(flow).map_err(|_| NoMemory)?;
         }
         Ok(flows)
     }

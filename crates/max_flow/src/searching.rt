@@ -1,5 +1,6 @@
 ghost use Rattle.std.specs.Prelude.{◌≡◌, ◌+◌, ◌-◌, ◌<◌, ◌≤◌, ◌++◌, ◌∷◌, [], length, slice_index, slice_set, take, IfOk};
 ghost use Rattle.std.specs.Prelude.{OnOk};
+ghost use Rattle.max_flow.specs.Networks.{IsFlow};
 ghost use Rattle.max_flow.specs.Private.Rooms.{IsClosed};
 ghost use Rattle.max_flow.specs.Private.Searching.{Reaches, HasGrown, is_found, IsStart};
 ghost use Rattle.max_flow.specs.Private.Solving.{net_of, IsNetwork, IsTree};
@@ -142,7 +143,7 @@ pub fn reach(
 /// Searches from the source over edges with room, nearest nodes first, until the sink is found or nothing is left.
 pub fn search(alloc: Global, network: &Network, flows: &[u64]) -> Result<Tree, NoMemory>
     requires network { IsNetwork network.now }
-    requires flows { length flows.now ≡ length network.now.tails.items }
+    requires flow { IsFlow (net_of network.now) flows.now }
     ensures tree { IfOk result (λ tree. IsTree (net_of network.now) flows.now tree) }
     ensures closed { IfOk result (λ tree. slice_index tree.places.items 1 ≡ 0 → IsClosed (net_of network.now)
         flows.now (is_found tree.places.items)) }

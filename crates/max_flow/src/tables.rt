@@ -84,3 +84,56 @@ impl Amounts {
         self.put(index, rest);
     }
 }
+
+/// Where an arc leads, and the other arc of its edge.
+#[derive(Clone, Copy)]
+pub struct Ends {
+    target: u32,
+    twin: u32,
+}
+
+/// The ends of arcs by index.
+#[derive(Drop)]
+pub struct Arcs {
+    pub items: Vec<Ends>,
+}
+
+impl Arcs {
+    /// So many arcs that lead to node 0.
+    pub fn unset(alloc: Global, count: usize) -> Result<Arcs, NoMemory> {
+        let items = vec![in alloc; Ends { target: 0, twin: 0 }; count]?;
+        Ok(Arcs { items })
+    }
+
+    /// The node that an arc leads to; 0 past the end.
+    pub fn target(&self, arc: usize) -> usize
+        ensures { result < 2 ^ 32 }
+    {
+        if arc < self.items.len() {
+            self.items[arc].target as usize
+        } else {
+            0
+        }
+    }
+
+    /// The other arc of an arc's edge; 0 past the end.
+    pub fn twin(&self, arc: usize) -> usize
+        ensures { result < 2 ^ 32 }
+    {
+        if arc < self.items.len() {
+            self.items[arc].twin as usize
+        } else {
+            0
+        }
+    }
+
+    /// Writes the ends of an arc. It does nothing past the end, or where a number is 2^32 or more.
+    pub fn put(&mut self, arc: usize, target: usize, twin: usize) {
+        if arc < self.items.len() && target <= 0xffff_ffff && twin <= 0xffff_ffff {
+            self.items[arc] = Ends {
+                target: target as u32,
+                twin: twin as u32,
+            };
+        }
+    }
+}

@@ -1,22 +1,23 @@
 ghost use Rattle.std.specs.Prelude.{length, IfOk};
 ghost use Rattle.max_flow.specs.Private.Balances.{IsFlowOfValue};
 ghost use Rattle.max_flow.specs.Private.Rooms.{HasSmallSide};
-ghost use Rattle.max_flow.specs.Private.Solving.{net_of, IsNetwork, AreZeros};
+ghost use Rattle.max_flow.specs.Private.Solving.{net_of, IsNetwork, IsSearched, AreZeros};
 
 use crate::deepening::deepen;
 use crate::feasible::value_of_flow;
 use crate::networks::Network;
 use crate::preflow::Preflow;
 use crate::returning::make_flow;
-use crate::searching::search;
+use crate::searching::{Tree, search};
 use flow_base::NoMemory;
 use std::alloc::Global;
 
-/// A flow and its value.
+/// A flow, its value, and a search over it.
 #[derive(Drop)]
 pub struct Start {
     pub value: u64,
     pub flows: Vec<u64>,
+    pub tree: Tree,
 }
 
 /// So many zeros.
@@ -46,7 +47,8 @@ fn guess(alloc: Global, network: &Network) -> Result<Vec<u64>, NoMemory>
     preflow.rows.flows(alloc, network)
 }
 
-/// Adds the walk of one search to no flow, and those over the nodes that it placed. Gives the value.
+/// Adds the walk of one search to no flow, and those over the nodes that it placed, by as many steps as there are edges.
+/// Gives the value.
 fn raise_once(alloc: Global, network: &Network, flows: &mut [u64]) -> Result<u64, NoMemory>
     requires network { IsNetwork network.now }
     requires small { HasSmallSide (net_of network.now) }
@@ -57,19 +59,35 @@ fn raise_once(alloc: Global, network: &Network, flows: &mut [u64]) -> Result<u64
     if tree.place(1) == 0 {
         return Ok(0);
     }
-    let value = deepen(alloc, network, flows, &tree)?;
+    let steps = network.edges() as u64;
+    let value = deepen(alloc, network, flows, &tree, steps)?;
     Ok(value)
+}
+
+/// A flow of this value, searched.
+fn searched(
+    alloc: Global,
+    network: &Network,
+    flows: Vec<u64>,
+    value: u64,
+) -> Result<Start, NoMemory>
+    requires network { IsNetwork network.now }
+    requires flow { IsFlowOfValue (net_of network.now) flows.items value }
+    ensures { IfOk result (λ start. IsSearched (net_of network.now) start.flows.items start.value start.tree) }
+{
+    let tree = search(alloc, network, &flows)?;
+    Ok(Start { value, flows, tree })
 }
 
 /// The flow of one round of the search.
 fn first_round(alloc: Global, network: &Network) -> Result<Start, NoMemory>
     requires network { IsNetwork network.now }
     requires small { HasSmallSide (net_of network.now) }
-    ensures { IfOk result (λ start. IsFlowOfValue (net_of network.now) start.flows.items start.value) }
+    ensures { IfOk result (λ start. IsSearched (net_of network.now) start.flows.items start.value start.tree) }
 {
     let mut flows = no_flow(alloc, network)?;
     let value = raise_once(alloc, network, &mut flows)?;
-    Ok(Start { value, flows })
+    searched(alloc, network, flows, value)
 }
 
 /// The flow that the search goes on from: that of its first round; or where the sink is still reached then, the numbers
@@ -77,16 +95,15 @@ fn first_round(alloc: Global, network: &Network) -> Result<Start, NoMemory>
 pub fn first_flow(alloc: Global, network: &Network) -> Result<Start, NoMemory>
     requires network { IsNetwork network.now }
     requires small { HasSmallSide (net_of network.now) }
-    ensures { IfOk result (λ start. IsFlowOfValue (net_of network.now) start.flows.items start.value) }
+    ensures { IfOk result (λ start. IsSearched (net_of network.now) start.flows.items start.value start.tree) }
 {
     let first = first_round(alloc, network)?;
-    let tree = search(alloc, network, &first.flows)?;
-    if tree.place(1) == 0 {
+    if first.tree.place(1) == 0 {
         return Ok(first);
     }
     let flows = guess(alloc, network)?;
     match value_of_flow(alloc, network, &flows)? {
-        Some(value) => Ok(Start { value, flows }),
+        Some(value) => searched(alloc, network, flows, value),
         None => Ok(first),
     }
 }

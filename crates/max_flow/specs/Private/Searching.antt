@@ -85,6 +85,10 @@ pub record HasEntered (net : Net) (flow places : List ℕ) (at cursor : ℕ) : T
   pub entered : (i : ℕ) → cursor ≤ i → i < length net.tails → slice_index net.heads i ≡ at → 0 < slice_index flow i →
       0 < slice_index places (slice_index net.tails i)
 
+-- no edge that enters this node has flow
+pub record HasNoInflow (net : Net) (flow : List ℕ) (at : ℕ) : Type 0 where
+  pub none : (i : ℕ) → i < length net.tails → slice_index net.heads i ≡ at → slice_index flow i ≡ 0
+
 abbrev pub is_found : List ℕ → ℕ → Bool
 is_found places v = nat_lt 0 (slice_index places v)
 

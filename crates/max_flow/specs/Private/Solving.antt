@@ -4,6 +4,7 @@ use Rattle.max_flow.specs.declared.networks.Network.{Network}
 use Rattle.max_flow.specs.declared.searching.Tree.{Tree}
 use Rattle.max_flow.specs.Networks.{Net, IsNet, IsFlow, value_of, AreAtMost}
 use Rattle.max_flow.specs.Private.Adjacency.{AreChains}
+use Rattle.max_flow.specs.Private.Balances.{IsFlowOfValue}
 use Rattle.max_flow.specs.Private.Searching.{IsFound, is_found}
 use Rattle.max_flow.specs.Private.Rooms.{IsClosed}
 
@@ -26,6 +27,12 @@ pub record IsNetwork (network : Network) : Type 0 where
 
 abbrev pub IsTree : Net → List ℕ → Tree → Type 0
 IsTree net flow tree = IsFound net flow tree.places.items tree.arrivals.items tree.rooms.items tree.queue.items
+
+-- a flow of this value, and a search over it
+pub record IsSearched (net : Net) (flow : List ℕ) (value : ℕ) (tree : Tree) : Type 0 where
+  pub flow_of : IsFlowOfValue net flow value
+  pub tree_is : IsTree net flow tree
+  pub shut : slice_index tree.places.items 1 ≡ 0 → IsClosed net flow (is_found tree.places.items)
 
 -- a flow of this value, and a search over it that does not find the sink
 pub record IsRaised (net : Net) (flow : List ℕ) (value : ℕ) (tree : Tree) : Type 0 where

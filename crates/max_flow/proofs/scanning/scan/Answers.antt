@@ -9,16 +9,16 @@ pub returns-clause-scanned : goal.returns-clause-scanned
 returns-clause-scanned c =
     let grown = grown_on c.args.tree.now.places.items (length c.args.tree.now.queue.items)
     c.scan_leaving.new.tree.places.items (length c.scan_leaving.new.tree.queue.items)
-    c.scan_entering.new.tree.places.items (length c.scan_entering.new.tree.queue.items)
-    c.in_ok-scan_leaving.ensures.grown c.in_ok-scan_entering.ensures.grown in
+    c.scan_back.new.tree.places.items (length c.scan_back.new.tree.queue.items)
+    c.in_ok-scan_leaving.ensures.grown c.in_ok-scan_back.ensures.grown in
     let left = left_grown (net_of c.args.network.now) c.args.flows.now c.scan_leaving.new.tree.places.items
-    (length c.scan_leaving.new.tree.queue.items) c.scan_entering.new.tree.places.items
-    (length c.scan_entering.new.tree.queue.items) c.queued-at.result 0 c.in_ok-scan_leaving.ensures.left
-    c.in_ok-scan_entering.ensures.grown in
+    (length c.scan_leaving.new.tree.queue.items) c.scan_back.new.tree.places.items
+    (length c.scan_back.new.tree.queue.items) c.queued-at.result 0 c.in_ok-scan_leaving.ensures.left
+    c.in_ok-scan_back.ensures.grown in
     scanned_more (net_of c.args.network.now) c.args.flows.now c.args.tree.now.places.items _ _
-    c.args.tree.now.queue.items c.scan_entering.new.tree.places.items (length c.scan_entering.new.tree.queue.items)
+    c.args.tree.now.queue.items c.scan_back.new.tree.places.items (length c.scan_back.new.tree.queue.items)
     c.args.next c.requires.network.net c.requires.tree c.requires.inside c.requires.scanned grown
-    (subst (λ v. HasLeft (net_of c.args.network.now) c.args.flows.now c.scan_entering.new.tree.places.items v 0)
+    (subst (λ v. HasLeft (net_of c.args.network.now) c.args.flows.now c.scan_back.new.tree.places.items v 0)
     c.queued-at.ensures left)
-    (subst (λ v. HasEntered (net_of c.args.network.now) c.args.flows.now c.scan_entering.new.tree.places.items v 0)
-    c.queued-at.ensures c.in_ok-scan_entering.ensures.entered)
+    (subst (λ v. HasEntered (net_of c.args.network.now) c.args.flows.now c.scan_back.new.tree.places.items v 0)
+    c.queued-at.ensures c.in_ok-scan_back.ensures.entered)
