@@ -58,7 +58,7 @@ starts-once (run ∷ runs) = pick (run.mask == 0)
     pick true = omega arith
     pick false = omega arith
 
--- behind a run with mask 0 comes none with mask 0
+-- after a run with mask 0 comes none with mask 0
 starts-other : (run : Run) (runs : List Run) → neighbours_pass have_other_masks (run ∷ runs) ≡ true →
     (run.mask == 0) ≡ true → starts_empty runs ≡ 0
 starts-other run [] differ empty = refl

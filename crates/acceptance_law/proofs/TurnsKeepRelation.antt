@@ -206,7 +206,7 @@ module _ (side : NamedSide) (skip : List ℕ) (masks : Masks) (setting : Setting
         (omega (arith, a, width)) (omega (arith, b, width)) (label_of_limit passing_mask point (place_limit place) mask)
         beside
 
-  -- the events behind the first of a passing
+  -- the events after the first of a passing
   later_closed : (t : Bool) (es fs : List Event) → AreClosedEvents side ((if t then [] else es) ++ fs) →
       AreClosedEvents side (if t then [] else es) × AreClosedEvents side fs
   later_closed t es fs h = closed_append side (if t then [] else es) fs h

@@ -41,7 +41,7 @@ is_inner skip point = stands_in skip point.region && not (is_output_slot point.s
 abbrev pub names_point : List CutPoint → Point → Bool
 names_point points point = list_any (λ cut_point. is_same cut_point.point point) points
 
--- a point of the cut has the masks of its visits in the run, and behind them their union
+-- a point of the cut has the masks of its visits in the run, and after them their union
 pub record HasVisitMasks (events : List Event) (cut_point : CutPoint) : Type 0 where
   pub masks : listed_masks cut_point.runs ≡ visit_masks cut_point.point events
   pub rest : cut_point.rest ≡ record { count = 1; mask = united (visit_masks cut_point.point events) } ∷ []

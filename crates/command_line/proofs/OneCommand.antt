@@ -1,4 +1,4 @@
--- Words are one command line at most: what it is, is by its first word, and its fields by the words behind it.
+-- Words are one command line at most: what it is, is by its first word, and its fields by the words after it.
 use Rattle.std.proofs.Common.{Bool, ◌≡◌, ◌∙◌, ◌<◌, ◌^◌, ℕ, List, [], ◌∷◌, Option, Some, None, codes, sym, ap, subst, arith}
 use Rattle.std.proofs.lemmas.Fmt.{decimal_injective}
 use Rattle.command_line.specs.declared.names.CommandName.{CommandName}
@@ -183,7 +183,7 @@ same-trial parts a b one other =
     same-number 0 4294967295 other.word a b (omega arith) (subst (λ w. IsNumber 0 4294967295 w a) word one.is)
     other.is
 
--- ---- what stands behind a name
+-- ---- what stands after a name
 
 same-fit : (name : CommandName) (parts : Parts) (a b : Command) → Fits name parts a → Fits name parts b → a ≡ b
 same-fit names.Check parts a b (x, one, is) (y, other, also) =

@@ -1,4 +1,4 @@
--- The command lines that are understood: a row for each command. The words behind the command are parted into options
+-- The command lines that are understood: a row for each command. The words after the command are parted into options
 -- and other words (see Parts).
 use Rattle.std.specs.Prelude.{◌≡◌, ℕ, ◌≤◌, true, List, [], ◌∷◌, length, codes, Option, None, Some}
 use Rattle.std.specs.Prelude.{◌&&◌, nat_le, if◌then◌else◌, Bool}
@@ -115,7 +115,7 @@ abbrev pub is_known : Judging → Bool
 is_known Replay = true
 is_known (Masks table) = nat_le 1 table && nat_le table 2
 
--- ---- what stands behind each name of a command
+-- ---- what stands after each name of a command
 
 -- the options of every command that judges secrets
 abbrev pub check_options : List (List ℕ)
@@ -190,7 +190,7 @@ pub record IsOneFile (parts : Parts) (file : List ℕ) : Type 0 where
   pub plain : parts.plain ≡ file ∷ []
   pub options : parts.options ≡ []
 
--- the command that stands behind a name
+-- the command that stands after a name
 abbrev pub Fits : CommandName → Parts → Command → Type 0
 Fits names.Check parts command =
     (check : Check) × IsCheck check_options Replay parts check × (command ≡ Checks check)

@@ -1,4 +1,4 @@
--- The words behind a command: words that are no options, flags, and options with values. A flag or an option may stand
+-- The words after a command: words that are no options, flags, and options with values. A flag or an option may stand
 -- anywhere, and at most once. An option is two words, of which the second does not begin with a dash, or one word with
 -- `=` between name and value. No word and no value is empty.
 use Rattle.std.specs.Prelude.{ℕ, ◌==◌, nat_lt, not, List, [], ◌∷◌, ◌++◌, codes, length, Bool, false, Option, None, Some}
@@ -71,7 +71,7 @@ with_option before name value =
 abbrev pub with_beside : Parts → List ℕ → List ℕ → Option Parts
 with_beside before name value = if is_name value then with_option before name (Some value) else None
 
--- an option in one word, with its value behind the first `=`
+-- an option in one word, with its value after the first `=`
 abbrev pub with_behind : Parts → List ℕ → List ℕ → Option Parts
 with_behind before name [] = None
 with_behind before name (byte ∷ bytes) = with_option before name (Some (byte ∷ bytes))

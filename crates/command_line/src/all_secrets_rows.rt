@@ -12,7 +12,7 @@ use crate::parts::Parts;
 use flow_base::NoMemory;
 use std::alloc::Global;
 
-/// The bound that the words behind `bound` name; None exactly where they name none.
+/// The bound that the words after `bound` name; None exactly where they name none.
 pub fn all_secrets_words<'a>(
     alloc: Global,
     parts: &Parts<'a>,

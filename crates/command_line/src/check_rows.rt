@@ -14,7 +14,7 @@ use std::alloc::Global;
 
 pub(crate) const HIGHEST_BUDGET: u32 = 1_048_576;
 
-/// The secrets that the words behind a command name, to be judged so; none but these options may stand there. None exactly
+/// The secrets that the words after a command name, to be judged so; none but these options may stand there. None exactly
 /// where they name none.
 pub fn check_words<'a>(
     alloc: Global,

@@ -65,7 +65,7 @@ pub enum CommandWords<'a> {
     },
 }
 
-/// The file that the words behind a command of one file name; None exactly where they name none.
+/// The file that the words after a command of one file name; None exactly where they name none.
 fn file_word<'a>(parts: &Parts<'a>) -> Option<&'a str>
     ensures is { IfSome result (λ file. IsOneFile (parts_in parts.now) file.now) }
     ensures none { IfNone result ((file : Seq ℕ) → ¬ IsOneFile (parts_in parts.now) file) }
@@ -79,7 +79,7 @@ fn file_word<'a>(parts: &Parts<'a>) -> Option<&'a str>
     }
 }
 
-/// The check that the words behind `check` name; None exactly where they name none.
+/// The check that the words after `check` name; None exactly where they name none.
 fn check_row<'a>(alloc: Global, parts: &Parts<'a>) -> Result<Option<CommandWords<'a>>, NoMemory>
     ensures is { IfOk result (λ found. IfSome found (λ command. Fits names.Check (parts_in parts.now) (command_of
         command))) }
@@ -92,7 +92,7 @@ fn check_row<'a>(alloc: Global, parts: &Parts<'a>) -> Result<Option<CommandWords
     Ok(Some(CommandWords::Check(check)))
 }
 
-/// The check with one machine that the words behind `taint` name; None exactly where they name none.
+/// The check with one machine that the words after `taint` name; None exactly where they name none.
 fn taint_row<'a>(alloc: Global, parts: &Parts<'a>) -> Result<Option<CommandWords<'a>>, NoMemory>
     ensures is { IfOk result (λ found. IfSome found (λ command. Fits names.Taint (parts_in parts.now) (command_of
         command))) }
@@ -108,7 +108,7 @@ fn taint_row<'a>(alloc: Global, parts: &Parts<'a>) -> Result<Option<CommandWords
     Ok(Some(CommandWords::Check(check)))
 }
 
-/// The bound that the words behind `bound` name; None exactly where they name none.
+/// The bound that the words after `bound` name; None exactly where they name none.
 fn bound_row<'a>(alloc: Global, parts: &Parts<'a>) -> Result<Option<CommandWords<'a>>, NoMemory>
     ensures is { IfOk result (λ found. IfSome found (λ command. Fits names.Bound (parts_in parts.now) (command_of
         command))) }
@@ -120,7 +120,7 @@ fn bound_row<'a>(alloc: Global, parts: &Parts<'a>) -> Result<Option<CommandWords
     Ok(Some(CommandWords::Bound(all)))
 }
 
-/// The cut of the run that the words behind `measure` name; None exactly where they name none.
+/// The cut of the run that the words after `measure` name; None exactly where they name none.
 fn measure_row<'a>(alloc: Global, parts: &Parts<'a>) -> Result<Option<CommandWords<'a>>, NoMemory>
     ensures is { IfOk result (λ found. IfSome found (λ command. Fits names.Measure (parts_in parts.now) (command_of
         command))) }
@@ -144,7 +144,7 @@ fn measure_row<'a>(alloc: Global, parts: &Parts<'a>) -> Result<Option<CommandWor
     }))
 }
 
-/// The cut of all the runs that the words behind `measure-all` name; None exactly where they name none.
+/// The cut of all the runs that the words after `measure-all` name; None exactly where they name none.
 fn measure_all_row<'a>(
     alloc: Global,
     parts: &Parts<'a>,
@@ -162,7 +162,7 @@ fn measure_all_row<'a>(
     Ok(Some(CommandWords::MeasureAll { version, runs }))
 }
 
-/// The certificate of the run that the words behind `graph` name; None exactly where they name none.
+/// The certificate of the run that the words after `graph` name; None exactly where they name none.
 fn graph_row<'a>(alloc: Global, parts: &Parts<'a>) -> Result<Option<CommandWords<'a>>, NoMemory>
     ensures is { IfOk result (λ found. IfSome found (λ command. Fits names.Graph (parts_in parts.now) (command_of
         command))) }
@@ -177,7 +177,7 @@ fn graph_row<'a>(alloc: Global, parts: &Parts<'a>) -> Result<Option<CommandWords
     }))
 }
 
-/// The report of the run that the words behind `report` name; None exactly where they name none.
+/// The report of the run that the words after `report` name; None exactly where they name none.
 fn report_row<'a>(alloc: Global, parts: &Parts<'a>) -> Result<Option<CommandWords<'a>>, NoMemory>
     ensures is { IfOk result (λ found. IfSome found (λ command. Fits names.Report (parts_in parts.now) (command_of
         command))) }
@@ -199,7 +199,7 @@ fn report_row<'a>(alloc: Global, parts: &Parts<'a>) -> Result<Option<CommandWord
     }))
 }
 
-/// The declaration of the run that the words behind `learn` name; None exactly where they name none.
+/// The declaration of the run that the words after `learn` name; None exactly where they name none.
 fn learn_row<'a>(alloc: Global, parts: &Parts<'a>) -> Result<Option<CommandWords<'a>>, NoMemory>
     ensures is { IfOk result (λ found. IfSome found (λ command. Fits names.Learn (parts_in parts.now) (command_of
         command))) }
@@ -214,7 +214,7 @@ fn learn_row<'a>(alloc: Global, parts: &Parts<'a>) -> Result<Option<CommandWords
     }))
 }
 
-/// The number that the words behind `trial` name; None exactly where they name none.
+/// The number that the words after `trial` name; None exactly where they name none.
 fn trial_number(alloc: Global, parts: &Parts) -> Result<Option<u32>, NoMemory>
     ensures is { IfOk result (λ found. IfSome found (λ number. IsTrial (parts_in parts.now) number)) }
     ensures none { result ≡ Ok None → (number : ℕ) → ¬ IsTrial (parts_in parts.now) number }
@@ -228,7 +228,7 @@ fn trial_number(alloc: Global, parts: &Parts) -> Result<Option<u32>, NoMemory>
     }
 }
 
-/// The trial that the words behind `trial` name; None exactly where they name none.
+/// The trial that the words after `trial` name; None exactly where they name none.
 fn trial_row<'a>(alloc: Global, parts: &Parts<'a>) -> Result<Option<CommandWords<'a>>, NoMemory>
     ensures is { IfOk result (λ found. IfSome found (λ command. Fits names.Trial (parts_in parts.now) (command_of
         command))) }
@@ -240,7 +240,7 @@ fn trial_row<'a>(alloc: Global, parts: &Parts<'a>) -> Result<Option<CommandWords
     Ok(Some(CommandWords::Trial { number }))
 }
 
-/// The command of a name that has the words behind it; None exactly where there is none.
+/// The command of a name that has the words after it; None exactly where there is none.
 fn row_of<'a>(
     alloc: Global,
     name: CommandName,

@@ -10,7 +10,7 @@ use crate::runs::RunWords;
 use flow_base::NoMemory;
 use std::alloc::Global;
 
-/// The run of which the words behind `learn` want the declaration; None exactly where they name none. No mask rule is
+/// The run of which the words after `learn` want the declaration; None exactly where they name none. No mask rule is
 /// asked, and the table is 1.
 pub fn learn_words<'a>(alloc: Global, parts: &Parts<'a>) -> Result<Option<RunWords<'a>>, NoMemory>
     ensures is { IfOk result (λ found. IfSome found (λ run. IsLearning (parts_in parts.now) (run_of run))) }

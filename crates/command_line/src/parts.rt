@@ -10,7 +10,7 @@ use crate::option_words::{OptionWord, has_option};
 use flow_base::{List, NoMemory};
 use std::alloc::Global;
 
-/// The words behind a command, parted.
+/// The words after a command, parted.
 #[derive(Drop)]
 pub struct Parts<'a> {
     /// The words that are no options, in order.
@@ -67,7 +67,7 @@ fn with_beside<'a>(
     with_option(before, name, Some(value))
 }
 
-/// These parts, and an option with its value behind `=`; None exactly where the value is empty, or it stands there
+/// These parts, and an option with its value after `=`; None exactly where the value is empty, or it stands there
 /// already.
 fn with_behind<'a>(
     before: Parts<'a>,
@@ -132,7 +132,7 @@ fn after_word<'a>(before: Parts<'a>, word: &'a str) -> Result<Option<Parts<'a>>,
     }))
 }
 
-/// The parts of the words behind a command; None exactly where they have none.
+/// The parts of the words after a command; None exactly where they have none.
 pub fn parts_of<'a>(alloc: Global, words: &'a [String]) -> Result<Option<Parts<'a>>, NoMemory>
     ensures { IfOk result (λ parts. option_map parts_in parts ≡ parts_of_of (map string_bytes words.entry.now)) }
 {

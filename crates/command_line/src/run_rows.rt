@@ -10,7 +10,7 @@ use crate::runs::{ManyRunsWords, RunWords};
 use flow_base::{List, NoMemory};
 use std::alloc::Global;
 
-/// The run that the words behind a command name, of which none but these options and flags may stand there; None exactly
+/// The run that the words after a command name, of which none but these options and flags may stand there; None exactly
 /// where they name none.
 pub fn run_words<'a>(
     alloc: Global,
@@ -48,7 +48,7 @@ pub fn run_words<'a>(
     }))
 }
 
-/// The runs that the words behind `measure-all` name; None exactly where they name none.
+/// The runs that the words after `measure-all` name; None exactly where they name none.
 pub fn many_runs_words<'a>(
     alloc: Global,
     parts: &Parts<'a>,

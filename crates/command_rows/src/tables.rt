@@ -50,7 +50,7 @@ pub enum Failing {
 pub struct Row {
     /// What is tested.
     pub name: &'static str,
-    /// The words, with one space between two; a space at the end has an empty word behind it.
+    /// The words, with one space between two; a space at the end has an empty word after it.
     pub words: &'static str,
     /// The files under their names, beside and before `INPUTS`.
     pub files: &'static [(&'static str, Content)],

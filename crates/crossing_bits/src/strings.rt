@@ -117,7 +117,7 @@ impl Bits {
     }
 
     /// All bits, taken or not, as hex text in lower case: bit i of the string is bit i mod 8, counted from the lowest,
-    /// of byte i / 8, and unused bits are 0. The empty string is `-`. Its error is want of memory.
+    /// of byte i / 8, and unused bits are 0. The empty string is `-`. Its error is lack of memory.
     pub fn hex_text(&self, alloc: Global) -> Result<Bytes, NoMemory>
         ensures { IfOk result (λ text. text ≡ hex_of self.now.bits) }
     {

@@ -112,7 +112,7 @@ over number front next line tail ordered known follows is_open some =
     (known-text number front next line ordered known follows
     ∙ ap (λ (b : Bool). if b then fine next else faulty (faults.Order number)) is_open.ordered) is_open.goes_on
 
--- items of one kind, each with a line behind those of the items before it
+-- items of one kind, each with a line after those of the items before it
 record IsKind {A : Type 0} (version : ℕ) (form : A → Line) (front : List A → Front) (each : A → Bool)
     (test : A → A → Bool) : Type 0 where
   pub known : (item : A) → each item ≡ true → is_line version (form item) ≡ true
@@ -188,7 +188,7 @@ map-append : {A B : Type 0} (f : A → B) (first second : List A) → map f (fir
 map-append f [] second = refl
 map-append f (item ∷ first) second = ap (λ l. f item ∷ l) (map-append f first second)
 
--- the regions and points behind the first three lines
+-- the regions and points after the first three lines
 lists-own : (cut : CutPicture) (tail : List (List ℕ)) → IsHead cut.version cut.secret_len cut.bits →
     are_regions cut.skip ≡ true → are_points_of cut.version cut.points ≡ true → is_empty tail ≡ false →
     lines_in 4 (of_lists cut [] []) (map (line_text cut.version) (map Skip cut.skip ++ map Point cut.points) ++ tail)

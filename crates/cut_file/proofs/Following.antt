@@ -146,7 +146,7 @@ neighbours-front test (first ∷ (second ∷ items)) more all =
 abbrev pub is_kept : {A : Type 0} → (A → Bool) → (A → A → Bool) → List A → Bool
 is_kept each test items = list_all each items && neighbours_pass test items
 
--- an item of a list that is kept passes, behind those before it
+-- an item of a list that is kept passes, after those before it
 pub record IsKeptStep {A : Type 0} (each : A → Bool) (test : A → A → Bool) (items : List A) (item : A) : Type 0 where
   pub own : each item ≡ true
   pub follows : may_follow test items item ≡ true

@@ -88,7 +88,7 @@ not-whole (drafts.Sized version secret_len) other = refl
 not-whole (drafts.Listed cut) other = refl
 not-whole (drafts.Whole cut) other = absurd (other cut refl)
 
--- ---- bytes behind the last line
+-- ---- bytes after the last line
 
 rest-read : (size : ℕ) (cut : CutPicture) (rest : List ℕ) → is_empty rest ≡ false →
     whole_cut size cut rest ≡ faulty (faults.Trailing (size - length rest))

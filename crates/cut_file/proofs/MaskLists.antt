@@ -22,7 +22,7 @@ mask-here run runs visit rest first within =
     get_or-append (replicate run.count run.mask) (listed_masks runs) rest (visit - 1) inside
     ∙ get_or-replicate run.count (visit - 1) run.mask rest (omega arith)
 
--- behind it the visit counts from its end
+-- after it the visit counts from its end
 pub mask-later : (run : Run) (runs : List Run) (visit rest : ℕ) → 1 ≤ visit → run.count < visit →
     mask_in (run ∷ runs) visit rest ≡ mask_in runs (visit - run.count) rest
 unfolding listed_masks
@@ -32,7 +32,7 @@ mask-later run runs visit rest first behind =
     (length-replicate run.count run.mask) (omega arith)
     ∙ ap (λ (n : ℕ). slice_index_or (listed_masks runs) n rest) same
 
--- behind all of them the rest stands
+-- after all of them the rest stands
 pub mask-rest : (visit rest : ℕ) → mask_in [] visit rest ≡ rest
 unfolding listed_masks
 mask-rest visit rest = refl
@@ -101,7 +101,7 @@ pub first-round : (masks : List ℕ) (place : ℕ) → place < length masks →
     slice_index_or masks place 0 ≡ slice_index_or masks (place % length masks) 0
 first-round masks place inside = ap (λ (n : ℕ). slice_index_or masks n 0) (sym (mod-eq_of_lt inside))
 
--- within the list its mask stands, and behind it that of the pattern
+-- within the list its mask stands, and after it that of the pattern
 pub repeated-here : (masks pattern : List ℕ) (place : ℕ) → place < length masks →
     repeated masks pattern place ≡ slice_index_or masks place 0
 repeated-here masks pattern place inside =

@@ -8,7 +8,7 @@ use Rattle.cut_file.specs.Texts.{joined}
 use Rattle.cut_file.specs.Cuts.{is_empty}
 use Rattle.cut_file.specs.Private.Reading.{divided, with_byte, onto_first, parts}
 
--- the halves behind bytes without a separator
+-- the halves after bytes without a separator
 abbrev pub with_front : List ℕ → Option (List ℕ × List ℕ) → Option (List ℕ × List ℕ)
 with_front front None = None
 with_front front (Some p) = Some (front ++ p.0, p.1)

@@ -31,7 +31,7 @@ lines-append version (line ∷ first) second =
     ap (λ (l : List ℕ). line_text version line ++ (10 ∷ l)) (lines-append version first second)
     ∙ sym (append_assoc (line_text version line) (10 ∷ lines_text version first) (lines_text version second))
 
--- the line of a point, and what comes behind it, in the pieces that are written
+-- the line of a point, and what comes after it, in the pieces that are written
 pub point-pieces : (version : ℕ) (point : CutPoint) →
     line_text version (Point point) ++ codes "\n" ≡ point_pieces version point
 point-pieces version point =

@@ -1,4 +1,4 @@
--- Masks of a list and, behind it, of a pattern that repeats.
+-- Masks of a list and, after it, of a pattern that repeats.
 use Rattle.std.proofs.Common.{◌≡◌, ℕ, zero, suc, ◌+◌, ◌-◌, ◌<◌, ◌≤◌, inl, inr, List, [], ◌∷◌, ◌++◌, length, sym}
 use Rattle.std.proofs.Common.{ap, ◌∙◌, arith}
 use Rattle.std.proofs.lemmas.Bool.{cases_lt}
@@ -26,7 +26,7 @@ repeated-later mask masks pattern place = elim (cases_lt place (length masks)) [
       ∙ sym (repeated-behind masks pattern place behind)
 ]
 
--- behind the list the pattern stands, and then once more
+-- after the list the pattern stands, and then once more
 pub repeated-round : (pattern : List ℕ) (place : ℕ) → 0 < length pattern →
     repeated [] pattern place ≡ repeated pattern pattern place
 repeated-round pattern place some =

@@ -76,7 +76,7 @@ rest-length version run known = rest_by-length (version == 2) run known
 
 -- ---- words with a separator
 
--- the bytes of words and of a separator behind each
+-- the bytes of words and of a separator after each
 spread : List (List ℕ) → ℕ
 spread [] = 0
 spread (word ∷ words) = suc (length word) + spread words

@@ -16,7 +16,7 @@ TextsAreOne =
     ((file : List ℕ) (first second : CutPicture) → CutText file first → CutText file second → first ≡ second)
     × ((first second : List ℕ) (cut : CutPicture) → CutText first cut → CutText second cut → first ≡ second)
 
--- a file has one fault other than want of memory
+-- a file has one fault other than lack of memory
 abbrev pub FaultsAreOne : Type 0
 FaultsAreOne =
     (file : List ℕ) (first second : CutFault) → first ≢ Memory → second ≢ Memory

@@ -42,7 +42,7 @@ have_other_masks first second = not (first.mask == second.mask)
 abbrev pub are_runs : List Run → Bool
 are_runs runs = list_all is_run runs && neighbours_pass have_other_masks runs
 
--- the pattern behind the listed masks: one run or more
+-- the pattern after the listed masks: one run or more
 abbrev pub is_rest : List Run → Bool
 is_rest rest = nat_le 1 (length rest) && are_runs rest
 

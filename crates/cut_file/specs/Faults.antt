@@ -24,7 +24,7 @@ pub record HasLine (file : List ℕ) (front : Front) (text : List ℕ) : Type 0 
   pub more : List ℕ
   pub is : file ≡ front_text front ++ (text ++ (10 ∷ more))
 
--- the text is that of a line whose form may stand behind these lines; with it they are the next
+-- the text is that of a line whose form may stand after these lines; with it they are the next
 pub record Stands (front : Front) (text : List ℕ) (next : Front) : Type 0 where
   pub line : Line
   pub known : is_line (version_of front) line ≡ true

@@ -57,7 +57,7 @@ bare_cut version secret_len bits = record {
   points = [];
 }
 
--- the lines with one more, where one of its form may stand behind them. A skip may not stand behind a point
+-- the lines with one more, where one of its form may stand after them. A skip may not stand after a point
 abbrev pub followed : Front → Line → Option Front
 followed Nothing (Version version) = Some (Versioned version)
 followed (Versioned version) (Secret secret_len) = Some (Sized version secret_len)

@@ -12,13 +12,13 @@ unfoldable pub listed_masks : List Run → List ℕ
 listed_masks [] = []
 listed_masks (run ∷ runs) = replicate run.count run.mask ++ listed_masks runs
 
--- the item at a place, counted from 0, of a list and, behind it, of a pattern that repeats
+-- the item at a place, counted from 0, of a list and, after it, of a pattern that repeats
 abbrev pub repeated : List ℕ → List ℕ → ℕ → ℕ
 repeated masks pattern place =
     if nat_lt place (length masks) then slice_index_or masks place 0
     else slice_index_or pattern ((place - length masks) % length pattern) 0
 
--- the mask that is listed for a visit, counted from 1, and behind those that of the pattern
+-- the mask that is listed for a visit, counted from 1, and after those that of the pattern
 abbrev pub listed_mask : CutPoint → ℕ → ℕ
 listed_mask cut_point visit =
     repeated (listed_masks cut_point.runs) (listed_masks cut_point.rest) (visit - 1)

@@ -23,11 +23,11 @@ spaced words = joined 32 words
 abbrev pub run_text : Run → List ℕ
 run_text run = decimal run.count ++ (42 ∷ hex_word run.mask)
 
--- a run behind `rest`: in version 1 its mask, as there is one run of one visit
+-- a run after `rest`: in version 1 its mask, as there is one run of one visit
 abbrev pub rest_text : ℕ → Run → List ℕ
 rest_text version run = if version == 2 then run_text run else hex_word run.mask
 
--- the words of a point behind the first
+-- the words of a point after the first
 abbrev pub point_words : ℕ → CutPoint → List (List ℕ)
 point_words version cut_point =
     decimal cut_point.point.region ∷ (hex_word cut_point.point.address ∷ (slot_text cut_point.point.slot

@@ -28,7 +28,7 @@ fn are_few(runs: &[Run], most: u32) -> bool
     true
 }
 
-// Puts the masks of a run behind others.
+// Puts the masks of a run after others.
 fn put_masks(alloc: Global, masks: &mut Vec<u32>, run: &Run) -> Result<(), NoMemory>
     ensures { OnOk result (masks.new.items ≡ masks.old.items ++ replicate run.now.count run.now.mask) }
 {
@@ -156,7 +156,7 @@ fn points_of(alloc: Global, cut: &Cut) -> Result<List<CutPoint>, NoMemory>
 /// point lists at most 65,536 masks, and each is equal to the one that stands so many places later, for some number
 /// from 1 to 64 and at most half of theirs, it lists none and its pattern is the first so many, for the least such
 /// number. All other points stay. At each visit that the cut lists, its masks are the same. It takes time in 64 times
-/// the number of masks that are listed. Its error is want of memory.
+/// the number of masks that are listed. Its error is lack of memory.
 pub fn fold(alloc: Global, cut: &Cut) -> Result<Cut, NoMemory>
     requires { cut.now.version ≡ 1 }
     ensures { IfOk result (λ folded. IsFold (picture_of cut.now) (picture_of folded)) }

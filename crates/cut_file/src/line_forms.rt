@@ -17,7 +17,7 @@ const LONGEST_SECRET: u32 = 65_536;
 /// The highest number of a region.
 const HIGHEST_REGION: u32 = 65_535;
 
-// The number of a word behind a wanted text.
+// The number of a word after a wanted text.
 fn number_behind(wanted: &[u8], text: &[u8]) -> Option<u32>
     ensures { result ≡ number_behind_text wanted.now text.now }
 {
@@ -88,7 +88,7 @@ fn place(words: &mut LineWords) -> Option<Point>
     }
 }
 
-// Whether a run may stand behind runs.
+// Whether a run may stand after runs.
 fn may_follow_runs(runs: &[Run], run: &Run) -> bool
     ensures { result ≡ may_follow have_other_masks runs.now run.now }
 {
@@ -166,7 +166,7 @@ fn pattern(alloc: Global, words: &mut LineWords) -> Result<Option<List<Run>>, No
     }
 }
 
-// The pattern of the words behind `rest`.
+// The pattern of the words after `rest`.
 #[tactic(auto, unfolding(crate::specs::Private::Reading::rest_in))]
 fn rest(alloc: Global, version: u8, words: &mut LineWords) -> Result<Option<List<Run>>, NoMemory>
     ensures { IfOk result (λ found. found ≡ rest_in version words.old) }

@@ -3,7 +3,7 @@ ghost use Rattle.cut_file.specs.Masks.{listed_masks, mask_of};
 
 use crate::points::{CutPoint, Run};
 
-// The mask that runs list for a visit, counted from 1; and where they list fewer, how many visits it is behind them.
+// The mask that runs list for a visit, counted from 1; and where they list fewer, how many visits it is after them.
 fn listed_mask(runs: &[Run], visit: u64) -> Result<u32, u64>
     requires { 1 ≤ visit }
     ensures mask { IfOk result (λ mask. mask ≡ slice_index_or (listed_masks runs.now) (visit - 1) 0) }
@@ -35,7 +35,7 @@ fn pattern_mask(rest: &[Run], visit: u64) -> u32
 }
 
 /// The mask of the bits that cross at a visit of the point, counted from 1: the mask that the runs list for it, and
-/// behind those that of `rest`, which repeats, within the width of the point's slot. It takes time in the number of
+/// after those that of `rest`, which repeats, within the width of the point's slot. It takes time in the number of
 /// the point's runs.
 pub fn mask_at(point: &CutPoint, visit: u64) -> u32
     requires { 1 ≤ visit }

@@ -7,7 +7,7 @@ use crate::cuts::Cut;
 use flow_base::NoMemory;
 use std::alloc::Global;
 
-/// The same cut in version 2; its masks are the same at each visit. Its error is want of memory.
+/// The same cut in version 2; its masks are the same at each visit. Its error is lack of memory.
 pub fn migrate(alloc: Global, cut: &Cut) -> Result<Cut, NoMemory>
     ensures { IfOk result (λ other. picture_of other ≡ migrated (picture_of cut.now)) }
 {

@@ -31,7 +31,7 @@ fn unfit(number: u32) -> CutFault
     }
 }
 
-// Whether a region may stand behind regions.
+// Whether a region may stand after regions.
 fn may_follow_regions(regions: &[u16], region: u16) -> bool
     ensures { result ≡ may_follow nat_lt regions.now region }
 {
@@ -41,7 +41,7 @@ fn may_follow_regions(regions: &[u16], region: u16) -> bool
     }
 }
 
-// Whether a point may stand behind points.
+// Whether a point may stand after points.
 fn may_follow_points(points: &[CutPoint], point: &CutPoint) -> bool
     requires points { IsTrue (are_points points.now) }
     requires point { IsTrue (is_cut_point point.now) }
@@ -53,7 +53,7 @@ fn may_follow_points(points: &[CutPoint], point: &CutPoint) -> bool
     }
 }
 
-// The cut with a region behind its own, by the line of that number.
+// The cut with a region after its own, by the line of that number.
 #[tactic(auto, unfolding(crate::specs::Private::Reading::with_line))]
 fn with_region(cut: Cut, number: u32, region: u16) -> Result<Cut, CutFault>
     requires { IsTrue (is_region region) }
@@ -85,7 +85,7 @@ fn with_region(cut: Cut, number: u32, region: u16) -> Result<Cut, CutFault>
     })
 }
 
-// The cut with a point behind its own, by the line of that number.
+// The cut with a point after its own, by the line of that number.
 #[tactic(auto, unfolding(crate::specs::Private::Reading::with_line))]
 fn with_point(cut: Cut, number: u32, point: CutPoint) -> Result<Cut, CutFault>
     requires { IsTrue (is_point_of cut.version point) }
@@ -181,7 +181,7 @@ fn with_text(alloc: Global, draft: Draft, number: u32, text: &[u8]) -> Result<Dr
     with_line(alloc, draft, number, line)
 }
 
-// The cut of the lines up to `end`, and the rest of the file behind that line.
+// The cut of the lines up to `end`, and the rest of the file after that line.
 fn lines(alloc: Global, file: &[u8]) -> Result<(Cut, &[u8]), CutFault>
     requires { length file.now < 2 ^ 32 }
     ensures ok { IfOk result (λ p. lines_in 1 Nothing (parts 10 file.now) ≡ Ok (picture_of p.0, parts 10 p.1.now)) }
@@ -226,7 +226,7 @@ fn cut_of(alloc: Global, file: &[u8]) -> Result<Cut, CutFault>
 /// without leading zeros; addresses and masks have eight hexadecimal digits in lower case; one space stands between
 /// words, and each line ends with a line feed.
 ///
-/// Every other file answers its first fault, as [`CutFault`] tells them; want of memory answers [`CutFault::Memory`].
+/// Every other file answers its first fault, as [`CutFault`] tells them; lack of memory answers [`CutFault::Memory`].
 /// It takes time in the length of the file.
 pub fn read_cut(alloc: Global, file: &[u8]) -> Result<Cut, CutFault>
     requires { length file.now < 2 ^ 32 }

@@ -7,7 +7,7 @@ ghost use Rattle.cut_file.specs.Private.Reading.{slot_in, slot_of as slot_from, 
 use crate::points::Run;
 use flow_base::{Slot, digit, hex_word};
 
-/// The bytes in front of the first separator and those behind it; None where there is none.
+/// The bytes in front of the first separator and those after it; None where there is none.
 pub(crate) fn divide(separator: u8, bytes: &[u8]) -> Option<(&[u8], &[u8])>
     ensures halves { option_map (λ p. (p.0.now, p.1.now)) result ≡ divided separator bytes.now }
     ensures lengths { IfSome result (λ p. length p.0.now + 1 + length p.1.now ≡ length bytes.now) }
@@ -66,7 +66,7 @@ fn nibble(byte: u8) -> u32
     digit(byte) % 16
 }
 
-// The word whose eight digits stand behind two bytes.
+// The word whose eight digits stand after two bytes.
 fn word_behind(bytes: &[u8]) -> u32
     requires { 10 ≤ length bytes.now }
     ensures { result ≡ word_of bytes.now }

@@ -19,7 +19,7 @@ fn put_run(alloc: Global, text: &mut Vec<u8>, run: &Run) -> Result<(), NoMemory>
     Ok(())
 }
 
-// Puts runs at the end of a text, each behind a space.
+// Puts runs at the end of a text, each after a space.
 fn put_runs(alloc: Global, text: &mut Vec<u8>, runs: &[Run]) -> Result<(), NoMemory>
     ensures { OnOk result (text.new.items ≡ text.old.items ++ led (map run_text runs.now)) }
 {
@@ -30,7 +30,7 @@ fn put_runs(alloc: Global, text: &mut Vec<u8>, runs: &[Run]) -> Result<(), NoMem
     Ok(())
 }
 
-// Puts a run behind `rest` at the end of a text.
+// Puts a run after `rest` at the end of a text.
 fn put_rest_run(alloc: Global, text: &mut Vec<u8>, version: u8, run: &Run) -> Result<(), NoMemory>
     ensures { OnOk result (text.new.items ≡ text.old.items ++ rest_text version run.now) }
 {
@@ -41,7 +41,7 @@ fn put_rest_run(alloc: Global, text: &mut Vec<u8>, version: u8, run: &Run) -> Re
     }
 }
 
-// Puts the runs behind `rest` at the end of a text, each behind a space.
+// Puts the runs after `rest` at the end of a text, each after a space.
 fn put_rest(alloc: Global, text: &mut Vec<u8>, version: u8, rest: &[Run]) -> Result<(), NoMemory>
     ensures { OnOk result (text.new.items ≡ text.old.items ++ led (map (rest_text version) rest.now)) }
 {
@@ -118,7 +118,7 @@ fn head(alloc: Global, version: u8, secret_len: u32, bits: u32) -> Result<Vec<u8
     Ok(text)
 }
 
-/// The one text of a cut, as [`read_cut`](crate::read_cut) reads it. Its error is want of memory.
+/// The one text of a cut, as [`read_cut`](crate::read_cut) reads it. Its error is lack of memory.
 pub fn write_cut(alloc: Global, cut: &Cut) -> Result<Bytes, NoMemory>
     ensures { IfOk result (λ text. CutText text (picture_of cut.now)) }
 {

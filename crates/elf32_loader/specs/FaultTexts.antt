@@ -1,5 +1,5 @@
 -- The texts of what is wrong with a program file. Numbers are decimal; an address is 0x and eight digits in lower
--- case, a byte 0x and two. Want of memory is never told.
+-- case, a byte 0x and two. Lack of memory is never told.
 use Rattle.std.specs.Prelude.{ℕ, ◌/◌, ◌%◌, List, [], ◌∷◌, ◌++◌, codes}
 use Rattle.std.specs.Fmt.{decimal}
 use Rattle.flow_base.specs.HexWords.{hex_digit, hex_word}

@@ -92,7 +92,7 @@ fn read_segments(alloc: Global, file: &[u8]) -> Result<Vec<Segment>, NoMemory>
 ///
 /// A file that gives no image answers its first fault, in this order: the size of the ELF header, its first bytes, the
 /// kind, the flags, the number and size of the program headers, the end of their table, PT_DYNAMIC or PT_INTERP, no
-/// load, a load out of range, the base, an overlap, the entry. Want of memory answers [`ElfFault::Memory`].
+/// load, a load out of range, the base, an overlap, the entry. Lack of memory answers [`ElfFault::Memory`].
 pub fn load_image(alloc: Global, file: &[u8]) -> Result<Image, ElfFault>
     requires { length file.now < 2 ^ 32 }
     ensures loaded { IfOk result (λ image. IsImage file.now (picture_of image)) }

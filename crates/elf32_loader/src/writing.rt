@@ -71,7 +71,7 @@ fn put_contents(file: &mut Vec<u8>, segments: &[Segment]) -> Result<(), NoMemory
 /// The program file of an image, which loads as that image: the ELF header of an executable for RISC-V, a program
 /// header for each segment in ascending order, and then the segments' bytes in the same order without gaps (System V
 /// ABI, Object Files). Each header is PT_LOAD with p_paddr equal to p_vaddr, p_memsz equal to p_filesz, p_flags 7 and
-/// p_align 1. The image has at most 64 segments. Its error is want of memory.
+/// p_align 1. The image has at most 64 segments. Its error is lack of memory.
 pub fn write_image(alloc: Global, image: &Image) -> Result<Bytes, NoMemory>
     requires { length image.now.segments ≤ 64 }
     ensures { IfOk result (λ bytes. bytes ≡ written (picture_of image.now)) }

@@ -52,7 +52,7 @@ range_at d =
     (length_if (get (codes "length") d))
     else None
 
--- the ranges of the items behind those found
+-- the ranges of the items after those found
 abbrev pub ranges_onto : List Range → Items → Option (List Range)
 ranges_onto found no_items = Some found
 ranges_onto found (item d items) = option_and_then (λ range. ranges_onto (found ++ range ∷ []) items) (range_at d)

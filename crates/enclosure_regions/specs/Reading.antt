@@ -23,7 +23,7 @@ abbrev pub ◌>>◌ : {A B : Type 0} → Result A RegionFault → (A → Result 
 abbrev pub UnlessMemory : Result Region RegionFault → Result Region RegionFault → Type 0
 UnlessMemory result answer = result ≢ Err Memory → result ≡ answer
 
--- ---- one region behind others, which are counted from 1
+-- ---- one region after others, which are counted from 1
 
 -- a register that stands twice comes before an enter address that an earlier region has
 abbrev pub without_twice : List Region → Region → Option ℕ → Result Region RegionFault
@@ -44,7 +44,7 @@ written_behind found (Some region) = placed_behind found region
 
 -- ---- all regions
 
--- the regions of the items behind those found, or the first fault
+-- the regions of the items after those found, or the first fault
 abbrev pub regions_onto : List Region → Items → Result (List Region) RegionFault
 regions_onto found no_items = Ok found
 regions_onto found (item d items) =

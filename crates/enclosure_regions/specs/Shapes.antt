@@ -50,7 +50,7 @@ register_at d = option_and_then not_zero (option_and_then register_named (as_str
 
 -- ---- arrays of register names
 
--- the registers of the items behind those found, in the order of the file
+-- the registers of the items after those found, in the order of the file
 abbrev pub registers_onto : List ℕ → Items → Option (List ℕ)
 registers_onto found no_items = Some found
 registers_onto found (item d items) =

@@ -42,7 +42,7 @@ impl Model for Monitor {
 }
 
 impl Monitor {
-    /// A monitor of a run that has entered no region yet. Its error is want of memory; no later call takes any.
+    /// A monitor of a run that has entered no region yet. Its error is lack of memory; no later call takes any.
     pub fn new(alloc: Global, regions: &Regions) -> Result<Monitor, NoMemory>
         ensures { IfOk result (λ monitor. monitor ≡ new_watch regions.now.items) }
     {

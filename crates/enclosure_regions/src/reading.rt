@@ -26,7 +26,7 @@ fn has_enter(regions: &[Region], enter: u32) -> bool
     regions.iter().any(|region| region.enter == enter)
 }
 
-// A written region, in order, behind those that were found.
+// A written region, in order, after those that were found.
 fn placed(alloc: Global, found: &[Region], region: Region) -> Result<Region, RegionFault>
     requires few { length found.now < 256 }
     requires written { IsTrue (is_written region) }
@@ -51,7 +51,7 @@ fn placed(alloc: Global, found: &[Region], region: Region) -> Result<Region, Reg
     Ok(ordered(alloc, region)?)
 }
 
-/// The region of an item behind those that were found.
+/// The region of an item after those that were found.
 pub fn behind(alloc: Global, found: &[Region], item: &Value) -> Result<Region, RegionFault>
     requires { length found.now < 256 }
     ensures exact { UnlessMemory result (written_behind found.now (written_in (view item.now))) }

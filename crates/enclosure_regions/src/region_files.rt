@@ -74,7 +74,7 @@ fn regions(alloc: Global, value: &Value) -> Result<Regions, RegionFault>
 /// There are no other keys.
 ///
 /// The error is the first fault: no JSON, the outer object, too many regions, and then for each region in order its
-/// form, equal addresses, a register that stands twice, an enter address that an earlier region has. Want of memory
+/// form, equal addresses, a register that stands twice, an enter address that an earlier region has. Lack of memory
 /// answers [`RegionFault::Memory`].
 pub fn read_regions(alloc: Global, file: &[u8]) -> Result<Regions, RegionFault>
     ensures ok { IfOk result (λ regions. Spells file.now regions.items) }

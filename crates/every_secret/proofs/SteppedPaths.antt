@@ -16,7 +16,7 @@ use Rattle.every_secret.specs.Private.Stepping.{EndsPath, Steps, StepsAfter, jud
 use Rattle.every_secret.specs.Private.Tapes.{Lengthens}
 use Rattle.every_secret.proofs.Trees.{fed-descends, first-later, next-path, no-later, opens-none, walked-first}
 
--- ---- behind a path
+-- ---- after a path
 
 unless-none : (many : Bool) (limit : ℕ) (bits : List Bool) (later : Answer) →
     unless_many many limit bits [] later ≡ later
@@ -81,7 +81,7 @@ is-walked limit found asker bits path ends longer fed opens =
       judged_is = ap (λ (p : Path). judged limit found (p ∷ later tree p.bits)) same;
     }
 
--- the walk of a path, and what is behind it
+-- the walk of a path, and what is after it
 pub steps-join : (step : Step) (limit : ℕ) (found next : Found) (tree : Tree) (bits path : List Bool)
     (ends : PathEnd) → judged_from limit found tree bits ≡ left_after limit next tree path ends →
     StepsAfter step limit next tree path ends → Steps step limit found tree bits

@@ -11,7 +11,7 @@ use Rattle.crossing_bits.specs.Streams.{Stream}
 use Rattle.every_secret.specs.Private.Ends.{lengthens-none}
 use Rattle.every_secret.specs.Private.Tapes.{Lengthens, Takes}
 
--- the beginning of what is left is not changed by what comes behind it
+-- the beginning of what is left is not changed by what comes after it
 take_drop_front : {A : Type 0} (n t : ℕ) (xs ys : List A) → t + n ≤ length xs →
     take n (drop t (xs ++ ys)) ≡ take n (drop t xs)
 take_drop_front n t xs ys h =

@@ -40,7 +40,7 @@ last-path (Fork first second) (true ∷ bits) e comes none =
     by None is h inner = ap (λ ps. map (behind true) ps) (inner is)
     by (Some next) is h inner = absurd (cc)
 
--- the paths behind one begin with the first that begins with the next string
+-- the paths after one begin with the first that begins with the next string
 pub record Follows (tree : Tree) (bits next : List Bool) : Type 0 where
   pub opens : Opens tree next
   pub later_is : later tree bits ≡ first_from tree next ∷ later tree (first_from tree next).bits

@@ -8,7 +8,7 @@ pub data Tree : Type 0 where
   Leaf : PathEnd → Tree
   Fork : Tree → Tree → Tree
 
--- a tree of so many bits, and behind each string of them another
+-- a tree of so many bits, and after each string of them another
 abbrev pub forks : ℕ → (List Bool → Tree) → Tree
 forks zero next = next []
 forks (suc count) next = Fork (forks count (λ bits. next (false ∷ bits))) (forks count (λ bits. next (true ∷ bits)))
@@ -23,7 +23,7 @@ pub record Path : Type 0 where
   pub bits : List Bool
   pub ends : PathEnd
 
--- the path behind a bit
+-- the path after a bit
 abbrev pub behind : Bool → Path → Path
 behind bit path = record { bits = bit ∷ path.bits; ends = path.ends }
 
@@ -35,7 +35,7 @@ paths_of (Fork first second) = map (behind false) (paths_of first) ++ map (behin
 abbrev pub Paths : Asker PathEnd → List Path
 Paths asker = paths_of (tree_of asker)
 
--- the string that is next in order: the last 0 becomes 1, and nothing stands behind it
+-- the string that is next in order: the last 0 becomes 1, and nothing stands after it
 abbrev pub next_or : Bool → Option (List Bool) → Option (List Bool)
 next_or bit (Some next) = Some (bit ∷ next)
 next_or false None = Some (true ∷ [])

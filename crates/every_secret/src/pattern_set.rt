@@ -35,7 +35,7 @@ impl Model for PatternSet {
     ghost invariant = { λ s. s.size ≡ min (size_of (map pattern_of s.kept.keys)) (2 ^ 64 - 1) };
 }
 
-/// Puts a key behind the others, if it is none of them, and says whether it was none. `NoMemory` where there is not
+/// Puts a key after the others, if it is none of them, and says whether it was none. `NoMemory` where there is not
 /// enough; the keys then stay.
 fn put(keys: &mut IndexSet<KeptPattern>, key: KeptPattern) -> Result<bool, NoMemory>
     ensures patterns { OnOk result (map pattern_of keys.new.keys
@@ -73,7 +73,7 @@ impl PatternSet {
         }
     }
 
-    /// Puts a pattern behind the others, if it is none of them. `NoMemory` where there is not enough.
+    /// Puts a pattern after the others, if it is none of them. `NoMemory` where there is not enough.
     pub fn insert(&mut self, pattern: Pattern) -> Result<(), NoMemory>
         ensures { OnOk result (self.new ≡ with_pattern pattern self.old) }
     {

@@ -58,7 +58,7 @@ fn cleared(value: u32, mask: u32) -> u32
     2 * rest
 }
 
-/// A string gets zeros behind its end until so many of its bits are left.
+/// A string gets zeros after its end until so many of its bits are left.
 /// `NoMemory` where there is not enough.
 fn lengthen(bits: &mut Bits, count: u32) -> Result<(), NoMemory>
     ensures grown { OnOk result ((more : ℕ) × ((bits.new.bits ≡ bits.old.bits ++ replicate more false)
@@ -77,7 +77,7 @@ fn lengthen(bits: &mut Bits, count: u32) -> Result<(), NoMemory>
 }
 
 /// The value with the next bits of a string in place of those under the mask; where too few are left the string gets
-/// zeros behind its end.
+/// zeros after its end.
 /// `NoMemory` where there is not enough.
 fn choose(bits: &mut Bits, value: u32, mask: u32) -> Result<u32, NoMemory>
     ensures takes { OnOk result (Takes (count_of mask) bits.old bits.new) }
@@ -124,7 +124,7 @@ fn byte_mask(mask: u32) -> Result<u8, NoMemory>
     Ok(mask as u8)
 }
 
-/// The free bits of a byte that is written are noted behind those of the bytes before it. The answer is the free bits of
+/// The free bits of a byte that is written are noted after those of the bytes before it. The answer is the free bits of
 /// the exit status, which were these so far.
 /// `NoMemory` where there is not enough.
 #[inline(always)]

@@ -1,4 +1,4 @@
--- Two pieces that are put behind a text are one.
+-- Two pieces that are put after a text are one.
 use Rattle.std.proofs.Common.{◌≡◌, ℕ, List, ◌++◌, ap, ◌∙◌, append_assoc}
 
 pub joins : (before first middle second after : List ℕ) → middle ≡ before ++ first → after ≡ middle ++ second →

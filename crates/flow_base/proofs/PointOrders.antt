@@ -109,7 +109,7 @@ then_less true e o = refl
 then_less false true o = refl
 then_less false false o = refl
 
--- the numbers of registers come behind all others, those of ranges behind these
+-- the numbers of registers come after all others, those of ranges after these
 to_register : (k register : ℕ) → k ≤ 12 → is_slot (OutReg register) ≡ true → true ≡ nat_lt k (12 + register)
 to_register k register small valid =
     let first : 1 ≤ register = leb-true 1 register (and_parts (nat_le 1 register) (nat_le register 31) valid).0 in

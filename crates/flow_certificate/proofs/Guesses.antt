@@ -1,4 +1,4 @@
--- The text of a line is guessed as that line, whatever stands behind its line feed.
+-- The text of a line is guessed as that line, whatever stands after its line feed.
 use Rattle.std.proofs.Common.{◌≡◌, ℕ, ◌+◌, ◌*◌, ◌/◌, ◌%◌, ◌^◌, ◌<◌, ◌≤◌, ◌==◌, nat_lt, Bool, true, false}
 use Rattle.std.proofs.Common.{List, [], ◌∷◌, ◌++◌, codes, length, get_or, slice_index, if◌then◌else◌, refl, sym}
 use Rattle.std.proofs.Common.{◌∙◌, ap, subst, append_assoc, arith, Option, Some, None}
@@ -221,7 +221,7 @@ relay-own line rest known =
     let region = number-own line.region 32 (codes "side " ++ (inside_text line.inside ++ rest)) (omega arith) refl in
     rw (region, below-own 65536 line.region known, inside-own line.inside rest) refl
 
--- the line of a point behind its first word
+-- the line of a point after its first word
 abbrev point_tail : PointLine → List ℕ → List ℕ
 point_tail line rest =
     decimal line.point.region ++ (32 ∷ (hex_word line.point.address ++ (32 ∷ (slot_text line.point.slot

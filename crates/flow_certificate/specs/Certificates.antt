@@ -73,7 +73,7 @@ pub record IsFirstFailure (file : List ℕ) (n : ℕ) : Type 0 where
   pub fails : (picture : Picture) → ¬ BeginsWith file n picture
   pub no_text : (picture : Picture) → ¬ CertText file picture
 
--- why a file is no certificate; want of memory says nothing of it
+-- why a file is no certificate; lack of memory says nothing of it
 abbrev pub IsFormFault : List ℕ → FormFault → Type 0
 IsFormFault file (faults.Line line) = IsFirstFailure file line
 IsFormFault file faults.Memory = Unit {0}

@@ -20,7 +20,7 @@ fn byte_at(bytes: &[u8], index: usize) -> u8
     }
 }
 
-/// What stands behind the first bytes, so many of them.
+/// What stands after the first bytes, so many of them.
 fn skip(bytes: &[u8], count: usize) -> &[u8]
     ensures { result.now ≡ drop count bytes.now }
 {
@@ -176,7 +176,7 @@ fn half_of(letter: u8) -> Half
     }
 }
 
-/// The parts of the line of a point, behind its first word.
+/// The parts of the line of a point, after its first word.
 #[tactic(auto, unfolding(crate::specs::Private::Guessing::point_at))]
 fn point_at(bytes: &[u8]) -> PointLine
     ensures { result ≡ point_in bytes.now }
@@ -198,7 +198,7 @@ fn point_at(bytes: &[u8]) -> PointLine
     }
 }
 
-/// The parts of the line of a relay, behind its first word.
+/// The parts of the line of a relay, after its first word.
 #[tactic(auto, unfolding(crate::specs::Private::Guessing::relay_at))]
 fn relay_at(bytes: &[u8]) -> RelayLine
     ensures { result ≡ relay_in bytes.now }
@@ -210,7 +210,7 @@ fn relay_at(bytes: &[u8]) -> RelayLine
     }
 }
 
-/// The parts of the line of a link, behind its first word.
+/// The parts of the line of a link, after its first word.
 #[tactic(auto, unfolding(crate::specs::Private::Guessing::link_at))]
 fn link_at(bytes: &[u8]) -> LinkLine
     ensures { result ≡ link_in bytes.now }

@@ -76,7 +76,7 @@ fn is_line(line: &Line) -> bool
     }
 }
 
-/// The line in front of bytes, and what stands behind its line feed; None where no line stands there.
+/// The line in front of bytes, and what stands after its line feed; None where no line stands there.
 #[tactic(auto, unfolding(crate::specs::Private::Guessing::line_in))]
 pub fn line_at(alloc: Global, bytes: &[u8]) -> Result<Option<(Line, &[u8])>, NoMemory>
     ensures { IfOk result (λ found. option_map (λ p. (p.0, p.1.now)) found ≡ line_in bytes.now) }

@@ -95,7 +95,7 @@ fn put_link(alloc: Global, text: &mut Vec<u8>, line: &LinkLine) -> Result<(), No
     Ok(())
 }
 
-/// Puts the number of the line of a value behind its first word.
+/// Puts the number of the line of a value after its first word.
 fn put_value(alloc: Global, text: &mut Vec<u8>, value: u64) -> Result<(), NoMemory>
     ensures { OnOk result (text.new.items ≡ text.old.items ++ (codes "value " ++ decimal value)) }
 {

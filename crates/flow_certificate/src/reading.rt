@@ -19,7 +19,7 @@ fn is_whole(stage: Stage) -> bool
     matches!(stage, Stage::Whole)
 }
 
-/// Whether all lines have been read, and nothing stands behind them.
+/// Whether all lines have been read, and nothing stands after them.
 fn is_done(stage: Stage, rest: &[u8]) -> bool
     ensures { result ≡ (is_whole_stage stage && (length rest.now == 0)) }
 {
@@ -58,7 +58,7 @@ fn draft_of(alloc: Global, file: &[u8]) -> Result<Draft, FormFault>
 /// side is `s` inside, `t` outside, and `m` or `o` for the first or the second half alone. One space stands between
 /// words, and each line ends with a line feed.
 ///
-/// Every other file answers the first line that fails. Want of memory answers [`FormFault::Memory`]. It takes time in
+/// Every other file answers the first line that fails. Lack of memory answers [`FormFault::Memory`]. It takes time in
 /// the length of the file.
 pub fn read_certificate(alloc: Global, file: &[u8]) -> Result<Certificate, FormFault>
     requires { length file.now < 2 ^ 32 }

@@ -16,7 +16,7 @@ pub fn has_few_events(events: &EventList) -> bool
 }
 
 /// The graph of a list of events whose points are fewer than 2^32 in number (McCamant and Ernst, PLDI 2008, with the
-/// visits of a point collapsed to one node). Its error is want of memory.
+/// visits of a point collapsed to one node). Its error is lack of memory.
 pub fn graph_of(alloc: Global, events: &EventList) -> Result<Graph, NoMemory>
     requires { HasFewPoints events.now }
     ensures { IfOk result (λ graph. IsGraphOf events.now graph) }

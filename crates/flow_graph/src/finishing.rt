@@ -151,7 +151,7 @@ fn tell_range(regions: &[u16])
 }
 
 impl Builder {
-    /// The graph of the events for which the builder stands. Its error is want of memory.
+    /// The graph of the events for which the builder stands. Its error is lack of memory.
     pub fn finish(&self, alloc: Global) -> Result<Graph, NoMemory>
         requires positive { ArePositive self.now }
         requires sound { list_all (is_sound (has_point self.now)) self.now.links.keys ≡ true }

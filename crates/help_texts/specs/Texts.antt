@@ -5,7 +5,7 @@ use Rattle.std.specs.Str.{bytes_eq}
 
 -- the text of the version
 abbrev pub version : List ℕ
-version = codes "flowcheck 0.1.0\nproved with rattle-kit-13f\n"
+version = codes "flowcheck 0.1.0\nproved with rattle-kit-13\n"
 
 -- the word is the name of a command that judges secrets, or bounds the outputs of all
 abbrev pub is_judging : List ℕ → Bool

@@ -6,7 +6,7 @@ use crate::forms::{Form, form_named, forms};
 use crate::parsers::{command, command_line};
 use std::alloc::{AllocError, Global};
 
-const VERSION: &str = "flowcheck 0.1.0\nproved with rattle-kit-13f\n";
+const VERSION: &str = "flowcheck 0.1.0\nproved with rattle-kit-13\n";
 
 const BELOW: &str =
     "\nflowcheck help COMMAND tells of one command. docs/GUIDE.md says what each answer means.\n";

@@ -39,11 +39,11 @@ last_here : {X : Type 0} (xs : List X) (x : X) → slice_get (xs ++ x ∷ []) (l
 last_here [] x = refl
 last_here (y ∷ xs) x = last_here xs x
 
--- what is put behind others stands at their number
+-- what is put after others stands at their number
 pub last_at : {X : Type 0} (xs : List X) (x : X) (index : ℕ) → index ≡ length xs → slice_get (xs ++ x ∷ []) index ≡ Some x
 last_at xs x index e = ap (slice_get (xs ++ x ∷ [])) e ∙ last_here xs x
 
--- and its key behind theirs
+-- and its key after theirs
 pub keys-added : {K V : Type 0} (entries : List (K × V)) (key : K) (value : V) →
     keys_of (entries ++ (key, value) ∷ []) ≡ keys_of entries ++ key ∷ []
 keys-added [] key value = refl

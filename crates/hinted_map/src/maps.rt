@@ -13,7 +13,7 @@ use std::hash::Hash;
 /// Values by keys, in the order in which the keys came. Keys are the same where their order says so.
 ///
 /// A run asks for much the same keys in much the same order again and again. So a key is first looked for where the
-/// latest one stands, behind it, and where another one stood before it, and by its hash only then.
+/// latest one stands, after it, and where another one stood before it, and by its hash only then.
 #[derive(Drop)]
 pub struct HintedMap<K: Ord + Hash, V> {
     pub map: IndexMap<K, V>,
@@ -130,7 +130,7 @@ impl<K: Ord + Hash, V> HintedMap<K, V> {
 }
 
 impl<K: Ord + Hash + Drop, V: Drop> HintedMap<K, V> {
-    /// Puts a key that has no entry behind the others, with its value, and gives its index. Its error is want of memory.
+    /// Puts a key that has no entry after the others, with its value, and gives its index. Its error is lack of memory.
     #[inline(never)]
     pub fn add(&mut self, key: K, value: V) -> Result<usize, NoMemory>
         requires { lookup (eq_by_cmp K.cmp key) self.old.map.entries ≡ None }

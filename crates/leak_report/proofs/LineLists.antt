@@ -2,7 +2,7 @@
 use Rattle.std.proofs.Common.{◌≡◌, ◌∙◌, ◌+◌, ◌<◌, ◌++◌, ℕ, List, ◌∷◌, ap, append_assoc, drop, get_or, length, sym}
 use Rattle.std.proofs.lemmas.List.{drop_more}
 
--- the line of the item at an index, and the lines behind it, are the lines from it on
+-- the line of the item at an index, and the lines after it, are the lines from it on
 pub lines_step : {A : Type 0} (line : A → List ℕ) (lines : List A → List ℕ) →
     ((item : A) (items : List A) → lines (item ∷ items) ≡ line item ++ lines items) →
     (text whole : List ℕ) (items : List A) (i : ℕ) (other : A) → i < length items →

@@ -6,7 +6,7 @@ use Rattle.crossing_bits.specs.HexText.{hex_of}
 use Rattle.lockstep_replay.specs.VerdictTexts.{why_text}
 use Rattle.lockstep_replay.specs.Verdicts.{Judgement, Accepts, Rejects}
 
--- the line of the secret with this number that is taken, with its crossing bits and its output, behind a word for that
+-- the line of the secret with this number that is taken, with its crossing bits and its output, after a word for that
 abbrev pub taken_line : List ℕ → ℕ → List Bool → Output → List ℕ
 taken_line word number bits output =
     word ++ (codes " " ++ (decimal number ++ (codes " bits " ++ (decimal (length bits)

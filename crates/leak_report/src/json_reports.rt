@@ -128,7 +128,7 @@ fn report_value(alloc: Global, measured: &Measured) -> Result<Value, NoMemory>
 }
 
 /// The same report as JSON: the compact text of one object and a line feed. Its keys ascend, and so do those of the
-/// points of the cut, which stand in the array `cut`. Its error is want of memory.
+/// points of the cut, which stand in the array `cut`. Its error is lack of memory.
 pub fn report_json(alloc: Global, measured: &Measured) -> Result<Bytes, NoMemory>
     ensures { IfOk result (λ text. text ≡ report_json_of measured.now) }
 {

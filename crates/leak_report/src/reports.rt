@@ -84,7 +84,7 @@ fn put_points(
 
 /// The report of a measured run: one line with its number of bits, the length of the secret, the turns, the points and
 /// the links of the graph, the length of the output and the status; then a line for each region that the cut skips, and
-/// one for each point of the cut, with the point's capacity in bits. Its error is want of memory.
+/// one for each point of the cut, with the point's capacity in bits. Its error is lack of memory.
 pub fn report_text(alloc: Global, measured: &Measured) -> Result<Bytes, NoMemory>
     ensures { IfOk result (λ text. text ≡ report_text_of measured.now) }
 {

@@ -8,8 +8,8 @@ use flow_base::{Bytes, NoMemory, Output};
 use lockstep_replay::{Verdict, Why};
 use std::alloc::Global;
 
-/// The line of the secret with a number that is taken, with its crossing bits as hexadecimal digits, behind a word for
-/// that. Its error is want of memory.
+/// The line of the secret with a number that is taken, with its crossing bits as hexadecimal digits, after a word for
+/// that. Its error is lack of memory.
 pub fn taken_line(
     alloc: Global,
     word: &str,
@@ -40,7 +40,7 @@ fn rejected_line(alloc: Global, number: u32, why: Why) -> Result<Bytes, NoMemory
 }
 
 /// The line of the secret with a number, counted from 1: that it is accepted, with its crossing bits as hexadecimal
-/// digits, or the first reason why it is rejected. Its error is want of memory.
+/// digits, or the first reason why it is rejected. Its error is lack of memory.
 pub fn verdict_line(alloc: Global, number: u32, verdict: &Verdict) -> Result<Bytes, NoMemory>
     ensures { IfOk result (λ text. text ≡ verdict_line_of number (judgement_of verdict.now)) }
 {

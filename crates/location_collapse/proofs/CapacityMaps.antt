@@ -18,7 +18,7 @@ use Rattle.flow_base.proofs.PointEquality.{same_tests}
 pub small_from : (k : Point) (n : ℕ) → 0 < n → n < 2 ^ 48 → is_small (k, n) ≡ true
 small_from k n some small = and_from (nat_lt 0 n) (nat_lt n (2 ^ 48)) (lt-ltb 0 n some) (lt-ltb n (2 ^ 48) small)
 
--- a small capacity that is put behind others
+-- a small capacity that is put after others
 pub small_added : (es : List (Point × ℕ)) (k : Point) (n : ℕ) → 0 < n → n < 2 ^ 48 → list_all is_small es ≡ true →
     list_all is_small (es ++ (k, n) ∷ []) ≡ true
 small_added es k n some small all =

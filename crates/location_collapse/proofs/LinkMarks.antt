@@ -14,7 +14,7 @@ use Rattle.hinted_map.specs.Places.{StandsAt}
 use Rattle.location_collapse.specs.Limits.{is_same_link}
 use Rattle.location_collapse.proofs.EqualityByOrder.{any_flipped, links_alike}
 
--- the keys behind which a link is put
+-- the keys after which a link is put
 pub takes_put : (old new : List NamedLink) (link : NamedLink) → new ≡ old ++ link ∷ [] → TakesLinks old new (link ∷ [])
 takes_put old new link added = record {
   linked = λ q. ap (λ keys. is_among keys q) added ∙ list_any-append (λ other. is_same_link other q) old (link ∷ []);

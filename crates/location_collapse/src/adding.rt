@@ -18,7 +18,7 @@ use flow_graph::{Event, NamedEnd, NamedLink, outlet};
 use std::alloc::Global;
 
 impl Collapse {
-    /// Nothing. It stands for no events. Its error is want of memory.
+    /// Nothing. It stands for no events. Its error is lack of memory.
     pub fn new(alloc: Global) -> Result<Collapse, NoMemory>
         ensures stands { IfOk result (λ collapse. StandsFor collapse []) }
         ensures full { IfOk result (λ collapse. collapse.is_full ≡ false) }

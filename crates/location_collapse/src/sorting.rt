@@ -79,7 +79,7 @@ fn sorted_links(
 }
 
 impl Collapse {
-    /// The graph of the events taken. Its error is want of memory.
+    /// The graph of the events taken. Its error is lack of memory.
     pub fn finish(self, alloc: Global) -> Result<Graph, NoMemory>
         ensures { IfOk result (λ graph. (events : Seq AnEvent) → StandsFor self events → IsGraphOf events graph) }
     {

@@ -13,7 +13,7 @@ byte_difference index (byte ∷ real) (other ∷ replay) =
     if byte == other then byte_difference (suc index) real replay
     else Some (record { index = index; real = byte; replay = other })
 
--- of two exit statuses, behind an output of this length
+-- of two exit statuses, after an output of this length
 abbrev pub status_difference : ℕ → Stepped → Stepped → Option Difference
 status_difference index Ran replay = None
 status_difference index (Stopped fault) replay = None

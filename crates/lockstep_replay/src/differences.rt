@@ -54,7 +54,7 @@ pub(crate) fn output_difference(real: &[u8], replay: &[u8], from: usize) -> Opti
     difference_from(&real[from..], &replay[from..], from as u32)
 }
 
-/// The statuses of two runs that have exited, where they differ, behind an output of this length.
+/// The statuses of two runs that have exited, where they differ, after an output of this length.
 pub(crate) fn status_difference(index: u32, real: Stepped, replay: Stepped) -> Option<Difference>
     ensures { result ≡ difference_of_ends index real replay }
 {

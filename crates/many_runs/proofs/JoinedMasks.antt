@@ -44,7 +44,7 @@ masks-cons run runs = refl
 pub masks-empty : (run : VisitRun) (runs : List VisitRun) → run.count ≡ 0 → run_masks (run ∷ runs) ≡ run_masks runs
 masks-empty run runs none = masks-cons run runs ∙ ap (λ n. replicate n run.mask ++ run_masks runs) none
 
--- a run of which so many visits are behind
+-- a run of which so many visits are past
 pub masks-parted : (run left : VisitRun) (n : ℕ) (runs : List VisitRun) → run.count ≡ n + left.count →
     left.mask ≡ run.mask → run_masks (run ∷ runs) ≡ replicate n run.mask ++ run_masks (left ∷ runs)
 masks-parted run left n runs count mask =

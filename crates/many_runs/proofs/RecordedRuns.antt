@@ -171,7 +171,7 @@ followed-union setup secrets recordings union unites within are =
 
 -- ---- the place in a list
 
--- an item with those before it and behind it
+-- an item with those before it and after it
 pub parted : {X : Type 0} (xs : List X) (i : ℕ) (x : X) → i < length xs → x ≡ get_or xs i x →
     xs ≡ take i xs ++ x ∷ drop (i + 1) xs
 parted xs i x below is =

@@ -68,7 +68,7 @@ pub record IsTooMuch (setup : Setup) (secrets : List (List ℕ)) (value : ℕ) :
   pub maximum : HasMaximum events value
   pub over : 1048576 < value
 
--- the first reason that holds; of want of memory nothing is said
+-- the first reason that holds; of lack of memory nothing is said
 abbrev pub HasManyCause : Setup → List (List ℕ) → ManyFault → Type 0
 HasManyCause setup secrets (Length index first got) = HasOtherLength secrets index first got
 HasManyCause setup secrets (Run index fault) =

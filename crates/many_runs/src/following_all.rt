@@ -102,7 +102,7 @@ fn gathered(alloc: Global, recordings: List<Recording>) -> Result<List<Recording
 }
 
 /// What the recordings of the runs on all secrets have together, in a few recordings.
-/// `Run` where one is not measured, for another reason than want of memory.
+/// `Run` where one is not measured, for another reason than lack of memory.
 pub(crate) fn record_runs(
     alloc: Global,
     image: &Image,

@@ -73,7 +73,7 @@ fn add_all_links(union: &mut Recording, recordings: &[Recording]) -> Result<(), 
 }
 
 /// A recording of what several recordings have together: of each point the masks of all, visit by visit, and the links of
-/// all. Its error is want of memory.
+/// all. Its error is lack of memory.
 pub(crate) fn unite(alloc: Global, recordings: &[Recording]) -> Result<Recording, NoMemory>
     ensures { IfOk result (λ union. (runs : Seq (Seq AnEvent)) → AllKeep recordings.now runs → RecordsUnion runs union) }
 {

@@ -1,4 +1,4 @@
--- The replay that stands beside the real run does so behind the entry of a region that both run, and behind a leave.
+-- The replay that stands beside the real run does so after the entry of a region that both run, and after a leave.
 use Rattle.std.proofs.Common.{◌≡◌, ℕ, ◌^◌, ◌<◌, ◌≤◌, false, List, Some, None, refl, sym, subst, ◌∙◌}
 use Rattle.std.specs.Prelude.{slice_index}
 use Rattle.flow_base.specs.declared.points.Point.{Point}

@@ -81,7 +81,7 @@ fn sums_at(
 }
 
 /// The value of a feasible flow of which no part exceeds it. None where the numbers are no such flow, or a sum at a node
-/// is 2^64 or more. Its error is want of memory.
+/// is 2^64 or more. Its error is lack of memory.
 pub fn value_of_flow(
     alloc: Global,
     network: &Network,

@@ -89,7 +89,7 @@ pub all_by_push : {A : Type 0} (P : A → Type 0) (items : List A) (item : A) �
 all_by_push P [] item all own = (own, tt)
 all_by_push P (first ∷ items) item all own = (all.0, all_by_push P items item all.1 own)
 
--- ---- what is left of a list behind its first item
+-- ---- what is left of a list after its first item
 
 tail : {A : Type 0} (x : A) (xs : List A) → take (length (x ∷ xs) - 1) (drop 1 (x ∷ xs)) ≡ xs
 tail x xs = rw sub-one (take_all (length xs) xs (omega arith))
@@ -128,7 +128,7 @@ single_valid : (mask : ℕ) → mask < 2 ^ 32 → is_rest (once mask) ≡ true
 single_valid mask word = and_from (is_run (record { count = 1; mask = mask }) && true) true
     (and_from (is_run (record { count = 1; mask = mask })) true (lt-ltb mask 4294967296 word) refl) refl
 
--- a point with runs and one mask behind them
+-- a point with runs and one mask after them
 pub point_valid : (point : Point) (runs rest : List Run) (mask : ℕ) → is_point point ≡ true →
     are_runs runs ≡ true → mask < 2 ^ 32 → rest ≡ once mask →
     is_point_of 1 (record { point = point; runs = runs; rest = rest }) ≡ true

@@ -65,7 +65,7 @@ follows-last [] latest next = refl
 follows-last (run ∷ []) latest next = refl
 follows-last (run ∷ (other ∷ runs)) latest next = follows-last (other ∷ runs) latest next
 
--- a run with another mask stands behind the latest
+-- a run with another mask stands after the latest
 pub sound-begin : (runs : List VisitRun) (latest next : VisitRun) → IsTrue (are_visit_runs (runs ++ latest ∷ [])) →
     is_visit_run next ≡ true → (latest.mask == next.mask) ≡ false →
     IsTrue (are_visit_runs ((runs ++ latest ∷ []) ++ next ∷ []))

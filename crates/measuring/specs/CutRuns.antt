@@ -24,7 +24,7 @@ united_runs (run ∷ runs) = bit_or run.mask (united_runs runs)
 abbrev pub once : ℕ → List Run
 once mask = record { count = 1; mask = mask } ∷ []
 
--- a point of the cut has the masks that are kept of its visits, and behind them their union
+-- a point of the cut has the masks that are kept of its visits, and after them their union
 pub record HasKeptMasks (visits : KeptVisits) (cut_point : CutPoint) : Type 0 where
   pub masks : listed_masks cut_point.runs ≡ all_masks visits cut_point.point
   pub rest : cut_point.rest ≡ once (united (all_masks visits cut_point.point))

@@ -31,7 +31,7 @@ pub record HasEnded (table : ℕ) (regions : List Region) (start : LabelledRun) 
   pub records : Records end.recording (run_after regions (exits.last ∷ exits.earlier) start).events
 
 -- the cause of a fault of a run: its turns, or one that is refused; a run by itself meets neither a limit of its graph
--- nor want of memory
+-- nor lack of memory
 abbrev pub HasRunCause : ℕ → List Region → LabelledRun → ℕ → MeasureFault → Type 0
 HasRunCause table regions start limit (TurnLimit turns) = (turns ≡ limit) × GoesOn table regions start limit
 HasRunCause table regions start limit (Guest fault) = IsRefused table regions start limit (Guest fault)

@@ -46,7 +46,7 @@ pub record IsTooLarge (table : ℕ) (regions : List Region) (start : LabelledRun
   pub exits : Exits table regions start limit turns output
   pub exceeds : ExceedsLimit (run_after regions (exits.last ∷ exits.earlier) start).events
 
--- why a run is not measured; of want of memory nothing is said
+-- why a run is not measured; of lack of memory nothing is said
 abbrev pub HasCause : ℕ → List Region → LabelledRun → ℕ → MeasureFault → Type 0
 HasCause table regions start limit (TurnLimit turns) = HasRunCause table regions start limit (TurnLimit turns)
 HasCause table regions start limit (Guest fault) = HasRunCause table regions start limit (Guest fault)

@@ -121,7 +121,7 @@ impl VisitCounts {
     }
 
     /// One visit more of a point. False exactly where it is not counted: it is an output of a region, its address is no
-    /// multiple of 4, or its counter is at its end, 2^32 - 1. Its error is want of memory.
+    /// multiple of 4, or its counter is at its end, 2^32 - 1. Its error is lack of memory.
     #[inline(always)]
     pub fn more(&mut self, point: &Point) -> Result<bool, NoMemory>
         ensures more { IfOk result (λ done. CountsMore self.old self.new point.now (cond done 1 0)) }
@@ -149,7 +149,7 @@ impl VisitCounts {
     }
 
     /// The counter of a point becomes 0. It gives how often the point was counted. The row of its page is made where
-    /// there is none: it is found at once when the point is visited again. Its error is want of memory.
+    /// there is none: it is found at once when the point is visited again. Its error is lack of memory.
     #[inline(always)]
     pub fn clear(&mut self, point: &Point) -> Result<u32, NoMemory>
         ensures counted { IfOk result (λ count. count ≡ count_of self.old point.now) }

@@ -190,7 +190,7 @@ fn known_point(region: u16, address: u32, slot: Slot) -> Option<Point>
     }
 }
 
-/// A point of the cut with the masks of its visits, and behind them their union.
+/// A point of the cut with the masks of its visits, and after them their union.
 /// `NoMemory` where there is not enough, where a run has 2^32 visits or more, or where the slot is none that a turn can
 /// pass.
 fn cut_point(alloc: Global, visits: &KeptVisits, point: &Point) -> Result<CutPoint, NoMemory>
@@ -210,7 +210,7 @@ fn cut_point(alloc: Global, visits: &KeptVisits, point: &Point) -> Result<CutPoi
     })
 }
 
-/// The points of the cut, each with the masks of its visits, and behind them their union.
+/// The points of the cut, each with the masks of its visits, and after them their union.
 /// `NoMemory` where there is not enough, where a run has 2^32 visits or more, or where a slot is none that a turn can
 /// pass.
 pub(crate) fn cut_points(

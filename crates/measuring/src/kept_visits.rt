@@ -137,7 +137,7 @@ impl KeptVisits {
         }
     }
 
-    /// Takes an event: a visit, if it is one. Its error is want of memory.
+    /// Takes an event: a visit, if it is one. Its error is lack of memory.
     #[inline(always)]
     pub fn take(&mut self, event: Event) -> Result<(), NoMemory>
         ensures { OnOk result ((events : Seq AnEvent) → HasVisits self.old events → HasVisits self.new

@@ -39,7 +39,7 @@ impl PointVisits {
         }
     }
 
-    /// The visits of a run more. Where memory is short, or there are 2^64 visits with one mask, it answers want of memory
+    /// The visits of a run more. Where memory is short, or there are 2^64 visits with one mask, it answers lack of memory
     /// and the visits stay.
     #[inline(always)]
     pub fn add(&mut self, run: VisitRun) -> Result<(), NoMemory>

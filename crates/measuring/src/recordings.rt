@@ -18,7 +18,7 @@ pub struct Recording {
 }
 
 impl Recording {
-    /// No events. Its error is want of memory.
+    /// No events. Its error is lack of memory.
     pub fn new(alloc: Global) -> Result<Recording, NoMemory>
         ensures { IfOk result (λ recording. Records recording []) }
     {

@@ -1,4 +1,4 @@
--- A compact text of JSON with a line feed behind it reads as the text does.
+-- A compact text of JSON with a line feed after it reads as the text does.
 use Rattle.std.proofs.Common.{◌≡◌, ◌∙◌, ℕ, Bool, true, false, cond, ◌&&◌, List, [], ◌∷◌, ◌++◌, codes}
 use Rattle.std.proofs.Common.{refl, sym, ap, ap₂, subst, inr, arith, append_assoc, append-nil}
 use Rattle.std.specs.Prelude.{option_and_then}
@@ -33,7 +33,7 @@ token_lexemes (boolean b) = token (boolean b) ∷ []
 token_lexemes null = token null ∷ []
 token_lexemes bad = []
 
--- what stands behind a value ends its word, whatever ends a word behind the tokens
+-- what stands after a value ends its word, whatever ends a word after the tokens
 after_value_ends : (ts : List Token) (r : List ℕ) → ends_word r ≡ true → ends_word (print_from true ts ++ r) ≡ true
 unfolding print_from
 after_value_ends [] r ended = ended
@@ -98,7 +98,7 @@ module _ (r : List ℕ) (ended : ends_word r ≡ true) where
       (λ e. ap (λ b. ends_word (print_from b ts ++ r)) e ∙ after_value_ends ts r ended))
 
 module _ (r : List ℕ) (ended : ends_word r ≡ true) (blank : lex between r ≡ []) where
-  -- a blank behind printed tokens has no lexeme
+  -- a blank after printed tokens has no lexeme
   lex-print_then : (c : Bool) (ts : List Token) → ArePrintable ts →
       lex between (print_from c ts ++ r) ≡ lex between (print_from c ts ++ [])
   unfolding lex print_from ArePrintable
@@ -122,7 +122,7 @@ printable_in_order s d order =
     value-HasNumbers (depth j) (json_tokens j ++ []) [] j known (value-json_tokens j (depth j) [] (omega arith)) in
     subst ArePrintable (sym order.1) (ArePrintable-json_tokens j numbers)
 
--- a line feed behind a compact text of a value adds no token
+-- a line feed after a compact text of a value adds no token
 pub line_feed_tokens : (s : List ℕ) (d : Data) → s ≡ print (tokens s) → IsInOrder s d →
     tokens (s ++ codes "\n") ≡ tokens s
 unfolding lex
@@ -131,7 +131,7 @@ line_feed_tokens s d compact order =
     ∙ tokens-print_then (codes "\n") refl refl (tokens s) (printable_in_order s d order)
     ∙ ap tokens (sym compact)
 
--- a compact text of a value that reads as the value reads so with a line feed behind it
+-- a compact text of a value that reads as the value reads so with a line feed after it
 pub line_feed_reads : (s : List ℕ) (d : Data) → s ≡ print (tokens s) → IsInOrder s d → ReadsAs s d →
     ReadsAs (s ++ codes "\n") d
 line_feed_reads s d compact order reads = (

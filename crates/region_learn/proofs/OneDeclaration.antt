@@ -82,7 +82,7 @@ first-long x y xs ys lowest other sx sy same h = elim (cases_lt y.length x.lengt
   | inr fits ↦ fits
 ]
 
--- of the ranges behind a first one that is the same
+-- of the ranges after a first one that is the same
 tail-has : (x y : Range) (xs ys : List Range) (lowest other : ℕ) → AreSpread lowest (x ∷ xs) →
     AreSpread other (y ∷ ys) → x.offset ≡ y.offset → x.length ≡ y.length → Has (x ∷ xs) (y ∷ ys) → Has xs ys
 tail-has x y xs ys lowest other sx sy offsets lengths h address has-it =

@@ -143,7 +143,7 @@ enters-longer (other ∷ regions) region = ap (λ enters. other.enter ∷ enters
 
 -- ---- all regions
 
--- what is known of regions behind those found
+-- what is known of regions after those found
 record AreNew (found regions : List Region) : Type 0 where
   pub each : list_all is_region regions ≡ true
   pub ids : are_distinct (ids_of regions) ≡ true

@@ -178,7 +178,7 @@ fn learn_from(
 /// is said.
 ///
 /// The error is the first stop of the run, a call inside a region before any other stop of its turn; that no turn within
-/// the limit exits; or that the answer would have too many ranges, bytes or text. Want of memory answers
+/// the limit exits; or that the answer would have too many ranges, bytes or text. Lack of memory answers
 /// [`LearnFault::Memory`].
 pub fn learn(
     alloc: Global,

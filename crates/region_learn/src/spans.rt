@@ -31,7 +31,7 @@ fn push(ranges: &mut Vec<Range>, range: Range) -> Result<(), NoMemory>
     }
 }
 
-/// Puts a last range and a byte behind it.
+/// Puts a last range and a byte after it.
 fn put_behind(ranges: &mut Vec<Range>, last: Range, address: u32) -> Result<(), NoMemory>
     requires end { last.offset + last.length ≤ address }
     requires room { address < 4294967295 }
@@ -49,7 +49,7 @@ fn put_behind(ranges: &mut Vec<Range>, last: Range, address: u32) -> Result<(), 
     push(ranges, one_byte(address))
 }
 
-/// Puts a byte behind ranges: the last one grows, or another one begins.
+/// Puts a byte after ranges: the last one grows, or another one begins.
 fn put_byte(ranges: &mut Vec<Range>, address: u32) -> Result<(), NoMemory>
     requires end { End address ranges.old.items }
     requires room { address < 4294967295 }
@@ -64,7 +64,7 @@ fn put_byte(ranges: &mut Vec<Range>, address: u32) -> Result<(), NoMemory>
     }
 }
 
-/// Puts a byte behind ranges, if it is marked.
+/// Puts a byte after ranges, if it is marked.
 fn put_marked(ranges: &mut Vec<Range>, marked: bool, address: u32) -> Result<(), NoMemory>
     requires below { SpansBelow address ranges.old.items }
     requires room { address < 4294967295 }
@@ -79,7 +79,7 @@ fn put_marked(ranges: &mut Vec<Range>, marked: bool, address: u32) -> Result<(),
     Ok(())
 }
 
-/// Puts the bytes of a page that begins at an address behind ranges.
+/// Puts the bytes of a page that begins at an address after ranges.
 fn put_page(ranges: &mut Vec<Range>, page: &Page, first: u32) -> Result<(), NoMemory>
     requires below { SpansBelow first ranges.old.items }
     requires room { first + 4096 ≤ 4294967295 }

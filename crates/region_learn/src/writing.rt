@@ -146,7 +146,7 @@ fn regions_value(alloc: Global, regions: &[Region]) -> Result<Value, NoMemory>
 }
 
 /// Regions as the text of a region file: the compact text of one object of JSON (RFC 8259), whose keys ascend, and a line
-/// feed. Its error is want of memory.
+/// feed. Its error is lack of memory.
 pub fn write_regions(alloc: Global, regions: &Regions) -> Result<Bytes, NoMemory>
     ensures text { IfOk result (λ text. text ≡ regions_text regions.now.items) }
     ensures reads { IfOk result (λ text. Spells text regions.now.items) }

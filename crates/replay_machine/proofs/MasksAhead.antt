@@ -189,7 +189,7 @@ found-width i points point p mask e ip known slot within =
     ap (λ (q : Point). width_of q.slot) (same-one p.point point same) in
     subst (λ (w : ℕ). mask ≤ w) width within
 
--- the masks of a first point and of those behind it
+-- the masks of a first point and of those after it
 moves-head : (q : CutPoint) (c d : Cursor) (others : List CutPoint) (point : Point) →
     is_same q.point point ≡ true → Passes q c d →
     MovesOn point (ahead_of q c ∷ others) (ahead_of q d ∷ others)

@@ -69,7 +69,7 @@ pub first-is : (rest : List Run) (none first : Run) → 0 < length rest → get_
 first-is [] none first some = absurd (omega (arith, some))
 first-is (run ∷ rest) none first some = refl
 
--- and behind the last run the pattern begins
+-- and after the last run the pattern begins
 pub run-round : (left mask : ℕ) (runs rest : List Run) (index : ℕ) (first : Run) (visit : ℕ) → left ≡ 0 →
     length runs ≤ index → 0 < length rest → first ≡ get_or rest 0 first → 1 ≤ first.count →
     mask_ahead (run_of first.count first.mask ∷ drop 1 rest) rest visit

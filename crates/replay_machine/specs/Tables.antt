@@ -11,7 +11,7 @@ use Rattle.replay_machine.specs.declared.cursors.Cursor.{Cursor}
 abbrev pub first_cursor : Cursor
 first_cursor = record { repeats = false; run = 0; left = 0; mask = 0 }
 
--- the runs among which a cursor stands: those of the list, and behind them those of the pattern
+-- the runs among which a cursor stands: those of the list, and after them those of the pattern
 abbrev pub runs_at : CutPoint → Cursor → List Run
 runs_at cut_point cursor = if cursor.repeats then cut_point.rest else cut_point.runs
 

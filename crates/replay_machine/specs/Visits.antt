@@ -11,7 +11,7 @@ abbrev pub IsAhead : List CutPoint → Masks → List Point → Type 0
 IsAhead ahead masks past =
     (point : Point) (visit : ℕ) → 1 ≤ visit → MaskAt ahead point visit ≡ masks point (times_passed point past + visit)
 
--- a visit of the point is behind: its next mask is the one after, and the masks of all others stay
+-- a visit of the point is past: its next mask is the one after, and the masks of all others stay
 abbrev pub MovesOn : Point → List CutPoint → List CutPoint → Type 0
 MovesOn point before after =
     (other : Point) (visit : ℕ) → 1 ≤ visit →

@@ -9,7 +9,7 @@ use cut_file::{CutPoint, Run};
 /// Where the masks of a point have come to.
 #[derive(Clone, Copy, Debug, PartialEq, Eq)]
 pub(crate) struct Cursor {
-    /// Whether the listed runs are behind, and those of the pattern are passed over and over.
+    /// Whether the listed runs are past, and those of the pattern are passed over and over.
     pub repeats: bool,
     /// The index of the next run.
     pub run: usize,
@@ -72,7 +72,7 @@ impl Cursor {
         }
     }
 
-    /// The mask at the point's next visit, which is then behind. It takes the same time at each visit.
+    /// The mask at the point's next visit, which is then past. It takes the same time at each visit.
     pub fn pass(&mut self, point: &CutPoint) -> u32
         requires { IsTrue (is_cut_point point.now) }
         ensures mask { result ≡ mask_of (ahead_of point.now self.old) 1 }

@@ -55,7 +55,7 @@ fn pass_at(points: &Vec<CutPoint>, cursors: &mut Vec<Cursor>, index: usize, poin
 }
 
 impl VisitMasks {
-    /// The masks of a cut before the first visit of any point. Its error is want of memory.
+    /// The masks of a cut before the first visit of any point. Its error is lack of memory.
     pub fn new(alloc: Global, cut: &Cut) -> Result<VisitMasks, NoMemory>
         ensures { IfOk result (λ table. IsAhead table (MaskAt cut.now.points) []) }
     {
@@ -69,7 +69,7 @@ impl VisitMasks {
         })
     }
 
-    /// The mask at the next visit of a point, 0 where the cut does not name the point; that visit is then behind. At an
+    /// The mask at the next visit of a point, 0 where the cut does not name the point; that visit is then past. At an
     /// address that no point of the cut has, it is mostly found by one look, and else in the logarithm of the number of
     /// the cut's points. It takes no memory.
     #[inline(always)]

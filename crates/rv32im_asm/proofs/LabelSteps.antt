@@ -55,7 +55,7 @@ total_size-push (first ∷ lines) line =
 
 -- ---- places
 
--- the first place, or the one of the element behind
+-- the first place, or the one of the element after
 abbrev or_behind : Option ℕ → Bool → ℕ → Option ℕ
 or_behind None passes place = cond passes (Some place) None
 or_behind (Some first) passes place = Some first

@@ -38,7 +38,7 @@ placed_bytes (the.Jal rd) here offset = bytes_with (the.Jal rd) (pos offset -ℤ
 placed_bytes (the.Constant rd) here offset = bytes_with (the.Constant rd) (pos (start + offset))
 placed_bytes _ here offset = None
 
--- a label behind a line that fails has no address; that line fails by itself
+-- a label after a line that fails has no address; that line fails by itself
 abbrev pub unplaced_bytes : Operation → Option (List ℕ)
 unplaced_bytes (the.Branch kind rs1 rs2) = Some []
 unplaced_bytes (the.Jal rd) = Some []
@@ -100,7 +100,7 @@ readings places lines index [] = Ok []
 readings places lines index (line ∷ rest) =
     joined (reading places index (bytes_before lines index) line) (readings places lines (index + 1) rest)
 
--- the index of a line that fails, or what comes behind it
+-- the index of a line that fails, or what comes after it
 abbrev pub reached : Result (List ℕ) AsmFault → ℕ → ℕ → ℕ
 reached (Err fault) index behind = index
 reached (Ok bytes) index behind = behind
@@ -113,7 +113,7 @@ first_failing places lines index (line ∷ rest) =
     reached (reading (places_up_to index places) index (bytes_before lines index) line) index
     (first_failing places lines (index + 1) rest)
 
--- the places of labels; behind the first line that fails so they have no address
+-- the places of labels; after the first line that fails so they have no address
 abbrev pub known_places : List (List ℕ) → List ℕ → Option Place
 known_places lines = places_up_to (first_failing (place_of lines) lines 0 lines) (place_of lines)
 

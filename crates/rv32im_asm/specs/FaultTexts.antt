@@ -1,4 +1,4 @@
--- The texts of what is wrong with a source. Numbers are decimal. Want of memory is never told.
+-- The texts of what is wrong with a source. Numbers are decimal. Lack of memory is never told.
 use Rattle.std.specs.Prelude.{ℕ, List, ◌++◌, codes}
 use Rattle.std.specs.Fmt.{decimal}
 use Rattle.rv32im_asm.specs.declared.fault.AsmFault.{AsmFault}

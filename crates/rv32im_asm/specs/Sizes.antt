@@ -45,7 +45,7 @@ place_of lines name =
     option_map (λ index. record { index = index; offset = total_size (take index lines) })
     (position_from (λ line. is_label name (label_of line)) 0 lines)
 
--- a label as it is known up to the line of an index: behind that line it has no address
+-- a label as it is known up to the line of an index: after that line it has no address
 abbrev pub up_to : ℕ → Place → Place
 up_to reach place = if nat_le place.index reach then place else record { index = place.index; offset = None }
 

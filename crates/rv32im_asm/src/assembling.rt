@@ -309,9 +309,9 @@ fn image(alloc: Global, program: Bytes) -> Result<Image, NoMemory>
 /// [`AsmFault::Line`] where the line is not of a form, where an instruction or a word does not stand at a multiple of 4
 /// bytes, or where the program exceeds 1,048,576 bytes with the line; [`AsmFault::LabelTwice`] where an earlier line
 /// begins with the same label; [`AsmFault::LabelMissing`] where no line begins with the label that is named;
-/// [`AsmFault::ImmediateRange`] where a number or an offset does not fit its field, or an offset is odd. A label behind
+/// [`AsmFault::ImmediateRange`] where a number or an offset does not fit its field, or an offset is odd. A label after
 /// the first line that fails with the addresses of the labels up to it has none, and no line fails for that. Where no
-/// line fails and the program has no byte it is [`AsmFault::Line`] with number 0, and want of memory answers
+/// line fails and the program has no byte it is [`AsmFault::Line`] with number 0, and lack of memory answers
 /// [`AsmFault::Memory`].
 pub fn assemble(alloc: Global, source: &[u8]) -> Result<Image, AsmFault>
     requires { length source.now < 2 ^ 32 }

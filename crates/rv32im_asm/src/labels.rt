@@ -7,7 +7,7 @@ use flow_base::NoMemory;
 use std::alloc::Global;
 use std::collections::BTreeMap;
 
-/// A label as it is known up to the line of an index: behind that line it has no address.
+/// A label as it is known up to the line of an index: after that line it has no address.
 fn up_to(reach: u64, place: Place) -> Place
     ensures exact { result ≡ known_up_to reach place }
     ensures near { IsNearBy place.offset → IsNearBy result.offset }

@@ -89,7 +89,7 @@ fn lines_of(alloc: Global, base: u32, segments: &[Segment]) -> Result<Bytes, NoM
 
 /// The listing of an image: for each segment in order and each multiple of 4 whose four bytes lie in the segment, a
 /// line with the address, the word in eight hexadecimal digits, and the instruction of the word or `-` where it is
-/// none. Want of memory answers [`NoMemory`].
+/// none. Lack of memory answers [`NoMemory`].
 pub fn list(alloc: Global, image: &Image) -> Result<Bytes, NoMemory>
     ensures { IfOk result (λ text. text ≡ listing image.now.segments) }
 {

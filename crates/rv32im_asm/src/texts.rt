@@ -9,7 +9,7 @@ use flow_base::{Bytes, NoMemory};
 use rv32im_decode::Instr;
 use std::alloc::Global;
 
-/// Three registers behind a mnemonic.
+/// Three registers after a mnemonic.
 fn registers_text(
     alloc: Global,
     name: &str,
@@ -77,7 +77,7 @@ fn fence_text(alloc: Global, rd: u8, rs1: u8, imm: u32) -> Result<Bytes, NoMemor
 
 /// The text of an instruction: its mnemonic (RISC-V Unprivileged ISA, "RV32/64G Instruction Set Listings"), one space,
 /// and its operands, with registers `x0` to `x31`, decimal numbers, `, ` between operands, and offsets of jumps and
-/// branches in bytes. ECALL and EBREAK are their mnemonic alone. Want of memory answers [`NoMemory`].
+/// branches in bytes. ECALL and EBREAK are their mnemonic alone. Lack of memory answers [`NoMemory`].
 pub fn instr_text(alloc: Global, instr: &Instr) -> Result<Bytes, NoMemory>
     ensures { IfOk result (λ text. text ≡ instruction_text instr.now) }
 {

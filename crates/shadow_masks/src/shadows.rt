@@ -78,7 +78,7 @@ fn give_back_pages(pages: &mut Vec<Option<Page>>)
 
 impl Shadow {
     /// All labels clean, those that are kept too, of a guest whose memory begins at an address and ends at 2^32 or
-    /// below. Its error is want of memory.
+    /// below. Its error is lack of memory.
     pub fn new(alloc: Global, base: u32) -> Result<Shadow, NoMemory>
         requires { base + memory_size ≤ 2 ^ 32 }
         ensures { IfOk result (λ shadow. IsNew base shadow) }

@@ -18,7 +18,7 @@ pub struct Guest {
     ghost short: { length secret ≤ 65536 },
 }
 
-/// Puts the words of a text behind a program, the lowest byte of each first; None where it has another word than of
+/// Puts the words of a text after a program, the lowest byte of each first; None where it has another word than of
 /// eight hexadecimal digits or fewer, or memory is short.
 fn put_words(code: &mut Bytes, text: &str) -> Option<()> {
     for word in text.split(' ') {

@@ -181,7 +181,7 @@ fn code(alloc: Global, number: u32) -> Result<Bytes, NoMemory>
     Ok(Bytes::from_vec(code))
 }
 
-/// The program of a number: one segment at 0x00010000, which is its base and its entry. Its error is want of memory; it
+/// The program of a number: one segment at 0x00010000, which is its base and its entry. Its error is lack of memory; it
 /// is answered too where the code is empty or has more than 1 MiB, which of no number is so.
 pub fn image(alloc: Global, number: u32) -> Result<Image, NoMemory>
     ensures { IfOk result (λ image. picture_of image ≡ one_segment (code_of (program_of number))) }

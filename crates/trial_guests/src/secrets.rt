@@ -12,7 +12,7 @@ pub fn length_of(number: u32) -> u32
     1 + number % 2_000
 }
 
-/// The state of the generator behind this one.
+/// The state of the generator after this one.
 fn next(state: u32) -> u32
     ensures { result ≡ next_of state }
 {
@@ -30,7 +30,7 @@ fn put(bytes: &mut Vec<u8>, byte: u8) -> Result<(), NoMemory>
 }
 
 /// The secret of a number, at most 2,000 bytes: the highest bytes of the states of a generator that starts with it. Its
-/// error is want of memory.
+/// error is lack of memory.
 pub fn secret(alloc: Global, number: u32) -> Result<Bytes, NoMemory>
     ensures is { IfOk result (λ secret. secret ≡ secret_of number) }
     ensures few { IfOk result (λ secret. length secret ≤ 2000) }

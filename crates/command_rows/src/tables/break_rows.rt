@@ -10,7 +10,7 @@ use super::guests::{BRANCH, COUNT, ECHO};
 const DECISION: &str =
     "flowcheck-cut 1\nsecret 1\nbits 1\npoint 1 0x0001001c de rest 0x00000001\nend\n";
 
-/// The count of `COUNT` behind region 1, which is skipped.
+/// The count of `COUNT` after region 1, which is skipped.
 const SKIPPED: &str =
     "flowcheck-cut 1\nsecret 1\nbits 2\nskip 1\npoint 0 0x00010034 rs rest 0x00000003\nend\n";
 

@@ -6,7 +6,7 @@ pub const ALL_BITS: &str =
 
 pub const NO_BITS: &str = "flowcheck-cut 1\nsecret 1\nbits 0\nend\n";
 
-/// A cut with a blank behind it.
+/// A cut with a blank after it.
 pub const TRAILING: &str = "flowcheck-cut 1\nsecret 1\nbits 0\nend\n ";
 
 /// Half of a written byte.

@@ -7,7 +7,7 @@ use super::Row;
 use super::cuts::NO_BITS;
 use super::guests::{BRANCH, LOW};
 
-/// A segment whose memory ends behind the address space.
+/// A segment whose memory ends past the address space.
 const LONG_MEMORY: [u8; 96] = [
     0x7f, 0x45, 0x4c, 0x46, 1, 1, 1, 0, 0, 0, 0, 0, 0, 0, 0, 0, 2, 0, 243, 0, 1, 0, 0, 0, 0, 0, 1,
     0, 52, 0, 0, 0, 0, 0, 0, 0, 0, 0, 0, 0, 52, 0, 32, 0, 1, 0, 0, 0, 0, 0, 0, 0, 1, 0, 0, 0, 84,

@@ -8,7 +8,7 @@ use super::break_rows::COUNTED;
 use super::cuts::{LOWEST, NO_BITS};
 use super::guests::{BRANCH, COUNT, EXIT, LOW};
 
-/// The count of `COUNT` behind its region, which is skipped.
+/// The count of `COUNT` after its region, which is skipped.
 const TWO_BITS: &str = "flowcheck-cut 1\nsecret 1\nbits 2\nskip 1\n\
     point 0 0x00010034 rs 1*0x00000003 rest 0x00000003\nend\n";
 

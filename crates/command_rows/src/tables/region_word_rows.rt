@@ -1,4 +1,4 @@
-//! The words that name a region file: the options stand in any order, in two words or in one, and behind `=` a name may
+//! The words that name a region file: the options stand in any order, in two words or in one, and after `=` a name may
 //! begin with a dash; an option that stands twice, or whose value is missing, empty or begins with a dash, is usage.
 
 use super::Content::Text;

@@ -23,7 +23,7 @@ use Rattle.cut_file.specs.Texts.{joined}
 
 -- ---- parts
 
--- the bytes in front of a separator and those behind it
+-- the bytes in front of a separator and those after it
 abbrev pub with_byte : ℕ → Option (List ℕ × List ℕ) → Option (List ℕ × List ℕ)
 with_byte byte None = None
 with_byte byte (Some p) = Some (byte ∷ p.0, p.1)
@@ -63,7 +63,7 @@ words_left (Some rest) = parts 32 rest.now
 abbrev pub is_digit : ℕ → Bool
 is_digit byte = nat_le 48 byte && nat_le byte 57
 
--- the number that digits give behind those of a number; none past 32 bits
+-- the number that digits give after those of a number; none past 32 bits
 abbrev pub digits_in : ℕ → List ℕ → Option ℕ
 digits_in number [] = Some number
 digits_in number (byte ∷ bytes) =
@@ -85,7 +85,7 @@ number_in (byte ∷ bytes) = if has_leading_zero (byte ∷ bytes) then None else
 abbrev pub nibble_of : ℕ → ℕ
 nibble_of byte = digit_of byte % 16
 
--- the word whose eight digits stand behind two bytes
+-- the word whose eight digits stand after two bytes
 abbrev pub word_of : List ℕ → ℕ
 word_of bytes =
     nibble_of (slice_index bytes 2) * 268435456 + nibble_of (slice_index bytes 3) * 16777216
@@ -151,7 +151,7 @@ run_in bytes = do
 
 -- ---- lines
 
--- the number of a word behind a wanted text
+-- the number of a word after a wanted text
 abbrev pub number_behind : List ℕ → List ℕ → Option ℕ
 number_behind wanted text = after_text wanted text >>= λ digits. number_in digits
 
@@ -173,13 +173,13 @@ place_in words = do
   slot ← slot_in third
   if nat_le region 65535 then Some (record { region = region; address = address; slot = slot }) else None
 
--- an item may stand behind these
+-- an item may stand after these
 abbrev pub may_follow : {A : Type 0} → (A → A → Bool) → List A → A → Bool
 may_follow test [] item = true
 may_follow test (first ∷ []) item = test first item
 may_follow test (first ∷ (second ∷ others)) item = may_follow test (second ∷ others) item
 
--- the runs of the words before "rest", behind those of the words before them, and the words behind "rest"
+-- the runs of the words before "rest", after those of the words before them, and the words after "rest"
 unfoldable pub runs_in : List Run → List (List ℕ) → Option (List Run × List (List ℕ))
 runs_in runs [] = None
 runs_in runs (word ∷ words) =
@@ -199,14 +199,14 @@ single_in words = do
   mask ← only_mask_in words
   Some (record { count = 1; mask = mask } ∷ [])
 
--- the runs of all words, behind those of the words before them
+-- the runs of all words, after those of the words before them
 unfoldable pub pattern_in : List Run → List (List ℕ) → Option (List Run)
 pattern_in runs [] = if is_empty runs then None else Some runs
 pattern_in runs (word ∷ words) =
     option_and_then
     (λ run. if may_follow have_other_masks runs run then pattern_in (runs ++ run ∷ []) words else None) (run_in word)
 
--- the pattern of the words behind "rest"
+-- the pattern of the words after "rest"
 unfoldable pub rest_in : ℕ → List (List ℕ) → Option (List Run)
 rest_in version words = if version == 2 then pattern_in [] words else single_in words
 
@@ -271,11 +271,11 @@ with_text number front text =
     or_fault (line_in (version_of front) text) (unfit number) >> λ line.
     with_line number front line
 
--- the cut, and the parts of the file behind its last line
+-- the cut, and the parts of the file after its last line
 abbrev pub Read : Type 0
 Read = Result (CutPicture × List (List ℕ)) CutFault
 
--- what is read where these lines are whole, and else what is read of those behind them
+-- what is read where these lines are whole, and else what is read of those after them
 abbrev pub unless_whole : Front → List (List ℕ) → Read → Read
 unless_whole Nothing texts read = read
 unless_whole (Versioned version) texts read = read

@@ -6,7 +6,7 @@ use Rattle.flow_base.specs.HexWords.{hex_word}
 use Rattle.flow_base.specs.Points.{slot_text}
 use Rattle.cut_file.specs.Texts.{rest_text, run_text}
 
--- words, each behind a space
+-- words, each after a space
 abbrev pub led : List (List ℕ) → List ℕ
 led [] = []
 led (word ∷ words) = 32 ∷ (word ++ led words)

@@ -29,7 +29,7 @@ first_from (Fork first second) [] = behind false (first_from first [])
 first_from (Fork first second) (false ∷ bits) = behind false (first_from first bits)
 first_from (Fork first second) (true ∷ bits) = behind true (first_from second bits)
 
--- the paths behind the path of this string
+-- the paths after the path of this string
 abbrev pub later : Tree → List Bool → List Path
 later (Leaf e) bits = []
 later (Fork first second) [] = []

@@ -92,7 +92,7 @@ pub record EndsMasked (cutting : Cutting) (region : ℕ) (known : Knowledge) (be
   pub tells : (rules : Rules) → AnswerAs before.table rules →
       TellsWalk before.unclear cutting.masks (masked rules cutting region known walk) before state after
 
--- of a turn that is stopped for want of memory nothing is said
+-- of a turn that is stopped for lack of memory nothing is said
 abbrev pub PlaysMasked : Cutting → ℕ → Knowledge → Tape → Walk → Played NoMemory Tape → Type 0
 PlaysMasked cutting region known before walk (Finished state after) =
     EndsMasked cutting region known before walk state after

@@ -24,7 +24,7 @@ is_digit byte = nat_le 48 byte && nat_le byte 57
 unfoldable pub grown : ℕ → ℕ → ℕ
 grown number byte = if nat_lt number (2 ^ 48) then number * 10 + (byte - 48) else number
 
--- the number of the digits in front, behind those of another, and the rest
+-- the number of the digits in front, after those of another, and the rest
 abbrev pub digits_at : ℕ → List ℕ → ℕ × List ℕ
 digits_at number [] = (number, [])
 digits_at number (byte ∷ bytes) =
@@ -87,7 +87,7 @@ half_of letter =
 
 -- ---- lines
 
--- the parts of the line of a point behind its first word
+-- the parts of the line of a point after its first word
 unfoldable pub point_at : List ℕ → PointLine
 point_at bytes =
     let region : ℕ × List ℕ = number_at bytes in
@@ -127,7 +127,7 @@ guess bytes =
 abbrev pub with_line : Line → List ℕ → Line × List ℕ
 with_line line rest = (line, rest)
 
--- the line in front with the rest behind its line feed
+-- the line in front with the rest after its line feed
 unfoldable pub line_in : List ℕ → Option (Line × List ℕ)
 line_in bytes =
     if is_line (guess bytes)

@@ -11,12 +11,12 @@ one_byte address = record { base = None; offset = address; length = 1 }
 abbrev pub one_longer : Range → Range
 one_longer range = record range { length = range.length + 1 }
 
--- a last range and a byte behind it
+-- a last range and a byte after it
 abbrev pub behind : Range → ℕ → List Range
 behind last address =
     if (last.offset + last.length) == address then one_longer last ∷ [] else last ∷ one_byte address ∷ []
 
--- ranges and a byte behind them
+-- ranges and a byte after them
 abbrev pub extended : List Range → ℕ → List Range
 extended [] address = one_byte address ∷ []
 extended (last ∷ []) address = behind last address

@@ -51,7 +51,7 @@ pub record EndsCleared (region : ℕ) (cutting : Cutting) (past : List Point) (l
   pub ahead : IsAhead after.tally.ahead cutting.masks (passed past walk)
   pub tallies : Tallies before.tally (crossing cutting.masks past walk) after.tally
 
--- of a turn that is stopped for want of memory nothing is said
+-- of a turn that is stopped for lack of memory nothing is said
 abbrev pub PlaysCleared : ℕ → Cutting → List Point → TurnLabels → Tape → Walk → Played NoMemory Tape → Type 0
 PlaysCleared region cutting past labels before walk (Finished state after) =
     EndsCleared region cutting past labels before walk state after

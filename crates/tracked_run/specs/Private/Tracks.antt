@@ -41,7 +41,7 @@ pub record EndsTracked {E : Type 0} (stands : E → List Event → Type 0) (tabl
   pub shadow_lent : after.shadow_lent ≡ before.shadow_lent
   pub events_lent : after.events_lent ≡ before.events_lent
 
--- of a turn that is stopped for want of memory nothing is said
+-- of a turn that is stopped for lack of memory nothing is said
 abbrev pub Tracks : {E : Type 0} → (E → List Event → Type 0) → ℕ → ℕ → TurnLabels → Left E → Walk →
     Played NoMemory (Left E) → Type 0
 Tracks stands table region labels before walk (Finished state after) =
