@@ -1,5 +1,5 @@
 /// By what secrets are judged.
-#[derive(Clone, Copy, Debug, PartialEq, Eq)]
+#[derive(Clone, Copy)]
 pub enum Judging {
     /// By a second machine that never sees the secret.
     Replay,

@@ -1,5 +1,5 @@
 /// What is told of a run.
-#[derive(Clone, Copy, Debug, PartialEq, Eq)]
+#[derive(Clone, Copy)]
 pub enum Telling {
     /// The cut that is measured of it, in a version of the text of a cut: 1 or 2.
     CutText(u32),

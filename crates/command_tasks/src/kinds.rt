@@ -2,7 +2,7 @@ ghost use Rattle.std.specs.Prelude.{◌≡◌, ◌≤◌};
 ghost use Rattle.command_tasks.specs.FileLimits.{limit_of};
 
 /// What a file is for, which says how many bytes it may have.
-#[derive(Clone, Copy, Debug, PartialEq, Eq)]
+#[derive(Clone, Copy)]
 pub enum FileKind {
     /// The ELF32 program file of a guest.
     Program,

@@ -2,7 +2,7 @@ ghost use Rattle.std.specs.Prelude.{◌≡◌};
 ghost use Rattle.command_tasks.specs.Statuses.{number_of};
 
 /// What a command line is answered by, beside its text.
-#[derive(Clone, Copy, Debug, PartialEq, Eq)]
+#[derive(Clone, Copy)]
 pub enum Status {
     /// The command is done; of secrets, all are accepted or clean; of a bound, it is known; of a certificate, it is
     /// verified.

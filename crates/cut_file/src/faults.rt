@@ -2,7 +2,7 @@ use flow_base::NoMemory;
 use std::fmt;
 
 /// Why a file gives no cut: what is wrong with the first line that fails.
-#[derive(Clone, Copy, Debug, PartialEq, Eq)]
+#[derive(Clone, Copy)]
 pub enum CutFault {
     /// The first line is whole and neither `flowcheck-cut 1` nor `flowcheck-cut 2`.
     Version,

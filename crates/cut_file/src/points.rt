@@ -1,7 +1,7 @@
 use flow_base::{List, Point};
 
 /// A mask that is the same for a number of visits. In a cut the number is 1 or more.
-#[derive(Clone, Copy, Debug, PartialEq, Eq)]
+#[derive(Clone, Copy)]
 pub struct Run {
     /// The number of visits.
     pub count: u32,

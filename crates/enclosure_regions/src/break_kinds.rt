@@ -2,7 +2,7 @@ use flow_base::HexWord;
 use std::fmt;
 
 /// What an instruction writes.
-#[derive(Clone, Copy, Debug, PartialEq, Eq)]
+#[derive(Clone, Copy, Debug)]
 pub enum Place {
     /// A register, 1 to 31.
     Reg(u8),
@@ -11,7 +11,7 @@ pub enum Place {
 }
 
 /// How a run breaks a region, which is named by its number.
-#[derive(Clone, Copy, Debug, PartialEq, Eq)]
+#[derive(Clone, Copy, Debug)]
 pub enum Break {
     /// An instruction inside the region writes a register that the region does not declare, or a byte outside its
     /// ranges.

@@ -2,7 +2,7 @@ use flow_base::NoMemory;
 use std::fmt;
 
 /// Why a file gives no regions. Regions are counted from 1.
-#[derive(Clone, Copy, Debug, PartialEq, Eq)]
+#[derive(Clone, Copy)]
 pub enum RegionFault {
     /// The file is no JSON (RFC 8259).
     Json,

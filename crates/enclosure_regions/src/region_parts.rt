@@ -1,7 +1,7 @@
 use flow_base::List;
 
 /// A piece of memory that a region declares.
-#[derive(Clone, Copy, Debug, PartialEq, Eq)]
+#[derive(Clone, Copy)]
 pub struct Range {
     /// The register, 1 to 31, whose value at the region's entry is added to the offset, modulo 2^32; or none.
     pub base: Option<u8>,

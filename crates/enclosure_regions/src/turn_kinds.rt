@@ -1,5 +1,5 @@
 /// What a guest does next.
-#[derive(Clone, Copy, Debug, PartialEq, Eq)]
+#[derive(Clone, Copy)]
 pub enum TurnKind {
     /// It enters the region at this place in the list, counted from 0.
     Enter(u32),

@@ -7,7 +7,7 @@ use replay_machine::Outside;
 use rv32im_machine::Stepped;
 
 /// How a walk has ended.
-#[derive(Clone, Copy, Debug, PartialEq, Eq)]
+#[derive(Clone, Copy)]
 pub(crate) enum Ending {
     Exited(u8),
     Stopped(PathStop),

@@ -5,7 +5,7 @@ use crate::patterns::Pattern;
 use flow_base::List;
 
 /// A pattern as a key: the same bytes in vectors, which have a hash.
-#[derive(Debug, PartialEq, Eq, Hash, Drop)]
+#[derive(PartialEq, Eq, Hash, Drop)]
 pub(crate) struct KeptPattern {
     pub bytes: Vec<u8>,
     pub byte_masks: Vec<u8>,

@@ -4,7 +4,7 @@ ghost use Rattle.every_secret.specs.Shown.{shown_at};
 use flow_base::Slot;
 
 /// What of a passing is shown to whoever sees the run.
-#[derive(Clone, Copy, Debug, PartialEq, Eq)]
+#[derive(Clone, Copy)]
 pub(crate) enum Shown {
     Nothing,
     WrittenByte,

@@ -3,7 +3,7 @@ use rv32im_machine::Fault;
 use std::fmt;
 
 /// Why a path stops before it exits.
-#[derive(Clone, Copy, Debug, PartialEq, Eq)]
+#[derive(Clone, Copy)]
 pub enum PathStop {
     /// The guest is stopped.
     Guest(Fault),

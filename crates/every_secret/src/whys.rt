@@ -4,7 +4,7 @@ use thiserror::Error;
 
 /// Why it is not known which outputs arise: on the first path, in their order, that is unclear, the first of these that
 /// comes, by turn and within a turn as it is walked. The two limits come after whatever else a path shows.
-#[derive(Clone, Copy, Debug, PartialEq, Eq, Error)]
+#[derive(Clone, Copy, Debug, Error)]
 pub enum UnclearWhy {
     /// A bit that may depend on the secret and has not crossed is in one of the four bytes that are fetched from this
     /// address.

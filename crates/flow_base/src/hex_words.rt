@@ -63,7 +63,7 @@ fn write_word<W: fmt::Write>(f: &mut fmt::Formatter<W>, word: u32) -> fmt::Resul
 }
 
 /// An address or a word of the guest, which shows as `0x` and its eight hexadecimal digits, in lower case.
-#[derive(Clone, Copy, Debug, PartialEq, Eq)]
+#[derive(Clone, Copy)]
 pub struct HexWord(pub u32);
 
 impl fmt::Display for HexWord {

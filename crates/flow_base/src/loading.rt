@@ -6,7 +6,7 @@ use crate::lists::{Bytes, NoMemory};
 use std::alloc::Global;
 
 /// Why a load gave no bytes.
-#[derive(Clone, Copy, Debug, PartialEq, Eq)]
+#[derive(Clone, Copy, Debug)]
 pub enum LoadFault {
     /// The source failed; its count of faults rose.
     Failed,

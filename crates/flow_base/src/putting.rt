@@ -3,7 +3,7 @@ ghost use Rattle.flow_base.specs.Counts.{Rose};
 ghost use Rattle.flow_base.specs.Puts.{Taken, Puts};
 
 /// Why a put took not all of its bytes.
-#[derive(Clone, Copy, Debug, PartialEq, Eq)]
+#[derive(Clone, Copy, Debug)]
 pub enum SinkFault {
     /// The sink failed; its count of faults rose.
     Failed,

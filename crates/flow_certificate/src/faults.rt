@@ -2,7 +2,7 @@ use flow_base::NoMemory;
 use std::fmt;
 
 /// Why a file gives no certificate.
-#[derive(Clone, Copy, Debug, PartialEq, Eq)]
+#[derive(Clone, Copy)]
 pub enum FormFault {
     /// The file is the text of no certificate.
     Line {

@@ -4,7 +4,7 @@ use std::fmt;
 
 /// A node of a graph at which what flows in must flow out: a half of a point, by the point's index, or the relay of a
 /// region. Nodes are ordered as p0.in, p0.out, p1.in and so on, and then the relays by their regions.
-#[derive(Clone, Copy, Debug, PartialEq, Eq)]
+#[derive(Clone, Copy)]
 pub enum Member {
     /// The first half of a point, which links enter.
     In(u32),
@@ -15,7 +15,7 @@ pub enum Member {
 }
 
 /// Why a certificate does not show a maximum flow: the first of these that holds.
-#[derive(Clone, Copy, Debug, PartialEq, Eq)]
+#[derive(Clone, Copy)]
 pub enum CertFault {
     /// The flow through a point exceeds its capacity.
     Over {
@@ -44,7 +44,7 @@ pub enum CertFault {
 }
 
 /// What a certificate shows.
-#[derive(Clone, Copy, Debug, PartialEq, Eq)]
+#[derive(Clone, Copy)]
 pub enum CertVerdict {
     /// The flow is feasible, the side is a side, and both have this value, in bits: the flow is a maximum flow and the
     /// side a minimum cut.

@@ -13,7 +13,7 @@ pub enum End {
 }
 
 /// An open link, which means without a bound. Links are ordered by source, then target.
-#[derive(Clone, Copy, Debug, PartialEq, Eq, PartialOrd, Ord)]
+#[derive(Clone, Copy, PartialEq, Eq, PartialOrd, Ord)]
 pub struct Arc {
     pub source: End,
     pub target: End,

@@ -5,7 +5,7 @@ ghost use Rattle.flow_graph.specs.Again.{again_events};
 use flow_base::{NoMemory, Point};
 
 /// What one step of a measured run adds to its graph (McCamant and Ernst, PLDI 2008).
-#[derive(Clone, Copy, Debug, PartialEq, Eq)]
+#[derive(Clone, Copy)]
 pub enum Event {
     /// A value passes a point; the bits of the mask may depend on the secret.
     Pass { point: Point, mask: u32 },

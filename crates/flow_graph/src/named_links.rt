@@ -1,7 +1,7 @@
 use flow_base::Point;
 
 /// An end of a link by its name, in the order of ends: the source, the points, the relays, the sink.
-#[derive(Clone, Copy, Debug, PartialEq, Eq, PartialOrd, Ord, Hash)]
+#[derive(Clone, Copy, PartialEq, Eq, PartialOrd, Ord, Hash)]
 pub enum NamedEnd {
     /// The secret.
     Source,
@@ -14,7 +14,7 @@ pub enum NamedEnd {
 }
 
 /// A link by the names of its ends. Links are ordered by source, then target.
-#[derive(Clone, Copy, Debug, PartialEq, Eq, PartialOrd, Ord, Hash)]
+#[derive(Clone, Copy, PartialEq, Eq, PartialOrd, Ord, Hash)]
 pub struct NamedLink {
     pub source: NamedEnd,
     pub target: NamedEnd,

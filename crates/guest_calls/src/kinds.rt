@@ -11,7 +11,7 @@ pub const BAD_ADDRESS: u32 = 0xffff_fff2;
 pub const UNKNOWN_CALL: u32 = 0xffff_ffda;
 
 /// The calls that a guest has.
-#[derive(Clone, Copy, Debug, PartialEq, Eq)]
+#[derive(Clone, Copy, Debug)]
 pub enum CallKind {
     /// Reads bytes of an input into memory.
     Read,

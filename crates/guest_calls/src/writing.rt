@@ -4,7 +4,7 @@ ghost use Rattle.guest_calls.specs.Calls.{checked_write};
 use crate::ranges::inside;
 
 /// What a write does.
-#[derive(Clone, Copy, Debug, PartialEq, Eq)]
+#[derive(Clone, Copy, Debug)]
 pub enum WriteCheck {
     /// The bytes are appended to the output.
     Append,

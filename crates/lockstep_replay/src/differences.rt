@@ -5,7 +5,7 @@ ghost use Rattle.rv32im_machine.specs.declared.stepping.Stepped.TheVariants.{Exi
 use rv32im_machine::Stepped;
 
 /// The first place where two outputs differ.
-#[derive(Clone, Copy, Debug, PartialEq, Eq)]
+#[derive(Clone, Copy)]
 pub(crate) struct Difference {
     pub index: u32,
     pub real: u8,

@@ -14,7 +14,7 @@ use replay_machine::Replay;
 use rv32im_machine::{Machine, Stepped, turn_by};
 
 /// What a turn of the real run leaves beside its tally, with the replay's turn beside it.
-#[derive(Clone, Copy, Debug)]
+#[derive(Clone, Copy)]
 pub(crate) struct Round {
     /// The turn is the entry of a skipped region or inside it: the replay makes none.
     pub enclosed: bool,

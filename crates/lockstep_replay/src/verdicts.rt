@@ -7,7 +7,7 @@ use std::fmt;
 use thiserror::Error;
 
 /// Why a replay stops.
-#[derive(Clone, Copy, Debug, PartialEq, Eq)]
+#[derive(Clone, Copy, Debug)]
 pub enum ReplayStop {
     /// The replayed guest is stopped.
     Guest(Fault),
@@ -21,7 +21,7 @@ pub enum ReplayStop {
 /// Why a secret is rejected: the first condition that fails, by turn, and within a turn in this order, but that the
 /// break of a region comes before a stop. The limit of turns comes after the last turn that may be made, and the length
 /// of the secret is tested before the first turn.
-#[derive(Clone, Copy, Debug, PartialEq, Eq, Error)]
+#[derive(Clone, Copy, Debug, Error)]
 pub enum Why {
     /// The real run is stopped in this turn, and breaks no region in it.
     RealFault(Fault),

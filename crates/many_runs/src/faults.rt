@@ -4,7 +4,7 @@ use std::fmt;
 use thiserror::Error;
 
 /// Why several runs are not measured together: the first reason that holds, in this order.
-#[derive(Clone, Copy, Debug, PartialEq, Eq, Error)]
+#[derive(Clone, Copy, Debug, Error)]
 pub enum ManyFault {
     /// The secret with this index, counted from 1, is the first that has another length than the first secret; both
     /// lengths in bytes.

@@ -1,7 +1,7 @@
 use flow_base::Point;
 
 /// A turn looks at what may differ and has not crossed.
-#[derive(Clone, Copy, Debug, PartialEq, Eq)]
+#[derive(Clone, Copy)]
 pub enum SecretLook {
     /// One of the four bytes that are fetched from this address.
     Code { pc: u32 },
@@ -10,7 +10,7 @@ pub enum SecretLook {
 }
 
 /// A turn decides by bits that may differ and have not crossed: the mask that is left at this point.
-#[derive(Clone, Copy, Debug, PartialEq, Eq)]
+#[derive(Clone, Copy)]
 pub struct LeftBits {
     /// Where the turn decides.
     pub point: Point,

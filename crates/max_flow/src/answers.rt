@@ -1,7 +1,7 @@
 use flow_base::List;
 
 /// Which halves of a point are in a side.
-#[derive(Clone, Copy, Debug, PartialEq, Eq)]
+#[derive(Clone, Copy)]
 pub enum Half {
     /// Both halves.
     Both,

@@ -5,7 +5,7 @@ use flow_base::{List, NoMemory};
 use std::alloc::Global;
 
 /// A mask that is the same for a number of visits of a point.
-#[derive(Clone, Copy, Debug, PartialEq, Eq)]
+#[derive(Clone, Copy)]
 pub struct VisitRun {
     /// The number of visits, 1 or more.
     pub count: u64,

@@ -6,7 +6,7 @@ use thiserror::Error;
 /// Why no declaration is learnt of a run. The first three are decided by the first turn in which one of them comes: a call
 /// inside a region before any other stop of the guest. `Ranges` and `Bytes` come only of a run that exits, for the first
 /// region in the list, and `Ranges` first; `TextSize` comes last.
-#[derive(Clone, Copy, Debug, PartialEq, Eq, Error)]
+#[derive(Clone, Copy, Debug, Error)]
 pub enum LearnFault {
     /// The guest is stopped.
     Guest(Fault),

@@ -12,7 +12,7 @@ use flow_base::{Registers, Slot};
 use rv32im_machine::{Aim, Passer, Passing, Place, Seen, Shape, Source};
 
 /// Why a turn is stopped before its end.
-#[derive(Clone, Copy, Debug)]
+#[derive(Clone, Copy)]
 pub(crate) enum Halt {
     /// It is a call.
     Call,

@@ -2,7 +2,7 @@ ghost use Rattle.std.specs.Prelude.{◌≡◌};
 ghost use Rattle.region_machine.specs.Pairs.{second_answer};
 
 /// Which of two passers has stopped a turn, and why.
-#[derive(Clone, Copy, Debug, Drop, PartialEq, Eq)]
+#[derive(Clone, Copy, Drop)]
 pub enum PairStop<S, T> {
     First(S),
     Second(T),

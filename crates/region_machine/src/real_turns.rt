@@ -22,7 +22,7 @@ use enclosure_regions::{Break, Region, broken_at_entry, broken_at_leave};
 use rv32im_machine::{Machine, Plain, turn_by};
 
 /// What a turn of the real run has been.
-#[derive(Clone, Copy, Debug)]
+#[derive(Clone, Copy)]
 pub struct RealTurn {
     /// The turn is the entry of a skipped region or inside it.
     pub enclosed: bool,

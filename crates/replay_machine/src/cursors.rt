@@ -7,7 +7,7 @@ ghost use Rattle.replay_machine.specs.Tables.{ahead_of, runs_at};
 use cut_file::{CutPoint, Run};
 
 /// Where the masks of a point have come to.
-#[derive(Clone, Copy, Debug, PartialEq, Eq)]
+#[derive(Clone, Copy)]
 pub(crate) struct Cursor {
     /// Whether the listed runs are past, and those of the pattern are passed over and over.
     pub repeats: bool,

@@ -1,5 +1,5 @@
 /// A range that is not inside guest memory at the entry of its region.
-#[derive(Clone, Copy, Debug, PartialEq, Eq)]
+#[derive(Clone, Copy)]
 pub struct Outside {
     /// The region's number.
     pub region: u16,

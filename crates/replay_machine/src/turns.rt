@@ -1,7 +1,7 @@
 use rv32im_machine::Fault;
 
 /// How a turn of a replay ends.
-#[derive(Clone, Copy, Debug, PartialEq, Eq)]
+#[derive(Clone, Copy, Debug)]
 pub enum ReplayTurn {
     /// The replay runs on.
     Ran,

@@ -8,7 +8,7 @@ use thiserror::Error;
 /// comes before secret code, that before the break of a region, and that before every other stop of the guest; at an
 /// entry a secret base register comes before a range outside of guest memory. `TurnLimit` comes only where no turn
 /// within the limit is refused or exits, and `GraphLimit` only where none is refused and one exits.
-#[derive(Clone, Copy, Debug, PartialEq, Eq, Error)]
+#[derive(Clone, Copy, Debug, Error)]
 pub enum MeasureFault {
     /// The guest is stopped.
     Guest(Fault),

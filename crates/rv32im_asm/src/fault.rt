@@ -6,7 +6,7 @@ use std::fmt;
 use thiserror::Error;
 
 /// Why a line gives no bytes, whatever the labels are.
-#[derive(Clone, Copy, Debug, PartialEq, Eq)]
+#[derive(Clone, Copy, Debug)]
 pub enum LineKind {
     /// The line is not of a form that the language has.
     Malformed,

@@ -1,7 +1,7 @@
 /// An instruction of RV32IM (RISC-V Unprivileged ISA, RV32I base and "M" extension). Registers are 0 to 31. The
 /// immediate of LUI and AUIPC is the upper 20 bits as a number below 2^20, that of FENCE a number below 4,096, a shift's
 /// 0 to 31; offsets and the other immediates are signed, in bytes where they move the program counter.
-#[derive(Clone, Copy, Debug, PartialEq, Eq)]
+#[derive(Clone, Copy)]
 pub enum Instr {
     Lui {
         rd: u8,
@@ -60,7 +60,7 @@ pub enum Instr {
 }
 
 /// The conditional branches (section "Conditional Branches" of the RV32I chapter).
-#[derive(Clone, Copy, Debug, PartialEq, Eq)]
+#[derive(Clone, Copy)]
 pub enum BranchKind {
     Beq,
     Bne,
@@ -71,7 +71,7 @@ pub enum BranchKind {
 }
 
 /// The loads (section "Load and Store Instructions" of the RV32I chapter).
-#[derive(Clone, Copy, Debug, PartialEq, Eq)]
+#[derive(Clone, Copy)]
 pub enum LoadKind {
     Lb,
     Lh,
@@ -81,7 +81,7 @@ pub enum LoadKind {
 }
 
 /// The stores (section "Load and Store Instructions" of the RV32I chapter).
-#[derive(Clone, Copy, Debug, PartialEq, Eq)]
+#[derive(Clone, Copy)]
 pub enum StoreKind {
     Sb,
     Sh,
@@ -89,7 +89,7 @@ pub enum StoreKind {
 }
 
 /// The register-immediate operations (section "Integer Register-Immediate Instructions" of the RV32I chapter).
-#[derive(Clone, Copy, Debug, PartialEq, Eq)]
+#[derive(Clone, Copy)]
 pub enum ImmKind {
     Addi,
     Slti,
@@ -104,7 +104,7 @@ pub enum ImmKind {
 
 /// The register-register operations (section "Integer Register-Register Operations" of the RV32I chapter, and the "M"
 /// extension).
-#[derive(Clone, Copy, Debug, PartialEq, Eq)]
+#[derive(Clone, Copy)]
 pub enum OpKind {
     Add,
     Sub,

@@ -33,7 +33,7 @@ pub enum Stepped {
 }
 
 /// The number of a call (a7) and its arguments (a0, a1 and a2), as they have gone on.
-#[derive(Clone, Copy, Debug, PartialEq, Eq)]
+#[derive(Clone, Copy)]
 pub struct Arguments {
     pub number: u32,
     pub first: u32,
@@ -42,7 +42,7 @@ pub struct Arguments {
 }
 
 /// What a call does, once its arguments have gone on. Addresses and counts are in bytes.
-#[derive(Clone, Copy, Debug, PartialEq, Eq)]
+#[derive(Clone, Copy)]
 pub enum CallPlan {
     /// This is put into a0, and nothing else is done.
     Answer(u32),

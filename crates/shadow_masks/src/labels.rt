@@ -5,7 +5,7 @@ use flow_base::{Point, Slot};
 
 /// What is known of a register or a byte: the mask of the bits that the secret may reach, and the point where they last
 /// passed. A label of mask 0 is the clean one.
-#[derive(Clone, Copy, Debug, PartialEq, Eq)]
+#[derive(Clone, Copy)]
 pub struct Label {
     /// The bits that the secret may reach; of a byte at most 0xff.
     pub mask: u32,

@@ -8,7 +8,7 @@ use thiserror::Error;
 /// memory comes before secret code, that before the break of a region and every other stop of the guest, that before the
 /// budget, and that before what is left; at an entry a secret base register comes before a range outside of guest memory.
 /// The limit of turns comes after the last turn that may be made, and the length of the secret is tested before the first.
-#[derive(Clone, Copy, Debug, PartialEq, Eq, Error)]
+#[derive(Clone, Copy, Debug, Error)]
 pub enum TaintWhy {
     /// The guest is stopped.
     RealFault(Fault),

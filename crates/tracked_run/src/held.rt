@@ -4,7 +4,7 @@ ghost use Rattle.tracked_run.specs.Labels.{none_held};
 use shadow_masks::Label;
 
 /// The labels of the two operands that have gone on in a turn.
-#[derive(Clone, Copy, Debug)]
+#[derive(Clone, Copy)]
 pub struct Held {
     pub first: Label,
     pub second: Label,

@@ -5,7 +5,7 @@ use flow_base::NoMemory;
 use run_labels::MeasureFault;
 
 /// What a turn of a measured run answers.
-#[derive(Clone, Copy, Debug, PartialEq, Eq)]
+#[derive(Clone, Copy)]
 pub enum TrackedTurn {
     /// The turn is made, and the run goes on.
     Ran,
@@ -16,7 +16,7 @@ pub enum TrackedTurn {
 }
 
 /// Why a measured run makes no more turns.
-#[derive(Clone, Copy, Debug, PartialEq, Eq)]
+#[derive(Clone, Copy)]
 pub enum Spent {
     /// The guest has exited with this status.
     Exited(u8),

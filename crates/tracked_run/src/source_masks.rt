@@ -14,7 +14,7 @@ use rv32im_machine::{Part, Shape, Source, Sources};
 use shadow_masks::Shadow;
 
 /// The masks of the sources of a passing, those of bytes by ascending address, and 0 where there are fewer than four.
-#[derive(Clone, Copy, Debug)]
+#[derive(Clone, Copy)]
 pub struct SourceMasks {
     pub first: u32,
     pub second: u32,

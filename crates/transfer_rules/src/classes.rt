@@ -7,7 +7,7 @@ use rv32im_decode::{BranchKind, Instr, OpKind};
 
 /// The fourteen classes of operations of RV32IM; those of a class share a mask rule (RISC-V Unprivileged ISA, RV32I and
 /// "M" extension).
-#[derive(Clone, Copy, Debug, PartialEq, Eq)]
+#[derive(Clone, Copy)]
 pub enum Class {
     /// ADD, ADDI, and the addresses of loads and stores.
     Add,

@@ -1,7 +1,7 @@
 //! The operands of a rule.
 
 /// Two words and the secret bits of each: a bit of a mask is 1 where that bit of the word may depend on the secret.
-#[derive(Clone, Copy, Debug, PartialEq, Eq)]
+#[derive(Clone, Copy)]
 pub struct Operands {
     /// The first word.
     pub v1: u32,
