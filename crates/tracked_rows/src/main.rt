@@ -56,7 +56,7 @@ fn print_run(rt: &HostRuntime, guest: &Guest, turns: u32) -> io::Result<()> {
             return println!(rt; "memory is short");
         };
         print_row(rt, &events, answer)?;
-        if answer != TrackedTurn::Ran {
+        if !matches!(answer, TrackedTurn::Ran) {
             return Ok(());
         }
     }
