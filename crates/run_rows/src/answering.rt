@@ -4,14 +4,14 @@
 ghost use Rattle.transfer_rules.specs.Soundness.{IsSound};
 ghost use Rattle.transfer_rules.specs.declared.classes.Class.{Class as AnyClass};
 
-use crate::guests::{Guest, guest_of};
+use crate::guests::{Guest, Held};
 use crate::rows::{Row, row_of};
 use crate::{bounds, learning, measures, taints};
 use std::io;
 use transfer_rules::{Class, Operands, Rule, RuleBook, book_1, book_2, high_1};
 
 /// Prints the answer of a row by a book; whether there is one, and it is printed.
-fn print_by(rt: &HostRuntime, row: &Row<'_>, guest: &Guest, book: &RuleBook) -> bool {
+fn print_by(rt: &HostRuntime, row: &Row<'_>, guest: &Guest<'_>, book: &RuleBook) -> bool {
     match row.table {
         "taint" => taints::print(rt, row, guest, book),
         "learn" => learning::print(rt, row, guest),
@@ -23,13 +23,13 @@ fn print_by(rt: &HostRuntime, row: &Row<'_>, guest: &Guest, book: &RuleBook) -> 
 }
 
 /// Prints the answer of a row by the rules of table 1.
-fn print_by_1(rt: &HostRuntime, row: &Row<'_>, guest: &Guest) -> bool {
+fn print_by_1(rt: &HostRuntime, row: &Row<'_>, guest: &Guest<'_>) -> bool {
     let book = book_1!();
     print_by(rt, row, guest, &book)
 }
 
 /// Prints the answer of a row by the rules of table 2.
-fn print_by_2(rt: &HostRuntime, row: &Row<'_>, guest: &Guest) -> bool {
+fn print_by_2(rt: &HostRuntime, row: &Row<'_>, guest: &Guest<'_>) -> bool {
     let book = book_2!();
     print_by(rt, row, guest, &book)
 }
@@ -43,7 +43,7 @@ fn widest(operands: Operands) -> u32
 }
 
 /// Prints the answer of a row by rules of no table, which answer all bits where any bit is secret.
-fn print_by_widest(rt: &HostRuntime, row: &Row<'_>, guest: &Guest) -> bool {
+fn print_by_widest(rt: &HostRuntime, row: &Row<'_>, guest: &Guest<'_>) -> bool {
     let book = RuleBook::new(
         0,
         [
@@ -67,7 +67,7 @@ fn print_by_widest(rt: &HostRuntime, row: &Row<'_>, guest: &Guest) -> bool {
 }
 
 /// Prints the answer of a row by the book that it names.
-fn print_by_book(rt: &HostRuntime, row: &Row<'_>, guest: &Guest) -> bool {
+fn print_by_book(rt: &HostRuntime, row: &Row<'_>, guest: &Guest<'_>) -> bool {
     match row.limits.book {
         1 => print_by_1(rt, row, guest),
         2 => print_by_2(rt, row, guest),
@@ -75,12 +75,18 @@ fn print_by_book(rt: &HostRuntime, row: &Row<'_>, guest: &Guest) -> bool {
     }
 }
 
-/// Prints the answer of a row of which all files are there; whether there is one, and it is printed.
-fn print_row(rt: &HostRuntime, row: &Row<'_>) -> bool {
-    match guest_of(rt, row) {
+/// Prints the answer of a row by what its files hold; whether all are there, and it is printed.
+fn print_held(rt: &HostRuntime, row: &Row<'_>, held: &Held) -> bool {
+    match held.guest() {
         Some(guest) => print_by_book(rt, row, &guest),
         None => false,
     }
+}
+
+/// Prints the answer of a row; whether there is one, and it is printed.
+fn print_row(rt: &HostRuntime, row: &Row<'_>) -> bool {
+    let held = Held::new(rt, row);
+    print_held(rt, row, &held)
 }
 
 /// Prints the answer of a line.

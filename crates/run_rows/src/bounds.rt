@@ -4,22 +4,27 @@ use crate::guests::Guest;
 use crate::rows::Row;
 use crate::texts::put_bits;
 use every_secret::{BoundVerdict, Bounded, Pattern, StoppedPath, bound, output_bits, output_count};
+use flow_base::NoMemory;
 use transfer_rules::RuleBook;
 
 const MOST_BITS: u32 = 1_048_576;
 
+/// Prints a pattern.
+fn print_pattern(rt: &HostRuntime, pattern: &Pattern) -> bool {
+    println!(rt;
+        "  bytes {:?} status {} masks {:?} {}",
+        pattern.bytes.as_slice(),
+        pattern.status,
+        pattern.byte_masks.as_slice(),
+        pattern.status_mask
+    )
+    .is_ok()
+}
+
 /// Prints patterns.
 fn print_patterns(rt: &HostRuntime, patterns: &[Pattern]) -> bool {
     for pattern in patterns {
-        if println!(rt;
-            "  bytes {:?} status {} masks {:?} {}",
-            pattern.bytes.as_slice(),
-            pattern.status,
-            pattern.byte_masks.as_slice(),
-            pattern.status_mask
-        )
-        .is_err()
-        {
+        if !print_pattern(rt, pattern) {
             return false;
         }
     }
@@ -68,36 +73,31 @@ fn print_bounded(rt: &HostRuntime, name: &str, bounded: &Bounded) -> bool {
         && print_stop(rt, &bounded.first_stop)
 }
 
-/// The answer to a row.
-fn verdict(
-    rt: &HostRuntime,
-    row: &Row<'_>,
-    guest: &Guest,
-    book: &RuleBook,
-) -> Option<BoundVerdict> {
-    bound(
+/// Prints an answer.
+fn print_verdict(rt: &HostRuntime, name: &str, verdict: &Result<BoundVerdict, NoMemory>) -> bool {
+    match verdict {
+        Ok(BoundVerdict::Bounded(bounded)) => print_bounded(rt, name, bounded),
+        Ok(BoundVerdict::Unclear { path, why }) => {
+            print!(rt; "{name}: unclear ").is_ok()
+                && put_bits(rt, path.as_slice())
+                && println!(rt; " {why}").is_ok()
+        }
+        Err(_) => false,
+    }
+}
+
+/// Prints the answer to a row; whether there is one, and it is printed.
+pub fn print(rt: &HostRuntime, row: &Row<'_>, guest: &Guest<'_>, book: &RuleBook) -> bool {
+    let verdict = bound(
         rt.alloc(),
-        &guest.image,
-        &guest.public,
-        &guest.regions,
-        &guest.cut,
+        guest.image,
+        guest.public,
+        guest.regions,
+        guest.cut,
         book,
         row.limits.budget.min(MOST_BITS),
         row.limits.turns,
         row.limits.paths.max(1),
-    )
-    .ok()
-}
-
-/// Prints the answer to a row; whether there is one, and it is printed.
-pub fn print(rt: &HostRuntime, row: &Row<'_>, guest: &Guest, book: &RuleBook) -> bool {
-    match verdict(rt, row, guest, book) {
-        Some(BoundVerdict::Bounded(bounded)) => print_bounded(rt, row.name, &bounded),
-        Some(BoundVerdict::Unclear { path, why }) => {
-            print!(rt; "{}: unclear ", row.name).is_ok()
-                && put_bits(rt, path.as_slice())
-                && println!(rt; " {why}").is_ok()
-        }
-        None => false,
-    }
+    );
+    print_verdict(rt, row.name, &verdict)
 }

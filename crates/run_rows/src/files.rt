@@ -22,17 +22,26 @@ pub fn bytes_of(rt: &HostRuntime, name: &str) -> Option<Bytes>
 /// The program of a file.
 pub fn image_of(rt: &HostRuntime, name: &str) -> Option<Image> {
     let file = bytes_of(rt, name)?;
-    load_image(rt.alloc(), file.as_slice()).ok()
+    match load_image(rt.alloc(), file.as_slice()) {
+        Ok(image) => Some(image),
+        Err(_) => None,
+    }
 }
 
 /// The regions of a file.
 pub fn regions_of(rt: &HostRuntime, name: &str) -> Option<Regions> {
     let file = bytes_of(rt, name)?;
-    read_regions(rt.alloc(), file.as_slice()).ok()
+    match read_regions(rt.alloc(), file.as_slice()) {
+        Ok(regions) => Some(regions),
+        Err(_) => None,
+    }
 }
 
 /// The cut of a file.
 pub fn cut_of(rt: &HostRuntime, name: &str) -> Option<Cut> {
     let file = bytes_of(rt, name)?;
-    read_cut(rt.alloc(), file.as_slice()).ok()
+    match read_cut(rt.alloc(), file.as_slice()) {
+        Ok(cut) => Some(cut),
+        Err(_) => None,
+    }
 }

@@ -8,27 +8,49 @@ use elf32_loader::Image;
 use enclosure_regions::Regions;
 use flow_base::Bytes;
 
-/// A program with its regions and a cut, an empty public input, and secrets.
+/// What the files of a row hold; None of one that is not there or malformed.
 #[derive(Drop)]
-pub struct Guest {
-    pub image: Image,
-    pub regions: Regions,
-    pub cut: Cut,
-    pub public: Bytes,
-    pub secrets: Secrets,
+pub struct Held {
+    image: Option<Image>,
+    regions: Option<Regions>,
+    cut: Option<Cut>,
+    public: Bytes,
+    secrets: Secrets,
 }
 
-/// The guest of the files that a row names; None where one is not there or malformed, or memory is short.
-pub fn guest_of(rt: &HostRuntime, row: &Row<'_>) -> Option<Guest> {
-    let image = image_of(rt, row.program)?;
-    let regions = regions_of(rt, row.regions)?;
-    let cut = cut_of(rt, row.cut)?;
-    let secrets = secrets_of(rt, row.secrets)?;
-    Some(Guest {
-        image,
-        regions,
-        cut,
-        public: Bytes::new(rt.alloc()),
-        secrets,
-    })
+/// A program with its regions and a cut, an empty public input, and secrets.
+#[derive(Clone, Copy)]
+pub struct Guest<'a> {
+    pub image: &'a Image,
+    pub regions: &'a Regions,
+    pub cut: &'a Cut,
+    pub public: &'a Bytes,
+    pub secrets: &'a Secrets,
+}
+
+impl Held {
+    /// What the files hold that a row names.
+    pub fn new(rt: &HostRuntime, row: &Row<'_>) -> Held {
+        Held {
+            image: image_of(rt, row.program),
+            regions: regions_of(rt, row.regions),
+            cut: cut_of(rt, row.cut),
+            public: Bytes::new(rt.alloc()),
+            secrets: secrets_of(rt, row.secrets),
+        }
+    }
+
+    /// The guest of these files.
+    pub fn guest(&self) -> Option<Guest<'_>> {
+        match (&self.image, &self.regions, &self.cut) {
+            (Some(image), Some(regions), Some(cut)) => Some(Guest {
+                image,
+                regions,
+                cut,
+                public: &self.public,
+                secrets: &self.secrets,
+            }),
+            _ => None,
+        }
+    }
 }

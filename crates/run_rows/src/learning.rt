@@ -4,30 +4,37 @@ use crate::guests::Guest;
 use crate::rows::Row;
 use crate::texts::put;
 use enclosure_regions::Regions;
-use region_learn::{learn, write_regions};
+use region_learn::{LearnFault, learn, write_regions};
 
 /// Prints regions as the text of a region file.
 fn print_regions(rt: &HostRuntime, name: &str, regions: &Regions) -> bool {
-    match write_regions(rt.alloc(), regions) {
+    let text = write_regions(rt.alloc(), regions);
+    match &text {
         Ok(text) => print!(rt; "{name}: ").is_ok() && put(rt, text.as_slice()),
         Err(_) => false,
     }
 }
 
+/// Prints what is learnt, or why nothing is.
+fn print_learnt(rt: &HostRuntime, name: &str, learnt: &Result<Regions, LearnFault>) -> bool {
+    match learnt {
+        Ok(regions) => print_regions(rt, name, regions),
+        Err(fault) => println!(rt; "{name}: {fault}").is_ok(),
+    }
+}
+
 /// Prints what is learnt of a row, or why nothing is; whether it is printed.
-pub fn print(rt: &HostRuntime, row: &Row<'_>, guest: &Guest) -> bool {
+pub fn print(rt: &HostRuntime, row: &Row<'_>, guest: &Guest<'_>) -> bool {
     let Some(secret) = guest.secrets.first() else {
         return false;
     };
-    match learn(
+    let learnt = learn(
         rt.alloc(),
-        &guest.image,
-        &guest.public,
+        guest.image,
+        guest.public,
         secret,
-        &guest.regions,
+        guest.regions,
         row.limits.turns,
-    ) {
-        Ok(regions) => print_regions(rt, row.name, &regions),
-        Err(fault) => println!(rt; "{}: {fault}", row.name).is_ok(),
-    }
+    );
+    print_learnt(rt, row.name, &learnt)
 }

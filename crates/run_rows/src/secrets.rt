@@ -32,6 +32,14 @@ impl Secrets {
         self.items.push(secret).is_ok()
     }
 
+    /// Puts the secret of a file at the end; whether it is there.
+    fn put_file(&mut self, rt: &HostRuntime, name: &str) -> bool {
+        match bytes_of(rt, name) {
+            Some(secret) => self.put(secret),
+            None => false,
+        }
+    }
+
     /// The secrets, in order.
     pub fn all(&self) -> &[Bytes]
         ensures few { length result.now ≤ 64 }
@@ -51,16 +59,11 @@ impl Secrets {
     }
 }
 
-/// The secrets of files whose names stand with a space between them.
-pub fn secrets_of(rt: &HostRuntime, names: &str) -> Option<Secrets> {
+/// The secrets of files whose names stand with a space between them. One that is not there, or is too long, is left out.
+pub fn secrets_of(rt: &HostRuntime, names: &str) -> Secrets {
     let mut secrets = Secrets::new(rt.alloc());
     for name in names.split(' ') {
-        if name.is_empty() {
-            continue;
-        }
-        if !secrets.put(bytes_of(rt, name)?) {
-            return None;
-        }
+        secrets.put_file(rt, name);
     }
-    Some(secrets)
+    secrets
 }
