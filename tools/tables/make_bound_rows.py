@@ -1,10 +1,11 @@
 #!/usr/bin/env python3
-"""Says what crates/bound_rows must print of its table, by the model of `tools/model`.
+"""Says what crates/run_rows must print of the rows of `bound` in its table, by the model of `tools/model`.
 
-    python3 tools/tables/make_bound_rows.py >crates/bound_rows/stdout
+    python3 tools/tables/make_bound_rows.py
 
-A row of the table has its name, the files of the program, the cut and the regions (a dash: none), the budget, the limits
-of turns and of paths, and the table of the mask rules; the public input is empty. Python 3 only."""
+writes the end of the crate's `stdout`: these rows come last in the table, and what stands before their answers stays. A
+row has `bound`, its name, the files of the program, the regions and the cut, the table of the mask rules, the limit of
+turns, the budget and the limit of paths; the public input is empty. Python 3 only."""
 import pathlib
 import sys
 
@@ -15,7 +16,7 @@ from bounds import Bounds, Task
 from cuts import read_cut, read_regions
 from guest import Image
 
-CRATE = TOOLS.parent / "crates" / "bound_rows"
+CRATE = TOOLS.parent / "crates" / "run_rows"
 
 
 def content(name):
@@ -46,14 +47,24 @@ def lines_of(name, bounds):
     return lines
 
 
+def answer(row):
+    """The lines of the answer to the words of a row."""
+    name, program, regions, cut, table, turns, budget, paths = row
+    limits = int(budget), int(turns), int(paths)
+    listed = read_regions(content(regions))
+    task = Task(Image(content(program)), b"", listed, read_cut(content(cut)), int(table), *limits)
+    return lines_of(name, Bounds(task))
+
+
 def main():
-    """Answers each row of the table."""
-    for line in (CRATE / "stdin").read_text().splitlines():
-        name, program, cut, regions, budget, turns, paths, table = line.split()
-        listed = [] if regions == "-" else read_regions(content(regions))
-        limits = int(budget), int(turns), int(paths)
-        task = Task(Image(content(program)), b"", listed, read_cut(content(cut)), int(table), *limits)
-        print("\n".join(lines_of(name, Bounds(task))))
+    """Answers each row of `bound` and keeps the answers to the rows before."""
+    rows = [line.split() for line in (CRATE / "stdin").read_text().splitlines()]
+    rows = [words for table, *words in rows if table == "bound"]
+    stdout = CRATE / "stdout"
+    lines = stdout.read_text().splitlines()
+    first = next((at for at, line in enumerate(lines) if line.startswith(f"{rows[0][0]}: ")), len(lines))
+    answers = [line for row in rows for line in answer(row)]
+    stdout.write_text("".join(f"{line}\n" for line in lines[:first] + answers))
 
 
 if __name__ == "__main__":
