@@ -50,21 +50,46 @@ fn node_of(word: &str, address: usize) -> Option<Node> {
     }
 }
 
+/// The lists of a graph, as far as a line was read.
+#[derive(Drop)]
+struct Lists {
+    points: List<Node>,
+    relays: List<u16>,
+    links: List<Arc>,
+}
+
+impl Lists {
+    /// Puts what a word says; false where it says nothing.
+    fn put(&mut self, word: &str) -> Result<bool, NoMemory> {
+        if let Some(link) = link_of(word) {
+            self.links.push(link)?;
+        } else if let Some(End::Relay(region)) = end_of(word) {
+            self.relays.push(region)?;
+        } else if let Some(node) = node_of(word, self.points.len()) {
+            self.points.push(node)?;
+        } else {
+            return Ok(false);
+        }
+        Ok(true)
+    }
+}
+
 /// The graph of a line; None where a word is none of these, or the lists break what a graph keeps.
 pub fn graph_of(alloc: Global, line: &str) -> Result<Option<Graph>, NoMemory> {
-    let mut points = List::new(alloc);
-    let mut relays = List::new(alloc);
-    let mut links = List::new(alloc);
+    let mut lists = Lists {
+        points: List::new(alloc),
+        relays: List::new(alloc),
+        links: List::new(alloc),
+    };
     for word in line.split_whitespace() {
-        if let Some(link) = link_of(word) {
-            links.push(link)?;
-        } else if let Some(End::Relay(region)) = end_of(word) {
-            relays.push(region)?;
-        } else if let Some(node) = node_of(word, points.len()) {
-            points.push(node)?;
-        } else {
+        if !lists.put(word)? {
             return Ok(None);
         }
     }
+    let Lists {
+        points,
+        relays,
+        links,
+    } = lists;
     Ok(Graph::from_lists(points, relays, links))
 }

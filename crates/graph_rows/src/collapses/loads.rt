@@ -4,7 +4,7 @@ use location_collapse::{Collapse, CollapseFault};
 use std::alloc::Global;
 
 /// So many events over so many points and links.
-#[derive(Drop)]
+#[derive(Clone, Copy)]
 pub struct Load {
     pub points: u32,
     pub links: u32,
@@ -59,23 +59,19 @@ impl Load {
         }
     }
 
-    /// A collapse of all points and links.
-    pub fn start(&self, alloc: Global) -> Result<Collapse, CollapseFault> {
-        let Ok(mut collapse) = Collapse::new(alloc) else {
-            return Err(CollapseFault::Memory);
-        };
+    /// Adds all points and links.
+    fn add_known(&self, collapse: &mut Collapse) -> Result<(), CollapseFault> {
         for number in 0..self.points {
             collapse.add(self.pass(number))?;
         }
         for number in 0..self.links {
             collapse.add(self.link(number))?;
         }
-        Ok(collapse)
+        Ok(())
     }
 
-    /// The graph of all points and links, and of so many events more that pass these points and make these links in turn.
-    pub fn graph(&self, alloc: Global) -> Result<Graph, CollapseFault> {
-        let mut collapse = self.start(alloc)?;
+    /// Adds so many events more, which pass these points and make these links in turn.
+    fn add_events(&self, collapse: &mut Collapse) -> Result<(), CollapseFault> {
         let mut state = 1;
         for number in 0..self.events {
             state = next(state);
@@ -86,6 +82,22 @@ impl Load {
             };
             collapse.add(event)?;
         }
+        Ok(())
+    }
+
+    /// A collapse of all points and links.
+    pub fn start(&self, alloc: Global) -> Result<Collapse, CollapseFault> {
+        let Ok(mut collapse) = Collapse::new(alloc) else {
+            return Err(CollapseFault::Memory);
+        };
+        self.add_known(&mut collapse)?;
+        Ok(collapse)
+    }
+
+    /// The graph of all points and links, and of these events more.
+    pub fn graph(&self, alloc: Global) -> Result<Graph, CollapseFault> {
+        let mut collapse = self.start(alloc)?;
+        self.add_events(&mut collapse)?;
         match collapse.finish(alloc) {
             Ok(graph) => Ok(graph),
             Err(_) => Err(CollapseFault::Memory),

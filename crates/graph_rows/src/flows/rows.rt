@@ -1,8 +1,9 @@
 ghost use Rattle.std.specs.Prelude.{◌≡◌, ◌<◌, ◌++◌, ◌∷◌, [], map, string_bytes, IfOk, OnOk};
-ghost use Rattle.flow_rows.specs.Rows.{half_letter, relay_letter, row_text};
+ghost use Rattle.graph_rows.specs.Rows.{half_letter, relay_letter, row_text};
 
-use crate::reading::graph_of;
+use crate::flows::reading::graph_of;
 use flow_base::NoMemory;
+use flow_graph::Graph;
 use max_flow::{Half, Solved, is_within_limits, solve};
 use std::alloc::Global;
 
@@ -67,15 +68,20 @@ fn row_of(alloc: Global, solved: &Solved) -> Result<String, NoMemory>
     Ok(row)
 }
 
-/// The row of the graph of a line; None where the line is no graph within the limits.
-pub fn row(alloc: Global, line: &str) -> Result<Option<String>, NoMemory> {
-    let Some(graph) = graph_of(alloc, line)? else {
-        return Ok(None);
-    };
-    if !is_within_limits(&graph) {
+/// The row of a graph; None where it is not within the limits.
+fn row_of_graph(alloc: Global, graph: &Graph) -> Result<Option<String>, NoMemory> {
+    if !is_within_limits(graph) {
         return Ok(None);
     }
-    let solved = solve(alloc, &graph)?;
+    let solved = solve(alloc, graph)?;
     let row = row_of(alloc, &solved)?;
     Ok(Some(row))
+}
+
+/// The row of the graph of a line; None where the line is no graph within the limits.
+pub fn row(alloc: Global, line: &str) -> Result<Option<String>, NoMemory> {
+    match graph_of(alloc, line)? {
+        Some(graph) => row_of_graph(alloc, &graph),
+        None => Ok(None),
+    }
 }

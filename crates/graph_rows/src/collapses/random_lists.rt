@@ -1,6 +1,8 @@
-use crate::loads::{below, next};
+ghost use Rattle.flow_graph.specs.EventGraphs.{HasFewPoints};
+
+use crate::collapses::loads::{below, next};
 use flow_base::{NoMemory, Point, Slot};
-use flow_graph::{Event, EventList, Events, Graph, graph_of, has_few_events};
+use flow_graph::{Event, EventList, Events, Graph, Node, graph_of, has_few_events};
 use location_collapse::Collapse;
 use std::alloc::Global;
 use std::fmt;
@@ -26,9 +28,10 @@ impl fmt::Display for Sums {
             links,
             bits,
         } = *self;
+        write!(f, "{compared} lists, {agree} agree: ")?;
         write!(
             f,
-            "{compared} lists, {agree} agree: points {points} relays {relays} links {links} bits {bits}"
+            "points {points} relays {relays} links {links} bits {bits}"
         )
     }
 }
@@ -99,8 +102,17 @@ fn collapsed(alloc: Global, list: &EventList) -> Result<Option<Graph>, NoMemory>
     Ok(Some(graph))
 }
 
+fn are_same(first: &[Node], second: &[Node]) -> bool {
+    for (node, other) in first.iter().zip(second.iter()) {
+        if node.point != other.point || node.capacity != other.capacity {
+            return false;
+        }
+    }
+    first.len() == second.len()
+}
+
 fn is_same(first: &Graph, second: &Graph) -> bool {
-    first.points.as_slice() == second.points.as_slice()
+    are_same(first.points.as_slice(), second.points.as_slice())
         && first.relays.as_slice() == second.relays.as_slice()
         && first.links.as_slice() == second.links.as_slice()
 }
@@ -118,6 +130,19 @@ impl Sums {
     }
 }
 
+/// Compares the graph of a list with the graph to which its events collapse.
+fn compare(alloc: Global, list: &EventList, sums: &mut Sums) -> Result<(), NoMemory>
+    requires { HasFewPoints list.now }
+{
+    let graph = graph_of(alloc, list)?;
+    if let Some(other) = collapsed(alloc, list)? {
+        if is_same(&graph, &other) {
+            sums.add(&graph);
+        }
+    }
+    Ok(())
+}
+
 /// Compares the graphs of so many random lists, each with the graph to which its events collapse.
 pub fn compared(alloc: Global, lists: u64) -> Result<Sums, NoMemory> {
     let mut sums = Sums {
@@ -130,14 +155,8 @@ pub fn compared(alloc: Global, lists: u64) -> Result<Sums, NoMemory> {
     };
     for seed in 0..lists {
         let list = list_of(alloc, seed, below(next(seed), 60))?;
-        if !has_few_events(&list) {
-            continue;
-        }
-        let graph = graph_of(alloc, &list)?;
-        if let Some(other) = collapsed(alloc, &list)? {
-            if is_same(&graph, &other) {
-                sums.add(&graph);
-            }
+        if has_few_events(&list) {
+            compare(alloc, &list, &mut sums)?;
         }
     }
     Ok(sums)
