@@ -1,6 +1,4 @@
-//! Reads each line of a table as a region file, and prints its regions, or its first fault. What must be printed was
-//! found by hand.
-#![tactic(auto)]
+//! Reads each row as a region file, and prints its regions, or its first fault. What must be printed was found by hand.
 
 mod ranges;
 
@@ -35,12 +33,10 @@ fn print_regions(rt: &HostRuntime, regions: &Regions) -> io::Result<()> {
     Ok(())
 }
 
-fn main(rt: HostRuntime) -> io::Result<()> {
-    for line in rt.lines(rt.alloc()) {
-        match read_regions(rt.alloc(), line?.as_bytes()) {
-            Ok(regions) => print_regions(&rt, &regions)?,
-            Err(fault) => println!(rt; "{fault}")?,
-        }
+/// Reads the region file of a row, and prints what comes of it.
+pub fn follow(rt: &HostRuntime, row: &str) -> io::Result<()> {
+    match read_regions(rt.alloc(), row.as_bytes()) {
+        Ok(regions) => print_regions(rt, &regions),
+        Err(fault) => println!(rt; "{fault}"),
     }
-    Ok(())
 }

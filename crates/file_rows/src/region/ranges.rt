@@ -7,7 +7,7 @@ pub struct RangeText(pub Range);
 
 impl fmt::Display for RangeText {
     ghost use Rattle.std.specs.Prelude.{Some};
-    ghost use Rattle.region_rows.specs.Texts.{range_text};
+    ghost use Rattle.file_rows.specs.Texts.{range_text};
 
     ghost output = { λ shown. Some (range_text shown.0) };
 

@@ -1,6 +1,5 @@
-//! Loads each line of a table as the hexadecimal digits of a program file, and prints its image, or its first fault.
-//! What must be printed was found by hand.
-#![tactic(auto)]
+//! Loads each row as the hexadecimal digits of a program file, and prints its image, or its first fault. What must be
+//! printed was found by hand.
 
 mod files;
 
@@ -24,16 +23,13 @@ fn print_image(rt: &HostRuntime, image: &Image) -> io::Result<()> {
     Ok(())
 }
 
-fn main(rt: HostRuntime) -> io::Result<()> {
-    for line in rt.lines(rt.alloc()) {
-        let Some(file) = file_of(rt.alloc(), line?.as_str()) else {
-            println!(rt; "no file, or memory is short")?;
-            continue;
-        };
-        match load_image(rt.alloc(), &file) {
-            Ok(image) => print_image(&rt, &image)?,
-            Err(fault) => println!(rt; "{fault}")?,
-        }
+/// Loads the program file of a row, and prints what comes of it.
+pub fn follow(rt: &HostRuntime, row: &str) -> io::Result<()> {
+    let Some(file) = file_of(rt.alloc(), row) else {
+        return println!(rt; "no file, or memory is short");
+    };
+    match load_image(rt.alloc(), &file) {
+        Ok(image) => print_image(rt, &image),
+        Err(fault) => println!(rt; "{fault}"),
     }
-    Ok(())
 }
