@@ -1,14 +1,14 @@
 //! Makes the measured runs of the guests of a table, and prints the events of each turn and what the turn answers, one
 //! line each. What must be printed is what an independent model of the rules finds of the same guests.
-#![tactic(auto)]
 
 mod guests;
 mod lines;
 mod programs;
 mod texts;
 
+use elf32_loader::Image;
 use flow_graph::EventList;
-use guests::Guest;
+pub use guests::Guest;
 use lines::{Line, read_line};
 use programs::program;
 use std::io;
@@ -34,37 +34,53 @@ fn print_row(rt: &HostRuntime, events: &EventList, answer: TrackedTurn) -> io::R
     println!(rt; "{answer}")
 }
 
-/// Makes the run of a guest and prints its first turns, up to its end, but at most so many.
-fn print_run(rt: &HostRuntime, guest: &Guest, turns: u32) -> io::Result<()> {
-    let book = book_1!();
-    let Some(image) = program(rt.alloc(), guest.code()) else {
-        return println!(rt; "no program");
+/// Makes a turn of a run and prints it; whether the run goes on.
+fn print_turn(rt: &HostRuntime, tracked: &mut Tracked) -> io::Result<bool> {
+    let mut events = EventList::new(rt.alloc());
+    let Ok(answer) = tracked.turn(&mut events) else {
+        println!(rt; "memory is short")?;
+        return Ok(false);
     };
-    let Ok(mut tracked) = Tracked::new(
-        rt.alloc(),
-        &image,
-        guest.public(),
-        guest.secret(),
-        guest.regions(),
-        &book,
-    ) else {
-        return println!(rt; "memory is short");
-    };
+    print_row(rt, &events, answer)?;
+    Ok(matches!(answer, TrackedTurn::Ran))
+}
+
+/// Prints the first turns of a run, up to its end, but at most so many.
+fn print_turns(rt: &HostRuntime, tracked: &mut Tracked, turns: u32) -> io::Result<()> {
     for _ in 0..turns {
-        let mut events = EventList::new(rt.alloc());
-        let Ok(answer) = tracked.turn(&mut events) else {
-            return println!(rt; "memory is short");
-        };
-        print_row(rt, &events, answer)?;
-        if answer != TrackedTurn::Ran {
+        if !print_turn(rt, tracked)? {
             return Ok(());
         }
     }
     Ok(())
 }
 
+/// Makes the run of a guest, by the image of its program, and prints its first turns.
+fn print_run_of(rt: &HostRuntime, guest: &Guest, image: &Image, turns: u32) -> io::Result<()> {
+    let book = book_1!();
+    match Tracked::new(
+        rt.alloc(),
+        image,
+        guest.public(),
+        guest.secret(),
+        guest.regions(),
+        &book,
+    ) {
+        Ok(mut tracked) => print_turns(rt, &mut tracked, turns),
+        Err(_) => println!(rt; "memory is short"),
+    }
+}
+
+/// Makes the run of a guest and prints its first turns, up to its end, but at most so many.
+fn print_run(rt: &HostRuntime, guest: &Guest, turns: u32) -> io::Result<()> {
+    match program(rt.alloc(), guest.code()) {
+        Some(image) => print_run_of(rt, guest, &image, turns),
+        None => println!(rt; "no program"),
+    }
+}
+
 /// Does what a line of the table says.
-fn follow(rt: &HostRuntime, guest: &mut Guest, line: &str) -> io::Result<()> {
+pub fn follow(rt: &HostRuntime, guest: &mut Guest, line: &str) -> io::Result<()> {
     match read_line(line) {
         Some(Line::Guest(name)) => {
             *guest = Guest::new(rt.alloc());
@@ -77,12 +93,4 @@ fn follow(rt: &HostRuntime, guest: &mut Guest, line: &str) -> io::Result<()> {
         Some(Line::Turns(turns)) => print_run(rt, guest, turns),
         None => println!(rt; "no line of a table"),
     }
-}
-
-fn main(rt: HostRuntime) -> io::Result<()> {
-    let mut guest = Guest::new(rt.alloc());
-    for line in rt.lines(rt.alloc()) {
-        follow(&rt, &mut guest, line?.as_str())?;
-    }
-    Ok(())
 }

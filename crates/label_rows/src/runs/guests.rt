@@ -1,6 +1,6 @@
 ghost use Rattle.std.specs.Prelude.{◌≡◌, ◌≤◌, length, IfSome};
 
-use crate::lines::Part;
+use crate::runs::lines::Part;
 use enclosure_regions::{Regions, read_regions};
 use flow_base::Bytes;
 use std::alloc::Global;

@@ -1,7 +1,7 @@
 ghost use Rattle.std.specs.Prelude.{◌≡◌, ◌≢◌, None, IsTrue};
 ghost use Rattle.transfer_rules.specs.Classes.{has_address as has_address_of};
 ghost use Rattle.transfer_rules.specs.Tables.{IsByTable};
-ghost use Rattle.rule_rows.specs.Rows.{agreement, is_wanted as is_wanted_of, table_mask as table_mask_of};
+ghost use Rattle.label_rows.specs.Rows.{agreement, is_wanted as is_wanted_of, table_mask as table_mask_of};
 
 use rv32im_decode::Instr;
 use transfer_rules::{Operands, RuleBook, address_mask, class_of, mask_of};

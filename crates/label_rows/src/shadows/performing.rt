@@ -3,7 +3,7 @@
 ghost use Rattle.std.specs.Prelude.{◌≤◌};
 ghost use Rattle.shadow_masks.specs.Labels.{IsByteLabel};
 
-use crate::commands::Command;
+use crate::shadows::commands::Command;
 use flow_base::{Point, Slot};
 use shadow_masks::{Label, Shadow};
 use std::fmt;

@@ -9,7 +9,7 @@ pub struct EventText(pub Event);
 
 impl fmt::Display for EventText {
     ghost use Rattle.std.specs.Prelude.{Some};
-    ghost use Rattle.tracked_rows.specs.Texts.{event_text};
+    ghost use Rattle.label_rows.specs.Texts.{event_text};
 
     ghost output = { λ shown. Some (event_text shown.0) };
 
@@ -33,7 +33,7 @@ pub struct AnswerText(pub TrackedTurn);
 
 impl fmt::Display for AnswerText {
     ghost use Rattle.std.specs.Prelude.{Some};
-    ghost use Rattle.tracked_rows.specs.Texts.{answer_text};
+    ghost use Rattle.label_rows.specs.Texts.{answer_text};
 
     ghost output = { λ shown. Some (answer_text shown.0) };
 
