@@ -1,7 +1,7 @@
-use Rattle.compiled_rows.proofs.Options.{some_weaker}
+use Rattle.machine_rows.proofs.Options.{some_weaker}
 use Rattle.elf32_loader.specs.Images.{picture_of}
 use Rattle.cut_file.specs.Pictures.{picture_of as cut_of}
-use Rattle.compiled_rows.proofs.runs.verdict.Goals as goal
+use Rattle.machine_rows.proofs.compiled.runs.verdict.Goals as goal
 
 pub returns : goal.returns
 returns c =

@@ -2,7 +2,7 @@
 use Rattle.std.specs.Prelude.{◌≡◌, ℕ, List, ◌++◌, codes, false}
 use Rattle.std.specs.Fmt.{digits}
 use Rattle.rv32im_machine.specs.State.{State, register_of}
-use Rattle.step_rows.specs.declared.cases.Seen.{Seen}
+use Rattle.machine_rows.specs.declared.steps.cases.Seen.{Seen}
 
 -- the program counter, x5, x6 and x7 are those of the guest
 abbrev pub IsSeenOf : State → Seen → Type 0

@@ -3,8 +3,8 @@ use Rattle.elf32_loader.specs.Images.{picture_of}
 use Rattle.cut_file.specs.Pictures.{picture_of as cut_of}
 use Rattle.lockstep_replay.specs.Tasks.{task_of}
 use Rattle.lockstep_replay.specs.Verdicts.{First}
-use Rattle.compiled_rows.specs.Accepted.{limits}
-use Rattle.compiled_rows.proofs.runs.judge.Goals as goal
+use Rattle.machine_rows.specs.Accepted.{limits}
+use Rattle.machine_rows.proofs.compiled.runs.judge.Goals as goal
 
 pub returns : goal.returns
 returns c =

@@ -4,7 +4,7 @@ ghost use Rattle.cut_file.specs.Pictures.{picture_of as cut_of};
 ghost use Rattle.lockstep_replay.specs.Tasks.{task_of};
 ghost use Rattle.lockstep_replay.specs.Verdicts.{First};
 ghost use Rattle.elf32_loader.specs.Images.{picture_of};
-ghost use Rattle.compiled_rows.specs.Accepted.{IsAccepted, IsJudgement, limits};
+ghost use Rattle.machine_rows.specs.Accepted.{IsAccepted, IsJudgement, limits};
 
 use cut_file::{Cut, read_cut};
 use elf32_loader::{Image, load_image};

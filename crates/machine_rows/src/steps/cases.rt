@@ -2,7 +2,7 @@ use std::fmt;
 
 /// What a case sets of a guest before its step, and what it expects after it: the program counter, x5, x6 and x7, and
 /// eight bytes of memory as one number, the lowest first.
-#[derive(Clone, Copy, Debug, PartialEq, Eq)]
+#[derive(Clone, Copy, PartialEq)]
 pub(crate) struct Seen {
     pub(crate) pc: u32,
     pub(crate) x5: u32,
@@ -13,7 +13,7 @@ pub(crate) struct Seen {
 
 /// One step of a guest: the word of its instruction, the address of the eight bytes, and what there is before and
 /// after.
-#[derive(Clone, Copy, Debug, PartialEq, Eq)]
+#[derive(Clone, Copy)]
 pub(crate) struct Case {
     pub(crate) word: u32,
     pub(crate) address: u32,
@@ -23,7 +23,7 @@ pub(crate) struct Case {
 
 impl fmt::Display for Seen {
     ghost use Rattle.std.specs.Prelude.{Some};
-    ghost use Rattle.step_rows.specs.Trials.{seen_text};
+    ghost use Rattle.machine_rows.specs.Trials.{seen_text};
 
     ghost output = { λ seen. Some (seen_text seen) };
 
@@ -39,28 +39,30 @@ impl fmt::Display for Seen {
     }
 }
 
-/// A number in hexadecimal digits.
-fn number(field: Option<&str>) -> Option<u64> {
-    u64::from_str_radix(field?, 16).ok()
+/// So many numbers in hexadecimal digits, with a blank between them; None where a text has others, more or fewer.
+fn numbers<const N: usize>(text: &str) -> Option<[u32; N]> {
+    let mut numbers = [0; N];
+    let mut fields = text.split(' ');
+    for number in numbers.iter_mut() {
+        *number = u32::from_str_radix(fields.next()?, 16).ok()?;
+    }
+    match fields.next() {
+        Some(_) => None,
+        None => Some(numbers),
+    }
 }
 
-/// The same of 32 bits.
-fn word(field: Option<&str>) -> Option<u32> {
-    u32::from_str_radix(field?, 16).ok()
+/// So many numbers of 32 bits, and behind them one of 64.
+fn numbers_and_bytes<const N: usize>(text: &str) -> Option<([u32; N], u64)> {
+    let (front, bytes) = text.rsplit_once(' ')?;
+    let bytes = u64::from_str_radix(bytes, 16).ok()?;
+    Some((numbers(front)?, bytes))
 }
 
 /// The case of a line `PC WORD X5 X6 X7 ADDRESS BEFORE -> NEXT X5 X6 X7 AFTER`; None where it is no such line.
 pub(crate) fn parse(line: &str) -> Option<Case> {
     let (given, wanted) = line.split_once(" -> ")?;
-    let mut given = given.split(' ');
-    let pc = word(given.next())?;
-    let code = word(given.next())?;
-    let x5 = word(given.next())?;
-    let x6 = word(given.next())?;
-    let x7 = word(given.next())?;
-    let address = word(given.next())?;
-    let bytes = number(given.next())?;
-    let after = parse_seen(wanted)?;
+    let ([pc, word, x5, x6, x7, address], bytes) = numbers_and_bytes::<6>(given)?;
     let before = Seen {
         pc,
         x5,
@@ -68,28 +70,17 @@ pub(crate) fn parse(line: &str) -> Option<Case> {
         x7,
         bytes,
     };
-    if given.next().is_some() {
-        return None;
-    }
     Some(Case {
-        word: code,
+        word,
         address,
         before,
-        after,
+        after: parse_seen(wanted)?,
     })
 }
 
 /// What `NEXT X5 X6 X7 AFTER` says.
 fn parse_seen(text: &str) -> Option<Seen> {
-    let mut fields = text.split(' ');
-    let pc = word(fields.next())?;
-    let x5 = word(fields.next())?;
-    let x6 = word(fields.next())?;
-    let x7 = word(fields.next())?;
-    let bytes = number(fields.next())?;
-    if fields.next().is_some() {
-        return None;
-    }
+    let ([pc, x5, x6, x7], bytes) = numbers_and_bytes::<4>(text)?;
     Some(Seen {
         pc,
         x5,

@@ -1,4 +1,4 @@
-use crate::stepping::machine_of;
+use crate::replays::stepping::machine_of;
 use cut_file::{Cut, read_cut};
 use elf32_loader::{Image, Segment};
 use enclosure_regions::{Regions, read_regions};
@@ -22,9 +22,9 @@ pub struct Guest {
     machine: Option<Machine>,
 }
 
-/// The program of words in hexadecimal digits, which is entered at its first; None where there is none, or memory is
+/// The bytes of words in hexadecimal digits, the lowest of each first; None where a text is no such words, or memory is
 /// short.
-fn image_of(alloc: Global, text: &str) -> Option<Image> {
+fn bytes_of(alloc: Global, text: &str) -> Option<Bytes> {
     let mut bytes = Bytes::new(alloc);
     for word in text.split(' ') {
         let word = u32::from_str_radix(word, 16).ok()?;
@@ -32,19 +32,31 @@ fn image_of(alloc: Global, text: &str) -> Option<Image> {
             bytes.push(byte).ok()?;
         }
     }
-    if bytes.len() == 0 || bytes.len() > LONGEST {
-        return None;
-    }
+    Some(bytes)
+}
+
+/// The segments of a program, one of these bytes; None where memory is short.
+fn segments_of(alloc: Global, bytes: Bytes) -> Option<List<Segment>> {
     let mut segments = List::new(alloc);
     let segment = Segment {
         address: START,
         bytes,
     };
     segments.push(segment).ok()?;
+    Some(segments)
+}
+
+/// The program of words in hexadecimal digits, which is entered at its first; None where there is none, or memory is
+/// short.
+fn image_of(alloc: Global, text: &str) -> Option<Image> {
+    let bytes = bytes_of(alloc, text)?;
+    if bytes.len() == 0 || bytes.len() > LONGEST {
+        return None;
+    }
     Some(Image {
         base: START,
         entry: START,
-        segments,
+        segments: segments_of(alloc, bytes)?,
     })
 }
 

@@ -1,9 +1,9 @@
 ghost use Rattle.std.specs.Prelude.{◌≡◌, IsTrue, ◌↔◌, if◌then◌else◌};
 ghost use Rattle.flow_base.specs.Guests.{is_inside};
 ghost use Rattle.rv32im_machine.specs.State.{byte_of};
-ghost use Rattle.step_rows.specs.Trials.{IsSeenOf};
+ghost use Rattle.machine_rows.specs.Trials.{IsSeenOf};
 
-use crate::cases::{Case, Seen};
+use crate::steps::cases::{Case, Seen};
 use elf32_loader::load_image;
 use flow_base::Bytes;
 use guest_calls::inside;

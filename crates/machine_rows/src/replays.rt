@@ -1,13 +1,12 @@
 //! Makes the replays of a table and the steps of its machines, and prints where each then stands. What must be printed
 //! was found by hand.
-#![tactic(auto)]
 
 mod guests;
 mod outcomes;
 mod stepping;
 mod strings;
 
-use guests::Guest;
+pub use guests::Guest;
 use outcomes::{Outcome, outcome_after};
 use rv32im_machine::{Machine, Stepped};
 use std::io;
@@ -77,7 +76,7 @@ fn print_steps(rt: &HostRuntime, guest: &mut Guest, text: &str) -> io::Result<()
 }
 
 /// Does what a line of the table says.
-fn follow(rt: &HostRuntime, guest: &mut Guest, line: &str) -> io::Result<()> {
+pub fn follow(rt: &HostRuntime, guest: &mut Guest, line: &str) -> io::Result<()> {
     match line.split_once(' ') {
         Some(("replay", text)) => print_replay(rt, guest, text),
         Some(("step", text)) => print_steps(rt, guest, text),
@@ -87,12 +86,4 @@ fn follow(rt: &HostRuntime, guest: &mut Guest, line: &str) -> io::Result<()> {
         },
         None => println!(rt; "no line of a table"),
     }
-}
-
-fn main(rt: HostRuntime) -> io::Result<()> {
-    let mut guest = Guest::new(rt.alloc());
-    for line in rt.lines(rt.alloc()) {
-        follow(&rt, &mut guest, line?.as_str())?;
-    }
-    Ok(())
 }
