@@ -1,7 +1,7 @@
 #!/usr/bin/env python3
 """collapse.py EXECUTABLE [EVENTS]
 
-Times the built program of crates/collapse_rows on so many events, 100,000,000 where the number isn't named, over points
+Times the built program of crates/graph_rows on so many events, 100,000,000 where the number isn't named, over points
 and links that are known already. Prints for each load the nanoseconds for an event, of the processor's time that the
 program used less that of a run without the events, the seconds of that run, and the most memory. Linux with Python 3."""
 import tempfile

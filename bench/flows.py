@@ -1,7 +1,7 @@
 #!/usr/bin/env python3
 """flows.py PROGRAM [POINTS LINKS]
 
-Times the maximum flow of the built program flow_rows beside a plain Dinic in C++ and two solvers of Boost
+Times the maximum flow of the built program graph_rows beside a plain Dinic in C++ and two solvers of Boost
 (Boykov-Kolmogorov and push-relabel), on four kinds of graphs: random; local and forward, as runs make them; one chain;
 wide layers. The seconds are those of the solving alone: of PROGRAM, those of the whole command less those of a command
 that reads the same line with one more word, which makes it no graph. All four must find one value.
@@ -54,7 +54,7 @@ def run(command, text):
 
 def main():
     parser = argparse.ArgumentParser(description=__doc__, formatter_class=argparse.RawDescriptionHelpFormatter)
-    parser.add_argument("program", metavar="PROGRAM", help="the built program flow_rows")
+    parser.add_argument("program", metavar="PROGRAM", help="the built program graph_rows")
     parser.add_argument("points", metavar="POINTS", type=int, nargs="?", default=65_536)
     parser.add_argument("links", metavar="LINKS", type=int, nargs="?", default=960_000)
     words = parser.parse_args()
@@ -62,7 +62,7 @@ def main():
         parser.error(f"there is no file {words.program}")
     program, points, links = str(pathlib.Path(words.program).resolve()), words.points, words.links
     source = pathlib.Path(__file__).with_name("flows.cpp")
-    print(f"{'graph':10}{'links':>10}{'flow_rows':>13}{'dinic':>9}{'boykov-kolmogorov':>19}{'push-relabel':>14}")
+    print(f"{'graph':10}{'links':>10}{'graph_rows':>13}{'dinic':>9}{'boykov-kolmogorov':>19}{'push-relabel':>14}")
     with tempfile.TemporaryDirectory() as folder:
         peer = f"{folder}/flows"
         subprocess.run(["g++", "-O2", "-o", peer, str(source)], check=True)
@@ -72,9 +72,9 @@ def main():
             capacities = [str(chance.randrange(1, 33)) for _ in range(points)]
             words = link_words(pairs, sources, sinks)
             line = " ".join(capacities + words)
-            _, reading = run([program], line + " x\n")
-            answer, seconds = run([program], line + "\n")
-            value = int(answer.split()[0])
+            _, reading = run([program], f"table flow\n{line} x\n")
+            answer, seconds = run([program], f"table flow\n{line}\n")
+            value = int(answer.splitlines()[1].split()[0])
             found, _ = run([peer], line + "\n")
             rows = dict((name, (int(v), float(s))) for name, v, s in (row.split() for row in found.splitlines()))
             if any(v != value for v, _ in rows.values()):

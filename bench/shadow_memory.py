@@ -1,7 +1,8 @@
 #!/usr/bin/env python3
 """shadow_memory.py EXECUTABLE
 
-Measures the memory of a shadow by the pages that are at work in it: runs crates/shadow_rows on lines that label
+Measures the memory of a shadow by the pages that are at work in it: runs the table `shadow` of
+crates/label_rows on lines that label
 nothing, one byte in so many pages, many points in one page, and all of guest memory with one point, and then clear it.
 Prints for each the memory of the program's own (heap, stack and data; nothing of it is shared with other programs)
 once it has answered the last line, what that is for each page at work above a shadow of which nothing is labelled, and
@@ -21,10 +22,10 @@ def timed(executable, lines):
     """The seconds of a run, and the memory in bytes that is its own after the last line."""
     begin = time.perf_counter()
     with subprocess.Popen([executable], stdin=subprocess.PIPE, stdout=subprocess.PIPE, bufsize=0) as program:
-        for line in lines:
+        for line in ["table shadow", *lines]:
             program.stdin.write(line.encode() + b"\n")
             answer = program.stdout.readline()
-            if answer not in (b"done\n", b"clean\n"):
+            if answer not in (b"table shadow\n", b"done\n", b"clean\n"):
                 raise SystemExit(f"{line}: {answer.decode()}")
         seconds = time.perf_counter() - begin
         with open(f"/proc/{program.pid}/status") as status:

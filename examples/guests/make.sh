@@ -1,9 +1,9 @@
 #!/bin/sh
 # Makes the program files of the guests in this folder, with gcc 12.2 and GNU ld 2.40 (Debian gcc-riscv64-unknown-elf) and
-# with clang 14 and lld 14. They lie where crates/compiled_rows runs them.
+# with clang 14 and lld 14. They lie where crates/machine_rows runs them.
 set -e
 cd "$(dirname "$0")"
-data=../../crates/compiled_rows/data
+data=../../crates/machine_rows/data
 flags="-march=rv32im -mabi=ilp32 -O2 -static -nostdlib -ffreestanding -fno-builtin -s"
 gcc="riscv64-unknown-elf-gcc $flags -nostartfiles -Wl,--no-relax"
 clang="clang --target=riscv32-unknown-elf $flags -fuse-ld=lld"

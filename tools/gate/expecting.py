@@ -12,7 +12,7 @@ TOP = os.path.dirname(os.path.dirname(HERE))
 TOOLS = os.path.join(TOP, "tools")
 MAKEFILE = os.path.join(TOP, "examples", "guests", "Makefile")
 PIN = [os.path.join(TOP, name) for name in
-       ("crates/compiled_rows/data/pin-gcc.elf", "examples/guests/typed", "examples/guests/pin")]
+       ("crates/machine_rows/data/pin-gcc.elf", "examples/guests/typed", "examples/guests/pin")]
 
 MOST_DETAIL = 2000
 

@@ -27,11 +27,12 @@ import time
 import traceback
 
 TOOLS = pathlib.Path(__file__).resolve().parent.parent
-sys.path.insert(0, str(TOOLS / "model"))
+sys.path[:0] = [str(TOOLS / "model"), str(TOOLS / "tables")]
 
 from answers import answer_to  # noqa: E402
 from measure_trials import measure_trial  # noqa: E402
 from program_files import packed, plain_file  # noqa: E402
+from put_rows import parts_of  # noqa: E402
 from refusals import program_fault  # noqa: E402
 from trials import random_trial  # noqa: E402
 from words import LOAD, JALR, ECALL, immediate_word, store_word, upper_word  # noqa: E402
@@ -176,8 +177,7 @@ class Corpus:
     def __init__(self):
         examples = TOOLS.parent / "examples"
         self.sources = [path.read_bytes() for path in examples.rglob("*.s")]
-        self.lines = [line.split(" -> ")[0] for line in
-                      (TOOLS.parent / "crates" / "asm_rows" / "stdin").read_text().splitlines()]
+        self.lines = [line.split(" -> ")[0] for line in parts_of(TOOLS.parent / "crates" / "file_rows" / "stdin")["asm"]]
         self.certificates = []
 
     def trial(self, dice, seed):

@@ -48,8 +48,8 @@ TOP = os.path.dirname(TOOLS)
 STORIES = [("password", ["early", "constant"]), ("redactor", ["stars", "initial"]), ("auction", ["open", "sealed"])]
 INPUTS = {"password": ("typed", "password"), "redactor": ("letter", "name"), "auction": ("lowest", "bids")}
 STORED = [
-    ("crates/compiled_rows/data/pin-gcc.elf", "examples/guests/typed", "examples/guests/pin"),
-    ("crates/compiled_rows/data/pin-clang.elf", "examples/guests/typed", "examples/guests/pin"),
+    ("crates/machine_rows/data/pin-gcc.elf", "examples/guests/typed", "examples/guests/pin"),
+    ("crates/machine_rows/data/pin-clang.elf", "examples/guests/typed", "examples/guests/pin"),
     ("examples/bit/program", "examples/bit/public", "examples/bit/secret3"),
 ]
 DEEP = """

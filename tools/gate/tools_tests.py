@@ -16,7 +16,7 @@ from compare_outputs import output_text
 from expecting import PIN, TOP, Expectations, compilers, run_tests
 
 CUT = os.path.join(TOP, "examples/guests/cut")
-OTHER = os.path.join(TOP, "crates/compiled_rows/data/pin-clang.elf")
+OTHER = os.path.join(TOP, "crates/machine_rows/data/pin-clang.elf")
 WORDS = {
     "run.py": PIN,
     "explain.py": PIN,

@@ -1,9 +1,9 @@
 #!/usr/bin/env python3
-"""Tries the verdicts of certificate_rows on certificates of random graphs in which one number is changed.
+"""Tries the verdicts of file_rows on certificates of random graphs in which one number is changed.
 
     python3 tools/gate/try_certificates.py PROGRAM [TRIALS] [SEED]
 
-PROGRAM is the built program certificate_rows. Each right certificate, of a flow and a side that networkx found, must be
+PROGRAM is the built program file_rows. Each right certificate, of a flow and a side that networkx found, must be
 verified; each changed one must be rejected, or its value is the maximum flow that networkx finds of the changed graph.
 Each verdict must be that of tools/tables/make_certificate_rows.py too.
 """
@@ -90,7 +90,7 @@ def is_right(text, value):
 
 def main():
     parser = argparse.ArgumentParser(description=__doc__, formatter_class=argparse.RawDescriptionHelpFormatter)
-    parser.add_argument("program", metavar="PROGRAM", help="the built program certificate_rows")
+    parser.add_argument("program", metavar="PROGRAM", help="the built program file_rows")
     parser.add_argument("trials", metavar="TRIALS", type=int, nargs="?", default=2000)
     parser.add_argument("seed", metavar="SEED", type=int, nargs="?", default=1)
     words = parser.parse_args()
@@ -105,11 +105,11 @@ def main():
                 texts += [text, changed(chance, text)]
         for i, text in enumerate(texts):
             (Path(folder) / str(i)).write_text(text)
-        names = "".join(f"{i}\n" for i in range(len(texts)))
+        names = "table certificate\n" + "".join(f"{i}\n" for i in range(len(texts)))
         program = str(Path(program).resolve())
         out = subprocess.run([program], cwd=folder, input=names, capture_output=True, text=True, check=True).stdout
     verified = 0
-    for i, (text, line) in enumerate(zip(texts, out.splitlines(), strict=True)):
+    for i, (text, line) in enumerate(zip(texts, out.splitlines()[1:-1], strict=True)):
         verdict = line.split(": ", 1)[1]
         assert verdict == judge(text), (i, verdict, judge(text))
         if i % 2 == 0:

@@ -13,8 +13,8 @@ from expecting import PIN, TOP, Expectations, run_tests
 
 BIT = [os.path.join(TOP, "examples/bit", name) for name in ("program", "public", "secret3")]
 PIN_CUT = os.path.join(TOP, "examples/guests/cut")
-OTHER = os.path.join(TOP, "crates/compiled_rows/data/pin-clang.elf")
-SUM = os.path.join(TOP, "crates/compiled_rows/data/gcc-default.elf")
+OTHER = os.path.join(TOP, "crates/machine_rows/data/pin-clang.elf")
+SUM = os.path.join(TOP, "crates/machine_rows/data/gcc-default.elf")
 LONE = b"flowcheck-cut 1\nsecret 1\nbits 1\nskip 7\npoint 0 0x00010018 rs rest 0x00000001\nend\n"
 POINTS = b"point 0 0x00010018 rs rest 0x00000001\npoint 1 0x00010018 rs rest 0x00000001\n"
 NEVER = b"flowcheck-cut 1\nsecret 1\nbits 1\n" + POINTS + b"end\n"

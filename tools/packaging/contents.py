@@ -18,7 +18,7 @@ CALL = "commands::flowcheck"
 # The call itself, with what is trusted around it, and a guest that the guide measures.
 CODE = (
     "crates/commands/src/top.rt", "crates/program/src/lib.rt", "crates/program/src/keeping.rt",
-    "crates/flowcheck/src/main.rt", "crates/flow_base/src/host.rt", "crates/compiled_rows/data/pin-gcc.elf",
+    "crates/flowcheck/src/main.rt", "crates/flow_base/src/host.rt", "crates/machine_rows/data/pin-gcc.elf",
 )
 # What stands in .gitignore: what stories make.
 MADE = ("__pycache__", "secrets", "*.elf", "*.cut", "*.report", "*.html", "*.new", "*.regions")

@@ -19,7 +19,7 @@ import one_node
 import two_hosts
 from tests import HERE, SWEEP, TOP, hashes
 
-PROGRAM = [TOP / "crates/compiled_rows/data/pin-gcc.elf", TOP / "examples/guests/typed", TOP / "examples/guests/cut", "3"]
+PROGRAM = [TOP / "crates/machine_rows/data/pin-gcc.elf", TOP / "examples/guests/typed", TOP / "examples/guests/cut", "3"]
 
 
 def files_in(folder):

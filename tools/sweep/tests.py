@@ -359,7 +359,7 @@ class Built(Sweeps):
         if BUILT is None:
             self.skipTest("no built program is named")
         self.flowcheck = BUILT
-        for name, path in [("program", TOP / "crates/compiled_rows/data/pin-gcc.elf"),
+        for name, path in [("program", TOP / "crates/machine_rows/data/pin-gcc.elf"),
                            ("public", TOP / "examples/guests/typed"), ("cut", TOP / "examples/guests/cut")]:
             shutil.copy(path, self.folder / name)
         self.put_secrets([b"1234", b"9999", b"0000", b"1111", b"123", b"5678"])

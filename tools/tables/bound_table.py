@@ -36,7 +36,7 @@ from verdicts import real_run
 
 ROUNDS, LEARNT, JOBS = 60, 24, 8
 ASSEMBLED = "examples/bit/program"
-PIN = "crates/compiled_rows/data/pin-gcc.elf"
+PIN = "crates/machine_rows/data/pin-gcc.elf"
 
 
 def any_bytes(length):

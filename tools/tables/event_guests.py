@@ -1,4 +1,4 @@
-"""The guests whose events the table of crates/tracked_rows has: one turn of each kind, with labels and without."""
+"""The guests whose events the table `tracked` of crates/label_rows has: one turn of each kind, with labels and without."""
 import collections
 import json
 

@@ -1,5 +1,5 @@
 #!/usr/bin/env python3
-"""Makes the table of crates/asm_rows from GNU as.
+"""Makes the table `asm` of crates/file_rows from GNU as.
 
 It prints a line for each case on standard output:
 

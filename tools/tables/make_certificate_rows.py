@@ -1,11 +1,13 @@
 #!/usr/bin/env python3
-"""Makes the files, the input and the output of the table program certificate_rows.
+"""Makes the files and the rows of the table `certificate` of crates/file_rows, in its `stdin` and its `stdout`.
 
 The verdicts are those of a second implementation, below, of the format of certificates and of the table of refusals.
 It shares nothing with the crate flow_certificate. Run it at the top of the repository.
 """
 import re
 from pathlib import Path
+
+from put_rows import put
 
 LIMIT = 1 << 48
 SLOTS = ["u1", "u2", "ad", "rs", "de", "nr", "a0", "a1", "a2", "in", "ou", "st"]
@@ -130,7 +132,7 @@ def judge(text):
 
 def rows():
     """The changed certificates by their names."""
-    low = Path("crates/certificate_rows/data/low").read_text()
+    low = Path("crates/file_rows/data/low").read_text()
     lines = low.split("\n")
     top = LIMIT - 1
 
@@ -185,14 +187,14 @@ def rows():
 
 
 def main():
-    folder = Path("crates/certificate_rows")
+    folder = Path("crates/file_rows")
     names, answers = [], []
     for name, text in rows():
         (folder / "data" / name).write_text(text)
         names.append(name)
         answers.append(f"{name}: {judge(text)}")
-    (folder / "stdin").write_text("".join(name + "\n" for name in names))
-    (folder / "stdout").write_text("".join(answer + "\n" for answer in answers))
+    put(folder / "stdin", "certificate", names)
+    put(folder / "stdout", "certificate", answers)
 
 
 if __name__ == "__main__":

@@ -1,5 +1,5 @@
 #!/usr/bin/env python3
-"""Prints what crates/collapse_rows must print: the answers at the limits of a graph, by its rules, and what 1,000 random
+"""Prints what crates/graph_rows must print of its table `collapse`: the answers at the limits of a graph, by its rules, and what 1,000 random
 lists of events have together.
 
 The lists are those of the program: the same linear congruential generator makes them. Their graphs are computed here from

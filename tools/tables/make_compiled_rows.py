@@ -1,5 +1,5 @@
 #!/usr/bin/env python3
-"""make_compiled_rows.py <crates/compiled_rows/stdin >crates/compiled_rows/stdout
+"""Says what crates/machine_rows must print of its table `compiled`, which it reads.
 
 Runs each guest that a line of standard input names under qemu-riscv32, on the secret and the public input of the line, and
 writes the line with the number of bytes that the guest wrote and its exit status. A line is PROGRAM CUT SECRET PUBLIC;
@@ -9,7 +9,7 @@ import subprocess
 import sys
 
 TOP = os.path.dirname(os.path.dirname(os.path.dirname(os.path.abspath(__file__))))
-DATA = os.path.join(TOP, "crates", "compiled_rows", "data")
+DATA = os.path.join(TOP, "crates", "machine_rows", "data")
 
 
 def input_of(word):

@@ -1,13 +1,13 @@
 #!/usr/bin/env python3
-"""Makes the table of crates/flow_rows from networkx: its `stdin` and its `stdout`, in the folder that is named.
+"""Makes the table `flow` of crates/graph_rows from networkx, in its `stdin` and its `stdout`, in the folder that is named.
 
-A line of `stdin` is a graph, as words in this order:
+A row of `stdin` is a graph, as words in this order:
 
     8 8 1         for each point its capacity
     r5 r9         the relays, by region
     s-p0 p0-r5    the links, from the source `s`, a point or a relay, to a point, a relay or the sink `t`
 
-Points are numbered from 0 in the order of their words. The line of `stdout` is the value of a maximum flow, and for
+Points are numbered from 0 in the order of their words. The row of `stdout` is the value of a maximum flow, and for
 each point and then each relay where it stands in the least minimum side: `s` inside, `t` outside, `m` and `o` for a
 point of which the first half alone is inside, or the second.
 
@@ -20,6 +20,8 @@ from pathlib import Path
 
 import networkx
 from networkx.algorithms.flow import edmonds_karp, shortest_augmenting_path
+
+from put_rows import put
 
 SOURCE, SINK = "s", "t"
 
@@ -124,8 +126,8 @@ def main():
     if not folder.is_dir():
         parser.error(f"there is no folder {folder}")
     table = list(rows())
-    (folder / "stdin").write_text("".join(graph + "\n" for graph, _ in table))
-    (folder / "stdout").write_text("".join(line + "\n" for _, line in table))
+    put(folder / "stdin", "flow", [graph for graph, _ in table])
+    put(folder / "stdout", "flow", [line for _, line in table])
 
 
 if __name__ == "__main__":

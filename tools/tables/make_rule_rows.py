@@ -1,5 +1,5 @@
 #!/usr/bin/env python3
-"""Makes the table of crates/rule_rows by brute force.
+"""Makes the table `rule` of crates/label_rows by brute force.
 
 It prints a line for each case on standard output:
 

@@ -1,5 +1,5 @@
 #!/usr/bin/env python3
-"""Makes the table of crates/step_rows from qemu's RV32IM.
+"""Makes the table `step` of crates/machine_rows from qemu's RV32IM.
 
 It writes one free-standing assembler program, which runs each case and writes what it finds with the write call
 of Linux for RISC-V, runs it under qemu-riscv32, and prints a line for each case on standard output:

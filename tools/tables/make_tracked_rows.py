@@ -1,8 +1,8 @@
 #!/usr/bin/env python3
-"""Makes the table of crates/tracked_rows, and what the program must print of it.
+"""Makes the table `tracked` of crates/label_rows, and what the program must print of it.
 
-    python3 tools/tables/make_tracked_rows.py table >crates/tracked_rows/stdin
-    python3 tools/tables/make_tracked_rows.py rows <crates/tracked_rows/stdin >crates/tracked_rows/stdout
+With the word `table` it prints the table; with the word `rows` it reads the table, and prints what must be printed.
+`put_rows.py` puts both where they belong.
 
 The guests are those of event_guests.py; GNU as makes their words. What must be printed is found by the model of
 `tools/model`, which was written from the rules in words: it makes the real run turn by turn and follows it with labels

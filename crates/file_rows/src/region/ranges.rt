@@ -1,0 +1,25 @@
+use enclosure_regions::Range;
+use std::fmt;
+
+/// A range, which shows as its base register, if it has one, its offset and its length.
+#[derive(Clone, Copy)]
+pub struct RangeText(pub Range);
+
+impl fmt::Display for RangeText {
+    ghost use Rattle.std.specs.Prelude.{Some};
+    ghost use Rattle.file_rows.specs.Texts.{range_text};
+
+    ghost output = { λ shown. Some (range_text shown.0) };
+
+    fn fmt<W: fmt::Write>(&self, f: &mut fmt::Formatter<W>) -> fmt::Result {
+        let Range {
+            base,
+            offset,
+            length,
+        } = self.0;
+        match base {
+            Some(base) => write!(f, "x{base} {offset} {length}"),
+            None => write!(f, "{offset} {length}"),
+        }
+    }
+}
