@@ -39,7 +39,7 @@ half-at start (suc n) k below =
 pub map_more : {X : Type 0} (f : X → ℕ) (xs : List X) (before now later : List ℕ) (i : ℕ) (d : X) → i < length xs →
     now ≡ before ++ map f (take i xs) → later ≡ now ++ f (get_or xs i d) ∷ [] → later ≡ before ++ map f (take (i + 1) xs)
 map_more f xs before now later i d below so put =
-    rw (take_more xs i d below, map-append) (put ∙ (ap (λ n. n ++ f (get_or xs i d) ∷ []) so ∙ append_assoc))
+    rw (take_more xs i d below, map-append) (put ∙ (ap (λ n. n ++ f (get_or xs i d) ∷ []) so ∙ append_assoc before (map f (take i xs)) (f (get_or xs i d) ∷ [])))
 
 -- what holds of each end holds of each number in the list of ends
 pub all_map : {X : Type 0} (P : ℕ → Type 0) (f : X → ℕ) (test : X → Bool) →
