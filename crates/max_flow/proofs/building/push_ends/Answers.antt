@@ -1,4 +1,4 @@
-use Rattle.std.proofs.Common.{◌≡◌, ◌++◌, ◌∷◌, [], ap, ◌∙◌}
+use Rattle.std.proofs.Common.{◌++◌, ◌∷◌, [], ap, ◌∙◌}
 use Rattle.max_flow.specs.Flows.{tail_of, head_of}
 use Rattle.max_flow.proofs.Graphs.{map_more}
 use Rattle.max_flow.proofs.building.push_ends.Goals as goal
