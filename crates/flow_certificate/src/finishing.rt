@@ -1,4 +1,4 @@
-ghost use Rattle.std.specs.Prelude.{◌≡◌, ◌^◌, ◌<◌, IfOk, length, map, true};
+ghost use Rattle.std.specs.Prelude.{◌≡◌, ◌^◌, ◌<◌, ◌++◌, ◌∷◌, [], IfOk, OnOk, length, map, true};
 ghost use Rattle.flow_graph.specs.Graphs.{is_graph};
 ghost use Rattle.flow_certificate.specs.Certificates.{arc_of, is_valid, node_of};
 ghost use Rattle.flow_certificate.specs.Private.Drafts.{IsDraft, sketch_of};
@@ -13,40 +13,47 @@ use flow_graph::{Arc, Graph, Node};
 use max_flow::{Flow, Half, Side, Solved};
 use std::alloc::Global;
 
-/// The points of lines with their capacities.
-fn nodes_of(alloc: Global, lines: &[PointLine]) -> Result<List<Node>, NoMemory>
-    ensures { IfOk result (λ nodes. nodes ≡ map node_of lines.now) }
-{
-    let mut nodes = List::new(alloc);
-    for line in lines {
-        nodes.push(Node {
-            point: line.point,
-            capacity: u128::from(line.capacity),
-        })?;
-    }
-    Ok(nodes)
+/// What the lines of points say, by kind.
+#[derive(Drop)]
+struct PointLists {
+    /// The points with their capacities.
+    nodes: List<Node>,
+    /// The flows through the points.
+    flows: List<u64>,
+    /// The halves of the points in the side.
+    halves: List<Half>,
 }
 
-/// The flows through the points of lines.
-fn point_flows_of(alloc: Global, lines: &[PointLine]) -> Result<List<u64>, NoMemory>
-    ensures { IfOk result (λ flows. flows ≡ map flow_at_point lines.now) }
+/// Puts what the line of a point says at the end of the lists.
+fn put_point(lists: &mut PointLists, line: &PointLine) -> Result<(), NoMemory>
+    ensures nodes { OnOk result (lists.new.nodes ≡ lists.old.nodes ++ node_of line.now ∷ []) }
+    ensures flows { OnOk result (lists.new.flows ≡ lists.old.flows ++ flow_at_point line.now ∷ []) }
+    ensures halves { OnOk result (lists.new.halves ≡ lists.old.halves ++ half_at line.now ∷ []) }
 {
-    let mut flows = List::new(alloc);
-    for line in lines {
-        flows.push(line.flow)?;
-    }
-    Ok(flows)
+    lists.nodes.push(Node {
+        point: line.point,
+        capacity: u128::from(line.capacity),
+    })?;
+    lists.flows.push(line.flow)?;
+    lists.halves.push(line.half)?;
+    Ok(())
 }
 
-/// The halves in the side of the points of lines.
-fn halves_of(alloc: Global, lines: &[PointLine]) -> Result<List<Half>, NoMemory>
-    ensures { IfOk result (λ halves. halves ≡ map half_at lines.now) }
+/// What the lines of points say.
+fn points_of(alloc: Global, lines: &[PointLine]) -> Result<PointLists, NoMemory>
+    ensures nodes { IfOk result (λ lists. lists.nodes ≡ map node_of lines.now) }
+    ensures flows { IfOk result (λ lists. lists.flows ≡ map flow_at_point lines.now) }
+    ensures halves { IfOk result (λ lists. lists.halves ≡ map half_at lines.now) }
 {
-    let mut halves = List::new(alloc);
+    let mut lists = PointLists {
+        nodes: List::new(alloc),
+        flows: List::new(alloc),
+        halves: List::new(alloc),
+    };
     for line in lines {
-        halves.push(line.half)?;
+        put_point(&mut lists, line)?;
     }
-    Ok(halves)
+    Ok(lists)
 }
 
 /// The answers for the relays of lines.
@@ -60,26 +67,70 @@ fn answers_of(alloc: Global, lines: &[RelayLine]) -> Result<List<bool>, NoMemory
     Ok(answers)
 }
 
-/// The links of lines.
-fn arcs_of(alloc: Global, lines: &[LinkLine]) -> Result<List<Arc>, NoMemory>
-    ensures { IfOk result (λ arcs. arcs ≡ map arc_of lines.now) }
-{
-    let mut arcs = List::new(alloc);
-    for line in lines {
-        arcs.push(line.link)?;
-    }
-    Ok(arcs)
+/// What the lines of links say, by kind.
+#[derive(Drop)]
+struct LinkLists {
+    /// The links.
+    arcs: List<Arc>,
+    /// The flows over the links.
+    flows: List<u64>,
 }
 
-/// The flows over the links of lines.
-fn link_flows_of(alloc: Global, lines: &[LinkLine]) -> Result<List<u64>, NoMemory>
-    ensures { IfOk result (λ flows. flows ≡ map flow_at_link lines.now) }
+/// What the lines of links say.
+fn links_of(alloc: Global, lines: &[LinkLine]) -> Result<LinkLists, NoMemory>
+    ensures arcs { IfOk result (λ lists. lists.arcs ≡ map arc_of lines.now) }
+    ensures flows { IfOk result (λ lists. lists.flows ≡ map flow_at_link lines.now) }
 {
-    let mut flows = List::new(alloc);
+    let mut lists = LinkLists {
+        arcs: List::new(alloc),
+        flows: List::new(alloc),
+    };
     for line in lines {
-        flows.push(line.flow)?;
+        lists.arcs.push(line.link)?;
+        lists.flows.push(line.flow)?;
     }
-    Ok(flows)
+    Ok(lists)
+}
+
+/// What a draft says, but for the regions of its relays.
+#[derive(Drop)]
+struct Said {
+    /// The points with their capacities.
+    nodes: List<Node>,
+    /// The links.
+    arcs: List<Arc>,
+    /// The value, the flow and the side.
+    solved: Solved,
+}
+
+/// What a draft says.
+fn said_in(alloc: Global, draft: &Draft) -> Result<Said, NoMemory>
+    ensures nodes { IfOk result (λ said. said.nodes ≡ map node_of draft.now.points) }
+    ensures arcs { IfOk result (λ said. said.arcs ≡ map arc_of draft.now.links) }
+    ensures value { IfOk result (λ said. said.solved.value ≡ draft.now.value) }
+    ensures point_flows { IfOk result (λ said. said.solved.flow.points ≡ map flow_at_point draft.now.points) }
+    ensures link_flows { IfOk result (λ said. said.solved.flow.links ≡ map flow_at_link draft.now.links) }
+    ensures halves { IfOk result (λ said. said.solved.side.points ≡ map half_at draft.now.points) }
+    ensures answers { IfOk result (λ said. said.solved.side.relays ≡ map inside_at draft.now.relays) }
+{
+    let points = points_of(alloc, draft.points.as_slice())?;
+    let links = links_of(alloc, draft.links.as_slice())?;
+    let relays = answers_of(alloc, draft.relays.as_slice())?;
+    Ok(Said {
+        nodes: points.nodes,
+        arcs: links.arcs,
+        solved: Solved {
+            value: draft.value,
+            flow: Flow {
+                points: points.flows,
+                links: links.flows,
+            },
+            side: Side {
+                points: points.halves,
+                relays,
+            },
+        },
+    })
 }
 
 /// The graph of lists that make one.
@@ -115,17 +166,7 @@ pub fn certificate_of(alloc: Global, draft: Draft) -> Result<Certificate, NoMemo
     requires few { length draft.points < 2 ^ 32 }
     ensures { IfOk result (λ c. picture_of c.graph c.solved ≡ (sketch_of draft).picture) }
 {
-    let nodes = nodes_of(alloc, draft.points.as_slice())?;
-    let arcs = arcs_of(alloc, draft.links.as_slice())?;
-    let flow = Flow {
-        points: point_flows_of(alloc, draft.points.as_slice())?,
-        links: link_flows_of(alloc, draft.links.as_slice())?,
-    };
-    let side = Side {
-        points: halves_of(alloc, draft.points.as_slice())?,
-        relays: answers_of(alloc, draft.relays.as_slice())?,
-    };
-    let value = draft.value;
-    let graph = graph_of(nodes, draft.regions, arcs);
-    Ok(whole_of(graph, Solved { value, flow, side }))
+    let said = said_in(alloc, &draft)?;
+    let graph = graph_of(said.nodes, draft.regions, said.arcs);
+    Ok(whole_of(graph, said.solved))
 }

@@ -1,19 +1,20 @@
-ghost use Rattle.std.specs.Prelude.{◌≡◌, ◌++◌, ◌∷◌, [], OnOk, codes};
+ghost use Rattle.std.specs.Prelude.{◌≡◌, ◌++◌, ◌∷◌, [], OnOk};
 ghost use Rattle.std.specs.Fmt.{decimal};
+ghost use Rattle.flow_base.specs.Points.{point_text as place_text};
 ghost use Rattle.flow_certificate.specs.Lines.{half_text, inside_text, line_text, link_text, point_text, relay_text};
 ghost use Rattle.flow_certificate.specs.VerdictTexts.{end_text};
 
 use crate::lines::{Line, LinkLine, PointLine, RelayLine};
-use flow_base::{NoMemory, hex_word, put, put_number, put_slot};
+use flow_base::{NoMemory, Point, hex_word, put, put_number, put_slot};
 use flow_graph::End;
 use max_flow::Half;
 use std::alloc::Global;
 
-/// Puts a letter and a number at the end of a text.
-fn put_lettered(alloc: Global, text: &mut Vec<u8>, letter: u8, number: u64) -> Result<(), NoMemory>
-    ensures { OnOk result (text.new.items ≡ text.old.items ++ (letter ∷ decimal number)) }
+/// Puts a word and a number at the end of a text.
+fn put_field(alloc: Global, text: &mut Vec<u8>, word: &[u8], number: u64) -> Result<(), NoMemory>
+    ensures { OnOk result (text.new.items ≡ text.old.items ++ (word.now ++ decimal number)) }
 {
-    put(text, &[letter])?;
+    put(text, word)?;
     put_number(alloc, text, number)
 }
 
@@ -23,8 +24,8 @@ fn put_end(alloc: Global, text: &mut Vec<u8>, end: End) -> Result<(), NoMemory>
 {
     match end {
         End::Source => put(text, b"source"),
-        End::Point(index) => put_lettered(alloc, text, b'p', u64::from(index)),
-        End::Relay(region) => put_lettered(alloc, text, b'r', u64::from(region)),
+        End::Point(index) => put_field(alloc, text, b"p", u64::from(index)),
+        End::Relay(region) => put_field(alloc, text, b"r", u64::from(region)),
         End::Sink => put(text, b"sink"),
     }
 }
@@ -52,20 +53,26 @@ fn put_inside(text: &mut Vec<u8>, inside: bool) -> Result<(), NoMemory>
     }
 }
 
+/// Puts the region, the address and the slot of a point at the end of a text.
+fn put_place(alloc: Global, text: &mut Vec<u8>, point: &Point) -> Result<(), NoMemory>
+    ensures { OnOk result (text.new.items ≡ text.old.items ++ place_text point.now) }
+{
+    put_number(alloc, text, u64::from(point.region))?;
+    put(text, b" ")?;
+    put(text, &hex_word(point.address))?;
+    put(text, b" ")?;
+    put_slot(alloc, text, point.slot)?;
+    Ok(())
+}
+
 /// Puts the line of a point at the end of a text.
 fn put_point(alloc: Global, text: &mut Vec<u8>, line: &PointLine) -> Result<(), NoMemory>
     ensures { OnOk result (text.new.items ≡ text.old.items ++ point_text line.now) }
 {
     put(text, b"point ")?;
-    put_number(alloc, text, u64::from(line.point.region))?;
-    put(text, b" ")?;
-    put(text, &hex_word(line.point.address))?;
-    put(text, b" ")?;
-    put_slot(alloc, text, line.point.slot)?;
-    put(text, b" capacity ")?;
-    put_number(alloc, text, line.capacity)?;
-    put(text, b" flow ")?;
-    put_number(alloc, text, line.flow)?;
+    put_place(alloc, text, &line.point)?;
+    put_field(alloc, text, b" capacity ", line.capacity)?;
+    put_field(alloc, text, b" flow ", line.flow)?;
     put(text, b" side ")?;
     put_half(text, line.half)?;
     Ok(())
@@ -75,8 +82,7 @@ fn put_point(alloc: Global, text: &mut Vec<u8>, line: &PointLine) -> Result<(), 
 fn put_relay(alloc: Global, text: &mut Vec<u8>, line: &RelayLine) -> Result<(), NoMemory>
     ensures { OnOk result (text.new.items ≡ text.old.items ++ relay_text line.now) }
 {
-    put(text, b"relay ")?;
-    put_number(alloc, text, u64::from(line.region))?;
+    put_field(alloc, text, b"relay ", u64::from(line.region))?;
     put(text, b" side ")?;
     put_inside(text, line.inside)?;
     Ok(())
@@ -90,17 +96,8 @@ fn put_link(alloc: Global, text: &mut Vec<u8>, line: &LinkLine) -> Result<(), No
     put_end(alloc, text, line.link.source)?;
     put(text, b" ")?;
     put_end(alloc, text, line.link.target)?;
-    put(text, b" flow ")?;
-    put_number(alloc, text, line.flow)?;
+    put_field(alloc, text, b" flow ", line.flow)?;
     Ok(())
-}
-
-/// Puts the number of the line of a value after its first word.
-fn put_value(alloc: Global, text: &mut Vec<u8>, value: u64) -> Result<(), NoMemory>
-    ensures { OnOk result (text.new.items ≡ text.old.items ++ (codes "value " ++ decimal value)) }
-{
-    put(text, b"value ")?;
-    put_number(alloc, text, value)
 }
 
 /// Puts the text of a line at the end of a text, without its line feed.
@@ -110,7 +107,7 @@ fn put_form(alloc: Global, text: &mut Vec<u8>, line: &Line) -> Result<(), NoMemo
 {
     match line {
         Line::Version => put(text, b"flowcheck-graph 1"),
-        Line::Value(value) => put_value(alloc, text, *value),
+        Line::Value(value) => put_field(alloc, text, b"value ", *value),
         Line::Point(line) => put_point(alloc, text, line),
         Line::Relay(line) => put_relay(alloc, text, line),
         Line::Link(line) => put_link(alloc, text, line),

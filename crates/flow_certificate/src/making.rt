@@ -67,10 +67,7 @@ impl Certificate {
         ensures graph { IfSome result (λ certificate. certificate.graph ≡ graph) }
         ensures solved { IfSome result (λ certificate. certificate.solved ≡ solved) }
     {
-        if !have_counts(&graph, &solved) {
-            return None;
-        }
-        if !have_texts(&graph, &solved) {
+        if !have_counts(&graph, &solved) || !have_texts(&graph, &solved) {
             return None;
         }
         Some(Certificate { graph, solved })

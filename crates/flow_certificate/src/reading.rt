@@ -1,6 +1,7 @@
-ghost use Rattle.std.specs.Prelude.{◌≡◌, ◌==◌, ◌&&◌, ◌^◌, ◌<◌, IfErr, IfOk, length};
+ghost use Rattle.std.specs.Prelude.{◌≡◌, ◌==◌, ◌&&◌, ◌^◌, ◌<◌, IfErr, IfOk, OnOk, length};
 ghost use Rattle.flow_certificate.specs.Certificates.{CertText, IsFormFault};
 ghost use Rattle.flow_certificate.specs.Pictures.{picture_of};
+ghost use Rattle.flow_certificate.specs.Private.Drafts.{IsDraft, blank, sketch_of};
 ghost use Rattle.flow_certificate.specs.Private.Reading.{IsWholeDraft, is_whole as is_whole_stage};
 
 use crate::adding::{add, begin};
@@ -26,6 +27,31 @@ fn is_done(stage: Stage, rest: &[u8]) -> bool
     is_whole(stage) && rest.len() == 0
 }
 
+/// Takes the lines of a file into the draft of no lines. Its error is the first line that fails, or lack of memory.
+fn read_lines(alloc: Global, draft: &mut Draft, file: &[u8]) -> Result<(), FormFault>
+    requires short { length file.now < 2 ^ 32 }
+    requires blank { sketch_of draft.old ≡ blank }
+    requires draft { IsDraft draft.old }
+    ensures ok { OnOk result (IsWholeDraft file.now draft.new) }
+    ensures few { OnOk result (length draft.new.points < 2 ^ 32) }
+    ensures err { IfErr result (IsFormFault file.now) }
+{
+    let mut number: u32 = 1;
+    let mut rest = file;
+    while let Some((line, more)) = line_at(alloc, rest)? {
+        if !add(draft, line)? {
+            return Err(FormFault::Line { line: number });
+        }
+        number += 1;
+        rest = more;
+    }
+    if is_done(draft.stage, rest) {
+        Ok(())
+    } else {
+        Err(FormFault::Line { line: number })
+    }
+}
+
 /// The draft of a file, or its first line that fails.
 fn draft_of(alloc: Global, file: &[u8]) -> Result<Draft, FormFault>
     requires { length file.now < 2 ^ 32 }
@@ -34,20 +60,8 @@ fn draft_of(alloc: Global, file: &[u8]) -> Result<Draft, FormFault>
     ensures err { IfErr result (IsFormFault file.now) }
 {
     let mut draft = begin(alloc);
-    let mut number: u32 = 1;
-    let mut rest = file;
-    while let Some((line, more)) = line_at(alloc, rest)? {
-        if !add(&mut draft, line)? {
-            return Err(FormFault::Line { line: number });
-        }
-        number += 1;
-        rest = more;
-    }
-    if is_done(draft.stage, rest) {
-        Ok(draft)
-    } else {
-        Err(FormFault::Line { line: number })
-    }
+    read_lines(alloc, &mut draft, file)?;
+    Ok(draft)
 }
 
 /// The certificate whose text the file is. The text has the lines `flowcheck-graph 1` and `value N`, then a line

@@ -114,34 +114,43 @@ fn put_links(
     Ok(())
 }
 
-/// The one text of a certificate, as [`read_certificate`](crate::read_certificate) reads it. Its error is want of
-/// memory.
-pub fn write_certificate(alloc: Global, certificate: &Certificate) -> Result<Bytes, NoMemory>
-    ensures { IfOk result (λ text. CertText text (picture_of certificate.now.graph certificate.now.solved)) }
+/// Puts the lines of a certificate into an empty text.
+fn put_lines(alloc: Global, text: &mut Vec<u8>, certificate: &Certificate) -> Result<(), NoMemory>
+    requires { text.old.items ≡ [] }
+    ensures { OnOk result (CertText text.new.items (picture_of certificate.now.graph certificate.now.solved)) }
 {
     let Certificate { graph, solved } = certificate;
-    let mut text = Vec::new(alloc);
-    put_line(alloc, &mut text, &Line::Version)?;
-    put_line(alloc, &mut text, &Line::Value(solved.value))?;
+    put_line(alloc, text, &Line::Version)?;
+    put_line(alloc, text, &Line::Value(solved.value))?;
     put_points(
         alloc,
-        &mut text,
+        text,
         graph.points.as_slice(),
         solved.flow.points.as_slice(),
         solved.side.points.as_slice(),
     )?;
     put_relays(
         alloc,
-        &mut text,
+        text,
         graph.relays.as_slice(),
         solved.side.relays.as_slice(),
     )?;
     put_links(
         alloc,
-        &mut text,
+        text,
         graph.links.as_slice(),
         solved.flow.links.as_slice(),
     )?;
-    put_line(alloc, &mut text, &Line::End)?;
+    put_line(alloc, text, &Line::End)?;
+    Ok(())
+}
+
+/// The one text of a certificate, as [`read_certificate`](crate::read_certificate) reads it. Its error is want of
+/// memory.
+pub fn write_certificate(alloc: Global, certificate: &Certificate) -> Result<Bytes, NoMemory>
+    ensures { IfOk result (λ text. CertText text (picture_of certificate.now.graph certificate.now.solved)) }
+{
+    let mut text = Vec::new(alloc);
+    put_lines(alloc, &mut text, certificate)?;
     Ok(List::from_vec(text))
 }

@@ -1,7 +1,9 @@
 ghost use Rattle.std.specs.Prelude.{◌≡◌, true, length, IfSome};
 ghost use Rattle.std.specs.List.{list_all};
 ghost use Rattle.std.specs.Option.{is_some};
-ghost use Rattle.flow_graph.specs.Graphs.{are_arcs, are_links, are_points, are_relays, ascend, has_capacity, is_graph};
+ghost use Rattle.std.specs.Ordering.{is_lt, nat_cmp};
+ghost use Rattle.std.specs.declared.cmp.Ordering.{Ordering as TheOrdering};
+ghost use Rattle.flow_graph.specs.Graphs.{arc_cmp, are_links, are_relays, ascend, has_capacity, is_graph};
 ghost use Rattle.flow_graph.specs.Graphs.{is_link, is_origin, is_relay, is_target, leads_on, node_cmp};
 
 use crate::ends::{Arc, End};
@@ -17,59 +19,52 @@ fn have_capacities(points: &[Node]) -> bool
     points.iter().all(|node| node.capacity != 0)
 }
 
-/// Whether points ascend strictly.
-fn do_points_ascend(points: &[Node]) -> bool
-    ensures { result ≡ ascend node_cmp points.now }
-{
-    let [first, others @ ..] = points else {
-        return true;
-    };
-    let mut last = first;
-    let mut rest = others;
-    while let [next, more @ ..] = rest {
-        if !matches!(last.point.cmp(&next.point), Ordering::Less) {
-            return false;
-        }
-        last = next;
-        rest = more;
-    }
-    true
+/// Items of a list that is to ascend.
+trait Ranked {
+    ghost order: { Self → Self → TheOrdering };
+
+    /// Whether the item comes before another.
+    fn comes_before(&self, other: &Self) -> bool
+        ensures { result ≡ is_lt (order self.now other.now) };
 }
 
-/// Whether numbers ascend strictly.
-fn do_relays_ascend(relays: &[u16]) -> bool
-    ensures { result ≡ are_relays relays.now }
-{
-    let [first, others @ ..] = relays else {
-        return true;
-    };
-    let mut last = *first;
-    let mut rest = others;
-    while let [next, more @ ..] = rest {
-        if !matches!(last.cmp(next), Ordering::Less) {
-            return false;
-        }
-        last = *next;
-        rest = more;
+impl Ranked for Node {
+    ghost order = { node_cmp };
+
+    fn comes_before(&self, other: &Node) -> bool {
+        matches!(self.point.cmp(&other.point), Ordering::Less)
     }
-    true
 }
 
-/// Whether links ascend strictly.
-fn do_links_ascend(links: &[Arc]) -> bool
-    ensures { result ≡ are_arcs links.now }
+impl Ranked for u16 {
+    ghost order = { nat_cmp };
+
+    fn comes_before(&self, other: &u16) -> bool {
+        *self < *other
+    }
+}
+
+impl Ranked for Arc {
+    ghost order = { arc_cmp };
+
+    fn comes_before(&self, other: &Arc) -> bool {
+        matches!(self.cmp(other), Ordering::Less)
+    }
+}
+
+/// Whether items ascend strictly.
+fn do_ascend<T: Ranked>(items: &[T]) -> bool
+    ensures { result ≡ ascend T.order items.now }
 {
-    let [first, others @ ..] = links else {
-        return true;
-    };
-    let mut last = first;
-    let mut rest = others;
-    while let [next, more @ ..] = rest {
-        if !matches!(last.cmp(next), Ordering::Less) {
+    let mut rest = items;
+    while let [first, others @ ..] = rest {
+        let [second, ..] = others else {
+            return true;
+        };
+        if !first.comes_before(second) {
             return false;
         }
-        last = next;
-        rest = more;
+        rest = others;
     }
     true
 }
@@ -139,6 +134,17 @@ fn do_links_join(count: usize, relays: &[u16], links: &[Arc]) -> bool
     links.iter().all(|link| joins_ends(count, relays, link))
 }
 
+/// Whether three lists are ones that a graph may have.
+fn are_fit(points: &[Node], relays: &[u16], links: &[Arc]) -> bool
+    ensures { result ≡ is_graph points.now relays.now links.now }
+{
+    have_capacities(points)
+        && do_ascend(points)
+        && do_ascend(relays)
+        && do_ascend(links)
+        && do_links_join(points.len(), relays, links)
+}
+
 impl Graph {
     /// The graph of these lists; None exactly where they break what a graph keeps.
     pub fn from_lists(points: List<Node>, relays: List<u16>, links: List<Arc>) -> Option<Graph>
@@ -147,13 +153,7 @@ impl Graph {
         ensures relays { IfSome result (λ graph. graph.relays ≡ relays) }
         ensures links { IfSome result (λ graph. graph.links ≡ links) }
     {
-        if !have_capacities(points.as_slice()) || !do_points_ascend(points.as_slice()) {
-            return None;
-        }
-        if !do_relays_ascend(relays.as_slice()) || !do_links_ascend(links.as_slice()) {
-            return None;
-        }
-        if !do_links_join(points.len(), relays.as_slice(), links.as_slice()) {
+        if !are_fit(points.as_slice(), relays.as_slice(), links.as_slice()) {
             return None;
         }
         Some(Graph {

@@ -73,6 +73,18 @@ fn end_of(names: &[Point], end: &NamedEnd) -> End
     }
 }
 
+/// A link by the indices of its points.
+fn arc_of(names: &[Point], link: &NamedLink) -> Arc
+    requires sorted { IsStrictlySortedBy point_cmp names.now }
+    requires few { length names.now < 2 ^ 32 }
+    ensures { result ≡ arc_at names.now link.now }
+{
+    Arc {
+        source: end_of(names, &link.source),
+        target: end_of(names, &link.target),
+    }
+}
+
 /// The links, by the indices of their points.
 fn links_of(
     alloc: Global,
@@ -86,9 +98,7 @@ fn links_of(
 {
     let mut links = List::new(alloc);
     for link in named {
-        let source = end_of(names, &link.source);
-        let target = end_of(names, &link.target);
-        links.push(Arc { source, target })?;
+        links.push(arc_of(names, link))?;
     }
     Ok(links)
 }

@@ -1,13 +1,13 @@
 -- A link whose ends are those of the latest one of its kind has occurred.
-use Rattle.std.proofs.Common.{◌≡◌, ℕ, ◌==◌, ◌&&◌, Bool, true, false, List, Option, Some, refl, sym, ap, subst, ◌∙◌}
+use Rattle.std.proofs.Common.{◌≡◌, ◌≢◌, ℕ, ◌==◌, ◌&&◌, Bool, true, false, List, Option, Some, refl, sym, ap, subst, ◌∙◌}
 use Rattle.std.specs.Option.{IfSome}
-use Rattle.std.proofs.lemmas.Bool.{and_from, eq-eqb, false≢true}
+use Rattle.std.proofs.lemmas.Bool.{and_from, eq-eqb, ne_eqb, false≢true}
 use Rattle.flow_base.specs.declared.points.Point.{Point}
 use Rattle.flow_graph.specs.declared.named_links.NamedLink.{NamedLink}
 use Rattle.flow_graph.specs.declared.named_links.NamedEnd.TheVariants.{At, Relay}
 use Rattle.flow_graph.specs.EventGraphs.{is_among}
 use Rattle.flow_base.specs.PointOrders.{is_same}
-use Rattle.location_collapse.specs.LatestLinks.{has_flow, has_output, is_latest_flow}
+use Rattle.location_collapse.specs.LatestLinks.{has_flow, has_output, is_latest_flow, is_latest_output}
 use Rattle.flow_base.proofs.PointEquality.{point_eq, points_same}
 use Rattle.location_collapse.proofs.EqualityByOrder.{link_eq, links_same}
 use Rattle.location_collapse.proofs.LinkMarks.{among_alike}
@@ -46,6 +46,10 @@ second_of : (b c : Bool) → b ≡ true → c ≡ (b && c)
 second_of true c e = refl
 second_of false c e = absurd (false≢true e)
 
+none_of : (b c : Bool) → b ≡ false → false ≡ (b && c)
+none_of false c e = refl
+none_of true c e = absurd (false≢true (sym e))
+
 pub flow_told : (flow : Option (Point × Point)) (s t from to : Point) (told : Bool) → flow ≡ Some (from, to) →
     point_eq from s ≡ true → told ≡ point_eq to t → told ≡ is_latest_flow flow s t
 flow_told flow s t from to told is first second =
@@ -53,3 +57,22 @@ flow_told flow s t from to told is first second =
     ∙ (ap (λ eq. eq to t) points_same
     ∙ (second_of (is_same from s) (is_same to t) (ap (λ eq. eq from s) (sym points_same) ∙ first)
     ∙ ap (λ latest. is_latest_flow latest s t) (sym is)))
+
+pub flow_apart : (flow : Option (Point × Point)) (s t from to : Point) → flow ≡ Some (from, to) →
+    point_eq from s ≡ false → false ≡ is_latest_flow flow s t
+flow_apart flow s t from to is first =
+    none_of (is_same from s) (is_same to t) (ap (λ eq. eq from s) (sym points_same) ∙ first)
+    ∙ ap (λ latest. is_latest_flow latest s t) (sym is)
+
+pub output_told : (output : Option (ℕ × Point)) (r : ℕ) (p : Point) (from : ℕ) (to : Point) (told : Bool) →
+    output ≡ Some (from, to) → from ≡ r → told ≡ point_eq to p → told ≡ is_latest_output output r p
+output_told output r p from to told is first second =
+    second
+    ∙ (ap (λ eq. eq to p) points_same
+    ∙ (second_of (from == r) (is_same to p) (eq-eqb from r first)
+    ∙ ap (λ latest. is_latest_output latest r p) (sym is)))
+
+pub output_apart : (output : Option (ℕ × Point)) (r : ℕ) (p : Point) (from : ℕ) (to : Point) →
+    output ≡ Some (from, to) → from ≢ r → false ≡ is_latest_output output r p
+output_apart output r p from to is first =
+    none_of (from == r) (is_same to p) (ne_eqb from r first) ∙ ap (λ latest. is_latest_output latest r p) (sym is)

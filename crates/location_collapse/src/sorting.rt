@@ -78,14 +78,32 @@ fn sorted_links(
     Ok(sorted)
 }
 
+/// The points and the links, in order.
+fn builder_of(alloc: Global, collapse: &Collapse) -> Result<Builder, NoMemory>
+    ensures points { IfOk result (λ builder. HasSame builder.capacities.entries
+        collapse.now.points.capacities.map.entries) }
+    ensures links { IfOk result (λ builder. TakesLinks [] builder.links.keys
+        (keys_of collapse.now.links.named.map.entries)) }
+{
+    let capacities = sorted_points(alloc, &collapse.points.capacities.map)?;
+    let links = sorted_links(alloc, &collapse.links.named.map)?;
+    Ok(Builder { capacities, links })
+}
+
+/// The graph of the events taken.
+fn graph_in(alloc: Global, collapse: &Collapse) -> Result<Graph, NoMemory>
+    ensures { IfOk result (λ graph. (events : Seq AnEvent) → StandsFor collapse.now events → IsGraphOf events graph) }
+{
+    let builder = builder_of(alloc, collapse)?;
+    let graph = builder.finish(alloc)?;
+    Ok(graph)
+}
+
 impl Collapse {
     /// The graph of the events taken. Its error is lack of memory.
     pub fn finish(self, alloc: Global) -> Result<Graph, NoMemory>
         ensures { IfOk result (λ graph. (events : Seq AnEvent) → StandsFor self events → IsGraphOf events graph) }
     {
-        let capacities = sorted_points(alloc, &self.points.capacities.map)?;
-        let links = sorted_links(alloc, &self.links.named.map)?;
-        let builder = Builder { capacities, links };
-        builder.finish(alloc)
+        graph_in(alloc, &self)
     }
 }

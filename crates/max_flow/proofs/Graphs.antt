@@ -1,10 +1,10 @@
 -- The network of a graph is one: its edges join nodes that there are, and none enters the source.
 use Rattle.std.proofs.Common.{◌≡◌, ◌≢◌, ℕ, zero, suc, ◌+◌, ◌-◌, ◌*◌, ◌≤◌, ◌<◌, ◌++◌, ◌∷◌, [], Bool, true}
-use Rattle.std.proofs.Common.{List, length, map, get_or, slice_index, refl, sym, ◌∙◌, subst, ⊎_elim}
-use Rattle.std.proofs.Common.{arith, length-append, add-one}
+use Rattle.std.proofs.Common.{List, length, map, get_or, take, slice_index, refl, sym, ◌∙◌, subst, ⊎_elim}
+use Rattle.std.proofs.Common.{arith, length-append, add-one, append_assoc, ap}
 use Rattle.std.specs.List.{list_all}
 use Rattle.std.proofs.lemmas.Bool.{cases_lt, cases_eq, and_parts, ltb-true}
-use Rattle.std.proofs.lemmas.List.{length-map, get_or_append_left, get_or-append_right, get_or_push, length_push}
+use Rattle.std.proofs.lemmas.List.{length-map, get_or_append_left, get_or-append_right, get_or_push, length_push, take_more, map-append}
 use Rattle.flow_graph.specs.declared.ends.Arc.{Arc}
 use Rattle.flow_graph.specs.declared.ends.End.{End}
 use Rattle.flow_graph.specs.declared.ends.End.TheVariants.{Source, Point, Relay, Sink}
@@ -34,6 +34,12 @@ half-at start (suc n) k below =
     (λ (ne : k ≢ n). get_or_append_left (halves_from start n) ((start + 2 * n) ∷ []) 0 k (omega arith) ∙
     half-at start n k (omega arith))
     (cases_eq k n)
+
+-- one item more, put at the end of a list to which the first items of another were put by a function
+pub map_more : {X : Type 0} (f : X → ℕ) (xs : List X) (before now later : List ℕ) (i : ℕ) (d : X) → i < length xs →
+    now ≡ before ++ map f (take i xs) → later ≡ now ++ f (get_or xs i d) ∷ [] → later ≡ before ++ map f (take (i + 1) xs)
+map_more f xs before now later i d below so put =
+    rw (take_more xs i d below, map-append) (put ∙ (ap (λ n. n ++ f (get_or xs i d) ∷ []) so ∙ append_assoc before (map f (take i xs)) (f (get_or xs i d) ∷ [])))
 
 -- what holds of each end holds of each number in the list of ends
 pub all_map : {X : Type 0} (P : ℕ → Type 0) (f : X → ℕ) (test : X → Bool) →

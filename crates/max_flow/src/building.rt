@@ -5,7 +5,7 @@ ghost use Rattle.max_flow.specs.Private.Solving.{net_of, IsNetwork};
 
 use crate::chains::chains_of;
 use crate::networks::Network;
-use flow_base::NoMemory;
+use flow_base::{List, NoMemory};
 use flow_graph::{Arc, End, Graph, Node};
 use std::alloc::Global;
 
@@ -36,53 +36,63 @@ pub fn head_number(count: usize, end: End) -> usize
 }
 
 /// The first halves of the points, or the second ones, by where they begin.
-fn halves(alloc: Global, start: usize, count: usize) -> Result<Vec<usize>, NoMemory>
+fn halves(alloc: Global, start: usize, count: usize) -> Result<List<usize>, NoMemory>
     requires start { start ≤ 3 }
     requires count { count ≤ 65536 }
-    ensures { IfOk result (λ numbers. numbers.items ≡ halves_from start count) }
+    ensures { IfOk result (λ numbers. numbers ≡ halves_from start count) }
 {
-    let mut numbers = Vec::new(alloc);
+    let mut numbers = List::new(alloc);
     for i in 0..count {
-        numbers.push(start + 2 * i).map_err(|_| NoMemory)?;
+        numbers.push(start + 2 * i)?;
     }
     Ok(numbers)
 }
 
-/// Puts the nodes that the links leave at the end.
-fn push_tails(numbers: &mut Vec<usize>, count: usize, links: &[Arc]) -> Result<(), NoMemory>
+/// The nodes at both ends of edges.
+#[derive(Drop)]
+struct Ends {
+    /// The nodes that they leave.
+    tails: List<usize>,
+    /// The nodes that they enter.
+    heads: List<usize>,
+}
+
+/// Puts the nodes at the ends of the links at the end.
+fn push_ends(ends: &mut Ends, count: usize, links: &[Arc]) -> Result<(), NoMemory>
     requires { count ≤ 65536 }
-    ensures { OnOk result (numbers.new.items ≡ numbers.old.items ++ map (λ link. tail_of count link.source) links.now) }
+    ensures tails { OnOk result (ends.new.tails ≡ ends.old.tails ++ map (λ link. tail_of count link.source) links.now) }
+    ensures heads { OnOk result (ends.new.heads ≡ ends.old.heads ++ map (λ link. head_of count link.target) links.now) }
 {
     for link in links {
-        numbers
-            .push(tail_number(count, link.source))
-            .map_err(|_| NoMemory)?;
+        ends.tails.push(tail_number(count, link.source))?;
+        ends.heads.push(head_number(count, link.target))?;
     }
     Ok(())
 }
 
-/// Puts the nodes that the links enter at the end.
-fn push_heads(numbers: &mut Vec<usize>, count: usize, links: &[Arc]) -> Result<(), NoMemory>
-    requires { count ≤ 65536 }
-    ensures { OnOk result (numbers.new.items ≡ numbers.old.items ++ map (λ link. head_of count link.target) links.now) }
+/// The nodes at the ends of the edges of a graph.
+fn ends_of(alloc: Global, graph: &Graph) -> Result<Ends, NoMemory>
+    requires { length graph.now.points ≤ 65536 }
+    ensures tails { IfOk result (λ ends. ends.tails ≡ (network_of graph.now).tails) }
+    ensures heads { IfOk result (λ ends. ends.heads ≡ (network_of graph.now).heads) }
 {
-    for link in links {
-        numbers
-            .push(head_number(count, link.target))
-            .map_err(|_| NoMemory)?;
-    }
-    Ok(())
+    let count = graph.points.len();
+    let tails = halves(alloc, 2, count)?;
+    let heads = halves(alloc, 3, count)?;
+    let mut ends = Ends { tails, heads };
+    push_ends(&mut ends, count, graph.links.as_slice())?;
+    Ok(ends)
 }
 
 /// The capacities of the points.
-fn limits_of(alloc: Global, points: &[Node]) -> Result<Vec<u64>, NoMemory>
+fn limits_of(alloc: Global, points: &[Node]) -> Result<List<u64>, NoMemory>
     requires { IsTrue (list_all is_small points.now) }
-    ensures { IfOk result (λ limits. limits.items ≡ map (λ node. node.capacity) points.now) }
+    ensures { IfOk result (λ limits. limits ≡ map (λ node. node.capacity) points.now) }
 {
-    let mut limits = Vec::new(alloc);
+    let mut limits = List::new(alloc);
     let mut rest = points;
     while let [node, more @ ..] = rest {
-        limits.push(node.capacity as u64).map_err(|_| NoMemory)?;
+        limits.push(node.capacity as u64)?;
         rest = more;
     }
     Ok(limits)
@@ -94,21 +104,16 @@ pub fn network(alloc: Global, graph: &Graph) -> Result<Network, NoMemory>
     ensures net { IfOk result (λ network. net_of network ≡ network_of graph.now) }
     ensures network { IfOk result (λ network. IsNetwork network) }
 {
-    let links = graph.links.as_slice();
-    let count = graph.points.len();
-    let mut tails = halves(alloc, 2, count)?;
-    push_tails(&mut tails, count, links)?;
-    let mut heads = halves(alloc, 3, count)?;
-    push_heads(&mut heads, count, links)?;
+    let nodes = 2 + 2 * graph.points.len() + 65_536;
     let limits = limits_of(alloc, graph.points.as_slice())?;
-    let nodes = 2 + 2 * count + 65_536;
-    let leaving = chains_of(alloc, &tails, nodes)?;
-    let entering = chains_of(alloc, &heads, nodes)?;
+    let ends = ends_of(alloc, graph)?;
+    let leaving = chains_of(alloc, ends.tails.as_slice(), nodes)?;
+    let entering = chains_of(alloc, ends.heads.as_slice(), nodes)?;
     Ok(Network {
         nodes,
-        tails,
-        heads,
-        limits,
+        tails: ends.tails.into_vec(),
+        heads: ends.heads.into_vec(),
+        limits: limits.into_vec(),
         leaving,
         entering,
     })

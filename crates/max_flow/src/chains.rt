@@ -1,5 +1,6 @@
 ghost use Rattle.std.specs.Prelude.{◌≡◌, ℕ, ◌-◌, ◌<◌, ◌≤◌, length, slice_index, replicate, IfOk};
 ghost use Rattle.max_flow.specs.Private.Adjacency.{AreChains};
+ghost use Rattle.max_flow.specs.Private.Solving.{AreZeros};
 
 use flow_base::NoMemory;
 use std::alloc::Global;
@@ -25,13 +26,21 @@ fn link(keys: &[usize], first: &mut [usize], next: &mut [usize])
     }
 }
 
+/// So many zeros.
+fn zeros(alloc: Global, count: usize) -> Result<Vec<usize>, NoMemory>
+    ensures { IfOk result (λ numbers. AreZeros count numbers.items) }
+{
+    let numbers = vec![in alloc; 0; count]?;
+    Ok(numbers)
+}
+
 /// The chains of the keys, which are below `nodes`.
 pub fn chains_of(alloc: Global, keys: &[usize], nodes: usize) -> Result<Chains, NoMemory>
     requires { (i : ℕ) → i < length keys.now → slice_index keys.now i < nodes }
     ensures { IfOk result (λ c. AreChains keys.now (length keys.now) nodes c.first.items c.next.items) }
 {
-    let mut first = vec![in alloc; 0; nodes]?;
-    let mut next = vec![in alloc; 0; keys.len()]?;
+    let mut first = zeros(alloc, nodes)?;
+    let mut next = zeros(alloc, keys.len())?;
     link(keys, &mut first, &mut next);
     Ok(Chains { first, next })
 }

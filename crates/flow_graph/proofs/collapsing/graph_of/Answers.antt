@@ -1,32 +1,19 @@
-use Rattle.std.proofs.Common.{◌≡◌, take, sym, ◌∙◌, subst, arith}
-use Rattle.std.proofs.lemmas.List.{take_more, take_all, length-take}
-use Rattle.flow_graph.specs.EventGraphs.{passed}
-use Rattle.flow_graph.specs.Builders.{StandsFor, count_at}
-use Rattle.flow_graph.proofs.KeptAfterEvent.{passed_bound}
+use Rattle.std.proofs.Common.{◌∙◌, subst}
+use Rattle.flow_graph.specs.Builders.{StandsFor}
 use Rattle.flow_graph.proofs.CapacityEntries.{few_kept}
 use Rattle.flow_graph.proofs.collapsing.graph_of.Goals as goal
 
-pub add-requires-clause-positive : goal.add-requires-clause-positive
-add-requires-clause-positive c = c.loop-event.invariant.positive
+pub finish-requires-clause-positive : goal.finish-requires-clause-positive
+finish-requires-clause-positive c = c.in_ok-builder.ensures.positive
 
-pub add-requires-clause-room : goal.add-requires-clause-room
-add-requires-clause-room c = λ q.
-    let counted : count_at c.loop-event.builder q ≡ passed (take c.loop-event.event-index c.as_slice-items.result.now)
-    q = c.loop-event.invariant.counted q in
-    let bound = passed_bound (take c.loop-event.event-index c.as_slice-items.result.now) q in
-    let taken = length-take c.loop-event.event-index c.as_slice-items.result.now in
-    omega (arith, counted, bound, taken)
-
-pub loop-event-preserved : goal.loop-event-preserved
-loop-event-preserved c =
-    subst (StandsFor c.add.new.self)
-    (sym (take_more c.as_slice-items.result.now c.loop-event.event-index _ c.loop-event-test.true))
-    (c.in_ok-add.ensures.ok (take c.loop-event.event-index c.as_slice-items.result.now) c.loop-event.invariant)
+pub finish-requires-clause-sound : goal.finish-requires-clause-sound
+finish-requires-clause-sound c = c.in_ok-builder.ensures.sound
 
 pub finish-requires-clause-few : goal.finish-requires-clause-few
 finish-requires-clause-few c =
-    let all : take c.loop-event.event-index c.as_slice-items.result.now ≡ c.args.events.now =
-    take_all c.loop-event.event-index c.as_slice-items.result.now c.loop-event-test.false ∙
-    (c.as_slice-items.ensures ∙ c.events.ensures) in
-    few_kept c.loop-event.builder c.args.events.now (subst (StandsFor c.loop-event.builder) all
-    c.loop-event.invariant) c.requires
+    few_kept c.in_ok-builder.builder c.args.events.now (subst (StandsFor c.in_ok-builder.builder)
+    (c.as_slice.ensures ∙ c.events.ensures) c.in_ok-builder.ensures) c.requires
+
+pub returns : goal.returns
+returns c = c.in_ok-graph.ensures c.args.events.now (subst (StandsFor c.in_ok-builder.builder)
+    (c.as_slice.ensures ∙ c.events.ensures) c.in_ok-builder.ensures)

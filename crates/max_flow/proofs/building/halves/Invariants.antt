@@ -3,4 +3,4 @@ use Rattle.max_flow.specs.Flows.{halves_from}
 use Rattle.max_flow.proofs.building.halves.Given as goal
 
 abbrev pub invariant-loop-i : goal.invariant-loop-i
-invariant-loop-i l = l.numbers.items ≡ halves_from l.start l.i
+invariant-loop-i l = l.numbers ≡ halves_from l.start l.i

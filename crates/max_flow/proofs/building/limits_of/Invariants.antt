@@ -6,7 +6,7 @@ use Rattle.max_flow.proofs.building.limits_of.Given as goal
 
 abbrev pub invariant-loop-rest : goal.invariant-loop-rest
 invariant-loop-rest l = record {
-  all : l.limits.items ++ map (λ node. node.capacity) l.rest ≡ map (λ node. node.capacity) l.points;
+  all : l.limits ++ map (λ node. node.capacity) l.rest ≡ map (λ node. node.capacity) l.points;
   small : IsTrue (list_all is_small l.rest);
 }
 

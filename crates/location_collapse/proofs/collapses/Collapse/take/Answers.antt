@@ -49,3 +49,30 @@ returns-else-is_latest_output-clause-ok c =
     rw c.in-Out.is
     (on_ok_weaker c.put-in-Out.result (λ ok events. ok _ events (makes_output (knows c.args.self.now) c.in-Out.region
     c.in-Out.point (ne_eqb c.in-Out.region 0 c.if-region-eq0.false))) c.put-in-Out.ensures.ok)
+
+pub returns-in-Pass-clause-limit : goal.returns-in-Pass-clause-limit
+returns-in-Pass-clause-limit c = rw c.in-Pass.is c.pass.ensures.limit
+
+pub returns-else-is_latest_flow-clause-limit : goal.returns-else-is_latest_flow-clause-limit
+returns-else-is_latest_flow-clause-limit c =
+    rw c.in-Link.is
+    (λ full events. c.put.ensures.limit full _ events (makes_link (knows c.args.self.now) c.in-Link.source
+    c.in-Link.target))
+
+pub returns-in-FromSecret-clause-limit : goal.returns-in-FromSecret-clause-limit
+returns-in-FromSecret-clause-limit c =
+    rw c.in-FromSecret.is
+    (λ full events. c.put-in-FromSecret.ensures.limit full _ events (makes_secret (knows c.args.self.now)
+    c.in-FromSecret.point))
+
+pub returns-in-Implicit-clause-limit : goal.returns-in-Implicit-clause-limit
+returns-in-Implicit-clause-limit c =
+    rw c.in-Implicit.is
+    (λ full events. c.put-in-Implicit.ensures.limit full _ events (makes_implicit (knows c.args.self.now)
+    c.in-Implicit.point c.in-Implicit.region c.outlet.result c.outlet.ensures))
+
+pub returns-else-is_latest_output-clause-limit : goal.returns-else-is_latest_output-clause-limit
+returns-else-is_latest_output-clause-limit c =
+    rw c.in-Out.is
+    (λ full events. c.put-in-Out.ensures.limit full _ events (makes_output (knows c.args.self.now) c.in-Out.region
+    c.in-Out.point (ne_eqb c.in-Out.region 0 c.if-region-eq0.false)))

@@ -1,7 +1,7 @@
-use Rattle.std.proofs.Common.{sym, ◌∙◌}
+use Rattle.std.proofs.Common.{refl, sym, ◌∙◌}
 use Rattle.std.specs.Map.{keys_of}
 use Rattle.std.proofs.lemmas.Bool.{OnTrue_from}
-use Rattle.location_collapse.proofs.LatestLinks.{flow_known, flow_told}
+use Rattle.location_collapse.proofs.LatestLinks.{flow_apart, flow_known, flow_told}
 use Rattle.location_collapse.proofs.kept_links.KeptLinks.is_latest_flow.Goals as goal
 
 pub returns-then-eq-clause-known : goal.returns-then-eq-clause-known
@@ -15,3 +15,11 @@ pub returns-then-eq-clause-latest : goal.returns-then-eq-clause-latest
 returns-then-eq-clause-latest c =
     flow_told c.args.self.now.flow c.args.source.now c.args.target.now c.in-Some.from c.in-Some.to c.eq-then-eq.result
     c.in-Some.is (sym c.eq.ensures ∙ c.if-eq.true) c.eq-then-eq.ensures
+
+pub returns-else-eq-clause-latest : goal.returns-else-eq-clause-latest
+returns-else-eq-clause-latest c =
+    c.if-eq.false ∙ flow_apart c.args.self.now.flow c.args.source.now c.args.target.now c.in-Some.from c.in-Some.to
+    c.in-Some.is (sym c.eq.ensures ∙ c.if-eq.false)
+
+pub returns-in-None-clause-latest : goal.returns-in-None-clause-latest
+returns-in-None-clause-latest c = rw c.in-None.is refl

@@ -83,6 +83,25 @@ returns-in-None-clause-counted c =
     c.from-bits.result (bit_count c.args.mask) put (omega (arith, bits, none, c.from-bits.ensures)))
     c.start.ensures.ok
 
+pub start-requires-clause-unknown : goal.start-requires-clause-unknown
+start-requires-clause-unknown c = c.in-None.ensures.none
+
+pub start-requires-clause-small : goal.start-requires-clause-small
+start-requires-clause-small c =
+    let bits : bit_count c.args.mask ≡ count_ones c.args.mask = bit_count-ones c.args.mask (omega arith) in
+    let bound : bit_count c.args.mask ≤ 32 = bit_count_bound c.args.mask in
+    omega (arith, bits, bound, c.from-bits.ensures)
+
+pub returns-in-None-clause-grows : goal.returns-in-None-clause-grows
+returns-in-None-clause-grows c =
+    on_ok_weaker c.start.result
+    (λ put. grows_put c.args.self.now.capacities.map.entries c.start.new.self.capacities.map.entries c.args.point
+    c.from-bits.result put)
+    c.start.ensures.ok
+
+pub returns-in-None-clause-latest : goal.returns-in-None-clause-latest
+returns-in-None-clause-latest c = inl c.start.ensures.latest
+
 pub returns-in-None-clause-limit : goal.returns-in-None-clause-limit
 returns-in-None-clause-limit c = λ e.
     let some : 0 < count_ones c.args.mask = ones_some c.args.mask (omega arith) in

@@ -1,9 +1,0 @@
-use Rattle.std.proofs.Common.{◌≡◌, ◌∷◌, length}
-use Rattle.flow_graph.specs.Graphs.{are_relays}
-use Rattle.flow_graph.proofs.checking.do_relays_ascend.Given as goal
-
-abbrev pub invariant-loop-rest : goal.invariant-loop-rest
-invariant-loop-rest l = are_relays (l.last ∷ l.rest) ≡ are_relays l.relays
-
-abbrev pub decreases-loop-rest : goal.decreases-loop-rest
-decreases-loop-rest l = length l.rest
