@@ -8,11 +8,11 @@ use Rattle.cut_file.specs.declared.points.CutPoint.{CutPoint}
 use Rattle.cut_file.specs.declared.points.Run.{Run}
 use Rattle.cut_file.specs.Cuts.{CutPicture}
 use Rattle.flow_base.specs.HexWords.{hex_word}
-use Rattle.flow_base.specs.Points.{slot_text}
+use Rattle.flow_base.specs.Points.{point_text, slot_text}
 use Rattle.cut_file.specs.declared.lines.Line.{Line}
 use Rattle.cut_file.specs.declared.lines.Line.TheVariants.{Version, Secret, Bits, Skip, Point, End}
 use Rattle.cut_file.specs.Texts.{cut_text, joined, line_text, lines_text, rest_text, run_text}
-use Rattle.cut_file.specs.Private.Writing.{led, point_pieces}
+use Rattle.cut_file.specs.Private.Writing.{later_lines, led, point_pieces}
 
 pub joined-led : (word : List ℕ) (words : List (List ℕ)) → joined 32 (word ∷ words) ≡ word ++ led words
 joined-led word [] = sym (append-nil word)
@@ -36,22 +36,24 @@ pub point-pieces : (version : ℕ) (point : CutPoint) →
     line_text version (Point point) ++ codes "\n" ≡ point_pieces version point
 point-pieces version point =
     let region = decimal point.point.region in
+    let address = hex_word point.point.address in
     let slot = slot_text point.point.slot in
+    let place : List ℕ = point_text point.point in
     let runs : List (List ℕ) = map run_text point.runs in
     let pattern : List (List ℕ) = map (rest_text version) point.rest in
     let last : List ℕ = codes " rest" ++ led pattern in
-    let words = joined-led region
-    (hex_word point.point.address ∷ (slot ∷ (runs ++ (codes "rest" ∷ pattern)))) in
-    let inner : led (runs ++ (codes "rest" ∷ pattern)) ≡ led runs ++ last = led-append runs (codes "rest" ∷ pattern) in
+    let more : List ℕ = led runs ++ last in
+    let words = joined-led region (address ∷ (slot ∷ (runs ++ (codes "rest" ∷ pattern)))) in
+    let inner : led (runs ++ (codes "rest" ∷ pattern)) ≡ more = led-append runs (codes "rest" ∷ pattern) in
+    let front : region ++ (codes " " ++ (address ++ (codes " " ++ (slot ++ more)))) ≡ place ++ more =
+    sym (append_assoc region (codes " " ++ (address ++ (codes " " ++ slot))) more
+    ∙ ap (λ (l : List ℕ). region ++ (codes " " ++ l)) (append_assoc address (codes " " ++ slot) more)) in
     ap (λ (l : List ℕ). (codes "point " ++ l) ++ codes "\n") words
-    ∙ ap (λ (l : List ℕ). (codes "point " ++ (region ++ (codes " " ++ (hex_word point.point.address ++ (codes " " ++
-    (slot ++ l)))))) ++ codes "\n") inner
-    ∙ ap (λ (l : List ℕ). codes "point " ++ l) (append_assoc region (codes " " ++ (hex_word point.point.address ++
-    (codes " " ++ (slot ++ (led runs ++ last))))) (codes "\n"))
-    ∙ ap (λ (l : List ℕ). codes "point " ++ (region ++ (codes " " ++ (hex_word point.point.address ++
-    (codes " " ++ l))))) (append_assoc slot (led runs ++ last) (codes "\n"))
-    ∙ ap (λ (l : List ℕ). codes "point " ++ (region ++ (codes " " ++ (hex_word point.point.address ++ (codes " " ++
-    (slot ++ l)))))) (append_assoc (led runs) last (codes "\n"))
+    ∙ ap (λ (l : List ℕ). (codes "point " ++ (region ++ (codes " " ++ (address ++ (codes " " ++ (slot ++ l))))))
+    ++ codes "\n") inner
+    ∙ ap (λ (l : List ℕ). (codes "point " ++ l) ++ codes "\n") front
+    ∙ ap (λ (l : List ℕ). codes "point " ++ l) (append_assoc place more (codes "\n"))
+    ∙ ap (λ (l : List ℕ). codes "point " ++ (place ++ l)) (append_assoc (led runs) last (codes "\n"))
 
 -- one more piece of runs
 pub runs-step : (piece : Run → List ℕ) (runs : List Run) (index : ℕ) (other : Run) (text whole : List ℕ) →
@@ -79,17 +81,23 @@ lines-step version form items index other text piece whole inside is known =
     ∙ ap (λ (l : List ℕ). text ++ l) (append_assoc here (10 ∷ []) more)
     ∙ ap (λ l. text ++ lines_text version (map form l)) (sym tail) ∙ known)
 
+-- the lines after the first three, in the pieces that are written
+pub later-pieces : (version : ℕ) (cut : CutPicture) →
+    lines_text version (later_lines cut)
+    ≡ lines_text version (map Skip cut.skip) ++ (lines_text version (map Point cut.points) ++ codes "end\n")
+later-pieces version cut =
+    let skips : List Line = map Skip cut.skip in
+    let points : List Line = map Point cut.points in
+    lines-append version skips (points ++ (End ∷ []))
+    ∙ ap (λ (l : List ℕ). lines_text version skips ++ l) (lines-append version points (End ∷ []))
+
 -- the text of a cut in the pieces that are written
 pub cut-pieces : (cut : CutPicture) →
-    ((lines_text cut.version (Version cut.version ∷ (Secret cut.secret_len ∷ (Bits cut.bits ∷ [])))
-    ++ lines_text cut.version (map Skip cut.skip)) ++ lines_text cut.version (map Point cut.points)) ++ codes "end\n"
+    lines_text cut.version (Version cut.version ∷ (Secret cut.secret_len ∷ (Bits cut.bits ∷ [])))
+    ++ lines_text cut.version (later_lines cut)
     ≡ cut_text cut
 cut-pieces cut =
     let head : List Line = Version cut.version ∷ (Secret cut.secret_len ∷ (Bits cut.bits ∷ [])) in
-    let text : List Line → List ℕ = lines_text cut.version in
-    let skips : List Line = map Skip cut.skip in
-    let points : List Line = map Point cut.points in
-    sym (lines-append cut.version (head ++ (skips ++ points)) (End ∷ [])
-    ∙ ap (λ (l : List ℕ). l ++ codes "end\n") (lines-append cut.version head (skips ++ points)
-    ∙ ap (λ (l : List ℕ). text head ++ l) (lines-append cut.version skips points)
-    ∙ sym (append_assoc (text head) (text skips) (text points))))
+    sym (lines-append cut.version head (later_lines cut))
+    ∙ ap (λ (l : List Line). lines_text cut.version (head ++ l)) (sym (append_assoc (map Skip cut.skip)
+    (map Point cut.points) (End ∷ [])))

@@ -46,13 +46,14 @@ impl fmt::Display for CutFault {
     ghost output = { λ fault. Some (cut_fault_text fault) };
 
     fn fmt<W: fmt::Write>(&self, f: &mut fmt::Formatter<W>) -> fmt::Result {
-        match *self {
-            CutFault::Version => write!(f, "version"),
-            CutFault::Line { number } => write!(f, "line {number}"),
-            CutFault::Order { number } => write!(f, "order {number}"),
-            CutFault::Truncated => write!(f, "truncated"),
-            CutFault::Trailing { offset } => write!(f, "trailing {offset}"),
-            CutFault::Memory => write!(f, "memory"),
-        }
+        let (word, number) = match *self {
+            CutFault::Version => return f.write_str("version"),
+            CutFault::Line { number } => ("line", number),
+            CutFault::Order { number } => ("order", number),
+            CutFault::Truncated => return f.write_str("truncated"),
+            CutFault::Trailing { offset } => ("trailing", offset),
+            CutFault::Memory => return f.write_str("memory"),
+        };
+        write!(f, "{word} {number}")
     }
 }

@@ -1,12 +1,13 @@
-ghost use Rattle.std.specs.Prelude.{◌≡◌, ◌≢◌, ◌<◌, ◌≤◌, ◌^◌, length, nat_lt, Err, IfErr, IfOk, IsTrue};
+ghost use Rattle.std.specs.Prelude.{◌≡◌, ◌≢◌, ◌<◌, ◌≤◌, ◌^◌, ◌++◌, ◌∷◌, [], length, nat_lt, true, false};
+ghost use Rattle.std.specs.Prelude.{Err, IfErr, IfOk, IsTrue, None, OnOk, Some};
 ghost use Rattle.cut_file.specs.declared.lines.Line.TheVariants as forms;
 ghost use Rattle.cut_file.specs.Cuts.{CutPicture, are_points, is_cut_point};
 ghost use Rattle.cut_file.specs.Cuts.{is_point_of, is_region, is_version, stands_before};
 ghost use Rattle.cut_file.specs.Faults.{FirstCutFault};
 ghost use Rattle.cut_file.specs.Fronts.{bare_cut as bare, is_front, version_of};
-ghost use Rattle.cut_file.specs.Fronts.Front.{Listed, Nothing};
+ghost use Rattle.cut_file.specs.Fronts.Front.{Listed, Nothing, Sized, Versioned};
 ghost use Rattle.cut_file.specs.Pictures.{front_of, picture_of};
-ghost use Rattle.cut_file.specs.Private.Reading.{cut_in, is_short, lines_in, may_follow, parts, unfit as unfit_line};
+ghost use Rattle.cut_file.specs.Private.Reading.{cut_in, is_short, line_in, lines_in, may_follow, parts, unfit as unfit_line};
 ghost use Rattle.cut_file.specs.Private.Reading.{with_line as lined, with_text as texted};
 ghost use Rattle.cut_file.specs.Texts.{CutText, is_line};
 
@@ -53,15 +54,53 @@ fn may_follow_points(points: &[CutPoint], point: &CutPoint) -> bool
     }
 }
 
-// The cut with a region after its own, by the line of that number.
+// Puts a region after others, by the line of that number.
+fn push_region(skip: &mut List<u16>, number: u32, region: u16) -> Result<(), CutFault>
+    ensures put { OnOk result (skip.new ≡ skip.old ++ region ∷ []) }
+    ensures ok { OnOk result (may_follow nat_lt skip.old region ≡ true) }
+    ensures err { IfErr result (λ fault. fault ≢ CutFault.Memory → fault ≡ CutFault.Order number) }
+    ensures behind { IfErr result (λ fault. fault ≢ CutFault.Memory → may_follow nat_lt skip.old region ≡ false) }
+{
+    if !may_follow_regions(skip.as_slice(), region) {
+        return Err(CutFault::Order { number });
+    }
+    match skip.push(region) {
+        Ok(()) => Ok(()),
+        Err(_) => Err(CutFault::Memory),
+    }
+}
+
+// Puts a point after others, by the line of that number.
+fn push_point(points: &mut List<CutPoint>, number: u32, point: CutPoint) -> Result<(), CutFault>
+    requires points { IsTrue (are_points points.now) }
+    requires point { IsTrue (is_cut_point point) }
+    ensures put { OnOk result (points.new ≡ points.old ++ point ∷ []) }
+    ensures ok { OnOk result (may_follow stands_before points.old point ≡ true) }
+    ensures err { IfErr result (λ fault. fault ≢ CutFault.Memory → fault ≡ CutFault.Order number) }
+    ensures behind { IfErr result (λ fault. fault ≢ CutFault.Memory
+        → may_follow stands_before points.old point ≡ false) }
+{
+    if !may_follow_points(points.as_slice(), &point) {
+        return Err(CutFault::Order { number });
+    }
+    match points.push(point) {
+        Ok(()) => Ok(()),
+        Err(_) => Err(CutFault::Memory),
+    }
+}
+
+// The draft of a cut with a region after its own, by the line of that number.
 #[tactic(auto, unfolding(crate::specs::Private::Reading::with_line))]
-fn with_region(cut: Cut, number: u32, region: u16) -> Result<Cut, CutFault>
+fn with_region(cut: Cut, number: u32, region: u16) -> Result<Draft, CutFault>
     requires { IsTrue (is_region region) }
     ensures ok { IfOk result (λ longer. lined number (Listed (picture_of cut)) (forms.Skip region)
-        ≡ Ok (Listed (picture_of longer))) }
+        ≡ Ok (front_of longer)) }
     ensures err { IfErr result (λ fault. fault ≢ CutFault.Memory
         → lined number (Listed (picture_of cut)) (forms.Skip region) ≡ Err fault) }
 {
+    if cut.points.len() != 0 {
+        return Err(unfit(number));
+    }
     let Cut {
         version,
         secret_len,
@@ -69,28 +108,22 @@ fn with_region(cut: Cut, number: u32, region: u16) -> Result<Cut, CutFault>
         mut skip,
         points,
     } = cut;
-    if points.len() != 0 {
-        return Err(unfit(number));
-    }
-    if !may_follow_regions(skip.as_slice(), region) {
-        return Err(CutFault::Order { number });
-    }
-    skip.push(region)?;
-    Ok(Cut {
+    push_region(&mut skip, number, region)?;
+    Ok(Draft::Listed(Cut {
         version,
         secret_len,
         bits,
         skip,
         points,
-    })
+    }))
 }
 
-// The cut with a point after its own, by the line of that number.
+// The draft of a cut with a point after its own, by the line of that number.
 #[tactic(auto, unfolding(crate::specs::Private::Reading::with_line))]
-fn with_point(cut: Cut, number: u32, point: CutPoint) -> Result<Cut, CutFault>
+fn with_point(cut: Cut, number: u32, point: CutPoint) -> Result<Draft, CutFault>
     requires { IsTrue (is_point_of cut.version point) }
     ensures ok { IfOk result (λ longer. lined number (Listed (picture_of cut)) (forms.Point point)
-        ≡ Ok (Listed (picture_of longer))) }
+        ≡ Ok (front_of longer)) }
     ensures err { IfErr result (λ fault. fault ≢ CutFault.Memory
         → lined number (Listed (picture_of cut)) (forms.Point point) ≡ Err fault) }
 {
@@ -101,17 +134,14 @@ fn with_point(cut: Cut, number: u32, point: CutPoint) -> Result<Cut, CutFault>
         skip,
         mut points,
     } = cut;
-    if !may_follow_points(points.as_slice(), &point) {
-        return Err(CutFault::Order { number });
-    }
-    points.push(point)?;
-    Ok(Cut {
+    push_point(&mut points, number, point)?;
+    Ok(Draft::Listed(Cut {
         version,
         secret_len,
         bits,
         skip,
         points,
-    })
+    }))
 }
 
 // The cut of three numbers, without regions and points.
@@ -129,6 +159,66 @@ fn bare_cut(alloc: Global, version: u8, secret_len: u32, bits: u32) -> Cut
     }
 }
 
+// The draft of the first line.
+#[tactic(auto, unfolding(crate::specs::Private::Reading::with_line))]
+fn with_version(number: u32, line: &Line) -> Result<Draft, CutFault>
+    ensures ok { IfOk result (λ longer. lined number Nothing line.now ≡ Ok (front_of longer)) }
+    ensures err { IfErr result (λ fault. lined number Nothing line.now ≡ Err fault) }
+{
+    match line {
+        Line::Version(version) => Ok(Draft::Versioned(*version)),
+        _ => Err(unfit(number)),
+    }
+}
+
+// The draft of the first two lines.
+#[tactic(auto, unfolding(crate::specs::Private::Reading::with_line))]
+fn with_secret(version: u8, number: u32, line: &Line) -> Result<Draft, CutFault>
+    ensures ok { IfOk result (λ longer. lined number (Versioned version) line.now ≡ Ok (front_of longer)) }
+    ensures err { IfErr result (λ fault. lined number (Versioned version) line.now ≡ Err fault) }
+{
+    match line {
+        Line::Secret(length) => Ok(Draft::Sized(version, *length)),
+        _ => Err(unfit(number)),
+    }
+}
+
+// The draft of the first three lines.
+#[tactic(auto, unfolding(crate::specs::Private::Reading::with_line))]
+fn with_bits(
+    alloc: Global,
+    version: u8,
+    length: u32,
+    number: u32,
+    line: &Line,
+) -> Result<Draft, CutFault>
+    requires version { IsTrue (is_version version) }
+    requires short { IsTrue (is_short length) }
+    ensures ok { IfOk result (λ longer. lined number (Sized version length) line.now ≡ Ok (front_of longer)) }
+    ensures err { IfErr result (λ fault. lined number (Sized version length) line.now ≡ Err fault) }
+{
+    match line {
+        Line::Bits(bits) => Ok(Draft::Listed(bare_cut(alloc, version, length, *bits))),
+        _ => Err(unfit(number)),
+    }
+}
+
+// The draft of a cut with one more line, of that number.
+#[tactic(auto, unfolding(crate::specs::Private::Reading::with_line))]
+fn with_later(cut: Cut, number: u32, line: Line) -> Result<Draft, CutFault>
+    requires { IsTrue (is_line cut.version line) }
+    ensures ok { IfOk result (λ longer. lined number (Listed (picture_of cut)) line ≡ Ok (front_of longer)) }
+    ensures err { IfErr result (λ fault. fault ≢ CutFault.Memory
+        → lined number (Listed (picture_of cut)) line ≡ Err fault) }
+{
+    match line {
+        Line::Skip(region) => with_region(cut, number, region),
+        Line::Point(point) => with_point(cut, number, point),
+        Line::End => Ok(Draft::Whole(cut)),
+        _ => Err(unfit(number)),
+    }
+}
+
 // The draft with one more line, of that number.
 #[tactic(auto, unfolding(crate::specs::Private::Reading::with_line))]
 fn with_line(alloc: Global, draft: Draft, number: u32, line: Line) -> Result<Draft, CutFault>
@@ -137,20 +227,12 @@ fn with_line(alloc: Global, draft: Draft, number: u32, line: Line) -> Result<Dra
     ensures ok { IfOk result (λ longer. lined number (front_of draft) line ≡ Ok (front_of longer)) }
     ensures err { IfErr result (λ fault. fault ≢ CutFault.Memory → lined number (front_of draft) line ≡ Err fault) }
 {
-    match (draft, line) {
-        (Draft::Nothing, Line::Version(version)) => Ok(Draft::Versioned(version)),
-        (Draft::Versioned(version), Line::Secret(length)) => Ok(Draft::Sized(version, length)),
-        (Draft::Sized(version, length), Line::Bits(bits)) => {
-            Ok(Draft::Listed(bare_cut(alloc, version, length, bits)))
-        }
-        (Draft::Listed(cut), Line::Skip(region)) => {
-            Ok(Draft::Listed(with_region(cut, number, region)?))
-        }
-        (Draft::Listed(cut), Line::Point(point)) => {
-            Ok(Draft::Listed(with_point(cut, number, point)?))
-        }
-        (Draft::Listed(cut), Line::End) => Ok(Draft::Whole(cut)),
-        _ => Err(unfit(number)),
+    match draft {
+        Draft::Nothing => with_version(number, &line),
+        Draft::Versioned(version) => with_secret(version, number, &line),
+        Draft::Sized(version, length) => with_bits(alloc, version, length, number, &line),
+        Draft::Listed(cut) => with_later(cut, number, line),
+        Draft::Whole(_) => Err(unfit(number)),
     }
 }
 
@@ -165,6 +247,18 @@ fn version(draft: &Draft) -> u8
     }
 }
 
+// The line of that number and text, in a cut of that version.
+fn line_at(alloc: Global, version: u8, number: u32, text: &[u8]) -> Result<Line, CutFault>
+    ensures ok { IfOk result (λ line. line_in version text.now ≡ Some line) }
+    ensures err { IfErr result (λ fault. fault ≢ CutFault.Memory → fault ≡ unfit_line number) }
+    ensures none { IfErr result (λ fault. fault ≢ CutFault.Memory → line_in version text.now ≡ None) }
+{
+    match line(alloc, version, text)? {
+        Some(line) => Ok(line),
+        None => Err(unfit(number)),
+    }
+}
+
 // The draft with the line of that number and text.
 #[tactic(auto, unfolding(crate::specs::Private::Reading::with_text))]
 fn with_text(alloc: Global, draft: Draft, number: u32, text: &[u8]) -> Result<Draft, CutFault>
@@ -175,9 +269,7 @@ fn with_text(alloc: Global, draft: Draft, number: u32, text: &[u8]) -> Result<Dr
     ensures long { IfOk result (λ _. 1 ≤ length text.now) }
     ensures front { IfOk result (λ longer. IsTrue (is_front (front_of longer))) }
 {
-    let Some(line) = line(alloc, version(&draft), text)? else {
-        return Err(unfit(number));
-    };
+    let line = line_at(alloc, version(&draft), number, text)?;
     with_line(alloc, draft, number, line)
 }
 

@@ -7,3 +7,4 @@ pub mod Fronts
 pub mod LabelSteps
 pub mod ProgramSteps
 pub mod Listings
+pub mod StatementForms

@@ -79,12 +79,13 @@ impl fmt::Display for AsmFault {
     ghost output = { λ fault. Some (source_fault_text fault) };
 
     fn fmt<W: fmt::Write>(&self, f: &mut fmt::Formatter<W>) -> fmt::Result {
-        match *self {
-            AsmFault::Line { number, kind } => write!(f, "line {number} kind {kind}"),
-            AsmFault::LabelTwice { number } => write!(f, "label-twice {number}"),
-            AsmFault::LabelMissing { number } => write!(f, "label-missing {number}"),
-            AsmFault::ImmediateRange { number } => write!(f, "range {number}"),
-            AsmFault::Memory => write!(f, "memory"),
-        }
+        let (word, number) = match *self {
+            AsmFault::Line { number, kind } => return write!(f, "line {number} kind {kind}"),
+            AsmFault::LabelTwice { number } => ("label-twice", number),
+            AsmFault::LabelMissing { number } => ("label-missing", number),
+            AsmFault::ImmediateRange { number } => ("range", number),
+            AsmFault::Memory => return f.write_str("memory"),
+        };
+        write!(f, "{word} {number}")
     }
 }

@@ -3,14 +3,14 @@
 ghost use Rattle.std.specs.Prelude.{◌≡◌, ◌<◌, option_map, IfSome};
 ghost use Rattle.rv32im_asm.specs.Lines.{operands_in};
 ghost use Rattle.rv32im_asm.specs.Operands.{label_in, number_in, plain as plain_value, value_in as wanted_in};
-ghost use Rattle.rv32im_asm.specs.Statements.{form_none, meaning_of, one_value as one_in, register_and as register_in};
-ghost use Rattle.rv32im_asm.specs.Statements.{register_and_place as place_in, registers_and as registers_in, value_of};
-ghost use Rattle.rv32im_asm.specs.Statements.{three_registers as three_in, two_registers as two_in};
+ghost use Rattle.rv32im_asm.specs.Private.Forms.{found_in, found_of};
+ghost use Rattle.rv32im_asm.specs.Statements.{value_of};
+ghost use Rattle.rv32im_asm.specs.declared.statements.Form.TheVariants as forms;
 
 use crate::cutting::is_name;
 use crate::lines::{one, three, two};
 use crate::numbers::{number, place};
-use crate::statements::{Operation, Statement, Value, Wanted};
+use crate::statements::{Form, Operands, Value, Wanted};
 use flow_base::register_named;
 
 /// The value of a number that is given.
@@ -47,7 +47,7 @@ fn number_value<'a>(text: &'a [u8]) -> Option<Value<'a>>
 }
 
 /// The value that a text is.
-pub fn value<'a>(wanted: Wanted, text: &'a [u8]) -> Option<Value<'a>>
+fn value<'a>(wanted: Wanted, text: &'a [u8]) -> Option<Value<'a>>
     ensures { option_map value_of result ≡ wanted_in wanted text.entry.now }
 {
     match wanted {
@@ -61,83 +61,131 @@ pub fn value<'a>(wanted: Wanted, text: &'a [u8]) -> Option<Value<'a>>
     }
 }
 
+/// No operand.
+fn no_operand<'a>(text: &'a [u8]) -> Option<Operands<'a>>
+    ensures exact { option_map found_of result ≡ found_in forms.Nothing (operands_in text.entry.now) }
+    ensures below { IfSome result (λ found. (found.first < 32) × (found.second < 32) × (found.third < 32)) }
+{
+    if text.is_empty() {
+        Some(Operands {
+            first: 0,
+            second: 0,
+            third: 0,
+            value: plain(0),
+        })
+    } else {
+        None
+    }
+}
+
 /// Three registers.
-pub fn three_registers(text: &[u8]) -> Option<(u8, u8, u8)>
-    ensures exact { result ≡ three_in (operands_in text.now) }
-    ensures below { IfSome result (λ found. (found.0 < 32) × (found.1 < 32) × (found.2 < 32)) }
+fn three_registers<'a>(text: &'a [u8]) -> Option<Operands<'a>>
+    ensures exact { option_map found_of result ≡ found_in forms.ThreeRegisters (operands_in text.entry.now) }
+    ensures below { IfSome result (λ found. (found.first < 32) × (found.second < 32) × (found.third < 32)) }
 {
     let (first, second, third) = three(text)?;
     let first = register_named(first)?;
     let second = register_named(second)?;
     let third = register_named(third)?;
-    Some((first, second, third))
+    Some(Operands {
+        first,
+        second,
+        third,
+        value: plain(0),
+    })
 }
 
 /// Two registers.
-pub fn two_registers(text: &[u8]) -> Option<(u8, u8)>
-    ensures exact { result ≡ two_in (operands_in text.now) }
-    ensures below { IfSome result (λ found. (found.0 < 32) × (found.1 < 32)) }
+fn two_registers<'a>(text: &'a [u8]) -> Option<Operands<'a>>
+    ensures exact { option_map found_of result ≡ found_in forms.TwoRegisters (operands_in text.entry.now) }
+    ensures below { IfSome result (λ found. (found.first < 32) × (found.second < 32) × (found.third < 32)) }
 {
     let (first, second) = two(text)?;
     let first = register_named(first)?;
     let second = register_named(second)?;
-    Some((first, second))
+    Some(Operands {
+        first,
+        second,
+        third: 0,
+        value: plain(0),
+    })
 }
 
 /// Two registers and a value.
-pub fn registers_and<'a>(wanted: Wanted, text: &'a [u8]) -> Option<(u8, u8, Value<'a>)>
-    ensures exact { option_map (λ found. (found.0, found.1, value_of found.2)) result
-        ≡ registers_in wanted (operands_in text.entry.now) }
-    ensures below { IfSome result (λ found. (found.0 < 32) × (found.1 < 32)) }
+fn registers_and<'a>(wanted: Wanted, text: &'a [u8]) -> Option<Operands<'a>>
+    ensures exact { option_map found_of result ≡ found_in (forms.Registers wanted) (operands_in text.entry.now) }
+    ensures below { IfSome result (λ found. (found.first < 32) × (found.second < 32) × (found.third < 32)) }
 {
     let (first, second, third) = three(text)?;
     let first = register_named(first)?;
     let second = register_named(second)?;
     let value = value(wanted, third)?;
-    Some((first, second, value))
+    Some(Operands {
+        first,
+        second,
+        third: 0,
+        value,
+    })
 }
 
 /// A register and a value.
-pub fn register_and<'a>(wanted: Wanted, text: &'a [u8]) -> Option<(u8, Value<'a>)>
-    ensures exact { option_map (λ found. (found.0, value_of found.1)) result
-        ≡ register_in wanted (operands_in text.entry.now) }
-    ensures below { IfSome result (λ found. found.0 < 32) }
+fn register_and<'a>(wanted: Wanted, text: &'a [u8]) -> Option<Operands<'a>>
+    ensures exact { option_map found_of result ≡ found_in (forms.Register wanted) (operands_in text.entry.now) }
+    ensures below { IfSome result (λ found. (found.first < 32) × (found.second < 32) × (found.third < 32)) }
 {
     let (first, second) = two(text)?;
     let first = register_named(first)?;
     let value = value(wanted, second)?;
-    Some((first, value))
+    Some(Operands {
+        first,
+        second: 0,
+        third: 0,
+        value,
+    })
 }
 
 /// A register, and a number with a register in parentheses.
-pub fn register_and_place(text: &[u8]) -> Option<(u8, i64, u8)>
-    ensures exact { result ≡ place_in (operands_in text.now) }
-    ensures below { IfSome result (λ found. (found.0 < 32) × (found.2 < 32)) }
+fn register_and_place<'a>(text: &'a [u8]) -> Option<Operands<'a>>
+    ensures exact { option_map found_of result ≡ found_in forms.Place (operands_in text.entry.now) }
+    ensures below { IfSome result (λ found. (found.first < 32) × (found.second < 32) × (found.third < 32)) }
 {
     let (first, second) = two(text)?;
-    let register = register_named(first)?;
+    let first = register_named(first)?;
     let (number, base) = place(second)?;
-    Some((register, number, base))
+    Some(Operands {
+        first,
+        second: base,
+        third: 0,
+        value: plain(number),
+    })
 }
 
 /// A value alone.
-pub fn one_value<'a>(wanted: Wanted, text: &'a [u8]) -> Option<Value<'a>>
-    ensures { option_map value_of result ≡ one_in wanted (operands_in text.entry.now) }
+fn one_value<'a>(wanted: Wanted, text: &'a [u8]) -> Option<Operands<'a>>
+    ensures exact { option_map found_of result ≡ found_in (forms.Value wanted) (operands_in text.entry.now) }
+    ensures below { IfSome result (λ found. (found.first < 32) × (found.second < 32) × (found.third < 32)) }
 {
-    value(wanted, one(text)?)
+    let value = value(wanted, one(text)?)?;
+    Some(Operands {
+        first: 0,
+        second: 0,
+        third: 0,
+        value,
+    })
 }
 
-/// A statement that takes no operand.
-pub fn no_operand<'a>(operation: Operation, text: &'a [u8]) -> Option<Statement<'a>>
-    ensures exact { option_map meaning_of result ≡ form_none operation (operands_in text.entry.now) }
-    ensures operation { IfSome result (λ statement. statement.operation ≡ operation) }
+/// The operands of a form; None where they are not of it.
+pub fn operands<'a>(form: Form, text: &'a [u8]) -> Option<Operands<'a>>
+    ensures exact { option_map found_of result ≡ found_in form (operands_in text.entry.now) }
+    ensures below { IfSome result (λ found. (found.first < 32) × (found.second < 32) × (found.third < 32)) }
 {
-    if text.is_empty() {
-        Some(Statement {
-            operation,
-            value: plain(0),
-        })
-    } else {
-        None
+    match form {
+        Form::Nothing => no_operand(text),
+        Form::ThreeRegisters => three_registers(text),
+        Form::TwoRegisters => two_registers(text),
+        Form::Registers(wanted) => registers_and(wanted, text),
+        Form::Register(wanted) => register_and(wanted, text),
+        Form::Place => register_and_place(text),
+        Form::Value(wanted) => one_value(wanted, text),
     }
 }

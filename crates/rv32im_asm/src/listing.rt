@@ -1,11 +1,12 @@
-ghost use Rattle.std.specs.Prelude.{◌≡◌, ◌≤◌, ◌<◌, ◌+◌, ◌^◌, length, IfOk, IsTrue};
+ghost use Rattle.std.specs.Prelude.{◌≡◌, ◌≤◌, ◌<◌, ◌+◌, ◌^◌, ◌++◌, codes, length, IfOk, IsTrue, OnOk};
+ghost use Rattle.flow_base.specs.HexWords.{hex_digits, hex_word};
 ghost use Rattle.elf32_loader.specs.Segments.{are_inside, end_of, highest_end};
-ghost use Rattle.rv32im_asm.specs.Listing.{line as line_of, lines_from, listing, padding as padding_of};
+ghost use Rattle.rv32im_asm.specs.Listing.{line, lines_from, listing, padding as padding_of};
 ghost use Rattle.rv32im_asm.specs.Listing.{segment_lines as segment_lines_of, word_text as word_text_of};
 
 use crate::texts::instr_text;
 use elf32_loader::{Image, Segment};
-use flow_base::{Bytes, NoMemory, hex_digits, hex_word};
+use flow_base::{Bytes, NoMemory, hex_digits, hex_word, put};
 use rv32im_decode::decode;
 use std::alloc::Global;
 
@@ -19,18 +20,25 @@ fn word_text(alloc: Global, word: u32) -> Result<Bytes, NoMemory>
     }
 }
 
-/// The line of a word.
-fn line(alloc: Global, address: u32, word: u32) -> Result<Vec<u8>, NoMemory>
-    ensures { IfOk result (λ text. text.items ≡ line_of address word) }
+/// Puts an address and a word in eight digits at the end of a text, each with a space after it.
+fn put_word(text: &mut Vec<u8>, address: u32, word: u32) -> Result<(), NoMemory>
+    ensures { OnOk result (text.new.items
+        ≡ text.old.items ++ (hex_word address ++ (codes " " ++ (hex_digits word ++ codes " ")))) }
 {
-    let word_text = word_text(alloc, word)?;
-    let mut text = hex_word(address).to_vec(alloc)?;
-    text.extend_from_slice(b" ")?;
-    text.extend_from_slice(&hex_digits(word))?;
-    text.extend_from_slice(b" ")?;
-    text.extend_from_slice(word_text.as_slice())?;
-    text.extend_from_slice(b"\n")?;
-    Ok(text)
+    put(text, &hex_word(address))?;
+    put(text, b" ")?;
+    put(text, &hex_digits(word))?;
+    put(text, b" ")
+}
+
+/// Puts the line of a word at the end of a text.
+fn put_line(alloc: Global, text: &mut Vec<u8>, address: u32, word: u32) -> Result<(), NoMemory>
+    ensures { OnOk result (text.new.items ≡ text.old.items ++ line address word) }
+{
+    put_word(text, address, word)?;
+    let shown = word_text(alloc, word)?;
+    put(text, shown.as_slice())?;
+    put(text, b"\n")
 }
 
 /// The lines of bytes that stand from an address on.
@@ -43,8 +51,12 @@ fn word_lines(alloc: Global, address: u32, bytes: &[u8]) -> Result<Vec<u8>, NoMe
     let mut place = address;
     let mut rest = bytes;
     while let [a, b, c, d, more @ ..] = rest {
-        let line = line(alloc, place, u32::from_le_bytes([*a, *b, *c, *d]))?;
-        text.extend_from_slice(line.as_slice())?;
+        put_line(
+            alloc,
+            &mut text,
+            place,
+            u32::from_le_bytes([*a, *b, *c, *d]),
+        )?;
         place += 4;
         rest = more;
     }

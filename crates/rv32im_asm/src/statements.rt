@@ -112,3 +112,29 @@ pub struct Statement<'a> {
     pub operation: Operation,
     pub value: Value<'a>,
 }
+
+/// The form of the operands of a statement.
+#[derive(Clone, Copy)]
+pub enum Form {
+    /// None.
+    Nothing,
+    ThreeRegisters,
+    TwoRegisters,
+    /// Two registers and a value.
+    Registers(Wanted),
+    /// A register and a value.
+    Register(Wanted),
+    /// A register, and a number with a register in parentheses.
+    Place,
+    /// A value alone.
+    Value(Wanted),
+}
+
+/// Operands of any form: the registers in their order, 0 where there are fewer, and the value.
+#[derive(Clone, Copy)]
+pub struct Operands<'a> {
+    pub first: u8,
+    pub second: u8,
+    pub third: u8,
+    pub value: Value<'a>,
+}

@@ -1,4 +1,4 @@
-use Rattle.std.proofs.Common.{rules, ◌++◌, ℕ, List, sym, ap, ◌∙◌, arith}
+use Rattle.std.proofs.Common.{rules, refl, ◌++◌, ℕ, List, sym, ap, ◌∙◌, arith}
 use Rattle.std.proofs.lemmas.List.{append-nil}
 use Rattle.rv32im_asm.proofs.Listings.{lines_short, lines_after}
 use Rattle.rv32im_asm.proofs.listing.word_lines.Goals as goal
@@ -8,7 +8,7 @@ loop-rest-preserved c =
     record {
       fits = omega arith;
       text = lines_after _ _ _ _ _ _ _ _ c.in-len4-up.len_at_least
-          (search rules) c.in_ok-line.ensures (search rules) c.loop-rest.invariant.text;
+          (search rules) refl c.in_ok-put_line.ensures c.loop-rest.invariant.text;
     }
 
 pub returns : goal.returns
