@@ -44,3 +44,16 @@ written_in d =
       ranges ← ranges_if (get (codes "ranges") d)
       Some (record { id = id; enter = enter; leave = leave; outs = outs; keep = keep; ranges = ranges }))
     else None
+
+-- the part of it behind the number and the addresses
+unfoldable pub lists_in : ℕ → ℕ → ℕ → Data → Option Region
+lists_in id enter leave d = do
+  outs ← registers_if (get (codes "outs") d)
+  keep ← registers_if (get (codes "keep") d)
+  ranges ← ranges_if (get (codes "ranges") d)
+  Some (record { id = id; enter = enter; leave = leave; outs = outs; keep = keep; ranges = ranges })
+
+-- what is known of that part
+abbrev pub are_lists : Region → Bool
+are_lists region =
+    list_all is_register region.outs && (list_all is_register region.keep && are_ranges region.ranges)

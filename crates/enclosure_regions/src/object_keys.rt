@@ -1,6 +1,7 @@
 ghost use Rattle.std.specs.Prelude.{◌≡◌, map, string_bytes};
-ghost use Rattle.std.specs.List.{list_all};
+ghost use Rattle.std.specs.List.{list_all, list_any};
 ghost use Rattle.std.specs.BTreeMap.{keys};
+ghost use Rattle.std.specs.Str.{bytes_eq};
 ghost use Rattle.serde_json.specs.View.{view};
 ghost use Rattle.enclosure_regions.specs.RangeItems.{is_range_key as range_key};
 ghost use Rattle.enclosure_regions.specs.Reading.{is_file_key as file_key};
@@ -9,76 +10,58 @@ ghost use Rattle.enclosure_regions.specs.Shapes.{has_keys};
 
 use serde_json::{Map, Value};
 
-fn is_file_key(key: &str) -> bool
-    ensures { result ≡ file_key key.now }
+const FILE_KEYS: [&str; 1] = ["regions"];
+
+const REGION_KEYS: [&str; 6] = ["id", "enter", "leave", "outs", "keep", "ranges"];
+
+const RANGE_KEYS: [&str; 3] = ["base", "offset", "length"];
+
+// Whether a key is one of those known.
+fn is_known(known: &[&str], key: &str) -> bool
+    ensures { result ≡ list_any (λ other. bytes_eq key.now other.now) known.now }
 {
-    key == "regions"
+    known.iter().any(|other| key == *other)
 }
 
-fn is_region_key(key: &str) -> bool
-    ensures { result ≡ region_key key.now }
+// Whether all keys are known.
+fn are_known(known: &[&str], members: &Map<String, Value>) -> bool
+    ensures { result ≡ list_all (λ key. list_any (λ other. bytes_eq (string_bytes key) other.now) known.now)
+        (keys members.now) }
 {
-    key == "id"
-        || key == "enter"
-        || key == "leave"
-        || key == "outs"
-        || key == "keep"
-        || key == "ranges"
+    members.keys().all(|key| is_known(known, key.as_str()))
 }
 
-fn is_range_key(key: &str) -> bool
-    ensures { result ≡ range_key key.now }
+// Whether the value is an object with no keys but those known.
+#[tactic(auto, using(crate::proofs::Keys::keys_known))]
+fn has_known_keys(known: &[&str], value: &Value) -> bool
+    ensures { result ≡ has_keys (λ key. list_any (λ other. bytes_eq key other.now) known.now) (view value.now) }
 {
-    key == "base" || key == "offset" || key == "length"
-}
-
-fn are_file_keys(members: &Map<String, Value>) -> bool
-    ensures { result ≡ list_all (λ key. file_key (string_bytes key)) (keys members.now) }
-{
-    members.keys().all(|key| is_file_key(key.as_str()))
-}
-
-fn are_region_keys(members: &Map<String, Value>) -> bool
-    ensures { result ≡ list_all (λ key. region_key (string_bytes key)) (keys members.now) }
-{
-    members.keys().all(|key| is_region_key(key.as_str()))
-}
-
-fn are_range_keys(members: &Map<String, Value>) -> bool
-    ensures { result ≡ list_all (λ key. range_key (string_bytes key)) (keys members.now) }
-{
-    members.keys().all(|key| is_range_key(key.as_str()))
+    match value.as_object() {
+        Some(members) => are_known(known, members),
+        None => false,
+    }
 }
 
 /// Whether the value is an object with no key but that of a region file.
-#[tactic(auto, using(crate::proofs::Keys::keys_known))]
+#[tactic(auto, using(crate::proofs::Keys::file_keys))]
 pub fn has_file_keys(value: &Value) -> bool
     ensures { result ≡ has_keys file_key (view value.now) }
 {
-    match value.as_object() {
-        Some(members) => are_file_keys(members),
-        None => false,
-    }
+    has_known_keys(&FILE_KEYS, value)
 }
 
 /// Whether the value is an object with no keys but those of a region.
-#[tactic(auto, using(crate::proofs::Keys::keys_known))]
+#[tactic(auto, using(crate::proofs::Keys::region_keys))]
 pub fn has_region_keys(value: &Value) -> bool
     ensures { result ≡ has_keys region_key (view value.now) }
 {
-    match value.as_object() {
-        Some(members) => are_region_keys(members),
-        None => false,
-    }
+    has_known_keys(&REGION_KEYS, value)
 }
 
 /// Whether the value is an object with no keys but those of a range.
-#[tactic(auto, using(crate::proofs::Keys::keys_known))]
+#[tactic(auto, using(crate::proofs::Keys::range_keys))]
 pub fn has_range_keys(value: &Value) -> bool
     ensures { result ≡ has_keys range_key (view value.now) }
 {
-    match value.as_object() {
-        Some(members) => are_range_keys(members),
-        None => false,
-    }
+    has_known_keys(&RANGE_KEYS, value)
 }

@@ -77,20 +77,8 @@ pub fn ordered(alloc: Global, region: Region) -> Result<Region, NoMemory>
     ensures exact { IfOk result (λ other. other ≡ ordered_of region) }
     ensures rules { IfOk result (λ other. IsTrue (is_region other)) }
 {
-    let Region {
-        id,
-        enter,
-        leave,
-        outs,
-        keep,
-        ranges,
-    } = region;
-    Ok(Region {
-        id,
-        enter,
-        leave,
-        outs: in_order(alloc, outs.as_slice())?,
-        keep: in_order(alloc, keep.as_slice())?,
-        ranges,
-    })
+    let mut region = region;
+    region.outs = in_order(alloc, region.outs.as_slice())?;
+    region.keep = in_order(alloc, region.keep.as_slice())?;
+    Ok(region)
 }

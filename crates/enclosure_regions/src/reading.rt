@@ -1,7 +1,7 @@
-ghost use Rattle.std.specs.Prelude.{◌≡◌, ◌≢◌, ◌<◌, ◌≤◌, [], length, false, Err, IfErr, IfOk, IsTrue, OnOk};
-ghost use Rattle.serde_json.specs.View.{items_view, view};
-ghost use Rattle.enclosure_regions.specs.Reading.{FirstRegionFault, Spells, UnlessMemory, items_in, placed_behind};
-ghost use Rattle.enclosure_regions.specs.Reading.{regions_onto, written_behind};
+ghost use Rattle.std.specs.Prelude.{◌≡◌, ◌≢◌, ◌<◌, length, false, Err, None, Ok, IfErr, IfOk, IsTrue, OnOk};
+ghost use Rattle.enclosure_regions.specs.Orders.{lowest_twice as lowest_twice_of, ordered as ordered_of};
+ghost use Rattle.serde_json.specs.View.{view};
+ghost use Rattle.enclosure_regions.specs.Reading.{UnlessMemory, placed_behind, written_behind};
 ghost use Rattle.enclosure_regions.specs.RegionItems.{is_written, written_in};
 ghost use Rattle.enclosure_regions.specs.Regions.{enters_of, ids_of, is_region, stands_in};
 
@@ -26,14 +26,15 @@ fn has_enter(regions: &[Region], enter: u32) -> bool
     regions.iter().any(|region| region.enter == enter)
 }
 
-// A written region, in order, after those that were found.
-fn placed(alloc: Global, found: &[Region], region: Region) -> Result<Region, RegionFault>
-    requires few { length found.now < 256 }
-    requires written { IsTrue (is_written region) }
-    ensures exact { UnlessMemory result (placed_behind found.now region) }
-    ensures rules { IfOk result (λ other. IsTrue (is_region other)) }
-    ensures new_id { IfOk result (λ other. stands_in (ids_of found.now) other.id ≡ false) }
-    ensures new_enter { IfOk result (λ other. stands_in (enters_of found.now) other.enter ≡ false) }
+// Whether a written region may stand after those that were found; its first fault where it may not.
+fn may_stand(found: &[Region], region: &Region) -> Result<(), RegionFault>
+    requires { length found.now < 256 }
+    ensures ok { OnOk result (placed_behind found.now region.now ≡ Ok (ordered_of region.now)) }
+    ensures err { IfErr result (λ fault. placed_behind found.now region.now ≡ Err fault) }
+    ensures new_id { OnOk result (stands_in (ids_of found.now) region.now.id ≡ false) }
+    ensures addresses { OnOk result (region.now.enter ≢ region.now.leave) }
+    ensures registers { OnOk result (lowest_twice_of region.now.outs region.now.keep ≡ None) }
+    ensures new_enter { OnOk result (stands_in (enters_of found.now) region.now.enter ≡ false) }
 {
     let index = found.len() as u32 + 1;
     if has_id(found, region.id) {
@@ -48,6 +49,19 @@ fn placed(alloc: Global, found: &[Region], region: Region) -> Result<Region, Reg
     if has_enter(found, region.enter) {
         return Err(RegionFault::EnterTwice { index });
     }
+    Ok(())
+}
+
+// A written region, in order, after those that were found.
+fn placed(alloc: Global, found: &[Region], region: Region) -> Result<Region, RegionFault>
+    requires few { length found.now < 256 }
+    requires written { IsTrue (is_written region) }
+    ensures exact { UnlessMemory result (placed_behind found.now region) }
+    ensures rules { IfOk result (λ other. IsTrue (is_region other)) }
+    ensures new_id { IfOk result (λ other. stands_in (ids_of found.now) other.id ≡ false) }
+    ensures new_enter { IfOk result (λ other. stands_in (enters_of found.now) other.enter ≡ false) }
+{
+    may_stand(found, &region)?;
     Ok(ordered(alloc, region)?)
 }
 

@@ -1,8 +1,8 @@
-ghost use Rattle.std.specs.Prelude.{◌≡◌, ◌≤◌, option_map, IfOk, IfSome, IsTrue};
+ghost use Rattle.std.specs.Prelude.{◌≡◌, option_map, IfOk, IfSome, IsTrue};
 ghost use Rattle.std.specs.List.{list_all};
 ghost use Rattle.serde_json.specs.View.{view};
 ghost use Rattle.enclosure_regions.specs.RangeItems.{ranges_if};
-ghost use Rattle.enclosure_regions.specs.RegionItems.{id_if, is_written, place_if, written_in};
+ghost use Rattle.enclosure_regions.specs.RegionItems.{are_lists, id_if, is_written, lists_in, place_if, written_in};
 ghost use Rattle.enclosure_regions.specs.Regions.{are_ranges, is_place, is_region_number, is_register};
 ghost use Rattle.enclosure_regions.specs.Shapes.{registers_if};
 
@@ -53,25 +53,20 @@ fn some_ranges(alloc: Global, value: Option<&Value>) -> Result<Option<List<Range
     }
 }
 
-/// The region of an item as it is written, with its registers in the order of the file; None where it has not the form
-/// of a region.
-#[tactic(auto, unfolding(crate::specs::RegionItems::written_in))]
-pub fn written(alloc: Global, item: &Value) -> Result<Option<Region>, NoMemory>
-    ensures exact { IfOk result (λ found. found ≡ written_in (view item.now)) }
-    ensures written { IfOk result (λ found. IfSome found (λ region. IsTrue (is_written region))) }
+// The region with a number and addresses whose registers and ranges stand in an item.
+#[tactic(auto, unfolding(crate::specs::RegionItems::lists_in))]
+fn with_lists(
+    alloc: Global,
+    item: &Value,
+    id: u16,
+    enter: u32,
+    leave: u32,
+) -> Result<Option<Region>, NoMemory>
+    ensures exact { IfOk result (λ found. found ≡ lists_in id enter leave (view item.now)) }
+    ensures heads { IfOk result (λ found. IfSome found (λ region.
+        (region.id ≡ id) × (region.enter ≡ enter) × (region.leave ≡ leave))) }
+    ensures lists { IfOk result (λ found. IfSome found (λ region. IsTrue (are_lists region))) }
 {
-    if !has_region_keys(item) {
-        return Ok(None);
-    }
-    let Some(id) = id(item.get("id")) else {
-        return Ok(None);
-    };
-    let Some(enter) = address(item.get("enter")) else {
-        return Ok(None);
-    };
-    let Some(leave) = address(item.get("leave")) else {
-        return Ok(None);
-    };
     let Some(outs) = some_registers(alloc, item.get("outs"))? else {
         return Ok(None);
     };
@@ -89,4 +84,26 @@ pub fn written(alloc: Global, item: &Value) -> Result<Option<Region>, NoMemory>
         keep,
         ranges,
     }))
+}
+
+/// The region of an item as it is written, with its registers in the order of the file; None where it has not the form
+/// of a region.
+#[tactic(auto, unfolding(crate::specs::RegionItems::written_in, crate::specs::RegionItems::lists_in))]
+pub fn written(alloc: Global, item: &Value) -> Result<Option<Region>, NoMemory>
+    ensures exact { IfOk result (λ found. found ≡ written_in (view item.now)) }
+    ensures written { IfOk result (λ found. IfSome found (λ region. IsTrue (is_written region))) }
+{
+    if !has_region_keys(item) {
+        return Ok(None);
+    }
+    let Some(id) = id(item.get("id")) else {
+        return Ok(None);
+    };
+    let Some(enter) = address(item.get("enter")) else {
+        return Ok(None);
+    };
+    let Some(leave) = address(item.get("leave")) else {
+        return Ok(None);
+    };
+    with_lists(alloc, item, id, enter, leave)
 }

@@ -1,4 +1,4 @@
-use Rattle.std.proofs.Common.{◌≡◌, ap, ◌∙◌}
+use Rattle.std.proofs.Common.{ap, ◌∙◌}
 use Rattle.enclosure_regions.specs.Orders.{in_order}
 use Rattle.enclosure_regions.proofs.Ordered.{ordered-rules}
 use Rattle.enclosure_regions.proofs.orders.ordered.Goals as goal
@@ -6,8 +6,6 @@ use Rattle.enclosure_regions.proofs.orders.ordered.Goals as goal
 pub returns-clause-rules : goal.returns-clause-rules
 returns-clause-rules c =
     let region = c.args.region in
-    let outs : c.in_ok-in_order.field-0 ≡ in_order region.outs =
-    c.in_ok-in_order.ensures ∙ ap in_order c.as_slice.ensures in
-    let keep : c.in_ok-in_order-2.field-0 ≡ in_order region.keep =
-    c.in_ok-in_order-2.ensures ∙ ap in_order c.as_slice-2.ensures in
+    let outs = c.in_ok-region.ensures ∙ ap in_order c.as_slice.ensures in
+    let keep = c.in_ok-region-2.ensures ∙ ap in_order c.as_slice-2.ensures in
     rw (outs, keep) (ordered-rules region c.requires.written c.requires.addresses c.requires.registers)
