@@ -22,9 +22,13 @@ fn push_lowest(items: &mut Vec<bool>, value: u32, mask: u32) -> Result<(), NoMem
     ensures ok { IsOk result }
 {
     if mask % 2 == 1 {
-        return items.push(value % 2 == 1).map_err(|_| NoMemory);
+        match items.push(value % 2 == 1) {
+            Ok(()) => Ok(()),
+            Err(_) => Err(NoMemory),
+        }
+    } else {
+        Ok(())
     }
-    Ok(())
 }
 
 /// Puts the value's bits under the mask at the end, for which there has to be room.

@@ -34,7 +34,9 @@ fn packed(alloc: Global, bits: &[bool]) -> Result<Vec<u8>, NoMemory>
 {
     let mut bytes = Vec::new(alloc);
     for index in 0..bits.len().div_ceil(8) {
-        bytes.push(byte(bits, index)).map_err(|_| NoMemory)?;
+        if bytes.push(byte(bits, index)).is_err() {
+            return Err(NoMemory);
+        }
     }
     Ok(bytes)
 }
@@ -43,7 +45,7 @@ fn packed(alloc: Global, bits: &[bool]) -> Result<Vec<u8>, NoMemory>
 fn encoded(alloc: Global, bytes: &[u8]) -> Result<Bytes, NoMemory>
     ensures { IfOk result (λ text. text ≡ encode_lower bytes.now) }
 {
-    let text = hex::encode(alloc, bytes).map_err(|_| NoMemory)?;
+    let text = hex::encode(alloc, bytes)?;
     Ok(List::from_vec(text.into_bytes()))
 }
 

@@ -1,5 +1,6 @@
-ghost use Rattle.std.specs.Prelude.{◌≡◌};
-ghost use Rattle.flow_base.specs.Points.{is_output_slot, is_slot, number_of, width_of};
+ghost use Rattle.std.specs.Prelude.{◌≡◌, ◌++◌, IfSome, None};
+ghost use Rattle.std.specs.Fmt.{decimal};
+ghost use Rattle.flow_base.specs.Points.{is_output_slot, is_slot, number_of, slot_text, width_of};
 
 use crate::hex_words::HexWord;
 use std::fmt;
@@ -106,6 +107,29 @@ impl Slot {
             _ => false,
         }
     }
+
+    /// The word of the slot, with the number after it where it has one.
+    fn parts(self) -> (&'static str, Option<u8>)
+        ensures word { result.1 ≡ None → slot_text self ≡ result.0.now }
+        ensures number { IfSome result.1 (λ number. slot_text self ≡ result.0.now ++ decimal number) }
+    {
+        match self {
+            Slot::First => ("u1", None),
+            Slot::Second => ("u2", None),
+            Slot::Address => ("ad", None),
+            Slot::Result => ("rs", None),
+            Slot::Decision => ("de", None),
+            Slot::Number => ("nr", None),
+            Slot::Arg0 => ("a0", None),
+            Slot::Arg1 => ("a1", None),
+            Slot::Arg2 => ("a2", None),
+            Slot::SecretIn => ("in", None),
+            Slot::ByteOut => ("ou", None),
+            Slot::Status => ("st", None),
+            Slot::OutReg(register) => ("x", Some(register)),
+            Slot::OutRange(range) => ("r", Some(range)),
+        }
+    }
 }
 
 impl fmt::Display for Slot {
@@ -115,21 +139,10 @@ impl fmt::Display for Slot {
     ghost output = { λ slot. Some (slot_text slot) };
 
     fn fmt<W: fmt::Write>(&self, f: &mut fmt::Formatter<W>) -> fmt::Result {
-        match *self {
-            Slot::First => write!(f, "u1"),
-            Slot::Second => write!(f, "u2"),
-            Slot::Address => write!(f, "ad"),
-            Slot::Result => write!(f, "rs"),
-            Slot::Decision => write!(f, "de"),
-            Slot::Number => write!(f, "nr"),
-            Slot::Arg0 => write!(f, "a0"),
-            Slot::Arg1 => write!(f, "a1"),
-            Slot::Arg2 => write!(f, "a2"),
-            Slot::SecretIn => write!(f, "in"),
-            Slot::ByteOut => write!(f, "ou"),
-            Slot::Status => write!(f, "st"),
-            Slot::OutReg(register) => write!(f, "x{register}"),
-            Slot::OutRange(range) => write!(f, "r{range}"),
+        let (word, number) = self.parts();
+        match number {
+            Some(number) => write!(f, "{word}{number}"),
+            None => f.write_str(word),
         }
     }
 }
