@@ -1,3 +1,4 @@
 pub mod Parts
 pub mod CommandLines
 pub mod Words
+pub mod Private

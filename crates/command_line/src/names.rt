@@ -1,5 +1,6 @@
 ghost use Rattle.std.specs.Prelude.{◌≡◌};
 ghost use Rattle.command_line.specs.CommandLines.{named_by};
+ghost use Rattle.command_line.specs.Private.Names.{late_named_by};
 
 /// The name of a command.
 #[derive(Clone, Copy)]
@@ -58,6 +59,13 @@ impl CommandName {
         if word == "report" {
             return Some(CommandName::Report);
         }
+        CommandName::late_named_by(word)
+    }
+
+    /// The command that a word is the name of, of the last six.
+    fn late_named_by(word: &str) -> Option<CommandName>
+        ensures { result ≡ late_named_by word.now }
+    {
         if word == "learn" {
             return Some(CommandName::Learn);
         }

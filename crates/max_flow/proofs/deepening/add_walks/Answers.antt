@@ -30,3 +30,39 @@ loop-preserved-then-at-eq1 c =
       leaving = c.loop.invariant.leaving;
       entering = c.loop.invariant.entering;
     }
+
+pub loop-preserved-then-branch : goal.loop-preserved-then-branch
+loop-preserved-then-branch c = record {
+  flow = c.loop.invariant.flow;
+  bounded = c.loop.invariant.bounded;
+  value = c.loop.invariant.value;
+  most = c.loop.invariant.most;
+  tree = c.in_ok-go_on.ensures.tree;
+  root = c.in_ok-go_on.ensures.root;
+  leaving = c.go_on.ensures.cursors;
+  entering = c.loop.invariant.entering;
+}
+
+pub loop-preserved-then-branch-2 : goal.loop-preserved-then-branch-2
+loop-preserved-then-branch-2 c = record {
+  flow = c.loop.invariant.flow;
+  bounded = c.loop.invariant.bounded;
+  value = c.loop.invariant.value;
+  most = c.loop.invariant.most;
+  tree = c.in_ok-go_back.ensures.tree;
+  root = c.in_ok-go_back.ensures.root;
+  leaving = c.go_on.ensures.cursors;
+  entering = c.go_back.ensures.cursors;
+}
+
+pub loop-preserved : goal.loop-preserved
+loop-preserved c = record {
+  flow = c.loop.invariant.flow;
+  bounded = c.loop.invariant.bounded;
+  value = c.loop.invariant.value;
+  most = c.loop.invariant.most;
+  tree = c.retreat.ensures.tree;
+  root = c.retreat.ensures.root;
+  leaving = c.go_on.ensures.cursors;
+  entering = c.go_back.ensures.cursors;
+}

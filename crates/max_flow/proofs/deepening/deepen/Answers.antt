@@ -20,3 +20,30 @@ overflow_add-result c =
     value_small (net_of c.args.network.now) c.add_walks.new.flows c.requires.network.net c.requires.small
     c.in_ok-more.ensures.flow in
     omega (arith, small, c.in_ok-more.ensures.value, c.augment-first.ensures.value)
+
+pub add_walks-requires-clause-flow : goal.add_walks-requires-clause-flow
+add_walks-requires-clause-flow c = c.augment-first.ensures.flow
+
+pub add_walks-requires-clause-bounded : goal.add_walks-requires-clause-bounded
+add_walks-requires-clause-bounded c = c.augment-first.ensures.bounded
+
+pub add_walks-requires-clause-root : goal.add_walks-requires-clause-root
+add_walks-requires-clause-root c = c.in_ok-tree.ensures.source
+
+pub add_walks-requires-clause-most : goal.add_walks-requires-clause-most
+add_walks-requires-clause-most c = c.augment-first.ensures.most
+
+pub returns-clause-flow : goal.returns-clause-flow
+returns-clause-flow c = c.in_ok-more.ensures.flow
+
+pub returns-clause-bounded : goal.returns-clause-bounded
+returns-clause-bounded c = c.in_ok-more.ensures.bounded
+
+pub returns-clause-value : goal.returns-clause-value
+returns-clause-value c = omega (arith, c.in_ok-more.ensures.value, c.augment-first.ensures.value)
+
+pub returns-clause-some : goal.returns-clause-some
+returns-clause-some c = omega (arith, c.augment-first.ensures.some)
+
+pub returns-clause-most : goal.returns-clause-most
+returns-clause-most c = c.in_ok-more.ensures.most
