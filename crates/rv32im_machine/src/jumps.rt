@@ -1,15 +1,16 @@
 #![tactic(auto, unfolding(crate::specs::Language::walked))]
 
-ghost use Rattle.std.specs.Prelude.{◌≡◌, ◌<◌};
+ghost use Rattle.std.specs.Prelude.{◌≡◌, ℕ, ◌<◌};
 ghost use Rattle.rv32im_decode.specs.Operations.{word_of};
 ghost use Rattle.rv32im_decode.specs.Encoding.{InRange};
-ghost use Rattle.rv32im_machine.specs.Language.{walk, Held};
+ghost use Rattle.rv32im_machine.specs.Language.{walk, Held, Passed, Walk};
+ghost use Rattle.rv32im_machine.specs.Private.Passings.{decision_of};
 ghost use Rattle.rv32im_machine.specs.Rows.{row_walk, jumps, links, branches};
-ghost use Rattle.rv32im_machine.specs.Playing.{outcome};
+ghost use Rattle.rv32im_machine.specs.Playing.{Goes, outcome};
 
 use crate::language::{Aim, Operation, Passing, Place, Shape, Source, Work};
 use crate::machines::Machine;
-use crate::operands::{compute, offset_sources, operand, operand_sources};
+use crate::operands::{compute, decided_address, operand, operand_sources};
 use crate::passing::Passer;
 use crate::stepping::{Fault, Stepped};
 use flow_base::Slot;
@@ -47,15 +48,13 @@ pub(crate) fn jump_register_turn<P: Passer>(
     ensures setting { machine.new.setting ≡ machine.old.setting }
 {
     let first = operand(machine, passer, Slot::First, Aim::Put(Place::First), rs1)?;
-    let second = imm.cast_unsigned();
-    let made = compute(Operation::Target, first, second);
-    let target = passer.pass(Passing {
-        point: machine.point(Slot::Address),
-        aim: Aim::Decide,
-        work: Work::Computed(Operation::Target, first, second),
-        sources: offset_sources(second),
-        value: made,
-    })?;
+    let target = decided_address(
+        machine,
+        passer,
+        Operation::Target,
+        first,
+        imm.cast_unsigned(),
+    )?;
     link(machine, passer, rd, target)
 }
 
@@ -76,16 +75,31 @@ pub(crate) fn branch_turn<P: Passer>(
 {
     let first = operand(machine, passer, Slot::First, Aim::Put(Place::First), rs1)?;
     let second = operand(machine, passer, Slot::Second, Aim::Put(Place::Second), rs2)?;
+    let taken = decided_branch(machine, passer, kind, first, second)?;
+    branch_to(machine, passer, taken, offset)
+}
+
+/// Whether a branch is taken passes.
+#[inline(always)]
+fn decided_branch<P: Passer>(
+    machine: &Machine,
+    passer: &mut P,
+    kind: BranchKind,
+    first: u32,
+    second: u32,
+) -> Result<u32, P::Stop>
+    ensures memory { P.memory passer.new ≡ P.memory passer.old }
+    ensures goes { (go : ℕ → Walk) → Goes result (λ other. P.Plays passer.new (go other))
+        (P.Plays passer.old (Passed (decision_of machine.now kind first second) go)) }
+{
     let operation = Operation::Decision(kind);
-    let made = compute(operation, first, second);
-    let taken = passer.pass(Passing {
+    passer.pass(Passing {
         point: machine.point(Slot::Decision),
         aim: Aim::Decide,
         work: Work::Computed(operation, first, second),
         sources: operand_sources(),
-        value: made,
-    })?;
-    branch_to(machine, passer, taken, offset)
+        value: compute(operation, first, second),
+    })
 }
 
 /// The rest of a branch, once it is decided: 0 goes on to the next instruction.

@@ -1,17 +1,18 @@
 #![tactic(auto, unfolding(crate::specs::Language::walked), using(crate::proofs::Memories::known_inside))]
 
-ghost use Rattle.std.specs.Prelude.{◌≡◌, ◌+◌, ◌^◌, ◌<◌, ◌≤◌, IsTrue};
+ghost use Rattle.std.specs.Prelude.{◌≡◌, ◌+◌, ◌^◌, ◌<◌, ◌≤◌, IsTrue, OnOk};
 ghost use Rattle.rv32im_decode.specs.Operations.{load_size, store_size};
 ghost use Rattle.rv32im_decode.specs.Encoding.{InRange};
 ghost use Rattle.flow_base.specs.Guests.{is_inside};
-ghost use Rattle.rv32im_machine.specs.State.{joined};
-ghost use Rattle.rv32im_machine.specs.Language.{shaped, part_of, turn_walk, walk, Held, bytes_at};
+ghost use Rattle.rv32im_machine.specs.State.{joined, with_byte};
+ghost use Rattle.rv32im_machine.specs.Language.{shaped, part_of, turn_walk, walk, with_store, Held, Moved, Walk, bytes_at};
+ghost use Rattle.rv32im_machine.specs.Private.Stores.{high_half_at};
 ghost use Rattle.rv32im_machine.specs.Rows.{row_walk, load_checked, store_checked, stores, store_at, loaded_from};
-ghost use Rattle.rv32im_machine.specs.Playing.{Knows, outcome};
+ghost use Rattle.rv32im_machine.specs.Playing.{Goes, Knows, outcome};
 
 use crate::language::{Aim, Part, Passing, Place, Shape, Source, Sources, Work};
 use crate::machines::Machine;
-use crate::operands::{decided_address, operand};
+use crate::operands::{SUM, decided_address, operand};
 use crate::passing::Passer;
 use crate::stepping::{Fault, Stepped};
 use flow_base::Slot;
@@ -34,7 +35,7 @@ pub(crate) fn load_turn<P: Passer>(
     ensures setting { machine.new.setting ≡ machine.old.setting }
 {
     let first = operand(machine, passer, Slot::First, Aim::Put(Place::First), rs1)?;
-    let address = decided_address(machine, passer, first, imm.cast_unsigned())?;
+    let address = decided_address(machine, passer, SUM, first, imm.cast_unsigned())?;
     load_from(machine, passer, kind, rd, address)
 }
 
@@ -146,7 +147,7 @@ fn store_by<P: Passer>(
 {
     let first = operand(machine, passer, Slot::First, Aim::Put(Place::First), rs1)?;
     let word = operand(machine, passer, Slot::Second, Aim::Put(Place::Second), rs2)?;
-    match decided_address(machine, passer, first, immediate) {
+    match decided_address(machine, passer, SUM, first, immediate) {
         Ok(address) => checked_store(machine, passer, kind, address, word),
         Err(stop) => Err(stop),
     }
@@ -216,14 +217,7 @@ fn store_byte_to<P: Passer>(
     ensures memory { P.memory passer.new ≡ P.memory passer.old }
     ensures setting { machine.new.setting ≡ machine.old.setting }
 {
-    let byte = byte_of_word(Part::Byte0, word);
-    passer.move_to(
-        Place::Byte(address),
-        Shape::Part(Part::Byte0),
-        Source::At(Place::Second),
-        u32::from(byte),
-    )?;
-    machine.set_byte(address, byte);
+    store_part(machine, passer, address, Part::Byte0, word)?;
     machine.onward();
     Ok(())
 }
@@ -244,22 +238,8 @@ fn store_half_to<P: Passer>(
     ensures memory { P.memory passer.new ≡ P.memory passer.old }
     ensures setting { machine.new.setting ≡ machine.old.setting }
 {
-    let byte = byte_of_word(Part::Byte0, word);
-    passer.move_to(
-        Place::Byte(address),
-        Shape::Part(Part::Byte0),
-        Source::At(Place::Second),
-        u32::from(byte),
-    )?;
-    machine.set_byte(address, byte);
-    let byte = byte_of_word(Part::Byte1, word);
-    passer.move_to(
-        Place::Byte(address + 1),
-        Shape::Part(Part::Byte1),
-        Source::At(Place::Second),
-        u32::from(byte),
-    )?;
-    machine.set_byte(address + 1, byte);
+    store_part(machine, passer, address, Part::Byte0, word)?;
+    store_part(machine, passer, address + 1, Part::Byte1, word)?;
     machine.onward();
     Ok(())
 }
@@ -280,39 +260,61 @@ fn store_word_to<P: Passer>(
     ensures memory { P.memory passer.new ≡ P.memory passer.old }
     ensures setting { machine.new.setting ≡ machine.old.setting }
 {
-    let byte = byte_of_word(Part::Byte0, word);
+    store_part(machine, passer, address, Part::Byte0, word)?;
+    store_part(machine, passer, address + 1, Part::Byte1, word)?;
+    store_high_to(machine, passer, address, word)
+}
+
+/// The rest of SW, once its lower two bytes are written.
+#[inline(always)]
+fn store_high_to<P: Passer>(
+    machine: &mut Machine,
+    passer: &mut P,
+    address: u32,
+    word: u32,
+) -> Result<(), P::Stop>
+    requires memory { Knows (P.memory passer.old) machine.old.setting.base }
+    requires inside { IsTrue (is_inside machine.old.setting.base address 4) }
+    requires below { address + 4 ≤ 2 ^ 32 }
+    ensures plays { (held : Held) → held.second ≡ word →
+        P.Plays passer.old (walk machine.old (high_half_at address machine.old.control) machine.old.store held)
+        (outcome result machine.new (P.tape passer.new)) }
+    ensures memory { P.memory passer.new ≡ P.memory passer.old }
+    ensures setting { machine.new.setting ≡ machine.old.setting }
+{
+    store_part(machine, passer, address + 2, Part::Byte2, word)?;
+    store_part(machine, passer, address + 3, Part::Byte3, word)?;
+    machine.onward();
+    Ok(())
+}
+
+/// A byte of the second operand goes to an address.
+#[inline(always)]
+fn store_part<P: Passer>(
+    machine: &mut Machine,
+    passer: &mut P,
+    address: u32,
+    part: Part,
+    word: u32,
+) -> Result<(), P::Stop>
+    requires memory { Knows (P.memory passer.old) machine.old.setting.base }
+    requires inside { IsTrue (is_inside machine.old.setting.base address 1) }
+    ensures goes { (walk : Walk) → Goes result (λ done. P.Plays passer.new walk)
+        (P.Plays passer.old
+        (Moved (Place.Byte address) (Shape.Part part) (Source.At Place.Second) (part_of part word) walk)) }
+    ensures stored { OnOk result (machine.new
+        ≡ with_store (with_byte machine.old.setting.base address (part_of part word) machine.old.store) machine.old) }
+    ensures memory { P.memory passer.new ≡ P.memory passer.old }
+    ensures setting { machine.new.setting ≡ machine.old.setting }
+{
+    let byte = byte_of_word(part, word);
     passer.move_to(
         Place::Byte(address),
-        Shape::Part(Part::Byte0),
+        Shape::Part(part),
         Source::At(Place::Second),
         u32::from(byte),
     )?;
     machine.set_byte(address, byte);
-    let byte = byte_of_word(Part::Byte1, word);
-    passer.move_to(
-        Place::Byte(address + 1),
-        Shape::Part(Part::Byte1),
-        Source::At(Place::Second),
-        u32::from(byte),
-    )?;
-    machine.set_byte(address + 1, byte);
-    let byte = byte_of_word(Part::Byte2, word);
-    passer.move_to(
-        Place::Byte(address + 2),
-        Shape::Part(Part::Byte2),
-        Source::At(Place::Second),
-        u32::from(byte),
-    )?;
-    machine.set_byte(address + 2, byte);
-    let byte = byte_of_word(Part::Byte3, word);
-    passer.move_to(
-        Place::Byte(address + 3),
-        Shape::Part(Part::Byte3),
-        Source::At(Place::Second),
-        u32::from(byte),
-    )?;
-    machine.set_byte(address + 3, byte);
-    machine.onward();
     Ok(())
 }
 

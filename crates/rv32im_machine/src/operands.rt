@@ -3,7 +3,7 @@
 ghost use Rattle.std.specs.Prelude.{◌≡◌, ℕ, ◌<◌, IsTrue};
 ghost use Rattle.flow_base.specs.Points.{is_slot, width_of};
 ghost use Rattle.rv32im_machine.specs.Language.{Walk, Passed, computed};
-ghost use Rattle.rv32im_machine.specs.Private.Passings.{copy_of, sum_of};
+ghost use Rattle.rv32im_machine.specs.Private.Passings.{address_of, copy_of};
 ghost use Rattle.rv32im_machine.specs.Playing.{Goes, IsAim};
 
 use crate::language::{Aim, Operation, Passing, Place, Shape, Source, Sources, Work};
@@ -33,7 +33,7 @@ fn jump_target(first: u32, second: u32) -> u32
 }
 
 /// The sum that is an address.
-const SUM: Operation = Operation::Result(OpKind::Add);
+pub(crate) const SUM: Operation = Operation::Result(OpKind::Add);
 
 /// The sources of an operation on the first operand and an immediate.
 pub(crate) fn offset_sources(immediate: u32) -> Sources
@@ -75,23 +75,24 @@ pub(crate) fn operand<P: Passer>(
     })
 }
 
-/// The sum of the first operand and the immediate passes as the address of a load or store.
+/// What is computed from the first operand and the immediate passes as an address.
 #[inline(always)]
 pub(crate) fn decided_address<P: Passer>(
     machine: &Machine,
     passer: &mut P,
+    operation: Operation,
     first: u32,
     immediate: u32,
 ) -> Result<u32, P::Stop>
     ensures memory { P.memory passer.new ≡ P.memory passer.old }
     ensures goes { (go : ℕ → Walk) → Goes result (λ other. P.Plays passer.new (go other))
-        (P.Plays passer.old (Passed (sum_of machine.now first immediate) go)) }
+        (P.Plays passer.old (Passed (address_of machine.now operation first immediate) go)) }
 {
     passer.pass(Passing {
         point: machine.point(Slot::Address),
         aim: Aim::Decide,
-        work: Work::Computed(SUM, first, immediate),
+        work: Work::Computed(operation, first, immediate),
         sources: offset_sources(immediate),
-        value: compute(SUM, first, immediate),
+        value: compute(operation, first, immediate),
     })
 }

@@ -1,13 +1,14 @@
 -- The passings that many turns begin with.
 use Rattle.std.specs.Prelude.{ℕ}
 use Rattle.flow_base.specs.declared.points.Slot.{Slot}
-use Rattle.flow_base.specs.declared.points.Slot.TheVariants.{Address}
-use Rattle.rv32im_decode.specs.declared.instructions.OpKind.TheVariants.{Add}
-use Rattle.rv32im_machine.specs.declared.language.Place.TheVariants.{Register, First}
+use Rattle.flow_base.specs.declared.points.Slot.TheVariants.{Address, Decision as DecisionSlot}
+use Rattle.rv32im_decode.specs.declared.instructions.BranchKind.{BranchKind}
+use Rattle.rv32im_machine.specs.declared.language.Place.TheVariants.{Register, First, Second}
 use Rattle.rv32im_machine.specs.declared.language.Source.TheVariants.{At, Constant}
 use Rattle.rv32im_machine.specs.declared.language.Sources.TheVariants.{One, Two}
 use Rattle.rv32im_machine.specs.declared.language.Shape.TheVariants.{Copied}
-use Rattle.rv32im_machine.specs.declared.language.Operation.TheVariants.{Result}
+use Rattle.rv32im_machine.specs.declared.language.Operation.{Operation}
+use Rattle.rv32im_machine.specs.declared.language.Operation.TheVariants.{Decision}
 use Rattle.rv32im_machine.specs.declared.language.Work.TheVariants.{Shaped, Computed}
 use Rattle.rv32im_machine.specs.declared.language.Aim.{Aim}
 use Rattle.rv32im_machine.specs.declared.language.Aim.TheVariants.{Decide}
@@ -27,13 +28,24 @@ copy_of state slot aim register =
       value = register_of state.store register;
     }
 
--- the sum of the first operand and an immediate passes as an address
-abbrev pub sum_of : State → ℕ → ℕ → Passing
-sum_of state first immediate =
+-- what is computed of the first operand and an immediate passes as an address
+abbrev pub address_of : State → Operation → ℕ → ℕ → Passing
+address_of state operation first immediate =
     record {
       point = point state.control Address;
       aim = Decide;
-      work = Computed (Result Add) first immediate;
+      work = Computed operation first immediate;
       sources = Two (At First) (Constant immediate);
-      value = computed (Result Add) first immediate;
+      value = computed operation first immediate;
+    }
+
+-- whether a branch is taken passes
+abbrev pub decision_of : State → BranchKind → ℕ → ℕ → Passing
+decision_of state kind first second =
+    record {
+      point = point state.control DecisionSlot;
+      aim = Decide;
+      work = Computed (Decision kind) first second;
+      sources = Two (At First) (At Second);
+      value = computed (Decision kind) first second;
     }

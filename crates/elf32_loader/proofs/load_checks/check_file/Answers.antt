@@ -1,7 +1,22 @@
-use Rattle.std.proofs.Common.{inr}
-use Rattle.std.proofs.lemmas.Result.{IfErr-weaker}
-use Rattle.elf32_loader.specs.FirstFault.{IsFirstFault, LoadRows}
+use Rattle.std.proofs.Common.{ℕ, ◌⊎◌, List, inl, inr}
+use Rattle.std.proofs.lemmas.Result.{IfErr-weaker, err_from_is_err_and}
+use Rattle.elf32_loader.specs.declared.fault.ElfFault.{ElfFault}
+use Rattle.elf32_loader.specs.FirstFault.{HeaderRows, IsFirstFault, LoadRows}
 use Rattle.elf32_loader.proofs.load_checks.check_file.Goals as goal
+
+-- the first row of a table is the first one of a longer table
+first-row : {F A R S : Type 0} → (R → S) → (F × A) ⊎ ((¬ F) × R) → (F × A) ⊎ ((¬ F) × S)
+first-row go (inl row) = inl row
+first-row go (inr (none, rest)) = inr (none, go rest)
+
+headed : (file : List ℕ) (fault : ElfFault) → HeaderRows file fault ⊥ → IsFirstFault file fault
+headed file fault rows = first-row (first-row (first-row (first-row (first-row (first-row (λ none. absurd none)))))) rows
+
+pub returns-in_err-check_header-clause-err : goal.returns-in_err-check_header-clause-err
+returns-in_err-check_header-clause-err c =
+    let residual = c.from_residual in
+    let exit = err_from_is_err_and residual.result residual.ensures.1 in
+    rw (exit.1, exit.2) (headed c.args.file.now _ c.in_err-check_header.ensures.err)
 
 pub returns-clause-err : goal.returns-clause-err
 returns-clause-err c =
