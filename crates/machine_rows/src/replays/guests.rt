@@ -35,29 +35,27 @@ fn bytes_of(alloc: Global, text: &str) -> Option<Bytes> {
     Some(bytes)
 }
 
-/// The segments of a program, one of these bytes; None where memory is short.
-fn segments_of(alloc: Global, bytes: Bytes) -> Option<List<Segment>> {
+/// The program of these bytes, which is entered at its first; None where there are none or too many, or memory is short.
+fn image_with(alloc: Global, bytes: Bytes) -> Option<Image> {
+    if bytes.len() == 0 || bytes.len() > LONGEST {
+        return None;
+    }
     let mut segments = List::new(alloc);
     let segment = Segment {
         address: START,
         bytes,
     };
     segments.push(segment).ok()?;
-    Some(segments)
-}
-
-/// The program of words in hexadecimal digits, which is entered at its first; None where there is none, or memory is
-/// short.
-fn image_of(alloc: Global, text: &str) -> Option<Image> {
-    let bytes = bytes_of(alloc, text)?;
-    if bytes.len() == 0 || bytes.len() > LONGEST {
-        return None;
-    }
     Some(Image {
         base: START,
         entry: START,
-        segments: segments_of(alloc, bytes)?,
+        segments,
     })
+}
+
+/// The program of words in hexadecimal digits; None where there is none, or memory is short.
+fn image_of(alloc: Global, text: &str) -> Option<Image> {
+    image_with(alloc, bytes_of(alloc, text)?)
 }
 
 /// The cut of a text without its first line, in which a semicolon stands for the end of a line; None where there is
