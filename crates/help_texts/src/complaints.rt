@@ -4,8 +4,8 @@ ghost use Rattle.help_texts.specs.Texts.{IsComplaint};
 use crate::forms::{Form, form_of, forms};
 use crate::meanings::{Meaning, meaning_of};
 use crate::parsers::{command, command_line};
+use clap::Command;
 use clap::error::ErrorKind;
-use clap::{Command, Error};
 use std::alloc::{AllocError, Global};
 
 const EMPTY: &str = "error: a word or a value is empty: is a variable of the shell not set?";
@@ -18,7 +18,7 @@ const DIGITS: &str =
     "error: a number is written in decimal digits alone, without a sign and without leading zeros";
 
 /// What to do beside what `clap` says is wrong, by how that begins and what it contains.
-static TIPS: [Meaning; 6] = [
+const TIPS: [Meaning; 6] = [
     Meaning {
         start: "error: unexpected value '",
         part: " for '<SECRET>...'",
@@ -74,8 +74,8 @@ pub fn add_form_line(alloc: Global, text: &mut String, words: &[String]) -> Resu
     write!(text, "\n{form}\n")
 }
 
-/// Adds the names of the options of a command, in a line of their own, where it has any.
-fn add_names(text: &mut String, form: &Form) -> Result<(), AllocError> {
+/// Adds the options of a command, in a line of their own, where it has any.
+fn add_options(text: &mut String, form: &Form) -> Result<(), AllocError> {
     let mut lead = "\nOptions: --";
     for option in form.options {
         text.push_str(lead)?;
@@ -83,13 +83,6 @@ fn add_names(text: &mut String, form: &Form) -> Result<(), AllocError> {
         lead = ", --";
     }
     Ok(())
-}
-
-/// Adds the options of a command, and where they and its words are told of.
-fn add_options(text: &mut String, form: &Form) -> Result<(), AllocError> {
-    add_names(text, form)?;
-    let name = form.name;
-    write!(text, "\nFor its words and options: flowcheck help {name}")
 }
 
 /// Adds the names of the commands, in a line of their own.
@@ -107,7 +100,11 @@ fn add_commands(text: &mut String) -> Result<(), AllocError> {
 fn form_told(alloc: Global, words: &[String]) -> Result<String, AllocError> {
     let mut text = form_line(alloc, words)?;
     match form_of(words) {
-        Some(form) => add_options(&mut text, form)?,
+        Some(form) => {
+            add_options(&mut text, form)?;
+            let name = form.name;
+            write!(text, "\nFor its words and options: flowcheck help {name}")?;
+        }
         None => add_commands(&mut text)?,
     }
     Ok(text)
@@ -148,20 +145,15 @@ fn add_tips(start: &mut String, rest: &str) -> Result<(), AllocError> {
     Ok(())
 }
 
-/// Adds what to do, where there is something to say.
-fn add_tip(start: &mut String, tip: &str) -> Result<(), AllocError> {
-    if tip.is_empty() {
-        return Ok(());
-    }
-    write!(start, "\n  tip: {tip}")
-}
-
 /// The start of what `clap` says is wrong with words, up to its first blank line, with what to do after that and with
 /// its tips.
 fn start_of(alloc: Global, words: &[String], text: &str) -> Result<String, AllocError> {
     let (head, rest) = text.split_once("\n\n").unwrap_or((text, ""));
     let mut start = head.trim_end().to_string(alloc)?;
-    add_tip(&mut start, tip_of(words, head))?;
+    let tip = tip_of(words, head);
+    if !tip.is_empty() {
+        write!(start, "\n  tip: {tip}")?;
+    }
     add_tips(&mut start, rest)?;
     Ok(start)
 }
@@ -188,21 +180,16 @@ fn wrong_words<'a>(words: &'a [String]) -> &'a [String] {
     }
 }
 
-/// The start of what `clap` says is wrong with words.
-fn told(alloc: Global, words: &[String], error: &Error) -> Result<String, AllocError> {
+/// What `clap` says is wrong with words that are no command line.
+fn wrong(alloc: Global, words: &[String]) -> Result<String, AllocError> {
+    let Err(error) = command_line(alloc)?.try_get_matches_from(wrong_words(words)) else {
+        return narrower(words).to_string(alloc);
+    };
     if error.kind() == ErrorKind::OutOfMemory {
         return Err(AllocError);
     }
-    let text = error.to_string(alloc)?;
+    let text = format!(in alloc; "{error}")?;
     start_of(alloc, words, text.as_str())
-}
-
-/// What `clap` says is wrong with words that are no command line.
-fn wrong(alloc: Global, words: &[String]) -> Result<String, AllocError> {
-    match command_line(alloc)?.try_get_matches_from(wrong_words(words)) {
-        Ok(_) => narrower(words).to_string(alloc),
-        Err(error) => told(alloc, words, &error),
-    }
 }
 
 /// What is wrong with words that are no command line, the nearest name with it, an empty line, and the form of their

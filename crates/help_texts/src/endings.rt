@@ -3,44 +3,30 @@
 use crate::forms::Form;
 use std::alloc::AllocError;
 
-/// What each status of a command means, from 0 on; empty where it does not come.
-fn meanings(form: &Form) -> [&'static str; 9] {
-    let [malformed, not_read, too_large] = if form.has_files {
-        [
-            "a file is malformed",
-            "a file cannot be read",
-            "a file is too large",
-        ]
-    } else {
-        [""; 3]
-    };
-    [
-        form.done,
-        form.not_done,
-        "the words are no command line",
-        malformed,
-        form.refused,
-        not_read,
-        too_large,
-        "the text cannot be written",
-        "there is not enough memory",
-    ]
-}
-
-/// Adds the lines of the statuses that have a meaning.
-fn add_statuses(text: &mut String, meanings: &[&str]) -> Result<(), AllocError> {
-    for (status, meaning) in meanings.iter().enumerate() {
-        if !meaning.is_empty() {
-            write!(text, "  {status}  {meaning}\n")?;
-        }
+/// Adds the line of a status, where it has a meaning.
+fn add_status(text: &mut String, status: u8, meaning: &str) -> Result<(), AllocError> {
+    if meaning.is_empty() {
+        return Ok(());
     }
-    Ok(())
+    write!(text, "  {status}  {meaning}\n")
 }
 
 /// Adds what stands below the form of a command.
 pub fn add_ending(text: &mut String, form: &Form) -> Result<(), AllocError> {
     text.push_str("\nStatus:\n")?;
-    add_statuses(text, &meanings(form))?;
+    add_status(text, 0, form.done)?;
+    add_status(text, 1, form.not_done)?;
+    add_status(text, 2, "the words are no command line")?;
+    if form.has_files {
+        add_status(text, 3, "a file is malformed")?;
+    }
+    add_status(text, 4, form.refused)?;
+    if form.has_files {
+        add_status(text, 5, "a file cannot be read")?;
+        add_status(text, 6, "a file is too large")?;
+    }
+    add_status(text, 7, "the text cannot be written")?;
+    add_status(text, 8, "there is not enough memory")?;
     let folder = form.folder;
     let example = form.example;
     write!(text, "\nExample, in {folder}:\n  flowcheck {example}\n")

@@ -46,21 +46,6 @@ fn of_refusal(
     Ok(None)
 }
 
-/// What the answer to words means, of a command line whose words are named, by its status and its text.
-fn of_status<'a>(
-    alloc: Global,
-    status: u8,
-    words: &[String],
-    matches: &ArgMatches<'a>,
-    said: &'a str,
-) -> Result<Option<String>, AllocError> {
-    if status == 1 {
-        findings(alloc, matches, said)
-    } else {
-        of_refusal(alloc, words, matches, said.trim_end())
-    }
-}
-
 /// What the answer to words means, of a command line, by its status and the text that was put, or a beginning of it.
 fn of_command_line(
     alloc: Global,
@@ -69,10 +54,13 @@ fn of_command_line(
     said: &str,
 ) -> Result<Option<String>, AllocError> {
     let ordered = options_last(alloc, words)?;
-    match named(alloc, ordered.as_slice())? {
-        Some(matches) => of_status(alloc, status, words, &matches, said),
-        None => Ok(None),
+    let Some(matches) = named(alloc, ordered.as_slice())? else {
+        return Ok(None);
+    };
+    if status == 1 {
+        return findings(alloc, &matches, said);
     }
+    of_refusal(alloc, words, &matches, said.trim_end())
 }
 
 /// What the answer to words means and what to change, by its status and by the text that was put, or a beginning of it;

@@ -64,7 +64,7 @@ fn programs<'a>() -> &'a [Meaning] {
     &PROGRAMS
 }
 
-static PROGRAMS: [Meaning; 18] = [
+const PROGRAMS: [Meaning; 18] = [
     Meaning {
         start: "truncated",
         part: "",
@@ -182,7 +182,7 @@ fn regions<'a>() -> &'a [Meaning] {
     &REGIONS
 }
 
-static REGIONS: [Meaning; 7] = [
+const REGIONS: [Meaning; 7] = [
     Meaning {
         start: "json",
         part: "",
@@ -231,7 +231,7 @@ fn cuts<'a>() -> &'a [Meaning] {
     &CUTS
 }
 
-static CUTS: [Meaning; 6] = [
+const CUTS: [Meaning; 6] = [
     Meaning {
         start: "version",
         part: "",
@@ -276,7 +276,7 @@ fn sources<'a>() -> &'a [Meaning] {
     &SOURCES
 }
 
-static SOURCES: [Meaning; 7] = [
+const SOURCES: [Meaning; 7] = [
     Meaning {
         start: "line",
         part: " kind 1",
@@ -322,7 +322,7 @@ fn certificates<'a>() -> &'a [Meaning] {
     &CERTIFICATES
 }
 
-static CERTIFICATES: [Meaning; 2] = [
+const CERTIFICATES: [Meaning; 2] = [
     Meaning {
         start: "line 1",
         part: "",

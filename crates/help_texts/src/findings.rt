@@ -1,7 +1,8 @@
 //! What it means that secrets are rejected or unclear, that paths are unclear, or that a certificate is rejected.
 
+use crate::meanings::meaning_of;
 use crate::naming::{add_run_options, secret_of, word_for};
-use crate::run_meanings::{meaning_of_finding, meaning_of_verdict};
+use crate::run_meanings::{FINDINGS, VERDICTS};
 use clap::ArgMatches;
 use std::alloc::{AllocError, Global};
 
@@ -51,14 +52,6 @@ fn add_secrets<'a>(
     Ok(())
 }
 
-/// Puts a meaning after others, where it is not among them.
-fn put_once<'a>(told: &mut Vec<&'a str>, meaning: &'a str) -> Result<(), AllocError> {
-    if !told.contains(&meaning) {
-        told.push(meaning)?;
-    }
-    Ok(())
-}
-
 /// The meanings of the causes, each once.
 fn meanings<'a>(
     alloc: Global,
@@ -68,7 +61,10 @@ fn meanings<'a>(
     let mut told: Vec<&'a str> = Vec::new(alloc);
     for line in said.lines() {
         if let Some((_, cause)) = named_finding(matches, line) {
-            put_once(&mut told, meaning_of_finding(cause))?;
+            let meaning = meaning_of(&FINDINGS, cause);
+            if !told.contains(&meaning) {
+                told.push(meaning)?;
+            }
         }
     }
     Ok(told)
@@ -110,41 +106,23 @@ fn option_for<'a>(said: &str) -> &'a str {
     }
 }
 
-/// Adds the meanings of the causes.
-fn add_meanings<'a>(
-    alloc: Global,
-    text: &mut String,
-    matches: &ArgMatches<'a>,
-    said: &'a str,
-) -> Result<(), AllocError> {
-    let meanings = meanings(alloc, matches, said)?;
-    add_lines(text, meanings.as_slice())
-}
-
-/// Adds how a page of a secret is asked for.
-fn add_page(
-    text: &mut String,
-    matches: &ArgMatches<'_>,
-    option: &str,
-    secret: &str,
-) -> Result<(), AllocError> {
-    add_asking(text, matches, option)?;
-    write!(text, " {secret}")?;
-    add_options(text, matches)
-}
-
-/// Of secrets that are rejected or unclear, each by the name of its file, of which the first is this.
+/// Of secrets that are rejected or unclear, each by the name of its file; None where no line speaks of one.
 fn of_secrets<'a>(
     alloc: Global,
     matches: &ArgMatches<'a>,
     said: &'a str,
-    first: &str,
-) -> Result<String, AllocError> {
+) -> Result<Option<String>, AllocError> {
+    let Some(first) = first_secret(matches, said) else {
+        return Ok(None);
+    };
+    let meanings = meanings(alloc, matches, said)?;
     let mut text = String::new(alloc);
     add_secrets(&mut text, matches, said)?;
-    add_meanings(alloc, &mut text, matches, said)?;
-    add_page(&mut text, matches, option_for(said), first)?;
-    Ok(text)
+    add_lines(&mut text, meanings.as_slice())?;
+    add_asking(&mut text, matches, option_for(said))?;
+    write!(text, " {first}")?;
+    add_options(&mut text, matches)?;
+    Ok(Some(text))
 }
 
 /// Why the first path is unclear that a line speaks of; None where no line does.
@@ -166,19 +144,21 @@ fn add_looking(text: &mut String, matches: &ArgMatches<'_>) -> Result<(), AllocE
     text.push_str(" looks for a cut by itself; LENGTH is that of the secrets in bytes.\n")
 }
 
-/// Adds how a page of a path is asked for, and how a cut is looked for.
-fn add_ways(text: &mut String, matches: &ArgMatches<'_>) -> Result<(), AllocError> {
-    add_asking(text, matches, "bound")?;
-    add_options(text, matches)?;
-    add_looking(text, matches)
-}
-
-/// Of paths that are unclear, the first for this cause.
-fn of_paths(alloc: Global, matches: &ArgMatches<'_>, cause: &str) -> Result<String, AllocError> {
-    let meaning = meaning_of_finding(cause);
+/// Of paths that are unclear; None where no line speaks of one.
+fn of_paths(
+    alloc: Global,
+    matches: &ArgMatches<'_>,
+    said: &str,
+) -> Result<Option<String>, AllocError> {
+    let Some(cause) = first_path_cause(said) else {
+        return Ok(None);
+    };
+    let meaning = meaning_of(&FINDINGS, cause);
     let mut text = format!(in alloc; "no answer: {cause}\n{meaning}\n")?;
-    add_ways(&mut text, matches)?;
-    Ok(text)
+    add_asking(&mut text, matches, "bound")?;
+    add_options(&mut text, matches)?;
+    add_looking(&mut text, matches)?;
+    Ok(Some(text))
 }
 
 /// Of a certificate that is rejected; None where no line says so.
@@ -191,7 +171,7 @@ fn of_certificate(
         return Ok(None);
     };
     let file = word_for(matches, "CERT");
-    let meaning = meaning_of_verdict(cause);
+    let meaning = meaning_of(&VERDICTS, cause);
     let text = format!(in alloc;
         "certificate {file}: {cause}\n{meaning} The file was changed, or whoever made it is \
         wrong: make it again by flowcheck graph PROG PUBLIC SECRET.\n"
@@ -205,11 +185,11 @@ pub fn findings<'a>(
     matches: &ArgMatches<'a>,
     said: &'a str,
 ) -> Result<Option<String>, AllocError> {
-    if let Some(first) = first_secret(matches, said) {
-        return Ok(Some(of_secrets(alloc, matches, said, first)?));
+    if let Some(text) = of_secrets(alloc, matches, said)? {
+        return Ok(Some(text));
     }
-    if let Some(cause) = first_path_cause(said) {
-        return Ok(Some(of_paths(alloc, matches, cause)?));
+    if let Some(text) = of_paths(alloc, matches, said)? {
+        return Ok(Some(text));
     }
     of_certificate(alloc, matches, said)
 }

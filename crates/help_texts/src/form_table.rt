@@ -87,7 +87,7 @@ const EXAMPLES: &str = "examples/bit";
 const NO_RUN: &str = "the run is not measured";
 
 /// The forms of all commands.
-pub static FORMS: [Form; 13] = [
+pub const FORMS: [Form; 13] = [
     Form {
         name: "check",
         about: "Judge by lockstep replay whether a run on each secret gives away no bits but those of a cut",

@@ -24,14 +24,14 @@ const ADVICE_ON_INPUT: &str =
 const ADVICE_ON_REGIONS: &str = "Is it a region file? Enclose fewer calls.";
 
 /// What a file is that no form has a word for.
-static ANY_FILE: Role = Role {
+const ANY_FILE: Role = Role {
     name: "",
     what: "a file",
     limit: "fewer bytes",
     advice: "Take a smaller file.",
 };
 
-static ROLES: [Role; 8] = [
+const ROLES: [Role; 8] = [
     Role {
         name: "PROG",
         what: "the program",
@@ -100,32 +100,24 @@ fn takes_next(form: &Form, word: &str) -> bool {
     false
 }
 
-/// Puts the options with their values after other words, or all words but these.
-fn put_words<'a>(
-    ordered: &mut Vec<&'a str>,
-    form: &Form,
-    words: &'a [String],
-    options: bool,
-) -> Result<(), AllocError> {
-    let mut is_value = false;
-    for word in words {
-        let word = word.as_str();
-        let is_option = is_value || word.starts_with('-');
-        is_value = is_option && !is_value && takes_next(form, word);
-        if is_option == options {
-            ordered.push(word)?;
-        }
-    }
-    Ok(())
-}
-
 /// The words of a command line, the options with their values last: `clap` takes no secret after an option.
 pub fn options_last<'a>(alloc: Global, words: &'a [String]) -> Result<Vec<&'a str>, AllocError> {
     let mut ordered = Vec::new(alloc);
-    if let Some(form) = form_of(words) {
-        put_words(&mut ordered, form, words, false)?;
-        put_words(&mut ordered, form, words, true)?;
+    let Some(form) = form_of(words) else {
+        return Ok(ordered);
+    };
+    let mut options = Vec::new(alloc);
+    let mut is_value = false;
+    for word in words {
+        let word = word.as_str();
+        if is_value || word.starts_with('-') {
+            is_value = !is_value && takes_next(form, word);
+            options.push(word)?;
+        } else {
+            ordered.push(word)?;
+        }
     }
+    ordered.extend_from_slice(options.as_slice())?;
     Ok(ordered)
 }
 
@@ -152,18 +144,11 @@ pub fn word_for<'a>(matches: &ArgMatches<'a>, name: &'a str) -> &'a str {
     matches.get_str(name).unwrap_or(name)
 }
 
-/// The place of what has this number, counted from 1; None where that is no number.
-fn place_of(number: &str) -> Option<usize> {
-    match number.parse::<usize>() {
-        Ok(number) => number.checked_sub(1),
-        Err(_) => None,
-    }
-}
-
 /// The secret of this number, counted from 1; None where there is none.
 pub fn secret_of<'a>(matches: &ArgMatches<'a>, number: &str) -> Option<&'a str> {
-    let place = place_of(number)?;
-    matches.get_strs("SECRET")?.get(place).copied()
+    let number = number.parse::<usize>().ok()?;
+    let secrets = matches.get_strs("SECRET")?;
+    secrets.get(number.checked_sub(1)?).copied()
 }
 
 /// Whether a file is among what stands for this name of a form.

@@ -2,8 +2,9 @@
 
 use crate::complaints::add_form_line;
 use crate::file_meanings::{FileKind, file_kinds, meaning_of_file};
+use crate::meanings::meaning_of;
 use crate::naming::{add_run_options, role_of, secret_of, word_for};
-use crate::run_meanings::meaning_of_run;
+use crate::run_meanings::RUNS;
 use clap::ArgMatches;
 use std::alloc::{AllocError, Global};
 
@@ -26,19 +27,16 @@ fn file_of<'a>(matches: &ArgMatches<'a>, kind: &FileKind) -> &'a str {
     }
 }
 
-/// The kind of file that a refusal `KIND FAULT` names, and the fault.
-fn kind_and_fault<'a>(refused: &'a str) -> Option<(&'a FileKind, &'a str)> {
-    let (word, fault) = refused.split_once(' ')?;
-    Some((kind_of(word)?, fault))
-}
-
 /// Of a file that is malformed, as `KIND FAULT` says.
 pub fn malformed(
     alloc: Global,
     matches: &ArgMatches<'_>,
     refused: &str,
 ) -> Result<Option<String>, AllocError> {
-    let Some((kind, fault)) = kind_and_fault(refused) else {
+    let Some((word, fault)) = refused.split_once(' ') else {
+        return Ok(None);
+    };
+    let Some(kind) = kind_of(word) else {
         return Ok(None);
     };
     let file = file_of(matches, kind);
@@ -60,8 +58,12 @@ fn numbered<'a>(fault: &'a str) -> Option<(&'a str, &'a str)> {
 fn add_more_of_run(
     text: &mut String,
     matches: &ArgMatches<'_>,
+    fault: &str,
     secret: &str,
 ) -> Result<(), AllocError> {
+    if !fault.contains("0x") || matches.get_str("FILE").is_some() {
+        return Ok(());
+    }
     let program = word_for(matches, "PROG");
     let public = word_for(matches, "PUBLIC");
     write!(text, "python3 tools/explain.py {program} {public} {secret}")?;
@@ -94,11 +96,9 @@ pub fn refused_run(
     let program = word_for(matches, "PROG");
     let secret = refused_secret(matches, fault).unwrap_or("SECRET");
     let cause = fault_of_run(fault);
-    let meaning = meaning_of_run(cause);
+    let meaning = meaning_of(&RUNS, cause);
     let mut text = format!(in alloc; "error: run of {program} on {secret}: {fault}\n{meaning}\n")?;
-    if cause.contains("0x") && matches.get_str("FILE").is_none() {
-        add_more_of_run(&mut text, matches, secret)?;
-    }
+    add_more_of_run(&mut text, matches, cause, secret)?;
     Ok(Some(text))
 }
 
@@ -107,16 +107,6 @@ const NO_NUMBER: &str =
 
 const NO_FILE: &str =
     "Is the name right, as seen from this folder? It is to be a file that you may read, no folder.";
-
-/// A text with the line of the form of a command after it.
-fn with_form_line(
-    alloc: Global,
-    mut text: String,
-    words: &[String],
-) -> Result<Option<String>, AllocError> {
-    add_form_line(alloc, &mut text, words)?;
-    Ok(Some(text))
-}
 
 /// Of a file that could not be loaded.
 pub fn not_loaded(
@@ -131,8 +121,9 @@ pub fn not_loaded(
     } else {
         NO_FILE
     };
-    let text = format!(in alloc; "error: cannot read {file} as {what}\n{advice}\n")?;
-    with_form_line(alloc, text, words)
+    let mut text = format!(in alloc; "error: cannot read {file} as {what}\n{advice}\n")?;
+    add_form_line(alloc, &mut text, words)?;
+    Ok(Some(text))
 }
 
 /// Of a file that has too many bytes, as `FILE NUMBER` says.
@@ -149,8 +140,9 @@ pub fn too_large(
     let what = role.what;
     let limit = role.limit;
     let advice = role.advice;
-    let text = format!(in alloc;
+    let mut text = format!(in alloc;
         "error: {file} is too large for {what}, which may have {limit}\n{advice}\n"
     )?;
-    with_form_line(alloc, text, words)
+    add_form_line(alloc, &mut text, words)?;
+    Ok(Some(text))
 }

@@ -1,24 +1,9 @@
 //! Why a run is not measured, a secret not accepted or a path not clear, and what to change.
 
-use crate::meanings::{Meaning, meaning_of};
-
-/// What it means that a run, or several together, are refused for a cause.
-pub fn meaning_of_run(cause: &str) -> &'static str {
-    meaning_of(&RUNS, cause)
-}
-
-/// What it means that a secret is rejected or unclear for a cause, or a path unclear.
-pub fn meaning_of_finding(cause: &str) -> &'static str {
-    meaning_of(&FINDINGS, cause)
-}
-
-/// What it means that a certificate is rejected for a cause.
-pub fn meaning_of_verdict(cause: &str) -> &'static str {
-    meaning_of(&VERDICTS, cause)
-}
+use crate::meanings::Meaning;
 
 /// Why a run, or several together, are refused, or no declaration is learnt.
-static RUNS: [Meaning; 25] = [
+pub const RUNS: [Meaning; 25] = [
     Meaning {
         start: "turns",
         part: "",
@@ -165,7 +150,7 @@ static RUNS: [Meaning; 25] = [
 ];
 
 /// Why a secret is rejected or unclear, or a path is unclear.
-static FINDINGS: [Meaning; 15] = [
+pub const FINDINGS: [Meaning; 15] = [
     Meaning {
         start: "secret-length",
         part: "",
@@ -263,7 +248,7 @@ static FINDINGS: [Meaning; 15] = [
 ];
 
 /// Why a certificate is rejected.
-static VERDICTS: [Meaning; 4] = [
+pub const VERDICTS: [Meaning; 4] = [
     Meaning {
         start: "over",
         part: "",
