@@ -1,67 +1,74 @@
 #!/usr/bin/env python3
-"""file_times.py CRATE [LEAST]
+"""file_times.py CRATE [LEAST] [--kept]
 
-Prints how many processor seconds the prover takes for each file of specs/ and proofs/ of a crate, longest first, down
-to LEAST seconds (0.5 without the word), and how many lines each has. The crate is checked at one job; then, file by
-file, what was kept of the file is taken away and the crate is checked again: what that check takes, less what a check
-with nothing to do takes, is the file's time. What a file keeps for others does not change, so no other is checked. The
-front end takes some tenths of a second more or less each time, and so is each time wrong by as much.
+Prints how many seconds the prover takes for each function of a crate and for each file of its specs/ and proofs/,
+longest first, down to LEAST seconds (1 without the word), with the part of a function that took most. The crate is
+checked from nothing at one job; with `--kept` the last check is read instead, and then only what it proved anew is
+right. The prover keeps each module in a file of its own as soon as it is checked, so the time between two such files is
+that of the later one.
 
-It works in the crate's out/ folder. Python 3 and the kit's `rt` on the PATH."""
+Parts of a function: `Lts` is which values and loans live at each step, and grows faster than the function; `Proof` is
+the proof itself, dear where a tactic searches; `Tie` ties the two to the code. It works in the crate's out/ folder.
+Python 3 and the kit's `rt` on the PATH."""
 import argparse
+import collections
 import pathlib
-import resource
+import shutil
 import subprocess
 import sys
 
 TOP = pathlib.Path(__file__).resolve().parents[2]
+ENDS = ".decls.oantt", ".oantt"
 
 
-def spent(crate):
-    """The processor seconds of a check of a crate at one job."""
-    before = resource.getrusage(resource.RUSAGE_CHILDREN)
-    done = subprocess.run(["rt", "check", "--jobs", "1"], cwd=TOP / "crates" / crate, capture_output=True, text=True)
-    if done.returncode != 0:
-        sys.exit(done.stdout + done.stderr)
-    after = resource.getrusage(resource.RUSAGE_CHILDREN)
-    return after.ru_utime + after.ru_stime - before.ru_utime - before.ru_stime
+def modules(kept):
+    """Each kept module with the seconds since the one that was kept before it."""
+    files = sorted((path.stat().st_mtime, path.name) for path in kept.rglob("*.oantt"))
+    for (before, _), (after, name) in zip(files, files[1:]):
+        for end in ENDS:
+            name = name.removesuffix(end)
+        yield name, after - before
 
 
-def files_of(crate):
-    """Each file of specs/ and proofs/ of a crate with its lines, by the name of what is kept of it."""
-    for folder in "specs", "proofs":
-        root = TOP / "crates" / crate / folder
-        for path in sorted(root.rglob("*.antt")):
-            module = ".".join(path.relative_to(root).with_suffix("").parts)
-            name = f"Rattle-{crate}-{folder}" + ("" if module == "Lib" else f".{module}")
-            yield f"{name}.oantt", f"{folder}/{path.relative_to(root)}", len(path.read_text().splitlines())
+def place_of(module):
+    """The function or the file that a module belongs to, and its part of it."""
+    library, *names = module.split(".")
+    folder = library.rsplit("-", 1)[-1]
+    if folder not in ("specs", "proofs") or not names:
+        return "the library's own module", "whole"
+    if folder == "proofs" and len(names) > 1:
+        return ".".join(names[:-1]), names[-1]
+    return f"{folder}/{'/'.join(names)}", "whole"
 
 
 def main():
     parser = argparse.ArgumentParser(description=__doc__, formatter_class=argparse.RawDescriptionHelpFormatter)
     parser.add_argument("crate", metavar="CRATE", help="the name of a crate")
-    parser.add_argument("least", metavar="LEAST", type=float, nargs="?", default=0.5)
+    parser.add_argument("least", metavar="LEAST", type=float, nargs="?", default=1.0)
+    parser.add_argument("--kept", action="store_true", help="read the last check, and check nothing")
     words = parser.parse_args()
-    if not (TOP / "crates" / words.crate).is_dir():
+    folder = TOP / "crates" / words.crate
+    if not folder.is_dir():
         parser.error(f"there is no crate {words.crate}")
-    crate, least = words.crate, words.least
-    first = spent(crate)
-    none = min(spent(crate) for _ in range(3))
-    times = []
-    for name, path, lines in files_of(crate):
-        kept = list((TOP / "crates" / crate / "out/incremental").rglob(name))
-        for one in kept:
-            one.unlink()
-        if kept:
-            times.append((max(0, spent(crate) - none), path, lines))
-    print(f"{crate}: {first:.1f} s for all that was not kept, {none:.1f} s for nothing; {len(times)} files")
-    for seconds, path, lines in sorted(times, reverse=True):
-        if seconds >= least:
-            print(f"{seconds:7.1f} s {lines:5} lines  {path}")
-    rest = [one for one in times if one[0] < least]
-    print(f"{sum(one[0] for one in rest):7.1f} s {sum(one[2] for one in rest):5} lines  in {len(rest)} others")
-    return 0
+    kept = folder / "out/incremental"
+    if not words.kept:
+        shutil.rmtree(kept, ignore_errors=True)
+        done = subprocess.run(["rt", "check", "--jobs", "1"], cwd=folder, capture_output=True, text=True)
+        if done.returncode != 0:
+            sys.exit(done.stdout + done.stderr)
+    times = collections.defaultdict(collections.Counter)
+    parts = collections.Counter()
+    for module, seconds in modules(kept):
+        place, part = place_of(module)
+        times[place][part] += seconds
+        parts[part] += seconds
+    dear = ", ".join(f"{part} {seconds:.0f}" for part, seconds in parts.most_common(5))
+    print(f"{words.crate}: {sum(parts.values()):.0f} s; by part: {dear}")
+    for place, spent in sorted(times.items(), key=lambda item: -sum(item[1].values())):
+        if sum(spent.values()) >= words.least:
+            part, most = spent.most_common(1)[0]
+            print(f"{sum(spent.values()):7.1f} s  {place}  ({part} {most:.1f})")
 
 
 if __name__ == "__main__":
-    sys.exit(main())
+    main()
