@@ -40,35 +40,40 @@ nat_equal a b e = elim (cases_order a b) [
       ∙ cond-false (nat_eq a b) Equal Greater (ne_eqb a b (λ s. omega (arith, s, more))) in absurd (cc)
 ]
 
+differs : (o : Ordering) → is_eq o ≡ false → o ≡ Equal → ⊥
+differs Less other e = cc
+differs Equal other e = cc
+differs Greater other e = cc
+
 slot_equal : (s t : Slot) → slot_cmp s t ≡ Equal → s ≡ t
 slot_equal First First e = refl
-slot_equal First t e = absurd (cc)
+slot_equal First t e = absurd (differs (slot_cmp First t) refl e)
 slot_equal Second Second e = refl
-slot_equal Second t e = absurd (cc)
+slot_equal Second t e = absurd (differs (slot_cmp Second t) refl e)
 slot_equal Address Address e = refl
-slot_equal Address t e = absurd (cc)
+slot_equal Address t e = absurd (differs (slot_cmp Address t) refl e)
 slot_equal Result Result e = refl
-slot_equal Result t e = absurd (cc)
+slot_equal Result t e = absurd (differs (slot_cmp Result t) refl e)
 slot_equal Decision Decision e = refl
-slot_equal Decision t e = absurd (cc)
+slot_equal Decision t e = absurd (differs (slot_cmp Decision t) refl e)
 slot_equal Number Number e = refl
-slot_equal Number t e = absurd (cc)
+slot_equal Number t e = absurd (differs (slot_cmp Number t) refl e)
 slot_equal Arg0 Arg0 e = refl
-slot_equal Arg0 t e = absurd (cc)
+slot_equal Arg0 t e = absurd (differs (slot_cmp Arg0 t) refl e)
 slot_equal Arg1 Arg1 e = refl
-slot_equal Arg1 t e = absurd (cc)
+slot_equal Arg1 t e = absurd (differs (slot_cmp Arg1 t) refl e)
 slot_equal Arg2 Arg2 e = refl
-slot_equal Arg2 t e = absurd (cc)
+slot_equal Arg2 t e = absurd (differs (slot_cmp Arg2 t) refl e)
 slot_equal SecretIn SecretIn e = refl
-slot_equal SecretIn t e = absurd (cc)
+slot_equal SecretIn t e = absurd (differs (slot_cmp SecretIn t) refl e)
 slot_equal ByteOut ByteOut e = refl
-slot_equal ByteOut t e = absurd (cc)
+slot_equal ByteOut t e = absurd (differs (slot_cmp ByteOut t) refl e)
 slot_equal Status Status e = refl
-slot_equal Status t e = absurd (cc)
+slot_equal Status t e = absurd (differs (slot_cmp Status t) refl e)
 slot_equal (OutReg n) (OutReg m) e = ap (λ k. OutReg k) (nat_equal n m e)
-slot_equal (OutReg n) t e = absurd (cc)
+slot_equal (OutReg n) t e = absurd (differs (slot_cmp (OutReg n) t) refl e)
 slot_equal (OutRange n) (OutRange m) e = ap (λ k. OutRange k) (nat_equal n m e)
-slot_equal (OutRange n) t e = absurd (cc)
+slot_equal (OutRange n) t e = absurd (differs (slot_cmp (OutRange n) t) refl e)
 
 then_both : (o r : Ordering) → ordering_then o r ≡ Equal → (o ≡ Equal) × (r ≡ Equal)
 then_both Less r e = absurd (cc)
