@@ -7,6 +7,7 @@ pub mod Masks
 pub mod NarrowMasks
 pub mod Operations
 pub mod Orders
+mod Places
 pub mod Products
 pub mod Results
 pub mod Shifts

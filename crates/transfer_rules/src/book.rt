@@ -40,21 +40,6 @@ impl RuleBook {
         ensures class { result.now.class ≡ class }
         ensures table { result.now.table ≡ self.now.table }
     {
-        match class {
-            Class::Add => &self.rules[0],
-            Class::Sub => &self.rules[1],
-            Class::And => &self.rules[2],
-            Class::Or => &self.rules[3],
-            Class::Xor => &self.rules[4],
-            Class::Sll => &self.rules[5],
-            Class::Srl => &self.rules[6],
-            Class::Sra => &self.rules[7],
-            Class::Slt => &self.rules[8],
-            Class::Sltu => &self.rules[9],
-            Class::Equal => &self.rules[10],
-            Class::Mul => &self.rules[11],
-            Class::High => &self.rules[12],
-            Class::Div => &self.rules[13],
-        }
+        &self.rules[class as usize]
     }
 }
