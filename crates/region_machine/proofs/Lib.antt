@@ -10,3 +10,4 @@ pub mod PairMemory
 pub mod PairCalls
 pub mod NextTurns
 pub mod Marking
+mod SlicePatterns
