@@ -18,11 +18,11 @@ four-mapped f (x0 ∷ (x1 ∷ [])) a b c d = λ h. grind (arith, common_steps)
 four-mapped f (x0 ∷ (x1 ∷ (x2 ∷ []))) a b c d = λ h. grind (arith, common_steps)
 four-mapped f (x0 ∷ (x1 ∷ (x2 ∷ (x3 ∷ ws)))) a b c d = grind (arith, common_steps, take-length ws)
 
--- of four items that are mapped, the fourth
-pub fourth-mapped : {T B : Type 0} (f : T → B) (ws : List T) (a b c d : B) (other : T) →
-    map f ws ≡ a ∷ b ∷ c ∷ d ∷ [] → d ≡ f (get_or ws 3 other)
-fourth-mapped f [] a b c d other e = absurd (cc)
-fourth-mapped f (x0 ∷ []) a b c d other e = absurd (cc)
-fourth-mapped f (x0 ∷ (x1 ∷ [])) a b c d other e = absurd (cc)
-fourth-mapped f (x0 ∷ (x1 ∷ (x2 ∷ []))) a b c d other e = absurd (cc)
-fourth-mapped f (x0 ∷ (x1 ∷ (x2 ∷ (x3 ∷ ws)))) a b c d other e = let same : f x3 ≡ d = cc in sym same
+-- of items that are mapped, the fourth
+pub fourth-mapped : {T B : Type 0} (f : T → B) (ws : List T) (a b c d : B) (rest : List B) (other : T) →
+    map f ws ≡ a ∷ b ∷ c ∷ d ∷ rest → d ≡ f (get_or ws 3 other)
+fourth-mapped f [] a b c d rest other e = absurd (cc)
+fourth-mapped f (x0 ∷ []) a b c d rest other e = absurd (cc)
+fourth-mapped f (x0 ∷ (x1 ∷ [])) a b c d rest other e = absurd (cc)
+fourth-mapped f (x0 ∷ (x1 ∷ (x2 ∷ []))) a b c d rest other e = absurd (cc)
+fourth-mapped f (x0 ∷ (x1 ∷ (x2 ∷ (x3 ∷ ws)))) a b c d rest other e = let same : f x3 ≡ d = cc in sym same

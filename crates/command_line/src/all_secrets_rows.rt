@@ -1,16 +1,24 @@
-ghost use Rattle.std.specs.Prelude.{◌≡◌, None, Ok, IfOk, IfSome};
-ghost use Rattle.command_line.specs.CommandLines.{AllSecrets, IsAllSecrets};
+ghost use Rattle.std.specs.Prelude.{◌≡◌, ◌∷◌, [], None, Ok, IfOk, IfSome, codes};
+ghost use Rattle.command_line.specs.CommandLines.{AllSecrets, IsAllSecrets, check_options};
+ghost use Rattle.command_line.specs.Parts.{are_taken as are_taken_of};
 ghost use Rattle.command_line.specs.Words.{all_secrets_of, parts_in};
 
 use crate::all_secrets::AllSecretsWords;
-use crate::check_rows::HIGHEST_BUDGET;
 use crate::guests::GuestWords;
-use crate::limits::Limits;
-use crate::numbers::{choice_of, number_of, paths_of, turns_of};
+use crate::numbers::{choice_in, limits_of, paths_of};
 use crate::option_words::{are_taken, has_option, value_of};
 use crate::parts::Parts;
 use flow_base::NoMemory;
 use std::alloc::Global;
+
+/// Whether no option stands there but those of a bound.
+fn are_of_bound(parts: &Parts) -> bool
+    ensures { result ≡ are_taken_of (codes "--rules" ∷ codes "--paths" ∷ check_options) (codes "--list" ∷ [])
+        (parts_in parts.now).options }
+{
+    let allowed = ["--rules", "--paths", "--turns", "--regions"];
+    are_taken(parts.options.as_slice(), &allowed, &["--list"])
+}
 
 /// The bound that the words after `bound` name; None exactly where they name none.
 pub fn all_secrets_words<'a>(
@@ -23,20 +31,16 @@ pub fn all_secrets_words<'a>(
     let [program, public_input, cut, budget] = parts.plain.as_slice() else {
         return Ok(None);
     };
-    let options = parts.options.as_slice();
-    let allowed = ["--rules", "--paths", "--turns", "--regions"];
-    if !are_taken(options, &allowed, &["--list"]) {
+    if !are_of_bound(parts) {
         return Ok(None);
     }
-    let Some(budget) = number_of(alloc, budget, 0, HIGHEST_BUDGET)? else {
+    let Some(limits) = limits_of(alloc, budget, parts)? else {
         return Ok(None);
     };
-    let Some(turns) = turns_of(alloc, value_of(options, "--turns"))? else {
+    let Some(table) = choice_in(alloc, parts, "--rules")? else {
         return Ok(None);
     };
-    let Some(table) = choice_of(alloc, value_of(options, "--rules"))? else {
-        return Ok(None);
-    };
+    let options = parts.options.as_slice();
     let Some(paths) = paths_of(alloc, value_of(options, "--paths"))? else {
         return Ok(None);
     };
@@ -47,7 +51,7 @@ pub fn all_secrets_words<'a>(
             regions: value_of(options, "--regions"),
         },
         cut: *cut,
-        limits: Limits { budget, turns },
+        limits,
         table,
         paths,
         listed: has_option(options, "--list"),

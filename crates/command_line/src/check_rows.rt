@@ -5,14 +5,11 @@ ghost use Rattle.command_line.specs.Words.{check_of, parts_in};
 use crate::checks::CheckWords;
 use crate::guests::GuestWords;
 use crate::judgings::Judging;
-use crate::limits::Limits;
-use crate::numbers::{number_of, turns_of};
+use crate::numbers::limits_of;
 use crate::option_words::{are_taken, value_of};
 use crate::parts::Parts;
 use flow_base::{List, NoMemory};
 use std::alloc::Global;
-
-pub(crate) const HIGHEST_BUDGET: u32 = 1_048_576;
 
 /// The secrets that the words after a command name, to be judged so; none but these options may stand there. None exactly
 /// where they name none.
@@ -38,10 +35,7 @@ pub fn check_words<'a>(
     if !are_taken(options, allowed, &[]) {
         return Ok(None);
     }
-    let Some(budget) = number_of(alloc, budget, 0, HIGHEST_BUDGET)? else {
-        return Ok(None);
-    };
-    let Some(turns) = turns_of(alloc, value_of(options, "--turns"))? else {
+    let Some(limits) = limits_of(alloc, budget, parts)? else {
         return Ok(None);
     };
     Ok(Some(CheckWords {
@@ -52,7 +46,7 @@ pub fn check_words<'a>(
         },
         cut: *cut,
         secrets: List::from_vec(secrets.to_vec(alloc)?),
-        limits: Limits { budget, turns },
+        limits,
         judging,
     }))
 }

@@ -11,8 +11,8 @@ use crate::checks::CheckWords;
 use crate::judgings::Judging;
 use crate::learn_rows::learn_words;
 use crate::names::CommandName;
-use crate::numbers::{choice_of, number_of};
-use crate::option_words::{has_option, value_of};
+use crate::numbers::{choice_in, number_of};
+use crate::option_words::has_option;
 use crate::parts::{Parts, parts_of};
 use crate::run_rows::{many_runs_words, run_words};
 use crate::runs::{ManyRunsWords, RunWords};
@@ -98,7 +98,7 @@ fn taint_row<'a>(alloc: Global, parts: &Parts<'a>) -> Result<Option<CommandWords
         command))) }
     ensures none { result ≡ Ok None → (command : Command) → ¬ Fits names.Taint (parts_in parts.now) command }
 {
-    let Some(table) = choice_of(alloc, value_of(parts.options.as_slice(), "--rules"))? else {
+    let Some(table) = choice_in(alloc, parts, "--rules")? else {
         return Ok(None);
     };
     let allowed = ["--rules", "--turns", "--regions"];
@@ -126,7 +126,7 @@ fn measure_row<'a>(alloc: Global, parts: &Parts<'a>) -> Result<Option<CommandWor
         command))) }
     ensures none { result ≡ Ok None → (command : Command) → ¬ Fits names.Measure (parts_in parts.now) command }
 {
-    let Some(version) = choice_of(alloc, value_of(parts.options.as_slice(), "--cut"))? else {
+    let Some(version) = choice_in(alloc, parts, "--cut")? else {
         return Ok(None);
     };
     let Some(run) = run_words(
@@ -153,7 +153,7 @@ fn measure_all_row<'a>(
         command))) }
     ensures none { result ≡ Ok None → (command : Command) → ¬ Fits names.MeasureAll (parts_in parts.now) command }
 {
-    let Some(version) = choice_of(alloc, value_of(parts.options.as_slice(), "--cut"))? else {
+    let Some(version) = choice_in(alloc, parts, "--cut")? else {
         return Ok(None);
     };
     let Some(runs) = many_runs_words(alloc, parts)? else {
@@ -214,6 +214,54 @@ fn learn_row<'a>(alloc: Global, parts: &Parts<'a>) -> Result<Option<CommandWords
     }))
 }
 
+/// The source that the words after `asm` name; None exactly where they name none.
+fn assemble_row<'a>(parts: &Parts<'a>) -> Result<Option<CommandWords<'a>>, NoMemory>
+    ensures is { IfOk result (λ found. IfSome found (λ command. Fits names.Assemble (parts_in parts.now) (command_of
+        command))) }
+    ensures none { result ≡ Ok None → (command : Command) → ¬ Fits names.Assemble (parts_in parts.now) command }
+{
+    match file_word(parts) {
+        Some(source) => Ok(Some(CommandWords::Assemble { source })),
+        None => Ok(None),
+    }
+}
+
+/// The program to be listed that the words after `list` name; None exactly where they name none.
+fn list_row<'a>(parts: &Parts<'a>) -> Result<Option<CommandWords<'a>>, NoMemory>
+    ensures is { IfOk result (λ found. IfSome found (λ command. Fits names.List (parts_in parts.now) (command_of
+        command))) }
+    ensures none { result ≡ Ok None → (command : Command) → ¬ Fits names.List (parts_in parts.now) command }
+{
+    match file_word(parts) {
+        Some(program) => Ok(Some(CommandWords::List { program })),
+        None => Ok(None),
+    }
+}
+
+/// The certificate that the words after `verify` name; None exactly where they name none.
+fn verify_row<'a>(parts: &Parts<'a>) -> Result<Option<CommandWords<'a>>, NoMemory>
+    ensures is { IfOk result (λ found. IfSome found (λ command. Fits names.Verify (parts_in parts.now) (command_of
+        command))) }
+    ensures none { result ≡ Ok None → (command : Command) → ¬ Fits names.Verify (parts_in parts.now) command }
+{
+    match file_word(parts) {
+        Some(certificate) => Ok(Some(CommandWords::Verify { certificate })),
+        None => Ok(None),
+    }
+}
+
+/// The cut that the words after `migrate` name; None exactly where they name none.
+fn migrate_row<'a>(parts: &Parts<'a>) -> Result<Option<CommandWords<'a>>, NoMemory>
+    ensures is { IfOk result (λ found. IfSome found (λ command. Fits names.Migrate (parts_in parts.now) (command_of
+        command))) }
+    ensures none { result ≡ Ok None → (command : Command) → ¬ Fits names.Migrate (parts_in parts.now) command }
+{
+    match file_word(parts) {
+        Some(cut) => Ok(Some(CommandWords::Migrate { cut })),
+        None => Ok(None),
+    }
+}
+
 /// The number that the words after `trial` name; None exactly where they name none.
 fn trial_number(alloc: Global, parts: &Parts) -> Result<Option<u32>, NoMemory>
     ensures is { IfOk result (λ found. IfSome found (λ number. IsTrial (parts_in parts.now) number)) }
@@ -258,14 +306,10 @@ fn row_of<'a>(
         CommandName::Graph => graph_row(alloc, parts),
         CommandName::Report => report_row(alloc, parts),
         CommandName::Learn => learn_row(alloc, parts),
-        CommandName::Assemble => Ok(file_word(parts).map(|source| CommandWords::Assemble {
-            source,
-        })),
-        CommandName::List => Ok(file_word(parts).map(|program| CommandWords::List { program })),
-        CommandName::Verify => Ok(file_word(parts).map(|certificate| CommandWords::Verify {
-            certificate,
-        })),
-        CommandName::Migrate => Ok(file_word(parts).map(|cut| CommandWords::Migrate { cut })),
+        CommandName::Assemble => assemble_row(parts),
+        CommandName::List => list_row(parts),
+        CommandName::Verify => verify_row(parts),
+        CommandName::Migrate => migrate_row(parts),
         CommandName::Trial => trial_row(alloc, parts),
     }
 }

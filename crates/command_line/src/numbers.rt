@@ -1,12 +1,19 @@
 //! The numbers that words and values of options name.
 
-ghost use Rattle.std.specs.Prelude.{◌≡◌, ◌≤◌, ◌<◌, ℕ, None, Ok, option_map, IfOk, IfSome};
+ghost use Rattle.std.specs.Prelude.{◌≡◌, ◌≤◌, ◌<◌, ℕ, None, Ok, codes, option_map, IfOk, IfSome};
 ghost use Rattle.std.specs.Fmt.{decimal};
 ghost use Rattle.command_line.specs.CommandLines.{IsChoice, IsNumber, IsNumberOr, IsTurnLimit, default_paths};
-ghost use Rattle.command_line.specs.CommandLines.{highest_paths, highest_turns};
+ghost use Rattle.command_line.specs.CommandLines.{highest_budget, highest_paths, highest_turns};
+ghost use Rattle.command_line.specs.Parts.{value_of as value_of_of};
+ghost use Rattle.command_line.specs.Words.{parts_in};
 
+use crate::limits::Limits;
+use crate::option_words::value_of;
+use crate::parts::Parts;
 use flow_base::NoMemory;
 use std::alloc::Global;
+
+const HIGHEST_BUDGET: u32 = 1_048_576;
 
 const DEFAULT_TURNS: u32 = 1_000_000;
 
@@ -90,4 +97,59 @@ pub fn choice_of(alloc: Global, value: Option<&str>) -> Result<Option<u32>, NoMe
         Some(word) => number_of(alloc, word, 1, 2),
         None => Ok(Some(1)),
     }
+}
+
+/// The choice of 1 or 2 that the option of this name has, 1 without the option; None exactly where it names none.
+pub(crate) fn choice_in(alloc: Global, parts: &Parts, name: &str) -> Result<Option<u32>, NoMemory>
+    ensures is { IfOk result (λ found. IfSome found (λ choice. IsChoice (value_of_of name.now
+        (parts_in parts.now).options) choice)) }
+    ensures one { IfOk result (λ found. IfSome found (λ choice. 1 ≤ choice)) }
+    ensures two { IfOk result (λ found. IfSome found (λ choice. choice ≤ 2)) }
+    ensures none { result ≡ Ok None → (choice : ℕ) → ¬ IsChoice (value_of_of name.now
+        (parts_in parts.now).options) choice }
+{
+    choice_of(alloc, value_of(parts.options.as_slice(), name))
+}
+
+/// The limit of turns and the table of mask rules that the options name; None exactly where one of them names none.
+pub(crate) fn turns_and_table(alloc: Global, parts: &Parts) -> Result<Option<(u32, u32)>, NoMemory>
+    ensures turns { IfOk result (λ found. IfSome found (λ both. IsTurnLimit (value_of_of (codes "--turns")
+        (parts_in parts.now).options) both.0)) }
+    ensures few { IfOk result (λ found. IfSome found (λ both. both.0 ≤ highest_turns)) }
+    ensures table { IfOk result (λ found. IfSome found (λ both. IsChoice (value_of_of (codes "--rules")
+        (parts_in parts.now).options) both.1)) }
+    ensures one { IfOk result (λ found. IfSome found (λ both. 1 ≤ both.1)) }
+    ensures two { IfOk result (λ found. IfSome found (λ both. both.1 ≤ 2)) }
+    ensures none { result ≡ Ok None → (turns table : ℕ) → IsTurnLimit (value_of_of (codes "--turns")
+        (parts_in parts.now).options) turns → ¬ IsChoice (value_of_of (codes "--rules")
+        (parts_in parts.now).options) table }
+{
+    let Some(turns) = turns_of(alloc, value_of(parts.options.as_slice(), "--turns"))? else {
+        return Ok(None);
+    };
+    let Some(table) = choice_in(alloc, parts, "--rules")? else {
+        return Ok(None);
+    };
+    Ok(Some((turns, table)))
+}
+
+/// The limits that a word of bits and the options name; None exactly where one of them names none.
+pub(crate) fn limits_of(
+    alloc: Global,
+    bits: &str,
+    parts: &Parts,
+) -> Result<Option<Limits>, NoMemory>
+    ensures bits { IfOk result (λ found. IfSome found (λ limits. IsNumber 0 highest_budget bits.now limits.budget)) }
+    ensures turns { IfOk result (λ found. IfSome found (λ limits. IsTurnLimit (value_of_of (codes "--turns")
+        (parts_in parts.now).options) limits.turns)) }
+    ensures none { result ≡ Ok None → (budget turns : ℕ) → IsNumber 0 highest_budget bits.now budget → ¬ IsTurnLimit
+        (value_of_of (codes "--turns") (parts_in parts.now).options) turns }
+{
+    let Some(budget) = number_of(alloc, bits, 0, HIGHEST_BUDGET)? else {
+        return Ok(None);
+    };
+    let Some(turns) = turns_of(alloc, value_of(parts.options.as_slice(), "--turns"))? else {
+        return Ok(None);
+    };
+    Ok(Some(Limits { budget, turns }))
 }

@@ -3,7 +3,7 @@ ghost use Rattle.command_line.specs.CommandLines.{IsManyRuns, IsRun, ManyRuns, R
 ghost use Rattle.command_line.specs.Words.{many_runs_of, parts_in, run_of};
 
 use crate::guests::GuestWords;
-use crate::numbers::{choice_of, turns_of};
+use crate::numbers::turns_and_table;
 use crate::option_words::{are_taken, value_of};
 use crate::parts::Parts;
 use crate::runs::{ManyRunsWords, RunWords};
@@ -30,12 +30,10 @@ pub fn run_words<'a>(
     let [program, public_input, secret] = parts.plain.as_slice() else {
         return Ok(None);
     };
-    let Some(turns) = turns_of(alloc, value_of(options, "--turns"))? else {
+    let Some(asked) = turns_and_table(alloc, parts)? else {
         return Ok(None);
     };
-    let Some(table) = choice_of(alloc, value_of(options, "--rules"))? else {
-        return Ok(None);
-    };
+    let (turns, table) = asked;
     Ok(Some(RunWords {
         guest: GuestWords {
             program: *program,
@@ -66,12 +64,10 @@ pub fn many_runs_words<'a>(
     if secrets.is_empty() || secrets.len() > 64 {
         return Ok(None);
     }
-    let Some(turns) = turns_of(alloc, value_of(options, "--turns"))? else {
+    let Some(asked) = turns_and_table(alloc, parts)? else {
         return Ok(None);
     };
-    let Some(table) = choice_of(alloc, value_of(options, "--rules"))? else {
-        return Ok(None);
-    };
+    let (turns, table) = asked;
     Ok(Some(ManyRunsWords {
         guest: GuestWords {
             program: *program,

@@ -24,5 +24,17 @@ returns-in-Report-clause-none c = λ none. rw c.in-Report.is (c.report_row.ensur
 pub returns-in-Learn-clause-none : goal.returns-in-Learn-clause-none
 returns-in-Learn-clause-none c = λ none. rw c.in-Learn.is (c.learn_row.ensures.none none)
 
+pub returns-in-Assemble-clause-none : goal.returns-in-Assemble-clause-none
+returns-in-Assemble-clause-none c = λ none. rw c.in-Assemble.is (c.assemble_row.ensures.none none)
+
+pub returns-in-List-clause-none : goal.returns-in-List-clause-none
+returns-in-List-clause-none c = λ none. rw c.in-List.is (c.list_row.ensures.none none)
+
+pub returns-in-Verify-clause-none : goal.returns-in-Verify-clause-none
+returns-in-Verify-clause-none c = λ none. rw c.in-Verify.is (c.verify_row.ensures.none none)
+
+pub returns-in-Migrate-clause-none : goal.returns-in-Migrate-clause-none
+returns-in-Migrate-clause-none c = λ none. rw c.in-Migrate.is (c.migrate_row.ensures.none none)
+
 pub returns-in-Trial-clause-none : goal.returns-in-Trial-clause-none
 returns-in-Trial-clause-none c = λ none. rw c.in-Trial.is (c.trial_row.ensures.none none)
