@@ -34,41 +34,31 @@ fn print_row(rt: &HostRuntime, events: &EventList, answer: TrackedTurn) -> io::R
     println!(rt; "{answer}")
 }
 
-/// Makes a turn of a run and prints it; whether the run goes on.
-fn print_turn(rt: &HostRuntime, tracked: &mut Tracked) -> io::Result<bool> {
-    let mut events = EventList::new(rt.alloc());
-    let Ok(answer) = tracked.turn(&mut events) else {
-        println!(rt; "memory is short")?;
-        return Ok(false);
-    };
-    print_row(rt, &events, answer)?;
-    Ok(matches!(answer, TrackedTurn::Ran))
-}
-
-/// Prints the first turns of a run, up to its end, but at most so many.
-fn print_turns(rt: &HostRuntime, tracked: &mut Tracked, turns: u32) -> io::Result<()> {
-    for _ in 0..turns {
-        if !print_turn(rt, tracked)? {
-            return Ok(());
-        }
-    }
-    Ok(())
-}
-
-/// Makes the run of a guest, by the image of its program, and prints its first turns.
+/// Makes the run of a guest, by the image of its program, and prints its first turns. The run is made and followed here:
+/// it holds the functions of a book, and a function that is handed such may not be trusted by its contract alone.
 fn print_run_of(rt: &HostRuntime, guest: &Guest, image: &Image, turns: u32) -> io::Result<()> {
     let book = book_1!();
-    match Tracked::new(
+    let Ok(mut tracked) = Tracked::new(
         rt.alloc(),
         image,
         guest.public(),
         guest.secret(),
         guest.regions(),
         &book,
-    ) {
-        Ok(mut tracked) => print_turns(rt, &mut tracked, turns),
-        Err(_) => println!(rt; "memory is short"),
+    ) else {
+        return println!(rt; "memory is short");
+    };
+    for _ in 0..turns {
+        let mut events = EventList::new(rt.alloc());
+        let Ok(answer) = tracked.turn(&mut events) else {
+            return println!(rt; "memory is short");
+        };
+        print_row(rt, &events, answer)?;
+        if !matches!(answer, TrackedTurn::Ran) {
+            return Ok(());
+        }
     }
+    Ok(())
 }
 
 /// Makes the run of a guest and prints its first turns, up to its end, but at most so many.
