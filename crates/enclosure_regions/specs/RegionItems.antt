@@ -45,7 +45,7 @@ written_in d =
       Some (record { id = id; enter = enter; leave = leave; outs = outs; keep = keep; ranges = ranges }))
     else None
 
--- the part of it behind the number and the addresses
+-- the part of it after the number and the addresses
 unfoldable pub lists_in : ℕ → ℕ → ℕ → Data → Option Region
 lists_in id enter leave d = do
   outs ← registers_if (get (codes "outs") d)

@@ -40,6 +40,7 @@ nat_equal a b e = elim (cases_order a b) [
       ∙ cond-false (nat_eq a b) Equal Greater (ne_eqb a b (λ s. omega (arith, s, more))) in absurd (cc)
 ]
 
+-- one look tells that an order is not Equal
 differs : (o : Ordering) → is_eq o ≡ false → o ≡ Equal → ⊥
 differs Less other e = cc
 differs Equal other e = cc

@@ -1,7 +1,7 @@
 use enclosure_regions::Range;
 use std::fmt;
 
-/// The base register of a range with a blank behind it, or nothing.
+/// The base register of a range followed by a blank, or nothing.
 #[derive(Clone, Copy)]
 struct BaseText(Option<u8>);
 

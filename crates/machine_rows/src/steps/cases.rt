@@ -52,7 +52,7 @@ fn numbers<const N: usize>(text: &str) -> Option<[u32; N]> {
     }
 }
 
-/// So many numbers of 32 bits, and behind them one of 64.
+/// So many numbers of 32 bits, and after them one of 64.
 fn numbers_and_bytes<const N: usize>(text: &str) -> Option<([u32; N], u64)> {
     let (front, bytes) = text.rsplit_once(' ')?;
     let bytes = u64::from_str_radix(bytes, 16).ok()?;
