@@ -59,7 +59,7 @@ fn push_region(skip: &mut List<u16>, number: u32, region: u16) -> Result<(), Cut
     ensures put { OnOk result (skip.new ≡ skip.old ++ region ∷ []) }
     ensures ok { OnOk result (may_follow nat_lt skip.old region ≡ true) }
     ensures err { IfErr result (λ fault. fault ≢ CutFault.Memory → fault ≡ CutFault.Order number) }
-    ensures behind { IfErr result (λ fault. fault ≢ CutFault.Memory → may_follow nat_lt skip.old region ≡ false) }
+    ensures out_of_order { IfErr result (λ fault. fault ≢ CutFault.Memory → may_follow nat_lt skip.old region ≡ false) }
 {
     if !may_follow_regions(skip.as_slice(), region) {
         return Err(CutFault::Order { number });
@@ -77,7 +77,7 @@ fn push_point(points: &mut List<CutPoint>, number: u32, point: CutPoint) -> Resu
     ensures put { OnOk result (points.new ≡ points.old ++ point ∷ []) }
     ensures ok { OnOk result (may_follow stands_before points.old point ≡ true) }
     ensures err { IfErr result (λ fault. fault ≢ CutFault.Memory → fault ≡ CutFault.Order number) }
-    ensures behind { IfErr result (λ fault. fault ≢ CutFault.Memory
+    ensures out_of_order { IfErr result (λ fault. fault ≢ CutFault.Memory
         → may_follow stands_before points.old point ≡ false) }
 {
     if !may_follow_points(points.as_slice(), &point) {
