@@ -32,6 +32,7 @@ use Rattle.run_labels.specs.Masks.{source_mask, byte_mask, masks_of, work_mask, 
 use Rattle.run_labels.specs.Flowing.{link_from, source_events, byte_events, sources_events}
 use Rattle.run_labels.specs.Answers.{IsSoundAnswer, Holds, operands_of}
 use Rattle.transfer_rules.specs.Operations.{OfWords, OfBranch}
+use Rattle.transfer_rules.proofs.Instructions.{agree_cleared}
 use Rattle.flow_graph.specs.declared.events.Event.{Event}
 use Rattle.flow_graph.specs.declared.events.Event.TheVariants.{Link}
 use Rattle.acceptance_law.specs.Sides.{NamedSide}
@@ -332,6 +333,17 @@ module _ (side : NamedSide) (setting : Setting) (secret other : List ℕ) (bytes
       bit_at_above a 1 (suc i) (omega (arith, p)) (omega arith)
       ∙ sym (bit_at_above b 1 (suc i) (omega (arith, q)) (omega arith))
 
+  even_target : (sum : ℕ) → (sum - sum % 2) - (sum - sum % 2) % 2 ≡ sum - sum % 2
+  even_target sum = omega arith
+
+  -- of targets, which are even, the lowest bit is the same
+  target_agree : (answer a b : ℕ) → Agree answer (a - a % 2) (b - b % 2) →
+      Agree (answer - answer % 2) (a - a % 2) (b - b % 2)
+  target_agree answer a b agree =
+      subst (λ x. Agree (answer - answer % 2) x (b - b % 2)) (even_target a)
+      (subst (λ y. Agree (answer - answer % 2) ((a - a % 2) - (a - a % 2) % 2) y) (even_target b)
+      (agree_cleared answer (a - a % 2) (b - b % 2) agree))
+
   answer_agrees : (operation : Operation) (sources : Sources) (answer : ℕ) → AreSources setting.base sources →
       AreOperands operation sources →
       ((first second : ℕ) → first < 2 ^ 32 → second < 2 ^ 32 →
@@ -358,10 +370,11 @@ module _ (side : NamedSide) (setting : Setting) (secret other : List ℕ) (bytes
       (sound.1 (OfBranch kind) refl _ _ w1 w2 (first_agree _ _ _ all) (second_agree _ _ _ all))
   answer_agrees Target sources answer are operands limit sound =
       let all = sources_agree sources are in
-      subst (λ n. Agree answer (computed Target (first_of (values_of setting secret real held sources))
+      target_agree answer _ _
+      (subst (λ n. Agree answer (computed Target (first_of (values_of setting secret real held sources))
       (second_of (values_of setting secret real held sources)))
       (computed Target (first_of (values_of setting other copy taken sources)) n)) (target_second sources operands)
-      (sound.1 _ (first_word setting other others copy taken beside.copy_limits sources are) (first_agree _ _ _ all))
+      (sound.1 _ (first_word setting other others copy taken beside.copy_limits sources are) (first_agree _ _ _ all)))
 
   -- what is made agrees outside its mask
   pub made_agrees : (point : Point) (making : Making) (sources : Sources) (answer : ℕ) →

@@ -1,7 +1,7 @@
 -- The mask of each value that passes: which of its bits may depend on the secret. What moves bits about moves the masks
 -- of its sources in the same way; the mask of what is computed is an answer of a mask rule; an output of a region has
 -- every bit of its slot.
-use Rattle.std.specs.Prelude.{ℕ, ◌+◌, ◌%◌, List, [], ◌∷◌}
+use Rattle.std.specs.Prelude.{ℕ, ◌+◌, ◌-◌, ◌%◌, List, [], ◌∷◌}
 use Rattle.flow_base.specs.declared.points.Slot.{Slot}
 use Rattle.flow_base.specs.Points.{width_of}
 use Rattle.rv32im_machine.specs.declared.language.Aim.{Aim}
@@ -45,11 +45,11 @@ masks_of labels (BytesFour address) =
 
 -- ---- passings
 
--- a decision has one bit
+-- a decision has one bit; of the target of JALR the lowest bit is cleared, so it never depends on the secret
 abbrev pub answered_mask : Operation → ℕ → ℕ
 answered_mask (Result kind) answer = answer
 answered_mask (Decision kind) answer = answer % 2
-answered_mask Target answer = answer
+answered_mask Target answer = answer - answer % 2
 
 abbrev pub work_mask : Work → List ℕ → ℕ → ℕ
 work_mask (Shaped shape) masks answer = shaped shape masks

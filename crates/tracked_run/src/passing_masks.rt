@@ -8,14 +8,15 @@ use crate::source_masks::{SourceMasks, shaped_mask};
 use flow_base::Slot;
 use rv32im_machine::{Aim, Operation, Work};
 
-/// The mask of what is computed, by the rule's answer: a decision has one bit.
+/// The mask of what is computed, by the rule's answer: a decision has one bit, and the lowest bit of JALR's target is
+/// cleared.
 fn answered_mask(operation: Operation, answer: u32) -> u32
     ensures { result ≡ mask_answered operation answer }
 {
     match operation {
         Operation::Result(_) => answer,
         Operation::Decision(_) => answer % 2,
-        Operation::Target => answer,
+        Operation::Target => answer - answer % 2,
     }
 }
 

@@ -40,7 +40,7 @@ higher_kept n i =
     let half : (n - n % 2) / 2 ≡ n / 2 = omega arith in
     bit_at-suc (n - n % 2) i ∙ ap (λ x. bit_at x i) half ∙ sym (bit_at-suc n i)
 
-agree_cleared : (m x y : ℕ) → Agree m x y → Agree (m - m % 2) (x - x % 2) (y - y % 2)
+pub agree_cleared : (m x y : ℕ) → Agree m x y → Agree (m - m % 2) (x - x % 2) (y - y % 2)
 agree_cleared m x y h zero none = lowest_cleared x ∙ sym (lowest_cleared y)
 agree_cleared m x y h (suc i) none =
     higher_kept x i ∙ h (suc i) (sym (higher_kept m i) ∙ none) ∙ sym (higher_kept y i)

@@ -1,5 +1,5 @@
 -- What it is that a mask is sound for a class of operations, for an instruction, and for an address.
-use Rattle.std.specs.Prelude.{◌≡◌, ℕ, ◌<◌, ◌^◌, ⊤}
+use Rattle.std.specs.Prelude.{◌≡◌, ℕ, ◌%◌, ◌<◌, ◌^◌, ⊤}
 use Rattle.flow_base.specs.Words.{Agree}
 use Rattle.rv32im_decode.specs.declared.instructions.Instr.{Instr}
 use Rattle.rv32im_decode.specs.declared.instructions.Instr.TheVariants.{Jalr, Load, Store}
@@ -44,3 +44,8 @@ IsSoundAddress (Load kind rd rs1 imm) first mask answer = IsSoundSum (word_of im
 IsSoundAddress (Store kind rs1 rs2 imm) first mask answer = IsSoundSum (word_of imm) first mask answer
 IsSoundAddress (Jalr rd rs1 imm) first mask answer = IsSoundTarget (word_of imm) first mask answer
 IsSoundAddress other first mask answer = ⊤
+
+-- of the target of JALR, whose lowest bit is cleared, the lowest bit of the mask is 0
+abbrev pub IsEvenForTarget : Instr → ℕ → Type 0
+IsEvenForTarget (Jalr rd rs1 imm) answer = answer % 2 ≡ 0
+IsEvenForTarget other answer = ⊤

@@ -1,10 +1,10 @@
 //! The mask of what an instruction computes, by a book.
 
-ghost use Rattle.std.specs.Prelude.{◌≡◌, ◌≢◌, None, IfSome, IsTrue};
+ghost use Rattle.std.specs.Prelude.{◌≡◌, ◌≢◌, ◌%◌, None, IfSome, IsTrue};
 ghost use Rattle.rv32im_decode.specs.Operations.{target_of, word_of};
 ghost use Rattle.transfer_rules.specs.Classes.{instruction_class, has_address};
 ghost use Rattle.transfer_rules.specs.Operations.{computed};
-ghost use Rattle.transfer_rules.specs.Soundness.{IsSoundAddress, IsSoundSum, KeepsMask};
+ghost use Rattle.transfer_rules.specs.Soundness.{IsEvenForTarget, IsSoundAddress, IsSoundSum, KeepsMask};
 ghost use Rattle.transfer_rules.specs.Tables.{IsByTable, mask_of_address, mask_of_target, sum_operands};
 ghost use Rattle.transfer_rules.specs.declared.classes.Class.TheVariants.{Add};
 
@@ -33,6 +33,7 @@ pub fn address_mask(book: &RuleBook, instr: &Instr, first: u32, mask: u32) -> u3
     requires { IsTrue (has_address instr.now) }
     ensures sound { IsSoundAddress instr.now first mask result }
     ensures table { IsByTable book.now.table (mask_of_address instr.now first mask) result }
+    ensures even { IsEvenForTarget instr.now result }
 {
     match *instr {
         Instr::Load { imm, .. } => book.mask(Class::Add, sum_operands(first, mask, imm)),
@@ -47,6 +48,7 @@ pub fn address_mask(book: &RuleBook, instr: &Instr, first: u32, mask: u32) -> u3
 pub fn target_mask(book: &RuleBook, operands: Operands) -> u32
     ensures sound { KeepsMask operands result target_of }
     ensures table { IsByTable book.now.table (mask_of_target operands) result }
+    ensures even { result % 2 ≡ 0 }
 {
     let sum = book.mask(Class::Add, operands);
     sum - sum % 2
