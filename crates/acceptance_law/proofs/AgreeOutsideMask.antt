@@ -12,7 +12,7 @@ use Rattle.flow_base.specs.Words.{number_of_bit}
 use Rattle.crossing_bits.proofs.Places.{parity, put_back, patched_bound}
 use Rattle.transfer_rules.specs.Table1.{flipped}
 use Rattle.transfer_rules.proofs.BitRules.{bit_flipped}
-use Rattle.acceptance_law.specs.Covers.{IsWithin}
+use Rattle.acceptance_law.specs.Covers.{IsMaskWithin}
 
 pub agree_refl : (mask a : ℕ) → Agree mask a a
 agree_refl mask a i clear = refl
@@ -20,7 +20,7 @@ agree_refl mask a i clear = refl
 pub agree_zero : (a b : ℕ) → Agree 0 a b → a ≡ b
 agree_zero a b h = same_from_bits a b (λ i. h i (bit_at-zero i))
 
-pub agree_more : (mask other a b : ℕ) → IsWithin mask other → Agree mask a b → Agree other a b
+pub agree_more : (mask other a b : ℕ) → IsMaskWithin mask other → Agree mask a b → Agree other a b
 agree_more mask other a b inside h i clear = h i (inside i clear)
 
 -- ---- a value with the bits of another under a mask
@@ -120,7 +120,7 @@ patched_alike (suc p) m a b bits h = elim (parity m) [
 
 -- a patch under a mask with all bits of the one outside which two values agree makes them equal
 pub patched_covers :
-    (m c r y : ℕ) → r < 2 ^ 32 → IsWithin m c → Agree m r y → r ≡ patched y c (bits_under r c)
+    (m c r y : ℕ) → r < 2 ^ 32 → IsMaskWithin m c → Agree m r y → r ≡ patched y c (bits_under r c)
 patched_covers m c r y fits inside agree =
     sym (put_back r c fits) ∙ patched_alike 32 c r y (bits_under r c) (agree_more m c r y inside agree)
 

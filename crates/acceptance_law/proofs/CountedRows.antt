@@ -20,7 +20,7 @@ use Rattle.guest_calls.specs.declared.kinds.CallKind.TheVariants.{Read, Write as
 use Rattle.guest_calls.specs.declared.kinds.CallKind.TheVariants.{Brk as BrkCall, Unknown}
 use Rattle.guest_calls.specs.declared.writing.WriteCheck.TheVariants.{Append, BadAddress, OverLimit}
 use Rattle.flow_base.specs.Guests.{is_inside}
-use Rattle.guest_calls.specs.Calls.{bytes_read, is_output, is_public_input, is_secret_input, kind_of}
+use Rattle.guest_calls.specs.Calls.{bytes_read, is_output, is_public_input, is_secret_input, call_kind}
 use Rattle.enclosure_regions.specs.declared.region_parts.Range.{Range}
 use Rattle.enclosure_regions.specs.declared.region_parts.Region.{Region}
 use Rattle.enclosure_regions.specs.Regions.{is_register}
@@ -393,7 +393,7 @@ module _ (Known : Type 0) (limits : Limits) where
         refl,
         refl,
         tt,
-        λ number. counts_kind count (used + 1) (kind_of number) setting control e o (most _ (omega arith)),
+        λ number. counts_kind count (used + 1) (call_kind number) setting control e o (most _ (omega arith)),
       )
       pick Ebreak = has_ended count used _ control (most used (omega arith))
 

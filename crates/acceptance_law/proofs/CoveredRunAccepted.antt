@@ -7,7 +7,7 @@ use Rattle.std.proofs.lemmas.List.{get_or-replicate, get_or_past, length-replica
 use Rattle.flow_base.specs.declared.outputs.Output.{Output}
 use Rattle.crossing_bits.specs.Askers.{feed, Fed'}
 use Rattle.enclosure_regions.specs.declared.region_parts.Region.{Region}
-use Rattle.enclosure_regions.specs.Regions.{are_regions, stands_in}
+use Rattle.enclosure_regions.specs.Regions.{are_regions}
 use Rattle.rv32im_machine.specs.declared.language.Place.{Place as ThePlace}
 use Rattle.rv32im_machine.specs.declared.language.Place.TheVariants.{Register, Byte, First, Second}
 use Rattle.rv32im_machine.specs.declared.stepping.Stepped.{Stepped}
@@ -16,7 +16,7 @@ use Rattle.rv32im_machine.specs.Start.{zeros}
 use Rattle.rv32im_machine.specs.State.{Setting, Control, Store, State}
 use Rattle.rv32im_machine.specs.Language.{none_held, at_place}
 use Rattle.region_machine.specs.Enclosures.{is_enclosed, region_numbered}
-use Rattle.region_machine.specs.Runs.{real_after, common_turns}
+use Rattle.region_machine.specs.Runs.{Real, common_turns}
 use Rattle.replay_machine.specs.Runs.{ReplayPlace, Masks, Replay}
 use Rattle.lockstep_replay.specs.Acceptance.{HasExited, EndAlike, SameMark}
 use Rattle.lockstep_replay.specs.Crossing.{cross_after}
@@ -24,7 +24,7 @@ use Rattle.run_labels.specs.Runs.{run_after, stopped_fault}
 use Rattle.run_labels.specs.TurnLabels.{label_at, at_start}
 use Rattle.shadow_masks.specs.Writes.{default_map}
 use Rattle.acceptance_law.specs.Sides.{NamedSide}
-use Rattle.acceptance_law.specs.Proper.{AreBytes, IsGuest, IsPlace, place_limit}
+use Rattle.acceptance_law.specs.Proper.{AreBytes, IsProperGuest, IsProperPlace, place_limit}
 use Rattle.acceptance_law.specs.ProperLaws.{ProperTurnsLaw}
 use Rattle.acceptance_law.proofs.WritesKeepRelation.{Close, close_refl}
 use Rattle.acceptance_law.proofs.StepsKeepStanding.{state_of, placed, Stands}
@@ -32,6 +32,7 @@ use Rattle.acceptance_law.proofs.RunFacts.{Premises, earlier, run_facts, next_tu
 use Rattle.acceptance_law.proofs.StandsOrSkips.{the_start, enclosures, the_run, the_real, control_at, copy_start, Outside}
 use Rattle.acceptance_law.proofs.StandsOrSkips.{Inside}
 use Rattle.acceptance_law.proofs.ModeSteps.{modes, after_common}
+use Rattle.flow_base.specs.Listed.{is_listed}
 
 pub zero_bytes : (count : ℕ) → AreBytes (zeros count)
 unfolding zeros
@@ -57,9 +58,9 @@ same_fed x y bits e = cc
 
 module _ (side : NamedSide) (skip : List ℕ) (regions : List Region) (masks : Masks) (setting : Setting)
     (secret other : List ℕ) (first : Control) (store : Store) (bytes : AreBytes secret) (others : AreBytes other)
-    (skips : (region : ℕ) → stands_in skip region ≡ side.relay region) (proper : ProperTurnsLaw)
-    (rules : are_regions regions ≡ true) (nowhere : stands_in skip 0 ≡ false)
-    (is : IsGuest (state_of setting secret first store)) (outside : first.region ≡ 0) where
+    (skips : (region : ℕ) → is_listed skip region ≡ side.relay region) (proper : ProperTurnsLaw)
+    (rules : are_regions regions ≡ true) (nowhere : is_listed skip 0 ≡ false)
+    (is : IsProperGuest (state_of setting secret first store)) (outside : first.region ≡ 0) where
   start_stands : Stands side skip regions setting.base first default_map store store [] []
   start_stands = record {
     beside = record {
@@ -71,7 +72,7 @@ module _ (side : NamedSide) (skip : List ℕ) (regions : List Region) (masks : M
       label_limits = label_limits;
     };
     counts = λ point never. refl;
-    runs = subst (λ r. stands_in skip r ≡ false) (sym outside) nowhere;
+    runs = subst (λ r. is_listed skip r ≡ false) (sym outside) nowhere;
     nowhere = λ none. outside;
     inside = λ region found.
         let here : None ≡ Some region = subst (λ r. region_numbered regions r ≡ Some region) outside found in
@@ -80,7 +81,7 @@ module _ (side : NamedSide) (skip : List ℕ) (regions : List Region) (masks : M
     kept_words = λ r. let word = is.store.kept r in omega (arith, word);
   }
     where
-      places : (place : ThePlace) → IsPlace setting.base place →
+      places : (place : ThePlace) → IsProperPlace setting.base place →
           Close side (label_at (at_start default_map) place) (at_place setting.base store none_held place)
           (at_place setting.base store none_held place)
       places place ip =
@@ -99,7 +100,7 @@ module _ (side : NamedSide) (skip : List ℕ) (regions : List Region) (masks : M
       label_limits Second = omega arith
 
   begins : Outside side skip regions masks setting secret other first store []
-  unfolding run_after real_after Replay common_turns cross_after
+  unfolding run_after Real Replay common_turns cross_after
   begins = record { copy = store; comes = refl; stands = start_stands }
 
   -- a run of which this is known

@@ -8,14 +8,13 @@ use Rattle.cut_file.specs.Cuts.{CutPicture, has_slot}
 use Rattle.cut_file.specs.Folds.{AreFolded, IsFold, IsFolded}
 use Rattle.cut_file.specs.Masks.{MaskAt}
 use Rattle.cut_file.proofs.Periods.{fold-mask}
-use Rattle.enclosure_regions.specs.Regions.{stands_in}
 use Rattle.flow_base.specs.PointOrders.{is_same}
 use Rattle.lockstep_replay.specs.Crossing.{cross_after}
 use Rattle.max_flow.specs.Flows.{side_capacity}
 use Rattle.region_machine.specs.Starts.{guest}
 use Rattle.acceptance_law.specs.Covers.{AreContained}
 use Rattle.acceptance_law.specs.FoldLaws.{FoldedLaw}
-use Rattle.acceptance_law.specs.Laws.{CoveredLaw, IsMeasured}
+use Rattle.acceptance_law.specs.Laws.{CoveredLaw, IsMeasuredRun}
 use Rattle.acceptance_law.specs.MeasuredLaws.{labelled_run}
 use Rattle.acceptance_law.specs.RunCuts.{names_point}
 use Rattle.acceptance_law.specs.Sides.{named_side}
@@ -25,6 +24,7 @@ use Rattle.acceptance_law.proofs.CutVisits.{IsLike, like-contains, mask-missing}
 use Rattle.acceptance_law.proofs.GraphSides.{side-closed, side-outside}
 use Rattle.acceptance_law.proofs.ProperRuns.{proper_events_law}
 use Rattle.acceptance_law.proofs.ProperStarts.{guest_start_law}
+use Rattle.flow_base.specs.Listed.{is_listed}
 
 -- ---- a fold has the points of its cut
 
@@ -72,14 +72,14 @@ folded_law covered program public_input regions secret answers graph halves rela
     run.sound in
     let events = (labelled_run program public_input regions secret answers).events in
     let side = named_side graph halves relays in
-    let measured : IsMeasured regions answers (guest program public_input secret) output =
+    let measured : IsMeasuredRun regions answers (guest program public_input secret) output =
     record { guest = start; sound = run.sound; unrefused = run.unrefused; exits = run.exits } in
     covered program public_input regions secret folded side answers (side_capacity graph halves relays) turns output
     inputs.regions_valid measured enough (sym (fold.secret_len ∙ is_cut.length))
     (record {
       closed = side-closed events graph halves relays is_graph is_side;
       outside = side-outside events graph halves relays is_graph;
-      skips = λ region. ap (λ skip. stands_in skip region) fold.skip ∙ is_cut.skip region;
+      skips = λ region. ap (λ skip. is_listed skip region) fold.skip ∙ is_cut.skip region;
       contains = subst (λ (skip : List ℕ). AreContained side skip (MaskAt folded.points) [] events) (sym fold.skip)
           (like-contains side cut (length secret) (side_capacity graph halves relays) (MaskAt folded.points) like events
           is_cut slots proper);

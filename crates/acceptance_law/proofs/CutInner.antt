@@ -8,7 +8,6 @@ use Rattle.flow_base.specs.declared.points.Point.{Point}
 use Rattle.flow_base.specs.Points.{is_slot, is_output_slot}
 use Rattle.flow_base.specs.PointOrders.{is_same}
 use Rattle.flow_base.proofs.PointOrders.{same-one}
-use Rattle.enclosure_regions.specs.Regions.{stands_in}
 use Rattle.flow_graph.specs.declared.events.Event.{Event}
 use Rattle.flow_graph.specs.declared.events.Event.TheVariants.{Pass, Link, FromSecret, Implicit, Out}
 use Rattle.rv32im_machine.specs.declared.language.Aim.TheVariants.{Put, Decide}
@@ -27,6 +26,7 @@ use Rattle.acceptance_law.proofs.GraphEvents.{all-append, all_more}
 use Rattle.acceptance_law.proofs.Passings.{made_fits, slot_word}
 use Rattle.acceptance_law.proofs.ProperTurns.{HasLimits, put-limits, moved-value, inner-slot}
 use Rattle.acceptance_law.proofs.Turns.{NoPass, NoPasses, none_append, none_sources, none_aim, seen_word}
+use Rattle.flow_base.specs.Listed.{is_listed}
 
 -- ---- events that pass inner points alone
 
@@ -63,15 +63,15 @@ passing-inner skip labels answer passing inner slot = (
       (flows-none labels passing (mask_of labels answer passing == 0)),
 )
 
-point-inner : (skip : List ℕ) (region : ℕ) (point : Point) → stands_in skip region ≡ true → point.region ≡ region →
+point-inner : (skip : List ℕ) (region : ℕ) (point : Point) → is_listed skip region ≡ true → point.region ≡ region →
     is_output_slot point.slot ≡ false → is_inner skip point ≡ true
 point-inner skip region point stands inside no_output =
-    and_from (stands_in skip point.region) (not (is_output_slot point.slot)) (ap (stands_in skip) inside ∙ stands)
+    and_from (is_listed skip point.region) (not (is_output_slot point.slot)) (ap (is_listed skip) inside ∙ stands)
     (ap not no_output)
 
 -- the turn of an instruction in a skipped region passes such points alone
 module _ (setting : Setting) (secret : List ℕ) (bytes : AreBytes secret) (skip : List ℕ) (region : ℕ)
-    (stands : stands_in skip region ≡ true) where
+    (stands : is_listed skip region ≡ true) where
   pub turn-inner : (turn : Turn) (labels : TurnLabels) (answers : List ℕ) (store : Store) (held : Held) →
       IsProper setting.base region turn → HasLimits setting.base store held →
       AreInnerEvents skip (events_in labels answers (walked setting secret turn store held))

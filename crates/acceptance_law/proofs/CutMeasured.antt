@@ -3,11 +3,11 @@ use Rattle.std.proofs.Common.{◌≡◌, ◌∷◌, [], true, List, length, sym,
 use Rattle.std.specs.List.{list_all}
 use Rattle.std.proofs.lemmas.Bool.{and_parts, and_from}
 use Rattle.cut_file.specs.declared.points.CutPoint.{CutPoint}
-use Rattle.cut_file.specs.Cuts.{CutPicture, is_valid, is_version, is_word, are_regions, are_points_of, is_point_of}
+use Rattle.cut_file.specs.Cuts.{CutPicture, is_cut_picture, is_version, is_word, are_regions, are_points_of, is_point_of}
 use Rattle.cut_file.specs.Cuts.{is_cut_point, has_slot, neighbours_pass, stands_before}
 use Rattle.cut_file.proofs.CutMasks.{slot-known}
 use Rattle.max_flow.specs.Flows.{side_capacity}
-use Rattle.acceptance_law.specs.Laws.{CoveredLaw, IsMeasured}
+use Rattle.acceptance_law.specs.Laws.{CoveredLaw, IsMeasuredRun}
 use Rattle.acceptance_law.specs.MeasuredLaws.{MeasuredLaw, labelled_run}
 use Rattle.region_machine.specs.Starts.{guest}
 use Rattle.acceptance_law.specs.Sides.{named_side}
@@ -27,7 +27,7 @@ points-slots version (first ∷ points) known =
     and_from (has_slot first) (list_all has_slot points)
     (slot-known first (and_parts (is_cut_point first) _ both.0).0) (points-slots version points both.1)
 
-pub valid-slots : (cut : CutPicture) → is_valid cut ≡ true → list_all has_slot cut.points ≡ true
+pub valid-slots : (cut : CutPicture) → is_cut_picture cut ≡ true → list_all has_slot cut.points ≡ true
 valid-slots cut valid =
     let a = and_parts (is_version cut.version) _ valid in
     let b = and_parts (nat_le cut.secret_len 65536) _ a.1 in
@@ -47,7 +47,7 @@ measured_law covered program public_input regions secret answers graph halves re
     let proper = proper_events_law regions answers (guest program public_input secret) inputs.regions_valid start
     run.sound in
     let events = (labelled_run program public_input regions secret answers).events in
-    let measured : IsMeasured regions answers (guest program public_input secret) output =
+    let measured : IsMeasuredRun regions answers (guest program public_input secret) output =
     record { guest = start; sound = run.sound; unrefused = run.unrefused; exits = run.exits } in
     covered program public_input regions secret cut (named_side graph halves relays) answers
     (side_capacity graph halves relays) turns output inputs.regions_valid measured enough (sym is_cut.length)

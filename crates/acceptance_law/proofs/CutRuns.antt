@@ -12,7 +12,7 @@ use Rattle.cut_file.specs.Masks.{MaskAt}
 use Rattle.enclosure_regions.specs.declared.break_kinds.Break.{Break}
 use Rattle.enclosure_regions.specs.declared.region_parts.Range.{Range}
 use Rattle.enclosure_regions.specs.declared.region_parts.Region.{Region}
-use Rattle.enclosure_regions.specs.Regions.{are_regions, stands_in}
+use Rattle.enclosure_regions.specs.Regions.{are_regions}
 use Rattle.flow_graph.specs.declared.events.Event.{Event}
 use Rattle.lockstep_replay.specs.Crossing.{crossing_unless, crossing_unbroken, crossing_of, cross_after}
 use Rattle.lockstep_replay.proofs.Stillness.{cross_later}
@@ -21,7 +21,7 @@ use Rattle.region_machine.specs.Enclosures.{Enclosures, Kind, Enters, Leaves, St
 use Rattle.region_machine.specs.Enclosures.{kind_of, kind_in, kind_within, kind_outside, region_numbered}
 use Rattle.region_machine.specs.Enclosures.{region_entered_at}
 use Rattle.region_machine.specs.Guests.{looks, looks_at, guest_walk, kind_walk}
-use Rattle.region_machine.specs.Runs.{Place, visited, unbroken_turn, turn_unless, real_turn, real_after}
+use Rattle.region_machine.specs.Runs.{Place, visited, unbroken_turn, turn_unless, real_turn, Real}
 use Rattle.region_machine.specs.Starts.{guest}
 use Rattle.region_machine.proofs.Stillness.{IsOver}
 use Rattle.rv32im_machine.specs.declared.stepping.Stepped.{Stepped}
@@ -39,7 +39,7 @@ use Rattle.acceptance_law.specs.Sides.{NamedSide, named_side, is_split}
 use Rattle.acceptance_law.specs.RunCuts.{is_inner, names_point, HasVisitMasks, visit_masks}
 use Rattle.acceptance_law.specs.ClosedEvents.{IsProperEvent, AreProperEvents}
 use Rattle.acceptance_law.specs.CrossingLaws.{CrossingLaw}
-use Rattle.acceptance_law.specs.Laws.{IsMeasured}
+use Rattle.acceptance_law.specs.Laws.{IsMeasuredRun}
 use Rattle.acceptance_law.specs.RunCuts.{IsCutOf}
 use Rattle.elf32_loader.specs.Pictures.{Picture}
 use Rattle.flow_base.specs.declared.outputs.Output.{Output}
@@ -49,7 +49,7 @@ use Rattle.max_flow.specs.declared.answers.Half.{Half}
 use Rattle.max_flow.specs.Flows.{IsSideOf, side_capacity}
 use Rattle.replay_machine.specs.Runs.{Masks}
 use Rattle.acceptance_law.specs.GraphLaws.{split_bits}
-use Rattle.acceptance_law.specs.Proper.{IsGuest}
+use Rattle.acceptance_law.specs.Proper.{IsProperGuest}
 use Rattle.acceptance_law.proofs.CutBits.{CountsOutside, counts-inner, turn-crosses}
 use Rattle.acceptance_law.proofs.CutVisits.{IsLike, like-itself}
 use Rattle.acceptance_law.proofs.CutInner.{AreInnerEvents, turn-inner}
@@ -58,6 +58,7 @@ use Rattle.acceptance_law.proofs.GraphEvents.{all-parts}
 use Rattle.acceptance_law.proofs.ProperRows.{proper_law}
 use Rattle.acceptance_law.proofs.ProperRuns.{guest-limits, run-proper}
 use Rattle.acceptance_law.proofs.Turns.{first-none}
+use Rattle.flow_base.specs.Listed.{is_listed}
 
 -- ---- a turn that the replay makes beside the leave alone passes inner points
 
@@ -77,8 +78,8 @@ entry-inner skip setting secret (range ∷ ranges) turn labels answers store hel
     look None rest = rest
     look (Some register) rest = rest
 
-step-inner : (mode : Stepped) (skip : List ℕ) (state : State) (labels : TurnLabels) (answers : List ℕ) → IsGuest state →
-    stands_in skip state.control.region ≡ true →
+step-inner : (mode : Stepped) (skip : List ℕ) (state : State) (labels : TurnLabels) (answers : List ℕ) → IsProperGuest state →
+    is_listed skip state.control.region ≡ true →
     AreInnerEvents skip (events_in labels answers
     (walked state.setting state.secret (turn_in mode state.setting state.control) state.store none_held))
 unfolding walked events_in
@@ -143,7 +144,7 @@ kind-entered (Exited status) regions control = tt
 kind-entered (Stopped fault) regions control = tt
 
 kind-inner : (enclosures : Enclosures) (kind : Kind) (state : State) (labels : TurnLabels) (answers : List ℕ) →
-    IsGuest state → IsEntered state.control.region kind → is_enclosed_kind enclosures kind ≡ true →
+    IsProperGuest state → IsEntered state.control.region kind → is_enclosed_kind enclosures kind ≡ true →
     AreInnerEvents enclosures.skip (events_in labels answers (kind_walk kind state))
 unfolding walked events_in
 kind-inner enclosures (Enters region) state labels answers guest known enclosed =
@@ -153,7 +154,7 @@ kind-inner enclosures (Leaves region) state labels answers guest known enclosed 
 kind-inner enclosures (Steps None) state labels answers guest known enclosed = absurd (cc)
 kind-inner enclosures (Steps (Some region)) state labels answers guest known enclosed =
     step-inner state.control.mode enclosures.skip state labels answers guest
-    (ap (stands_in enclosures.skip) (sym known) ∙ enclosed)
+    (ap (is_listed enclosures.skip) (sym known) ∙ enclosed)
 
 -- ---- one turn of a run
 
@@ -176,12 +177,12 @@ module _ (side : NamedSide) (cut : CutPicture)
 
   -- the real run with skipped regions beside the run with labels
   pub record CrossesRun (regions : List Region) (answers : List (List ℕ)) (start : Place) : Type 0 where
-    pub state : (real_after (record { regions = regions; skip = cut.skip }) (length answers) start).state
+    pub state : (Real (record { regions = regions; skip = cut.skip }) (length answers) start).state
         ≡ (run_after regions answers (unlabelled start)).place.state
-    pub unbroken : (real_after (record { regions = regions; skip = cut.skip }) (length answers) start).broken ≡ None
+    pub unbroken : (Real (record { regions = regions; skip = cut.skip }) (length answers) start).broken ≡ None
     pub run_unbroken : (run_after regions answers (unlabelled start)).place.broken ≡ None
     pub counts : CountsOutside cut.skip
-        (real_after (record { regions = regions; skip = cut.skip }) (length answers) start).past
+        (Real (record { regions = regions; skip = cut.skip }) (length answers) start).past
         (run_after regions answers (unlabelled start)).events
     pub bits : length (cross_after (record { regions = regions; skip = cut.skip }) masks (length answers)
         start) ≤ sum_by (split_bits side) (run_after regions answers (unlabelled start)).events
@@ -195,12 +196,12 @@ module _ (side : NamedSide) (cut : CutPicture)
   start-counts = λ point outside slot. refl
 
   run-crosses : (regions : List Region) (answers : List (List ℕ)) (start : Place) (more : List Event) →
-      are_regions regions ≡ true → IsGuest start.state → start.past ≡ [] → start.broken ≡ None →
+      are_regions regions ≡ true → IsProperGuest start.state → start.past ≡ [] → start.broken ≡ None →
       EachRunAnswer IsSoundAnswer regions answers (unlabelled start) →
       IsUnrefused regions answers (unlabelled start) →
       AllByRecursion (HasVisitMasks ((run_after regions answers (unlabelled start)).events ++ more)) cut.points →
       CrossesRun regions answers start
-  unfolding run_after real_after cross_after EachRunAnswer IsUnrefused
+  unfolding run_after Real cross_after EachRunAnswer IsUnrefused
   run-crosses regions [] start more rules is none unbroken sound unrefused have = record {
     state = refl;
     unbroken = unbroken;
@@ -211,7 +212,7 @@ module _ (side : NamedSide) (cut : CutPicture)
   run-crosses regions (last ∷ earlier) start more rules is none unbroken sound unrefused have =
       let enclosures : Enclosures = record { regions = regions; skip = cut.skip } in
       let run = run_after regions earlier (unlabelled start) in
-      let place = real_after enclosures (length earlier) start in
+      let place = Real enclosures (length earlier) start in
       let walk = next_walk regions run in
       let turn = turn_events regions last run in
       let before = run-crosses regions earlier start (turn ++ more) rules is none unbroken sound.0 unrefused.0
@@ -273,7 +274,7 @@ over (Stopped fault) status e = tt
 pub crossing_by : (program : Picture) (public_input : List ℕ) (regions : List Region) (secret : List ℕ)
     (cut : CutPicture) (masks : Masks) (graph : Graph) (halves : List Half) (relays : List Bool)
     (answers : List (List ℕ)) (secret_len capacity turns : ℕ) (output : Output) → are_regions regions ≡ true →
-    IsMeasured regions answers (guest program public_input secret) output → length answers ≤ turns →
+    IsMeasuredRun regions answers (guest program public_input secret) output → length answers ≤ turns →
     IsGraphOf (run_after regions answers (unlabelled (guest program public_input secret))).events graph →
     IsSideOf graph halves relays →
     IsCutOf secret_len (run_after regions answers (unlabelled (guest program public_input secret))).events

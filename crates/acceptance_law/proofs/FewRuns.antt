@@ -13,7 +13,7 @@ use Rattle.flow_base.specs.Words.{bit_count}
 use Rattle.flow_base.specs.PointOrders.{is_below, point_cmp, is_same}
 use Rattle.flow_base.proofs.PointOrders.{below-other, below-trans, point_total}
 use Rattle.cut_file.specs.declared.points.CutPoint.{CutPoint}
-use Rattle.cut_file.specs.Cuts.{CutPicture, is_valid, is_version, is_word, are_regions, are_points_of, is_point_of}
+use Rattle.cut_file.specs.Cuts.{CutPicture, is_cut_picture, is_version, is_word, are_regions, are_points_of, is_point_of}
 use Rattle.cut_file.specs.Cuts.{is_cut_point, is_point, is_rest, are_runs, has_slot, neighbours_pass}
 use Rattle.cut_file.specs.Cuts.{stands_before}
 use Rattle.cut_file.specs.Masks.{listed_masks}
@@ -275,7 +275,7 @@ all-few version events (first ∷ points) have are some =
 
 -- ---- the law
 
-valid-points : (cut : CutPicture) → is_valid cut ≡ true → are_points_of cut.version cut.points ≡ true
+valid-points : (cut : CutPicture) → is_cut_picture cut ≡ true → are_points_of cut.version cut.points ≡ true
 valid-points cut valid =
     let a = and_parts (is_version cut.version) _ valid in
     let b = and_parts (nat_le cut.secret_len 65536) _ a.1 in

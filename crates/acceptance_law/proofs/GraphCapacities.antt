@@ -13,7 +13,7 @@ use Rattle.flow_graph.specs.declared.events.Event.{Event}
 use Rattle.flow_graph.specs.declared.events.Event.TheVariants.{Pass, Link, FromSecret, Implicit, Out}
 use Rattle.flow_graph.specs.declared.graphs.Graph.{Graph}
 use Rattle.flow_graph.specs.declared.nodes.Node.{Node}
-use Rattle.flow_graph.specs.EventGraphs.{bits_at, passed, capacity_at, no_point, IsGraphOf}
+use Rattle.flow_graph.specs.EventGraphs.{bits_at, passed, capacity_at, IsGraphOf}
 use Rattle.flow_base.specs.PointOrders.{point_cmp, is_same}
 use Rattle.flow_base.proofs.PointOrders.{is_equal}
 use Rattle.max_flow.specs.declared.answers.Half.{Half}
@@ -27,21 +27,22 @@ use Rattle.acceptance_law.specs.GraphLaws.{split_bits, CapacityLaw}
 use Rattle.acceptance_law.proofs.GraphEvents.{same-itself}
 use Rattle.acceptance_law.proofs.GraphSides.{points_of, graph_sorted, name-later, less-apart, halves-alike}
 use Rattle.acceptance_law.proofs.GraphSides.{member-first, member-second}
+use Rattle.flow_base.specs.Points.{nowhere}
 
 -- the name of the point with an index
 abbrev pub name_at : Graph → ℕ → Point
-name_at graph i = get_or (points_of graph.points) i no_point
+name_at graph i = get_or (points_of graph.points) i nowhere
 
 -- ---- the capacity of a point
 
 capacity-at : (nodes : List Node) (i : ℕ) → IsStrictlySortedBy point_cmp (points_of nodes) → i < length nodes →
-    capacity_at nodes (get_or (points_of nodes) i no_point) ≡ get_or (map (λ node. node.capacity) nodes) i 0
+    capacity_at nodes (get_or (points_of nodes) i nowhere) ≡ get_or (map (λ node. node.capacity) nodes) i 0
 unfolding IsStrictlySortedBy
 capacity-at [] i sorted below = absurd (omega arith)
 capacity-at (node ∷ nodes) zero sorted below =
     cond-true (is_same node.point node.point) node.capacity (capacity_at nodes node.point) (same-itself node.point)
 capacity-at (node ∷ nodes) (suc i) sorted below =
-    let point = get_or (points_of nodes) i no_point in
+    let point = get_or (points_of nodes) i nowhere in
     cond-false (is_same point node.point) node.capacity (capacity_at nodes point)
     (less-apart point node.point (name-later node.point (points_of nodes) i sorted.0
     (let c : length (points_of nodes) ≡ length nodes = length-map nodes (λ n. n.point) in omega (arith, c))))
@@ -100,11 +101,11 @@ sum-front zero f = omega arith
 sum-front (suc n) f = let earlier = sum-front n f in omega (arith, earlier)
 
 sum-listed : (f : Point → ℕ) (nodes : List Node) →
-    sum_below (length nodes) (λ i. f (get_or (points_of nodes) i no_point)) ≡ sum_by (λ node. f node.point) nodes
+    sum_below (length nodes) (λ i. f (get_or (points_of nodes) i nowhere)) ≡ sum_by (λ node. f node.point) nodes
 unfolding sum_below
 sum-listed f [] = refl
 sum-listed f (node ∷ nodes) =
-    let first = sum-front (length nodes) (λ i. f (get_or (points_of (node ∷ nodes)) i no_point)) in
+    let first = sum-front (length nodes) (λ i. f (get_or (points_of (node ∷ nodes)) i nowhere)) in
     let rest = sum-listed f nodes in
     let all = sum_by-cons (λ (n : Node). f n.point) node nodes in
     first ∙ ap (λ n. f node.point + n) rest ∙ sym all
@@ -130,7 +131,7 @@ split-more graph side event events i =
 -- a point with a half in the side is one of the graph's
 found-half : (nodes : List Node) (halves : List Half) (point : Point) →
     has_first (halves_at nodes halves point) ≡ true →
-    (i : ℕ) × ((i < length nodes) × (is_same point (get_or (points_of nodes) i no_point) ≡ true))
+    (i : ℕ) × ((i < length nodes) × (is_same point (get_or (points_of nodes) i nowhere) ≡ true))
 found-half [] halves point inside = absurd (cc)
 found-half (node ∷ nodes) [] point inside = absurd (cc)
 found-half (node ∷ nodes) (half ∷ halves) point inside = elim (cases_Bool (is_same point node.point)) [

@@ -27,7 +27,7 @@ use Rattle.flow_graph.specs.declared.named_links.NamedEnd.{NamedEnd}
 use Rattle.flow_graph.specs.declared.named_links.NamedEnd.TheVariants.{Source, At, Relay, Sink}
 use Rattle.flow_graph.specs.declared.named_links.NamedLink.{NamedLink}
 use Rattle.flow_graph.specs.EventGraphs.{has_passed, one_if, outlet_of, links_after, named_links, link_cmp}
-use Rattle.flow_graph.specs.EventGraphs.{is_among, is_relay_of, names_relay, no_point, named_end, named, IsGraphOf}
+use Rattle.flow_graph.specs.EventGraphs.{is_among, is_relay_of, names_relay, named_end, named, IsGraphOf}
 use Rattle.flow_graph.specs.Graphs.{ascend, node_cmp, has_capacity, is_origin, is_target, is_link}
 use Rattle.flow_graph.proofs.LinksByIndex.{link_total, named_end_cmp}
 use Rattle.max_flow.specs.declared.answers.Half.{Half}
@@ -39,6 +39,7 @@ use Rattle.max_flow.proofs.Graphs.{length-halves}
 use Rattle.acceptance_law.specs.Sides.{halves_at, named_side}
 use Rattle.acceptance_law.specs.ClosedEvents.{starts_in, ends_in, IsClosedLink, IsClosedFor}
 use Rattle.acceptance_law.proofs.GraphEvents.{itself, same-itself, all_more}
+use Rattle.flow_base.specs.Points.{nowhere}
 
 -- ---- ascending points are apart
 
@@ -71,7 +72,7 @@ graph_sorted graph =
     (and_parts (list_all has_capacity graph.points) (ascend node_cmp graph.points) graph.points_ascend).1
 
 pub name-later : (p : Point) (points : List Point) (i : ℕ) → AllByRecursion (λ x. point_cmp p x ≡ Less) points →
-    i < length points → point_cmp p (get_or points i no_point) ≡ Less
+    i < length points → point_cmp p (get_or points i nowhere) ≡ Less
 name-later p [] i all below = absurd (omega arith)
 name-later p (x ∷ points) zero all below = all.0
 name-later p (x ∷ points) (suc i) all below = name-later p points i all.1 (omega arith)
@@ -87,7 +88,7 @@ double i = omega arith
 
 pub first-at : (nodes : List Node) (halves : List Half) (i : ℕ) → IsStrictlySortedBy point_cmp (points_of nodes) →
     i < length nodes → length halves ≡ length nodes →
-    get_or (marks halves) (2 * i) false ≡ has_first (halves_at nodes halves (get_or (points_of nodes) i no_point))
+    get_or (marks halves) (2 * i) false ≡ has_first (halves_at nodes halves (get_or (points_of nodes) i nowhere))
 unfolding IsStrictlySortedBy
 first-at [] halves i sorted below same = absurd (omega arith)
 first-at (node ∷ nodes) [] i sorted below same = absurd (omega arith)
@@ -95,7 +96,7 @@ first-at (node ∷ nodes) (half ∷ halves) zero sorted below same =
     ap has_first (sym (cond-true (is_same node.point node.point) half (halves_at nodes halves node.point)
     (same-itself node.point)))
 first-at (node ∷ nodes) (half ∷ halves) (suc i) sorted below same =
-    let point = get_or (points_of nodes) i no_point in
+    let point = get_or (points_of nodes) i nowhere in
     let later : point_cmp node.point point ≡ Less =
     name-later node.point (points_of nodes) i sorted.0
     (let c : length (points_of nodes) ≡ length nodes = length-map nodes (λ n. n.point) in omega (arith, c)) in
@@ -106,7 +107,7 @@ first-at (node ∷ nodes) (half ∷ halves) (suc i) sorted below same =
 
 pub second-at : (nodes : List Node) (halves : List Half) (i : ℕ) → IsStrictlySortedBy point_cmp (points_of nodes) →
     i < length nodes → length halves ≡ length nodes →
-    get_or (marks halves) (1 + 2 * i) false ≡ has_second (halves_at nodes halves (get_or (points_of nodes) i no_point))
+    get_or (marks halves) (1 + 2 * i) false ≡ has_second (halves_at nodes halves (get_or (points_of nodes) i nowhere))
 unfolding IsStrictlySortedBy
 second-at [] halves i sorted below same = absurd (omega arith)
 second-at (node ∷ nodes) [] i sorted below same = absurd (omega arith)
@@ -114,7 +115,7 @@ second-at (node ∷ nodes) (half ∷ halves) zero sorted below same =
     ap has_second (sym (cond-true (is_same node.point node.point) half (halves_at nodes halves node.point)
     (same-itself node.point)))
 second-at (node ∷ nodes) (half ∷ halves) (suc i) sorted below same =
-    let point = get_or (points_of nodes) i no_point in
+    let point = get_or (points_of nodes) i nowhere in
     let later : point_cmp node.point point ≡ Less =
     name-later node.point (points_of nodes) i sorted.0
     (let c : length (points_of nodes) ≡ length nodes = length-map nodes (λ n. n.point) in omega (arith, c)) in
@@ -147,7 +148,7 @@ member-relay graph halves relays region =
 pub member-first : (graph : Graph) (halves : List Half) (relays : List Bool) (i : ℕ) → i < length graph.points →
     length halves ≡ length graph.points →
     member graph halves relays (2 + 2 * i)
-    ≡ (named_side graph halves relays).first (get_or (points_of graph.points) i no_point)
+    ≡ (named_side graph halves relays).first (get_or (points_of graph.points) i nowhere)
 member-first graph halves relays i below same =
     member-low graph halves relays (2 + 2 * i) (omega arith)
     ∙ ap (λ j. get_or (true ∷ false ∷ marks halves) j false)
@@ -157,7 +158,7 @@ member-first graph halves relays i below same =
 pub member-second : (graph : Graph) (halves : List Half) (relays : List Bool) (i : ℕ) → i < length graph.points →
     length halves ≡ length graph.points →
     member graph halves relays (3 + 2 * i)
-    ≡ (named_side graph halves relays).second (get_or (points_of graph.points) i no_point)
+    ≡ (named_side graph halves relays).second (get_or (points_of graph.points) i nowhere)
 member-second graph halves relays i below same =
     member-low graph halves relays (3 + 2 * i) (omega arith)
     ∙ ap (λ j. get_or (true ∷ false ∷ marks halves) j false)

@@ -33,7 +33,6 @@ use Rattle.rv32im_machine.specs.declared.language.Sources.TheVariants.{Word as B
 use Rattle.rv32im_machine.specs.Language.{Walk, Looked, Passed, Moved, Saved, Restored, Ended, first_of, shaped}
 use Rattle.shadow_masks.specs.declared.labels.Label.{Label}
 use Rattle.shadow_masks.specs.Pages.{label_of}
-use Rattle.shadow_masks.specs.Shades.{is_listed}
 use Rattle.shadow_masks.specs.Labels.{clean}
 use Rattle.shadow_masks.specs.Writes.{LabelMap, default_map}
 use Rattle.run_labels.specs.TurnLabels.{TurnLabels, at_start, label_at, put_label, aim_label, save_labels}
@@ -45,6 +44,7 @@ use Rattle.run_labels.specs.Runs.{unlabelled, next_walk, turn_events, run_after}
 use Rattle.acceptance_law.specs.ClosedEvents.{IsProperEvent, AreProperEvents}
 use Rattle.acceptance_law.proofs.GraphEvents.{Knows, knows_more, knows_pass, Names, AreNamed, all_named, named-append}
 use Rattle.acceptance_law.proofs.GraphEvents.{all-append, all-parts}
+use Rattle.flow_base.specs.Listed.{is_listed}
 
 -- ---- labels
 

@@ -23,14 +23,13 @@ use Rattle.region_machine.specs.Runs.{passed}
 use Rattle.region_machine.specs.Within.{are_inside}
 use Rattle.replay_machine.specs.Runs.{Masks, replayed}
 use Rattle.lockstep_replay.specs.Crossing.{crossing}
-use Rattle.shadow_masks.specs.Shades.{is_listed}
 use Rattle.shadow_masks.specs.Writes.{LabelMap}
 use Rattle.run_labels.specs.TurnLabels.{TurnLabels, label_at, at_start, restore_labels}
 use Rattle.run_labels.specs.Flowing.{labels_in, events_in}
 use Rattle.run_labels.specs.Looking.{secret_look}
 use Rattle.run_labels.specs.Answers.{EachAnswer}
 use Rattle.acceptance_law.specs.Sides.{NamedSide}
-use Rattle.acceptance_law.specs.Proper.{IsPlace, place_limit}
+use Rattle.acceptance_law.specs.Proper.{IsProperPlace, place_limit}
 use Rattle.acceptance_law.proofs.WritesKeepRelation.{Close, close_refl, Beside, not_alike, apart_of}
 use Rattle.acceptance_law.proofs.Turns.{SameCounts}
 use Rattle.acceptance_law.proofs.TurnsKeepRelation.{CoveredTurn, KeptTurn}
@@ -39,6 +38,7 @@ use Rattle.acceptance_law.proofs.RegionOutputsPass.{waiting_of, given_kept, give
 use Rattle.acceptance_law.proofs.RegionOutputsPass.{byte_outputs, range_outputs}
 use Rattle.acceptance_law.proofs.Entering.{SameStarts}
 use Rattle.acceptance_law.proofs.InsideMemory.{inside_begins}
+use Rattle.flow_base.specs.Listed.{is_listed}
 
 -- ---- the outputs of a region
 
@@ -279,7 +279,7 @@ restored_beside side base labels real copy keep zeroth same kept beside = record
         (close_refl side (labels.kept q) 0)))
         (cases_lt q (length copy.registers))
 
-    places : (place : Place) → IsPlace base place →
+    places : (place : Place) → IsProperPlace base place →
         Close side (label_at (restore_labels keep (at_start labels)) place) (at_place base real none_held place)
         (at_place base (restored keep copy) none_held place)
     places (Register q) is = register_close q (is_listed keep q) refl

@@ -5,7 +5,7 @@ use Rattle.std.specs.Prelude.{◌==◌, if◌then◌else◌}
 use Rattle.std.proofs.lemmas.Bool.{eqb-true}
 use Rattle.flow_base.specs.declared.points.Point.{Point}
 use Rattle.enclosure_regions.specs.declared.region_parts.Region.{Region}
-use Rattle.enclosure_regions.specs.Regions.{are_regions, stands_in}
+use Rattle.enclosure_regions.specs.Regions.{are_regions}
 use Rattle.rv32im_machine.specs.declared.stepping.Stepped.{Stepped}
 use Rattle.rv32im_machine.specs.declared.stepping.Stepped.TheVariants.{Ran, Exited, Stopped}
 use Rattle.rv32im_machine.specs.State.{Setting, Control, Store}
@@ -35,6 +35,7 @@ use Rattle.acceptance_law.proofs.TurnKinds.{numbered_id}
 use Rattle.acceptance_law.proofs.StandsOrSkips.{enclosures, the_run, the_real, control_at, store_at, Comes, Outside}
 use Rattle.acceptance_law.proofs.StandsOrSkips.{Inside, Facts, Next, Known, Later, to_outside, to_inside}
 use Rattle.acceptance_law.proofs.RunFacts.{Premises, earlier, run_facts, next_turn, turn_known}
+use Rattle.flow_base.specs.Listed.{is_listed}
 
 pub ran_of : (mode : Stepped) → has_exited mode ≡ false → stopped_fault mode ≡ None → mode ≡ Ran
 ran_of Ran e f = refl
@@ -44,8 +45,8 @@ ran_of (Stopped fault) e f = absurd (cc)
 module _ (side : NamedSide) (skip : List ℕ) (regions : List Region) (masks : Masks) (setting : Setting)
     (secret other : List ℕ) (first : Control) (store : Store) (bytes : AreBytes secret) (others : AreBytes other)
     (public_bytes : AreBytes setting.public_input) (small_start : setting.start_break < 2 ^ 32)
-    (skips : (region : ℕ) → stands_in skip region ≡ side.relay region) (proper : ProperTurnsLaw)
-    (rules : are_regions regions ≡ true) (nowhere : stands_in skip 0 ≡ false) where
+    (skips : (region : ℕ) → is_listed skip region ≡ side.relay region) (proper : ProperTurnsLaw)
+    (rules : are_regions regions ≡ true) (nowhere : is_listed skip 0 ≡ false) where
   abbrev pub IsOutside : List (List ℕ) → Type 0
   IsOutside answers = Outside side skip regions masks setting secret other first store answers
 
@@ -132,7 +133,7 @@ module _ (side : NamedSide) (skip : List ℕ) (regions : List Region) (masks : M
     -- ---- from outside
 
     module _ (at : IsOutside answers) where
-      enters : (region : Region) → kind_of regions here ≡ Enters region → (t : Bool) → stands_in skip region.id ≡ t →
+      enters : (region : Region) → kind_of regions here ≡ Enters region → (t : Bool) → is_listed skip region.id ≡ t →
           IsLater last answers
       enters region e false unskipped =
           let found = numbered regions (λ other. other.enter == here.pc) region rules
@@ -150,7 +151,7 @@ module _ (side : NamedSide) (skip : List ℕ) (regions : List Region) (masks : M
           (unbroken_as (Enters region) e) at.stands (covered_as (Enters region) e))
 
       outside_turn : (kind : Kind) → kind_of regions here ≡ kind → IsLater last answers
-      outside_turn (Enters region) e = enters region e (stands_in skip region.id) refl
+      outside_turn (Enters region) e = enters region e (is_listed skip region.id) refl
       outside_turn (Leaves region) e =
           let found = leaves_inside here.mode regions here region e in
           stood_as (Leaves region) here at.copy e refl at.comes
@@ -163,8 +164,8 @@ module _ (side : NamedSide) (skip : List ℕ) (regions : List Region) (masks : M
           here tags last values at.copy past all None e at.stands (covered_as (Steps None) e))
       outside_turn (Steps (Some region)) e =
           let found = steps_inside here.mode regions here region e in
-          let unskipped : stands_in skip region.id ≡ false =
-          subst (λ r. stands_in skip r ≡ false) (sym (numbered_id regions here.region region found)) at.stands.runs in
+          let unskipped : is_listed skip region.id ≡ false =
+          subst (λ r. is_listed skip r ≡ false) (sym (numbered_id regions here.region region found)) at.stands.runs in
           stood_as (Steps (Some region)) here at.copy e unskipped at.comes
           (step_stands side skip regions masks setting secret other bytes others public_bytes small_start skips proper
           here tags last values at.copy past all (Some region) e at.stands (covered_as (Steps (Some region)) e))

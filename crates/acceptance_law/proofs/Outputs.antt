@@ -17,7 +17,7 @@ use Rattle.rv32im_machine.specs.Language.{Turn, Gives, Held, at_place, put, hold
 use Rattle.shadow_masks.specs.declared.labels.Label.{Label}
 use Rattle.run_labels.specs.TurnLabels.{TurnLabels, label_at, put_label}
 use Rattle.acceptance_law.specs.Sides.{NamedSide}
-use Rattle.acceptance_law.specs.Proper.{IsPlace}
+use Rattle.acceptance_law.specs.Proper.{IsProperPlace}
 use Rattle.acceptance_law.proofs.WritesKeepRelation.{Close, set_hit, not_alike, apart_of}
 
 -- ---- the outputs of a region as a list
@@ -105,7 +105,7 @@ module _ (side : NamedSide) (region : ℕ) where
   pub waits_put : (base : ℕ) (o : Output) (os : List Output) (label : Label) (a b : ℕ) (labels : TurnLabels)
       (real : Store) (held : Held) (copy : Store) (taken : Held) → IsOutput base o → Close side label a b →
       length real.registers ≡ length copy.registers → length real.memory ≡ length copy.memory →
-      (q : Place) → IsPlace base q →
+      (q : Place) → IsProperPlace base q →
       Waits (o ∷ os) q (label_at labels q) (at_place base real held q) (at_place base copy taken q) →
       Waits os q (label_at (put_label (output_place o) label labels) q)
       (at_place base (put base (output_place o) a real) (hold (output_place o) a held) q)

@@ -30,14 +30,14 @@ use Rattle.shadow_masks.specs.declared.labels.Label.{Label}
 use Rattle.run_labels.specs.TurnLabels.{TurnLabels, label_at}
 use Rattle.run_labels.specs.Masks.{source_mask, byte_mask, masks_of, work_mask, answered_mask}
 use Rattle.run_labels.specs.Flowing.{link_from, source_events, byte_events, sources_events}
-use Rattle.run_labels.specs.Answers.{IsSoundAnswer, Holds, operands_of}
+use Rattle.run_labels.specs.Answers.{IsSoundAnswer, HoldsOfAnswer, operands_of}
 use Rattle.transfer_rules.specs.Operations.{OfWords, OfBranch}
 use Rattle.transfer_rules.proofs.Instructions.{agree_cleared}
 use Rattle.flow_graph.specs.declared.events.Event.{Event}
 use Rattle.flow_graph.specs.declared.events.Event.TheVariants.{Link}
 use Rattle.acceptance_law.specs.Sides.{NamedSide}
 use Rattle.acceptance_law.specs.ClosedEvents.{AreClosedEvents}
-use Rattle.acceptance_law.specs.Proper.{AreBytes, IsSource, AreSources, place_limit, source_limit, FitsShape, FitsSlot}
+use Rattle.acceptance_law.specs.Proper.{AreBytes, IsProperSource, AreProperSources, place_limit, source_limit, FitsShape, FitsSlot}
 use Rattle.acceptance_law.specs.Proper.{AreOperands, operation_limit}
 use Rattle.acceptance_law.proofs.AgreeOutsideMask.{agree_refl, agree_width, patched_below_width}
 use Rattle.acceptance_law.proofs.WritesKeepRelation.{Close, close_equal, Beside}
@@ -121,7 +121,7 @@ source_word (Secret index) = omega arith
 -- what a run's values are of, with its secret
 module _ (setting : Setting) (secret : List ℕ) (bytes : AreBytes secret) (store : Store) (held : Held)
     (limits : (place : Place) → at_place setting.base store held place ≤ place_limit place) where
-  pub value_limit : (source : Source) → IsSource setting.base source →
+  pub value_limit : (source : Source) → IsProperSource setting.base source →
       value_of setting secret store held source ≤ source_limit source
   value_limit (At place) is = limits place
   value_limit (Constant value) is = omega (arith, is)
@@ -130,7 +130,7 @@ module _ (setting : Setting) (secret : List ℕ) (bytes : AreBytes secret) (stor
   byte_limit : (address : ℕ) → byte_of setting.base store address ≤ 255
   byte_limit address = limits (Byte address)
 
-  shape_fits : (width : ℕ) (shape : Shape) (sources : Sources) → AreSources setting.base sources →
+  shape_fits : (width : ℕ) (shape : Shape) (sources : Sources) → AreProperSources setting.base sources →
       FitsShape width shape sources → shaped shape (values_of setting secret store held sources) ≤ width
   shape_fits width shape (One source) are fits = fits _ (value_limit source are)
   shape_fits width shape (Two first second) are fits = absurd fits
@@ -143,7 +143,7 @@ module _ (setting : Setting) (secret : List ℕ) (bytes : AreBytes secret) (stor
   word_of_limit : (value limit : ℕ) → value ≤ limit → limit ≤ 4294967295 → value < 2 ^ 32
   word_of_limit value limit p q = omega (arith, p, q)
 
-  pub first_word : (sources : Sources) → AreSources setting.base sources →
+  pub first_word : (sources : Sources) → AreProperSources setting.base sources →
       first_of (values_of setting secret store held sources) < 2 ^ 32
   first_word (One source) are = word_of_limit _ _ (value_limit source are) (source_word source)
   first_word (Two first second) are = word_of_limit _ _ (value_limit first are.0) (source_word first)
@@ -151,7 +151,7 @@ module _ (setting : Setting) (secret : List ℕ) (bytes : AreBytes secret) (stor
   first_word (BytesTwo address) are = word_of_limit _ 255 (byte_limit address) (omega arith)
   first_word (BytesFour address) are = word_of_limit _ 255 (byte_limit address) (omega arith)
 
-  pub second_word : (sources : Sources) → AreSources setting.base sources →
+  pub second_word : (sources : Sources) → AreProperSources setting.base sources →
       second_of (values_of setting secret store held sources) < 2 ^ 32
   second_word (One source) are = omega arith
   second_word (Two first second) are = word_of_limit _ _ (value_limit second are.1) (source_word second)
@@ -160,7 +160,7 @@ module _ (setting : Setting) (secret : List ℕ) (bytes : AreBytes secret) (stor
   second_word (BytesFour address) are = word_of_limit _ 255 (byte_limit (address + 1)) (omega arith)
 
   -- what is made fits its slot
-  pub made_fits : (point : Point) (making : Making) (sources : Sources) → AreSources setting.base sources →
+  pub made_fits : (point : Point) (making : Making) (sources : Sources) → AreProperSources setting.base sources →
       FitsSlot point making sources → made making (values_of setting secret store held sources) ≤ width_of point.slot
   made_fits point (Shaped shape) sources are fits = shape_fits (width_of point.slot) shape sources are fits
   made_fits point (Computed operation) sources are fits =
@@ -199,7 +199,7 @@ module _ (base : ℕ) (labels : TurnLabels)
 
   -- the mask of what is made fits its slot
   pub mask_fits : (point : Point) (making : Making) (sources : Sources) (values : List ℕ) (answer : ℕ) →
-      FitsSlot point making sources → Holds IsSoundAnswer (work_of making values) (masks_of labels sources) answer →
+      FitsSlot point making sources → HoldsOfAnswer IsSoundAnswer (work_of making values) (masks_of labels sources) answer →
       work_mask (work_of making values) (masks_of labels sources) answer ≤ width_of point.slot
   mask_fits point (Shaped shape) sources values answer fits sound =
       shape_mask_fits (width_of point.slot) shape sources fits
@@ -253,14 +253,14 @@ module _ (side : NamedSide) (setting : Setting) (secret other : List ℕ) (bytes
       Close side (labels.map.bytes address) (byte_of setting.base real address) (byte_of setting.base copy address)
   byte_close address from = beside.places (Byte address) from
 
-  source_agree : (source : Source) → IsSource setting.base source →
+  source_agree : (source : Source) → IsProperSource setting.base source →
       Agree (source_mask labels source) (value_of setting secret real held source)
       (value_of setting other copy taken source)
   source_agree (At place) is = (beside.places place is).0
   source_agree (Constant value) is = agree_refl 0 value
   source_agree (Secret index) is = agree_width 8 255 _ _ refl (bytes index) (others index)
 
-  pub sources_agree : (sources : Sources) → AreSources setting.base sources →
+  pub sources_agree : (sources : Sources) → AreProperSources setting.base sources →
       AgreeAll (masks_of labels sources) (values_of setting secret real held sources)
       (values_of setting other copy taken sources)
   unfolding AgreeAll
@@ -286,7 +286,7 @@ module _ (side : NamedSide) (setting : Setting) (secret other : List ℕ) (bytes
   label_byte : (address : ℕ) → byte_mask labels address < 256
   label_byte address = let limit = beside.label_limits (Byte address) in omega (arith, limit)
 
-  shape_agrees : (width : ℕ) (shape : Shape) (sources : Sources) → AreSources setting.base sources →
+  shape_agrees : (width : ℕ) (shape : Shape) (sources : Sources) → AreProperSources setting.base sources →
       FitsShape width shape sources →
       Agree (shaped shape (masks_of labels sources)) (shaped shape (values_of setting secret real held sources))
       (shaped shape (values_of setting other copy taken sources))
@@ -344,7 +344,7 @@ module _ (side : NamedSide) (setting : Setting) (secret other : List ℕ) (bytes
       (subst (λ y. Agree (answer - answer % 2) ((a - a % 2) - (a - a % 2) % 2) y) (even_target b)
       (agree_cleared answer (a - a % 2) (b - b % 2) agree))
 
-  answer_agrees : (operation : Operation) (sources : Sources) (answer : ℕ) → AreSources setting.base sources →
+  answer_agrees : (operation : Operation) (sources : Sources) (answer : ℕ) → AreProperSources setting.base sources →
       AreOperands operation sources →
       ((first second : ℕ) → first < 2 ^ 32 → second < 2 ^ 32 →
       computed operation first second ≤ operation_limit operation) →
@@ -378,8 +378,8 @@ module _ (side : NamedSide) (setting : Setting) (secret other : List ℕ) (bytes
 
   -- what is made agrees outside its mask
   pub made_agrees : (point : Point) (making : Making) (sources : Sources) (answer : ℕ) →
-      AreSources setting.base sources → FitsSlot point making sources →
-      Holds IsSoundAnswer (work_of making (values_of setting secret real held sources)) (masks_of labels sources)
+      AreProperSources setting.base sources → FitsSlot point making sources →
+      HoldsOfAnswer IsSoundAnswer (work_of making (values_of setting secret real held sources)) (masks_of labels sources)
       answer →
       Agree (work_mask (work_of making (values_of setting secret real held sources)) (masks_of labels sources) answer)
       (made making (values_of setting secret real held sources))
@@ -389,7 +389,7 @@ module _ (side : NamedSide) (setting : Setting) (secret other : List ℕ) (bytes
   made_agrees point (Computed operation) sources answer are fits sound =
       answer_agrees operation sources answer are fits.0 fits.2 sound
 
-  source_equal : (point : Point) → side.first point ≡ false → (source : Source) → IsSource setting.base source →
+  source_equal : (point : Point) → side.first point ≡ false → (source : Source) → IsProperSource setting.base source →
       AreClosedEvents side (source_events labels point source) →
       value_of setting secret real held source ≡ value_of setting other copy taken source
   source_equal point outside (At place) is h =
@@ -406,7 +406,7 @@ module _ (side : NamedSide) (setting : Setting) (secret other : List ℕ) (bytes
 
   -- where no source comes from the side, the sources are equal
   pub sources_equal : (point : Point) → side.first point ≡ false → (sources : Sources) →
-      AreSources setting.base sources → AreClosedEvents side (sources_events labels point sources) →
+      AreProperSources setting.base sources → AreClosedEvents side (sources_events labels point sources) →
       values_of setting secret real held sources ≡ values_of setting other copy taken sources
   sources_equal point outside (One source) are h = ap (λ v. v ∷ []) (source_equal point outside source are h)
   sources_equal point outside (Two first second) are h =

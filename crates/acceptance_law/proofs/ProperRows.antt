@@ -26,7 +26,7 @@ use Rattle.guest_calls.specs.declared.kinds.CallKind.TheVariants.{Read, Write as
 use Rattle.guest_calls.specs.declared.kinds.CallKind.TheVariants.{Brk as BrkCall, Unknown}
 use Rattle.guest_calls.specs.declared.writing.WriteCheck.{WriteCheck}
 use Rattle.guest_calls.specs.declared.writing.WriteCheck.TheVariants.{Append, BadAddress, OverLimit}
-use Rattle.guest_calls.specs.Calls.{kind_of, unknown_call, bytes_read, is_public_input, is_secret_input}
+use Rattle.guest_calls.specs.Calls.{call_kind, unknown_call, bytes_read, is_public_input, is_secret_input}
 use Rattle.guest_calls.specs.Calls.{is_output, checked_write}
 use Rattle.rv32im_machine.specs.declared.stepping.Fault.{Fault}
 use Rattle.rv32im_machine.specs.declared.stepping.Fault.TheVariants.{Illegal, FetchOutside, FetchUnaligned}
@@ -52,7 +52,7 @@ use Rattle.rv32im_machine.specs.Calls.{kind_row, call_row, public_plan, secret_p
 use Rattle.rv32im_machine.specs.Calls.{break_plan, write_checked}
 use Rattle.rv32im_machine.specs.Rows.{load_checked, loaded_from, store_at, store_checked, jumps, links, branches, row}
 use Rattle.rv32im_machine.specs.Rows.{fetched, running, stops, first_used, second_used, addressed}
-use Rattle.acceptance_law.specs.Proper.{AreBytes, IsPassing, AreSources, AreOperands, operation_limit, IsProper}
+use Rattle.acceptance_law.specs.Proper.{AreBytes, IsPassing, AreProperSources, AreOperands, operation_limit, IsProper}
 use Rattle.acceptance_law.specs.ProperLaws.{ProperTurnsLaw}
 use Rattle.acceptance_law.proofs.InsideMemory.{inside_begins}
 use Rattle.acceptance_law.proofs.ProperValues.{computed_fits, part_fits, byte_fits, half_fits, whole_fits}
@@ -127,7 +127,7 @@ module _ (base region : ℕ) where
 
   -- what is computed passes a slot
   computes : (control : Control) (slot : Slot) (operation : Operation) (sources : Sources) → control.region ≡ region →
-      is_output_slot slot ≡ false → AreSources base sources → AreOperands operation sources →
+      is_output_slot slot ≡ false → AreProperSources base sources → AreOperands operation sources →
       width_of slot ≡ operation_limit operation →
       IsPassing base region (point control slot) (Computed operation) sources
   computes control slot operation sources is no_output named operands width = record {
@@ -459,7 +459,7 @@ module _ (base region : ℕ) where
   unfolding IsProper
   call-proper setting control same bytes is = (
     copies control Number 17 is.1 refl refl,
-    λ number h. kind-proper (kind_of number) setting control same bytes is,
+    λ number h. kind-proper (call_kind number) setting control same bytes is,
   )
 
   row-proper : (instr : Instr) (setting : Setting) (control : Control) → InRange instr → setting.base ≡ base →

@@ -6,8 +6,8 @@ use Rattle.std.specs.List.{find, list_all}
 use Rattle.std.proofs.lemmas.Bool.{and_parts, cases_Bool, cond-true, cond-false, leb-true, lt-ltb, ne_eqb}
 use Rattle.enclosure_regions.specs.declared.region_parts.Range.{Range}
 use Rattle.enclosure_regions.specs.declared.region_parts.Region.{Region}
-use Rattle.enclosure_regions.specs.Regions.{are_regions, is_region, is_region_number, is_register, are_registers}
-use Rattle.enclosure_regions.specs.Regions.{are_apart, are_ranges, is_place, is_range}
+use Rattle.enclosure_regions.specs.Regions.{are_regions, is_region, is_register, are_registers}
+use Rattle.enclosure_regions.specs.Regions.{are_apart, are_ranges, is_code_address, is_range}
 use Rattle.enclosure_regions.specs.Turns.{start_of}
 use Rattle.region_machine.specs.Enclosures.{Kind, Enters, Leaves, Steps, kind_of, kind_in, kind_within, kind_outside}
 use Rattle.region_machine.specs.Enclosures.{region_numbered, region_entered_at}
@@ -29,12 +29,13 @@ use Rattle.run_labels.specs.TurnLabels.{at_start}
 use Rattle.run_labels.specs.Runs.{LabelledRun, enclosing, unlabelled, run_after, turn_events, EachRunAnswer}
 use Rattle.shadow_masks.specs.Writes.{LabelMap, default_map}
 use Rattle.acceptance_law.specs.ClosedEvents.{IsProperEvent, AreProperEvents}
-use Rattle.acceptance_law.specs.Proper.{IsGuest, place_limit}
+use Rattle.acceptance_law.specs.Proper.{IsProperGuest, place_limit}
 use Rattle.acceptance_law.specs.GuestLaws.{GuestTurnLaw, ProperEventsLaw}
 use Rattle.acceptance_law.proofs.GraphEvents.{all-append}
 use Rattle.acceptance_law.proofs.ProperRows.{proper_law}
 use Rattle.acceptance_law.proofs.ProperTurns.{IsOrderly, proper-orderly, HasLimits, AreLimitedLabels, at-start}
 use Rattle.acceptance_law.proofs.ProperTurns.{turn-events, turn-guest}
+use Rattle.flow_base.specs.Points.{is_region_number}
 
 -- ---- entries
 
@@ -94,8 +95,8 @@ leave-orderly : (base : ℕ) (region : Region) (registers : List ℕ) (control :
     control.current_break < 2 ^ 32 → IsOrderly base (leave region registers control)
 unfolding IsOrderly entered
 leave-orderly base region registers control known break =
-    let a = and_parts (is_place region.enter) _ (and_parts (is_region_number region.id) _ known).1 in
-    let b = and_parts (is_place region.leave) _ a.1 in
+    let a = and_parts (is_code_address region.enter) _ (and_parts (is_region_number region.id) _ known).1 in
+    let b = and_parts (is_code_address region.leave) _ a.1 in
     let c = and_parts (not (region.enter == region.leave)) _ b.1 in
     let outs = and_parts (are_registers region.outs) _ c.1 in
     let keep = and_parts (are_registers region.keep) _ outs.1 in
@@ -110,7 +111,7 @@ leave-orderly base region registers control known break =
 
 -- ---- steps
 
-step-orderly : (mode : Stepped) (state : State) → IsGuest state →
+step-orderly : (mode : Stepped) (state : State) → IsProperGuest state →
     IsOrderly state.setting.base (turn_in mode state.setting state.control)
 unfolding IsOrderly
 step-orderly Ran state guest =
@@ -188,7 +189,7 @@ kind-turn (Enters region) state = refl
 kind-turn (Leaves region) state = refl
 kind-turn (Steps region) state = refl
 
-kind-orderly : (kind : Kind) (state : State) → IsGuest state → LeavesRegion kind →
+kind-orderly : (kind : Kind) (state : State) → IsProperGuest state → LeavesRegion kind →
     IsOrderly state.setting.base (turn_of_kind kind state)
 kind-orderly (Enters region) state guest known =
     entry-orderly state.setting.base region state.control guest.current_break
@@ -200,7 +201,7 @@ regions-known : (regions : List Region) → are_regions regions ≡ true → lis
 regions-known regions rules =
     (and_parts (list_all is_region regions) _ (and_parts (nat_le (length regions) 256) _ rules).1).0
 
-pub guest-limits : (state : State) → IsGuest state → HasLimits state.setting.base state.store none_held
+pub guest-limits : (state : State) → IsProperGuest state → HasLimits state.setting.base state.store none_held
 guest-limits state guest = record { places = place; kept = guest.store.kept }
   where
     place : (place : Place) → at_place state.setting.base state.store none_held place ≤ place_limit place
@@ -212,7 +213,7 @@ guest-limits state guest = record { places = place; kept = guest.store.kept }
 
 pub guest_turn_law : GuestTurnLaw
 guest_turn_law regions state rules guest =
-    subst (λ walk. IsGuest (real_end walk)) (sym (kind-turn (kind_of regions state.control) state))
+    subst (λ walk. IsProperGuest (real_end walk)) (sym (kind-turn (kind_of regions state.control) state))
     (turn-guest state.setting state.secret guest.secret (turn_of_kind (kind_of regions state.control) state) state.store
     none_held
     (kind-orderly (kind_of regions state.control) state guest
@@ -220,7 +221,7 @@ guest_turn_law regions state rules guest =
     (guest-limits state guest) guest.public_input guest.start_break)
 
 guest-events : (regions : List Region) (state : State) (map : LabelMap) (answers : List ℕ) →
-    are_regions regions ≡ true → IsGuest state → AreLimitedLabels map →
+    are_regions regions ≡ true → IsProperGuest state → AreLimitedLabels map →
     EachAnswer IsSoundAnswer (at_start map) answers (guest_walk regions state) →
     AreProperEvents (events_in (at_start map) answers (guest_walk regions state))
     × AreLimitedLabels (labels_in (at_start map) answers (guest_walk regions state))
@@ -238,7 +239,7 @@ guest-events regions state map answers rules guest limited sound =
 -- ---- a run
 
 still-guest : (regions : List Region) (place : RunPlace) (broken : Option Break) → are_regions regions ≡ true →
-    IsGuest place.state → IsGuest (turn_unless broken (enclosing regions) place).state
+    IsProperGuest place.state → IsProperGuest (turn_unless broken (enclosing regions) place).state
 still-guest regions place None rules guest = guest_turn_law regions place.state rules guest
 still-guest regions place (Some broken) rules guest = guest
 
@@ -251,12 +252,12 @@ default-limited = record {
 
 -- what holds after each turn of a run
 pub record IsProperRun (run : LabelledRun) : Type 0 where
-  pub guest : IsGuest run.place.state
+  pub guest : IsProperGuest run.place.state
   pub limited : AreLimitedLabels run.labels
   pub events : AreProperEvents run.events
 
 pub run-proper : (regions : List Region) (answers : List (List ℕ)) (start : RunPlace) → are_regions regions ≡ true →
-    IsGuest start.state → EachRunAnswer IsSoundAnswer regions answers (unlabelled start) →
+    IsProperGuest start.state → EachRunAnswer IsSoundAnswer regions answers (unlabelled start) →
     IsProperRun (run_after regions answers (unlabelled start))
 unfolding run_after EachRunAnswer
 run-proper regions [] start rules guest sound = record { guest = guest; limited = default-limited; events = tt }

@@ -6,10 +6,10 @@ use Rattle.std.proofs.lemmas.Bool.{and_parts, leb-true}
 use Rattle.flow_base.specs.Guests.{memory_size}
 use Rattle.elf32_loader.specs.declared.segments.Segment.{Segment}
 use Rattle.elf32_loader.specs.Pictures.{Picture}
-use Rattle.elf32_loader.specs.Segments.{are_inside, is_ascending, is_base, is_entry, is_inside, end_of, highest_end}
+use Rattle.elf32_loader.specs.Segments.{are_inside, is_ascending, is_base_of, is_entry, holds_segment, end_of, highest_end}
 use Rattle.elf32_loader.specs.Segments.{highest_base}
 use Rattle.rv32im_machine.specs.Start.{zeros, laid_at, laid, first_memory, first_registers, top_of, first_break}
-use Rattle.acceptance_law.specs.Proper.{AreWords, AreBytes}
+use Rattle.acceptance_law.specs.Proper.{AreAllWords, AreBytes}
 use Rattle.acceptance_law.specs.GuestLaws.{GuestStartLaw, HasBytes}
 
 -- ---- lists of bounded numbers
@@ -72,7 +72,7 @@ memory-bytes picture has =
 
 -- ---- registers and the break
 
-registers-words : (base : ℕ) → base ≤ highest_base → AreWords (first_registers base)
+registers-words : (base : ℕ) → base ≤ highest_base → AreAllWords (first_registers base)
 registers-words base low =
     below-set (2 ^ 32) (replicate 32 0) 2 (base + memory_size - 64) (omega (arith, low))
     (below-replicate (2 ^ 32) 32 (omega arith))
@@ -80,7 +80,7 @@ registers-words base low =
 top-limit : (base : ℕ) (segments : List Segment) → are_inside base segments ≡ true → top_of segments ≤ highest_end
 top-limit base [] inside = omega arith
 top-limit base (segment ∷ segments) inside =
-    let both = and_parts (is_inside base segment) (are_inside base segments) inside in
+    let both = and_parts (holds_segment base segment) (are_inside base segments) inside in
     let ends = and_parts (nat_le base segment.address) _ both.0 in
     let high = and_parts (nat_le (end_of segment) (base + memory_size)) (nat_le (end_of segment) highest_end) ends.1 in
     let here : end_of segment ≤ highest_end = leb-true (end_of segment) highest_end high.1 in
@@ -90,14 +90,14 @@ top-limit base (segment ∷ segments) inside =
 break-word : (base : ℕ) (segments : List Segment) → are_inside base segments ≡ true → first_break segments < 2 ^ 32
 break-word base segments inside = let top = top-limit base segments inside in omega (arith, top)
 
-base-low : (segments : List Segment) (base : ℕ) → is_base segments base ≡ true → base ≤ highest_base
+base-low : (segments : List Segment) (base : ℕ) → is_base_of segments base ≡ true → base ≤ highest_base
 base-low [] base is = absurd (cc)
 base-low (segment ∷ segments) base is = leb-true base highest_base (and_parts _ (nat_le base highest_base) is).1
 
 pub guest_start_law : GuestStartLaw
 guest_start_law picture public_input secret valid has public_bytes secret_bytes =
     let parts = and_parts (is_ascending picture.segments) _ valid in
-    let based = and_parts (is_base picture.segments picture.base) _ parts.1 in
+    let based = and_parts (is_base_of picture.segments picture.base) _ parts.1 in
     let inside = and_parts (are_inside picture.base picture.segments) (is_entry picture.segments picture.entry)
     based.1 in
     let break = break-word picture.base picture.segments inside.0 in

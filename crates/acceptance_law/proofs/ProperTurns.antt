@@ -29,7 +29,6 @@ use Rattle.rv32im_machine.specs.Language.{Held, Shaped, at_place, put, hold, val
 use Rattle.rv32im_machine.specs.Language.{shaped, seen_value, passing, first_of}
 use Rattle.rv32im_machine.specs.Folds.{real_end}
 use Rattle.shadow_masks.specs.declared.labels.Label.{Label}
-use Rattle.shadow_masks.specs.Shades.{is_listed}
 use Rattle.shadow_masks.specs.Pages.{label_of}
 use Rattle.shadow_masks.specs.Writes.{LabelMap}
 use Rattle.run_labels.specs.TurnLabels.{TurnLabels, label_at, put_label, save_labels, restore_labels, at_start}
@@ -38,11 +37,12 @@ use Rattle.run_labels.specs.Flowing.{link_from, source_events, byte_events, sour
 use Rattle.run_labels.specs.Flowing.{passing_events, labels_in, events_in}
 use Rattle.run_labels.specs.Answers.{IsSoundAnswer, EachAnswer}
 use Rattle.acceptance_law.specs.ClosedEvents.{IsProperEvent, AreProperEvents}
-use Rattle.acceptance_law.specs.Proper.{AreWords, AreBytes, IsGuest, IsMove, AreSources, FitsSlot, IsProper, place_limit}
+use Rattle.acceptance_law.specs.Proper.{AreAllWords, AreBytes, IsProperGuest, IsMove, AreProperSources, FitsSlot, IsProper, place_limit}
 use Rattle.acceptance_law.proofs.WritesKeepRelation.{put_limits, put_label_limits, put_kept, put_label_kept}
 use Rattle.acceptance_law.proofs.Passings.{made_fits, mask_fits, slot_word}
 use Rattle.acceptance_law.proofs.Turns.{label_of_limit, seen_word}
 use Rattle.acceptance_law.proofs.GraphEvents.{all-append}
+use Rattle.flow_base.specs.Listed.{is_listed}
 
 -- ---- what is asked of a turn
 
@@ -50,10 +50,10 @@ use Rattle.acceptance_law.proofs.GraphEvents.{all-append}
 unfoldable pub IsOrderly : ℕ → Turn → Type 0
 IsOrderly base (Looks seen go) = (value : ℕ) → value < 2 ^ 32 → IsOrderly base (go value)
 IsOrderly base (Passes point place making sources turn) =
-    (is_slot point.slot ≡ true) × AreSources base sources × FitsSlot point making sources
+    (is_slot point.slot ≡ true) × AreProperSources base sources × FitsSlot point making sources
     × (width_of point.slot ≤ place_limit place) × IsOrderly base turn
 IsOrderly base (Decides point making sources go) =
-    (is_slot point.slot ≡ true) × AreSources base sources × FitsSlot point making sources
+    (is_slot point.slot ≡ true) × AreProperSources base sources × FitsSlot point making sources
     × ((value : ℕ) → value < 2 ^ 32 → IsOrderly base (go value))
 IsOrderly base (Gives point place turn) =
     (is_slot point.slot ≡ true) × ((point.region == 0) ≡ false) × (width_of point.slot ≡ place_limit place)
@@ -179,13 +179,13 @@ moved-limited base labels place shape (Secret index) move limited = absurd move
 -- the values of a store and the operands held
 pub record HasLimits (base : ℕ) (store : Store) (held : Held) : Type 0 where
   pub places : (place : Place) → at_place base store held place ≤ place_limit place
-  pub kept : AreWords store.kept
+  pub kept : AreAllWords store.kept
 
 pub put-limits : (base : ℕ) (place : Place) (value : ℕ) (store : Store) (held : Held) → value ≤ place_limit place →
     HasLimits base store held → HasLimits base (put base place value store) (hold place value held)
 put-limits base place value store held new has = record {
   places = λ other. put_limits base place value store held new other (has.places other);
-  kept = subst AreWords (sym (put_kept base place value store)) has.kept;
+  kept = subst AreAllWords (sym (put_kept base place value store)) has.kept;
 }
 
 saved-limits : (base : ℕ) (store : Store) (held : Held) → HasLimits base store held → HasLimits base (saved store) held
@@ -348,7 +348,7 @@ module _ (setting : Setting) (secret : List ℕ) (bytes : AreBytes secret) where
   -- the values at its end are a guest's
   pub turn-guest : (turn : Turn) (store : Store) (held : Held) → IsOrderly setting.base turn →
       HasLimits setting.base store held → AreBytes setting.public_input → setting.start_break < 2 ^ 32 →
-      IsGuest (real_end (walked setting secret turn store held))
+      IsProperGuest (real_end (walked setting secret turn store held))
   unfolding IsOrderly walked real_end
   turn-guest (Looks seen go) store held orderly has input break =
       turn-guest (go (seen_value setting.base store seen)) store held

@@ -9,11 +9,10 @@ use Rattle.flow_base.specs.declared.points.Slot.TheVariants.{Result as ResultSlo
 use Rattle.flow_base.specs.declared.points.Slot.TheVariants.{Arg0, Arg1, Arg2, SecretIn, ByteOut, Status, OutReg}
 use Rattle.flow_base.specs.declared.points.Slot.TheVariants.{OutRange}
 use Rattle.flow_base.specs.declared.points.Point.{Point}
-use Rattle.flow_base.specs.Points.{width_of, number_of, is_output_slot}
+use Rattle.flow_base.specs.Points.{width_of, slot_number, is_output_slot}
 use Rattle.flow_base.specs.Words.{Agree, bits_under, patched}
 use Rattle.flow_base.proofs.PointOrders.{same-one}
 use Rattle.flow_base.specs.PointOrders.{is_same}
-use Rattle.enclosure_regions.specs.Regions.{stands_in}
 use Rattle.flow_graph.specs.declared.events.Event.{Event}
 use Rattle.flow_graph.specs.declared.events.Event.TheVariants.{Pass, Out}
 use Rattle.rv32im_machine.specs.declared.language.Aim.TheVariants.{Give}
@@ -38,9 +37,9 @@ use Rattle.run_labels.specs.Looking.{secret_look}
 use Rattle.run_labels.specs.Answers.{EachAnswer}
 use Rattle.acceptance_law.specs.Sides.{NamedSide, is_split}
 use Rattle.acceptance_law.specs.ClosedEvents.{AreClosedEvents}
-use Rattle.acceptance_law.specs.Covers.{IsWithin, IsContained, AreContained}
+use Rattle.acceptance_law.specs.Covers.{IsMaskWithin, IsContained, AreContained}
 use Rattle.acceptance_law.specs.RunCuts.{is_inner}
-use Rattle.acceptance_law.specs.Proper.{IsPlace, place_limit}
+use Rattle.acceptance_law.specs.Proper.{IsProperPlace, place_limit}
 use Rattle.acceptance_law.proofs.WritesKeepRelation.{close_label_of, Beside, put_limits, put_label_limits, put_registers}
 use Rattle.acceptance_law.proofs.WritesKeepRelation.{put_memory, put_kept, not_alike, fresh_beside}
 use Rattle.acceptance_law.proofs.Passings.{slot_word, slot_agree, link_equal, patched_slot, closed_append}
@@ -50,6 +49,7 @@ use Rattle.acceptance_law.proofs.Turns.{closed_if, label_of_limit}
 use Rattle.acceptance_law.proofs.TurnsKeepRelation.{CoveredTurn, KeptTurn}
 use Rattle.acceptance_law.proofs.Outputs.{Output, OfRegister, OfByte, output_slot, output_place, IsOutput, AreOutputs}
 use Rattle.acceptance_law.proofs.Outputs.{IsAmong, given, Waits, waits_put}
+use Rattle.flow_base.specs.Listed.{is_listed}
 
 and_false : (b : Bool) → (b && false) ≡ false
 and_false true = refl
@@ -59,17 +59,17 @@ pub output_width : (o : Output) → width_of (output_slot o) ≡ place_limit (ou
 output_width (OfRegister register) = refl
 output_width (OfByte range address) = refl
 
-pub is_place : (base : ℕ) (o : Output) → IsOutput base o → IsPlace base (output_place o)
+pub is_place : (base : ℕ) (o : Output) → IsOutput base o → IsProperPlace base (output_place o)
 is_place base (OfRegister register) is = tt
 is_place base (OfByte range address) is = is
 
 -- an output point is never an inner one
 never_inner : (skip : List ℕ) (region : Region) (o : Output) →
     is_inner skip (output_point region (output_slot o)) ≡ false
-never_inner skip region (OfRegister register) = and_false (stands_in skip region.id)
-never_inner skip region (OfByte range address) = and_false (stands_in skip region.id)
+never_inner skip region (OfRegister register) = and_false (is_listed skip region.id)
+never_inner skip region (OfByte range address) = and_false (is_listed skip region.id)
 
-low_number : (slot : Slot) → is_output_slot slot ≡ false → number_of slot ≤ 12
+low_number : (slot : Slot) → is_output_slot slot ≡ false → slot_number slot ≤ 12
 low_number FirstSlot e = omega arith
 low_number SecondSlot e = omega arith
 low_number Address e = omega arith
@@ -85,7 +85,7 @@ low_number Status e = omega arith
 low_number (OutReg register) e = absurd (not_alike refl e)
 low_number (OutRange range) e = absurd (not_alike refl e)
 
-high_number : (base : ℕ) (o : Output) → IsOutput base o → 12 < number_of (output_slot o)
+high_number : (base : ℕ) (o : Output) → IsOutput base o → 12 < slot_number (output_slot o)
 high_number base (OfRegister register) is = omega (arith, is)
 high_number base (OfByte range address) is = omega arith
 
@@ -103,17 +103,17 @@ never_same skip base region o is other inner = pick (is_same (output_point regio
     pick : (t : Bool) → is_same (output_point region (output_slot o)) other ≡ t → t ≡ false
     pick false e = refl
     pick true e =
-        let same : number_of (output_slot o) ≡ number_of other.slot =
-        ap (λ (p : Point). number_of p.slot) (same-one (output_point region (output_slot o)) other e) in
+        let same : slot_number (output_slot o) ≡ slot_number other.slot =
+        ap (λ (p : Point). slot_number p.slot) (same-one (output_point region (output_slot o)) other e) in
         let low = low_number other.slot (no_output other.slot
-        (and_parts (stands_in skip other.region) (not (is_output_slot other.slot)) inner).1) in
+        (and_parts (is_listed skip other.region) (not (is_output_slot other.slot)) inner).1) in
         let high = high_number base o is in
         absurd (omega (arith, same, low, high))
 
 -- the relation at the leave of a region whose outputs wait
 pub record Waiting (side : NamedSide) (region : ℕ) (base : ℕ) (os : List Output) (labels : TurnLabels) (real : Store)
     (held : Held) (copy : Store) (taken : Held) : Type 0 where
-  pub places : (place : Place) → IsPlace base place →
+  pub places : (place : Place) → IsProperPlace base place →
       Waits side region os place (label_at labels place) (at_place base real held place)
       (at_place base copy taken place)
   pub registers : length real.registers ≡ length copy.registers
@@ -201,9 +201,9 @@ module _ (side : NamedSide) (skip : List ℕ) (masks : Masks) (setting : Setting
           closed_if side (width_of (output_slot o)) flows real_output copy_output agree closed
           (unwaiting outside (waiting.places (output_place o) (is_place setting.base o is)))
 
-      within : is_split side output_at ≡ true → IsWithin (width_of (output_slot o)) cut_output
+      within : is_split side output_at ≡ true → IsMaskWithin (width_of (output_slot o)) cut_output
       within split =
-          subst (λ c. IsWithin (width_of (output_slot o)) c)
+          subst (λ c. IsMaskWithin (width_of (output_slot o)) c)
           (sym (mask_same skip masks output_at past all counts (never_same skip setting.base region o is)))
           (contained split (never_inner skip region o))
 

@@ -7,7 +7,6 @@ use Rattle.crossing_bits.specs.Askers.{feed, Fed'}
 use Rattle.enclosure_regions.specs.declared.break_kinds.Break.TheVariants.{RangeOutside}
 use Rattle.enclosure_regions.specs.declared.region_parts.Region.{Region}
 use Rattle.enclosure_regions.specs.Breaks.{keep_break, outside_range, range_break}
-use Rattle.enclosure_regions.specs.Regions.{stands_in}
 use Rattle.rv32im_machine.specs.declared.language.Place.{Place}
 use Rattle.rv32im_machine.specs.declared.language.Place.TheVariants.{Register, Byte, First, Second}
 use Rattle.rv32im_machine.specs.State.{Setting, Control, Store, State, saved, entered}
@@ -25,7 +24,7 @@ use Rattle.shadow_masks.specs.Writes.{LabelMap, after, Save}
 use Rattle.run_labels.specs.TurnLabels.{label_at, at_start}
 use Rattle.run_labels.specs.Flowing.{labels_in}
 use Rattle.acceptance_law.specs.Sides.{NamedSide}
-use Rattle.acceptance_law.specs.Proper.{IsPlace, place_limit}
+use Rattle.acceptance_law.specs.Proper.{IsProperPlace, place_limit}
 use Rattle.acceptance_law.proofs.WritesKeepRelation.{Close, Beside, put_kept}
 use Rattle.acceptance_law.proofs.TurnsKeepRelation.{CoveredTurn, KeptTurn}
 use Rattle.acceptance_law.proofs.Outputs.{Output, output_place, given}
@@ -34,6 +33,7 @@ use Rattle.acceptance_law.proofs.Entering.{SameStarts, same_starts, outside_same
 use Rattle.acceptance_law.proofs.Entering.{entry_crossing, entry_replayed, entry_labels}
 use Rattle.acceptance_law.proofs.Leaving.{leave_kept, none-mapped}
 use Rattle.acceptance_law.proofs.StepsKeepStanding.{state_of, placed, InsideBeside, Stands, Stood, HasRules}
+use Rattle.flow_base.specs.Listed.{is_listed}
 
 -- ---- where the outputs of a region end
 
@@ -100,7 +100,7 @@ saved_beside side base labels real copy beside = record {
   label_limits = label_limits;
 }
   where
-    places : (q : Place) → IsPlace base q →
+    places : (q : Place) → IsProperPlace base q →
         Close side (label_at (at_start (after Save labels)) q)
         (at_place base (record real { kept = real.registers }) none_held q)
         (at_place base (record copy { kept = copy.registers }) none_held q)
@@ -155,7 +155,7 @@ module _ (side : NamedSide) (skip : List ℕ) (regions : List Region) (masks : M
 
   pub entry_stands : (control : Control) (labels : LabelMap) (answers : List ℕ) (real copy : Store)
       (past all : List Point) (region : Region) → kind_of regions control ≡ Enters region →
-      stands_in skip region.id ≡ false → region_numbered regions region.id ≡ Some region →
+      is_listed skip region.id ≡ false → region_numbered regions region.id ≡ Some region →
       range_break region real.registers setting.base ≡ None →
       Stands side skip regions setting.base control labels real copy past all →
       CoveredTurn side skip masks region.id (at_start labels) answers all
@@ -178,7 +178,7 @@ module _ (side : NamedSide) (skip : List ℕ) (regions : List Region) (masks : M
       record {
         beside = saved_beside side setting.base labels real copy at.beside;
         counts = at.counts;
-        runs = subst (λ r. stands_in skip r ≡ false) (sym (entered_region region.id control)) unskipped;
+        runs = subst (λ r. is_listed skip r ≡ false) (sym (entered_region region.id control)) unskipped;
         nowhere = λ lost.
             let found : region_numbered regions region.id ≡ None =
             subst (λ r. region_numbered regions r ≡ None) (entered_region region.id control) lost in
@@ -225,7 +225,7 @@ module _ (side : NamedSide) (skip : List ℕ) (regions : List Region) (masks : M
   -- ---- the leave, of a region that was run or of one that was skipped
 
   pub left_stands : (control : Control) (labels : LabelMap) (answers : List ℕ) (real copy : Store)
-      (past all : List Point) (region : Region) (copied : Walk) → stands_in skip 0 ≡ false →
+      (past all : List Point) (region : Region) (copied : Walk) → is_listed skip 0 ≡ false →
       control.current_break < 2 ^ 32 → ((register : ℕ) → slice_index real.kept register ≤ 4294967295) →
       (kept : KeptTurn side skip masks setting other (at_start labels) answers
       (walked setting secret (leave region real.kept control) real none_held) copied copy past all) →
@@ -241,7 +241,7 @@ module _ (side : NamedSide) (skip : List ℕ) (regions : List Region) (masks : M
       let break_is = ap (λ (c : Control). c.current_break) end.control_is ∙ left_break control in record {
         beside = kept.beside;
         counts = kept.counts;
-        runs = subst (λ r. stands_in skip r ≡ false) (sym region_is) outside;
+        runs = subst (λ r. is_listed skip r ≡ false) (sym region_is) outside;
         nowhere = λ none. region_is;
         inside = λ found is_in.
             let here : None ≡ Some found = subst (λ r. region_numbered regions r ≡ Some found) region_is is_in in
@@ -252,7 +252,7 @@ module _ (side : NamedSide) (skip : List ℕ) (regions : List Region) (masks : M
 
   pub leave_stands : (control : Control) (labels : LabelMap) (answers : List ℕ) (real copy : Store)
       (past all : List Point) (region : Region) → kind_of regions control ≡ Leaves region →
-      region_numbered regions control.region ≡ Some region → HasRules region → stands_in skip 0 ≡ false →
+      region_numbered regions control.region ≡ Some region → HasRules region → is_listed skip 0 ≡ false →
       keep_break region real.kept real.registers ≡ None →
       Stands side skip regions setting.base control labels real copy past all →
       CoveredTurn side skip masks 0 (at_start labels) answers all

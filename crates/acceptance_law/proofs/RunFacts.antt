@@ -13,12 +13,12 @@ use Rattle.rv32im_machine.specs.Folds.{real_end}
 use Rattle.region_machine.specs.Enclosures.{Enclosures, Kind, Enters, Leaves, Steps, kind_of, is_enclosed}
 use Rattle.region_machine.specs.Guests.{guest_walk, kind_walk}
 use Rattle.region_machine.specs.Breaking.{Breaks}
-use Rattle.region_machine.specs.Runs.{Place, fresh, passed, visited, unbroken_turn, turn_unless, real_after}
+use Rattle.region_machine.specs.Runs.{Place, fresh, passed, visited, unbroken_turn, turn_unless, Real}
 use Rattle.replay_machine.specs.Runs.{Masks}
 use Rattle.lockstep_replay.specs.Crossing.{crossing_unless, crossing_unbroken, cross_after}
 use Rattle.run_labels.specs.Answers.{IsSoundAnswer, EachAnswer}
 use Rattle.run_labels.specs.Flowing.{labels_in, events_in}
-use Rattle.run_labels.specs.Looking.{first_fault, secret_look}
+use Rattle.run_labels.specs.Looking.{secret_look}
 use Rattle.run_labels.specs.Runs.{LabelledRun, unlabelled, enclosing, run_after, broken_fault, stopped_fault}
 use Rattle.run_labels.specs.Runs.{entered_number, EachRunAnswer, IsUnrefused}
 use Rattle.run_labels.specs.TurnLabels.{at_start}
@@ -31,6 +31,7 @@ use Rattle.acceptance_law.proofs.TurnsKeepRelation.{CoveredTurn}
 use Rattle.acceptance_law.proofs.StepsKeepStanding.{state_of}
 use Rattle.acceptance_law.proofs.TurnKinds.{none_enclosed}
 use Rattle.acceptance_law.proofs.PastsOfEvents.{pasts, pasts_append, events_past, contained_parts}
+use Rattle.std.specs.Option.{option_or}
 
 -- ---- what no turn changes
 
@@ -85,7 +86,7 @@ module _ (side : NamedSide) (skip : List ℕ) (regions : List Region) (masks : M
   run answers = run_after regions answers (unlabelled begun)
 
   abbrev pub real : ℕ → Place
-  real turns = real_after skipping turns begun
+  real turns = Real skipping turns begun
 
   abbrev pub control_of : List (List ℕ) → Control
   control_of answers = (run answers).place.state.control
@@ -130,7 +131,7 @@ module _ (side : NamedSide) (skip : List ℕ) (regions : List Region) (masks : M
         ++ crossing_unless (is_enclosed skipping (control_of answers)) masks (real (length answers)).past (turn answers)
 
   pub next_turn : (last : List ℕ) (answers : List (List ℕ)) → RunFacts answers → NextTurn last answers
-  unfolding run_after real_after cross_after
+  unfolding run_after Real cross_after
   next_turn last answers facts =
       let here = (run answers).place.state in
       let parts : here ≡ state_of setting secret (control_of answers) (store_of answers) =
@@ -195,7 +196,7 @@ module _ (side : NamedSide) (skip : List ℕ) (regions : List Region) (masks : M
       state_parts here setting secret facts.same_setting in
       let walk = guest_walk regions here in
       let one = first-none (secret_look (entered_number (kind_of regions here.control)) labels last walk)
-      (first_fault (broken_fault (Breaks regions here)) (stopped_fault (real_end walk).control.mode))
+      (option_or (broken_fault (Breaks regions here)) (stopped_fault (real_end walk).control.mode))
       premises.unrefused.1 in
       let two = first-none (broken_fault (Breaks regions here)) (stopped_fault (real_end walk).control.mode) one.1 in
       let closed = closed_append side (run answers).events (events_in labels last walk) premises.closed in
@@ -231,7 +232,7 @@ module _ (side : NamedSide) (skip : List ℕ) (regions : List Region) (masks : M
   }
 
   start_facts : RunFacts []
-  unfolding run_after real_after pasts
+  unfolding run_after Real pasts
   start_facts = record {
     same_state = refl;
     same_broken = refl;

@@ -18,20 +18,21 @@ use Rattle.region_machine.specs.Starts.{guest}
 use Rattle.run_labels.specs.declared.faults.MeasureFault.{MeasureFault}
 use Rattle.run_labels.specs.TurnLabels.{TurnLabels, at_start}
 use Rattle.run_labels.specs.Flowing.{events_in}
-use Rattle.run_labels.specs.Looking.{first_fault, secret_look}
+use Rattle.run_labels.specs.Looking.{secret_look}
 use Rattle.run_labels.specs.Runs.{IsUnrefused, LabelledRun, broken_fault, enclosing, entered_number, next_run}
 use Rattle.run_labels.specs.Runs.{next_walk, run_after, stopped_fault, turn_events, turn_fault, unlabelled}
 use Rattle.acceptance_law.specs.SecretBits.{SecretBitsLaw, is_from_secret, secret_bits, secret_bits_of}
 use Rattle.acceptance_law.proofs.SecretTurns.{Counted, turn_counted}
 use Rattle.acceptance_law.proofs.RowCounts.{Limits}
 use Rattle.acceptance_law.proofs.CountedRows.{counts_entry, counts_leave, counts_step}
+use Rattle.std.specs.Option.{option_or}
 
 some_none : {A : Type 0} (x : A) → Some x ≡ None → ⊥
 some_none x e = subst (λ o. elim o as (λ _. Type 0) [ None ↦ ⊥ | Some y ↦ Unit {0} ]) e tt
 
 -- a turn that does not refuse the run breaks no region
 pub unbroken : (broken : Option Break) (look stop : Option MeasureFault) →
-    first_fault look (first_fault (broken_fault broken) stop) ≡ None → broken ≡ None
+    option_or look (option_or (broken_fault broken) stop) ≡ None → broken ≡ None
 unbroken None look stop e = refl
 unbroken (Some b) None stop e = absurd (some_none _ e)
 unbroken (Some b) (Some fault) stop e = absurd (some_none _ e)

@@ -25,7 +25,7 @@ use Rattle.flow_graph.specs.declared.named_links.NamedEnd.{NamedEnd}
 use Rattle.flow_graph.specs.declared.named_links.NamedEnd.TheVariants.{Source, At, Relay, Sink}
 use Rattle.flow_graph.specs.declared.named_links.NamedLink.{NamedLink}
 use Rattle.flow_graph.specs.Graphs.{is_link, is_origin, is_target, leads_on}
-use Rattle.flow_graph.specs.EventGraphs.{is_among, bits_at, has_passed, link_cmp, links_after, named, named_end, named_links, no_point, one_if, outlet_of, IsGraphOf}
+use Rattle.flow_graph.specs.EventGraphs.{is_among, bits_at, has_passed, link_cmp, links_after, named, named_end, named_links, one_if, outlet_of, IsGraphOf}
 use Rattle.max_flow.specs.declared.answers.Half.{Half}
 use Rattle.max_flow.specs.declared.answers.Half.TheVariants.{FirstOnly, Neither}
 use Rattle.max_flow.specs.Flows.{IsSideOf, halves_from, has_first, has_second, head_of, member, network_of, relay_in, tail_of}
@@ -39,6 +39,7 @@ use Rattle.acceptance_law.specs.SecretSides.{LeastBitsLaw}
 use Rattle.acceptance_law.proofs.GraphEvents.{same-itself}
 use Rattle.acceptance_law.proofs.GraphSides.{graph_sorted, head-named, length-tails, link-itself, member-low, name-later, points_of, tail-named}
 use Rattle.acceptance_law.proofs.GraphCapacities.{name_at, side-capacity, split-more, split_at}
+use Rattle.flow_base.specs.Points.{nowhere}
 
 pub secret_alike : (p q : Point) → is_same p q ≡ true → is_secret_slot p.slot ≡ is_secret_slot q.slot
 secret_alike p q same = ap (λ (x : Point). is_secret_slot x.slot) (same-one p q same)
@@ -95,14 +96,14 @@ first_reads (node ∷ nodes) point e = elim (cases_Bool (is_same point node.poin
 
 -- and a point of the graph that reads the secret is in the side
 reads_first : (nodes : List Node) (i : ℕ) → i < length nodes →
-    is_secret_slot (get_or (points_of nodes) i no_point).slot ≡ true →
-    has_first (halves_at nodes (reading nodes) (get_or (points_of nodes) i no_point)) ≡ true
+    is_secret_slot (get_or (points_of nodes) i nowhere).slot ≡ true →
+    has_first (halves_at nodes (reading nodes) (get_or (points_of nodes) i nowhere)) ≡ true
 reads_first [] i below e = absurd (omega arith)
 reads_first (node ∷ nodes) zero below e =
     ap has_first (cond-true (is_same node.point node.point) (chosen (is_secret_slot node.point.slot))
     (halves_at nodes (reading nodes) node.point) (same-itself node.point)) ∙ ap (λ b. has_first (chosen b)) e
 reads_first (node ∷ nodes) (suc i) below e =
-    let point = get_or (points_of nodes) i no_point in
+    let point = get_or (points_of nodes) i nowhere in
     elim (cases_Bool (is_same point node.point)) [
       | inl same ↦
           ap has_first (cond-true (is_same point node.point) (chosen (is_secret_slot node.point.slot))
@@ -189,7 +190,7 @@ link_stays events graph is all link valid among inside = from link.source link.t
     to SourceEnd leads is_one e = absurd (cc)
     to (PointEnd i) leads is_one e =
         reads_first graph.points i (ltb-true i (length graph.points) is_one)
-        (source_reads [] events (get_or (points_of graph.points) i no_point) all e)
+        (source_reads [] events (get_or (points_of graph.points) i nowhere) all e)
     to (RelayEnd region) leads is_one e = absurd (cc)
     to SinkEnd leads is_one e = absurd (cc)
 
@@ -202,7 +203,7 @@ link_stays events graph is all link valid among inside = from link.source link.t
         let both = and_parts (is_target (length graph.points) graph.relays target) _ ends.1 in
         to target both.1 both.0 e
     from (PointEnd i) target v e h =
-        let no = second_none graph.points (get_or (points_of graph.points) i no_point) in absurd (cc)
+        let no = second_none graph.points (get_or (points_of graph.points) i nowhere) in absurd (cc)
     from (RelayEnd region) target v e h = let no = relay_none graph.relays region in absurd (cc)
     from SinkEnd target v e h = absurd (cc)
 
@@ -289,7 +290,7 @@ sum_one (suc n) f bound each apart =
         let z = none (omega (arith, e)) in let last = each n (omega arith) in omega (arith, z, last)
 
 names_apart : (points : List Point) (i j : ℕ) → IsStrictlySortedBy point_cmp points → i < j → j < length points →
-    point_cmp (get_or points i no_point) (get_or points j no_point) ≡ Less
+    point_cmp (get_or points i nowhere) (get_or points j nowhere) ≡ Less
 unfolding IsStrictlySortedBy
 names_apart [] i j sorted less below = absurd (omega arith)
 names_apart (p ∷ points) zero zero sorted less below = absurd (omega arith)

@@ -6,7 +6,6 @@ use Rattle.flow_base.specs.declared.points.Point.{Point}
 use Rattle.crossing_bits.specs.Askers.{feed}
 use Rattle.enclosure_regions.specs.declared.region_parts.Region.{Region}
 use Rattle.enclosure_regions.specs.Breaks.{keep_break, outside_range, range_break}
-use Rattle.enclosure_regions.specs.Regions.{stands_in}
 use Rattle.rv32im_machine.specs.declared.language.Place.{Place}
 use Rattle.rv32im_machine.specs.declared.language.Place.TheVariants.{Register, Byte, First, Second}
 use Rattle.rv32im_machine.specs.declared.stepping.Stepped.TheVariants.{Ran}
@@ -26,7 +25,7 @@ use Rattle.shadow_masks.specs.Writes.{LabelMap, after, Save}
 use Rattle.run_labels.specs.TurnLabels.{label_at, at_start}
 use Rattle.run_labels.specs.Flowing.{labels_in}
 use Rattle.acceptance_law.specs.Sides.{NamedSide}
-use Rattle.acceptance_law.specs.Proper.{AreBytes, IsGuest, place_limit}
+use Rattle.acceptance_law.specs.Proper.{AreBytes, IsProperGuest, place_limit}
 use Rattle.acceptance_law.specs.ProperLaws.{ProperTurnsLaw}
 use Rattle.acceptance_law.proofs.WritesKeepRelation.{Beside}
 use Rattle.acceptance_law.proofs.Turns.{SameCounts}
@@ -45,6 +44,7 @@ use Rattle.acceptance_law.proofs.SkipsKeepRelation.{SkippedTo, skip_kept}
 use Rattle.acceptance_law.proofs.Unchanged.{declared, SamePlace}
 use Rattle.acceptance_law.proofs.QuietInsideRegions.{SameInside, step_quiet}
 use Rattle.std.proofs.lemmas.Bool.{eqb-true}
+use Rattle.flow_base.specs.Listed.{is_listed}
 
 -- inside a skipped region: the replay stands at its entry, where the control was this
 pub record Skips (side : NamedSide) (skip : List ℕ) (regions : List Region) (base : ℕ) (control entered_by : Control)
@@ -54,7 +54,7 @@ pub record Skips (side : NamedSide) (skip : List ℕ) (regions : List Region) (b
   pub entry : Store
   pub beside : Beside side base (at_start before) entry none_held copy none_held
   pub counts : SameCounts skip past all
-  pub skipped : stands_in skip region.id ≡ true
+  pub skipped : is_listed skip region.id ≡ true
   pub numbered : region_numbered regions control.region ≡ Some region
   pub to : SkippedTo base region before entry labels real
   pub starts : SameStarts region.ranges entry.registers copy.registers
@@ -158,12 +158,12 @@ entered_to base region labels real limits tags = record {
 module _ (side : NamedSide) (skip : List ℕ) (regions : List Region) (masks : Masks) (setting : Setting)
     (secret other : List ℕ) (bytes : AreBytes secret) (others : AreBytes other)
     (public_bytes : AreBytes setting.public_input) (small_start : setting.start_break < 2 ^ 32)
-    (skips : (region : ℕ) → stands_in skip region ≡ side.relay region) (proper : ProperTurnsLaw) where
+    (skips : (region : ℕ) → is_listed skip region ≡ side.relay region) (proper : ProperTurnsLaw) where
   -- ---- the entry
 
   pub skip_enters : (control : Control) (labels : LabelMap) (answers : List ℕ) (real copy : Store)
       (past all : List Point) (region : Region) → control.mode ≡ Ran → kind_of regions control ≡ Enters region →
-      stands_in skip region.id ≡ true → region_numbered regions region.id ≡ Some region → control.region ≡ 0 →
+      is_listed skip region.id ≡ true → region_numbered regions region.id ≡ Some region → control.region ≡ 0 →
       range_break region real.registers setting.base ≡ None →
       Stands side skip regions setting.base control labels real copy past all →
       CoveredTurn side skip masks region.id (at_start labels) answers all
@@ -215,7 +215,7 @@ module _ (side : NamedSide) (skip : List ℕ) (regions : List Region) (masks : M
 
   inside_guest : (control entered_by : Control) (labels : LabelMap) (real copy : Store) (past all : List Point) →
       Skips side skip regions setting.base control entered_by labels real copy past all →
-      IsGuest (state_of setting secret control real)
+      IsProperGuest (state_of setting secret control real)
   inside_guest control entered_by labels real copy past all at = record {
     store = record {
       registers = λ r. let limit = at.to.limits (Register r) in omega (arith, limit);
@@ -265,7 +265,7 @@ module _ (side : NamedSide) (skip : List ℕ) (regions : List Region) (masks : M
       let on : has_exited control.mode ≡ false = ap (λ m. has_exited m) at.ran in
       let quiet = step_quiet region real.kept control.pc (state_of setting secret control real) on unbroken in
       let here : control.region ≡ region.id = at.quiet.region ∙ region_of_entered region.id entered_by in
-      let stands : stands_in skip control.region ≡ true = subst (λ r. stands_in skip r ≡ true) (sym here) at.skipped in
+      let stands : is_listed skip control.region ≡ true = subst (λ r. is_listed skip r ≡ true) (sym here) at.skipped in
       record {
         region = region;
         before = at.before;
@@ -303,7 +303,7 @@ module _ (side : NamedSide) (skip : List ℕ) (regions : List Region) (masks : M
 
   pub skip_leaves : (control entered_by : Control) (labels : LabelMap) (answers : List ℕ) (real copy : Store)
       (past all : List Point) (at : Skips side skip regions setting.base control entered_by labels real copy past all) →
-      control.pc ≡ at.region.leave → HasRules at.region → stands_in skip 0 ≡ false →
+      control.pc ≡ at.region.leave → HasRules at.region → is_listed skip 0 ≡ false →
       keep_break at.region real.kept real.registers ≡ None →
       CoveredTurn side skip masks 0 (at_start labels) answers all
       (walked setting secret (leave at.region real.kept control) real none_held) →

@@ -9,7 +9,6 @@ use Rattle.flow_base.specs.declared.points.Point.{Point}
 use Rattle.enclosure_regions.specs.declared.region_parts.Range.{Range}
 use Rattle.enclosure_regions.specs.declared.region_parts.Region.{Region}
 use Rattle.enclosure_regions.specs.Breaks.{has_byte, declares_byte}
-use Rattle.enclosure_regions.specs.Regions.{stands_in}
 use Rattle.enclosure_regions.specs.Turns.{start_of}
 use Rattle.rv32im_machine.specs.declared.language.Place.{Place}
 use Rattle.rv32im_machine.specs.declared.language.Place.TheVariants.{Register, Byte, First, Second}
@@ -19,11 +18,12 @@ use Rattle.rv32im_machine.specs.State.{Setting, Control, Store, moved_to, with_r
 use Rattle.rv32im_machine.specs.Language.{Turn, Ends, Moves, walked, Held, none_held, at_place, put, hold}
 use Rattle.region_machine.specs.Guests.{gives, clears_registers, clears_bytes, clears_ranges, skip}
 use Rattle.replay_machine.specs.Runs.{Masks, replayed}
-use Rattle.acceptance_law.specs.Proper.{IsPlace, place_limit}
+use Rattle.acceptance_law.specs.Proper.{IsProperPlace, place_limit}
 use Rattle.acceptance_law.proofs.WritesKeepRelation.{put_limits, put_registers, put_memory, put_kept, not_alike, apart_of}
 use Rattle.acceptance_law.proofs.Outputs.{Output, OfRegister, OfByte, output_place, IsOutput, AreOutputs, IsAmong, given}
 use Rattle.acceptance_law.proofs.RegionOutputsPass.{gives_given, outputs_of, register_outputs, byte_outputs}
 use Rattle.acceptance_law.proofs.RegionOutputsPass.{range_outputs}
+use Rattle.flow_base.specs.Listed.{is_listed}
 
 -- ---- outputs become 0
 
@@ -98,7 +98,7 @@ zeroed_replayed masks past setting secret (o ∷ os) turn store held =
 -- ---- what is cleared
 
 -- an output's place that becomes 0 is 0, and each other place as before
-zero_case : (base : ℕ) (o : Output) (store : Store) (q : Place) → IsOutput base o → IsPlace base q →
+zero_case : (base : ℕ) (o : Output) (store : Store) (q : Place) → IsOutput base o → IsProperPlace base q →
     ((output_place o ≡ q) × (at_place base (put base (output_place o) 0 store) none_held q ≡ 0))
     ⊎ (at_place base (put base (output_place o) 0 store) none_held q ≡ at_place base store none_held q)
 unfolding with_register with_byte
@@ -148,7 +148,7 @@ zero_case base (OfByte n p) store (Register q) is iq = inr refl
 zero_case base (OfByte n p) store First is iq = inr refl
 zero_case base (OfByte n p) store Second is iq = inr refl
 
-pub cleared_case : (base : ℕ) (os : List Output) (store : Store) (q : Place) → AreOutputs base os → IsPlace base q →
+pub cleared_case : (base : ℕ) (os : List Output) (store : Store) (q : Place) → AreOutputs base os → IsProperPlace base q →
     (IsAmong os q × (at_place base (cleared base os store) none_held q ≡ 0))
     ⊎ (at_place base (cleared base os store) none_held q ≡ at_place base store none_held q)
 unfolding cleared IsAmong
@@ -159,7 +159,7 @@ cleared_case base (o ∷ os) store q are iq = ⊎_elim
     (zero_case base o store q are.0 iq))
     (cleared_case base os (put base (output_place o) 0 store) q are.1 iq)
 
-cleared_stays : (base : ℕ) (os : List Output) (store : Store) (q : Place) → AreOutputs base os → IsPlace base q →
+cleared_stays : (base : ℕ) (os : List Output) (store : Store) (q : Place) → AreOutputs base os → IsProperPlace base q →
     at_place base store none_held q ≡ 0 → at_place base (cleared base os store) none_held q ≡ 0
 cleared_stays base os store q are iq e =
     ⊎_elim (λ a. a.1) (λ same. same ∙ e) (cleared_case base os store q are iq)
@@ -183,7 +183,7 @@ own_zero base (OfByte n p) store is = ⊎_elim
     ∙ get_or_past store.memory (p - base) 0 past)
     (cases_lt (p - base) (length store.memory))
 
-pub cleared_among : (base : ℕ) (os : List Output) (store : Store) (q : Place) → AreOutputs base os → IsPlace base q →
+pub cleared_among : (base : ℕ) (os : List Output) (store : Store) (q : Place) → AreOutputs base os → IsProperPlace base q →
     IsAmong os q → at_place base (cleared base os store) none_held q ≡ 0
 unfolding cleared IsAmong
 cleared_among base [] store q are iq among = absurd among
@@ -244,14 +244,14 @@ or_cases : (s t : Bool) → (s || t) ≡ true → (s ≡ true) ⊎ (t ≡ true)
 or_cases true t e = inl refl
 or_cases false t e = inr e
 
-registers_among : (registers : List ℕ) (q : ℕ) → stands_in registers q ≡ true →
+registers_among : (registers : List ℕ) (q : ℕ) → is_listed registers q ≡ true →
     IsAmong (register_outputs registers) (Register q)
 unfolding IsAmong register_outputs
 registers_among [] q e = absurd (not_alike e refl)
 registers_among (register ∷ registers) q e = ⊎_elim
     (λ here. inl (ap (λ k. Register k) (eqb-true register q here)))
     (λ later. inr (registers_among registers q later))
-    (or_cases (register == q) (stands_in registers q) e)
+    (or_cases (register == q) (is_listed registers q) e)
 
 bytes_among : (number address count q : ℕ) → address ≤ q → q < address + count →
     IsAmong (byte_outputs number address count) (Byte q)
@@ -278,7 +278,7 @@ ranges_among registers number (range ∷ ranges) q e = ⊎_elim
     (range_outputs registers (number + 1) ranges) (Byte q) (ranges_among registers (number + 1) ranges q later))
     (or_cases (has_byte (start_of registers range) range.length q) _ e)
 
-pub outs_among : (region : Region) (registers : List ℕ) (q : ℕ) → stands_in region.outs q ≡ true →
+pub outs_among : (region : Region) (registers : List ℕ) (q : ℕ) → is_listed region.outs q ≡ true →
     IsAmong (outputs_of region registers) (Register q)
 outs_among region registers q e =
     among_left (register_outputs region.outs) (range_outputs registers 0 region.ranges) (Register q)

@@ -6,7 +6,7 @@ use Rattle.std.specs.List.{list_all}
 use Rattle.flow_base.specs.declared.points.Point.{Point}
 use Rattle.enclosure_regions.specs.declared.region_parts.Region.{Region}
 use Rattle.enclosure_regions.specs.Breaks.{keep_break, declares_byte}
-use Rattle.enclosure_regions.specs.Regions.{is_register, stands_in}
+use Rattle.enclosure_regions.specs.Regions.{is_register}
 use Rattle.rv32im_machine.specs.declared.language.Place.{Place}
 use Rattle.rv32im_machine.specs.declared.language.Place.TheVariants.{Register, Byte, First, Second}
 use Rattle.rv32im_machine.specs.State.{Setting, Control, Store, entered, moved_to}
@@ -16,12 +16,11 @@ use Rattle.region_machine.specs.Within.{are_inside}
 use Rattle.replay_machine.specs.Runs.{Masks}
 use Rattle.shadow_masks.specs.declared.labels.Label.{Label}
 use Rattle.shadow_masks.specs.Labels.{clean}
-use Rattle.shadow_masks.specs.Shades.{is_listed}
 use Rattle.shadow_masks.specs.Writes.{LabelMap}
 use Rattle.run_labels.specs.TurnLabels.{TurnLabels, label_at, at_start, restore_labels}
 use Rattle.run_labels.specs.Flowing.{labels_in}
 use Rattle.acceptance_law.specs.Sides.{NamedSide}
-use Rattle.acceptance_law.specs.Proper.{IsPlace, place_limit}
+use Rattle.acceptance_law.specs.Proper.{IsProperPlace, place_limit}
 use Rattle.acceptance_law.proofs.WritesKeepRelation.{Close, close_refl, Beside}
 use Rattle.acceptance_law.proofs.Turns.{SameCounts}
 use Rattle.acceptance_law.proofs.TurnsKeepRelation.{CoveredTurn, KeptTurn}
@@ -38,6 +37,7 @@ use Rattle.crossing_bits.specs.Askers.{feed}
 use Rattle.acceptance_law.proofs.Skipping.{zeroed, cleared, skip_zeroed, zeroed_replayed, cleared_case, cleared_among}
 use Rattle.acceptance_law.proofs.Skipping.{cleared_registers, cleared_memory, cleared_kept, cleared_limits, outs_among}
 use Rattle.acceptance_law.proofs.Skipping.{range_among}
+use Rattle.flow_base.specs.Listed.{is_listed}
 
 -- the real run at the leave of a skipped region, beside what it was at the entry
 pub record SkippedTo (base : ℕ) (region : Region) (before : LabelMap) (entry : Store) (labels : LabelMap)
@@ -45,7 +45,7 @@ pub record SkippedTo (base : ℕ) (region : Region) (before : LabelMap) (entry :
     Type 0 where
   pub kept : real.kept ≡ entry.registers
   pub label_kept : labels.kept ≡ before.registers
-  pub same : (q : Place) → IsPlace base q → declared region entry.registers q ≡ false →
+  pub same : (q : Place) → IsProperPlace base q → declared region entry.registers q ≡ false →
       SamePlace base q (at_start before) entry none_held (at_start labels) real none_held
   pub registers : length real.registers ≡ length entry.registers
   pub memory : length real.memory ≡ length entry.memory
@@ -66,7 +66,7 @@ module _ (side : NamedSide) (base : ℕ) (region : Region) (relay : side.relay r
   are = outputs_are base region real.kept outs inside
 
   -- a place that the replay does not clear is as it was in both runs
-  uncleared : (q : Place) → IsPlace base q → (label : Label) (value : ℕ) →
+  uncleared : (q : Place) → IsProperPlace base q → (label : Label) (value : ℕ) →
       Close side label value (at_place base copy none_held q) →
       Waits side region.id outputs q label value (at_place base (cleared base outputs copy) none_held q)
   uncleared q iq label value close = ⊎_elim
@@ -74,11 +74,11 @@ module _ (side : NamedSide) (base : ℕ) (region : Region) (relay : side.relay r
       (λ same. inr (subst (λ v. Close side label value v) (sym same) close))
       (cleared_case base outputs copy q are iq)
 
-  waits : (q : Place) → IsPlace base q → IsAmong outputs q → (label : Label) (value : ℕ) →
+  waits : (q : Place) → IsProperPlace base q → IsAmong outputs q → (label : Label) (value : ℕ) →
       Waits side region.id outputs q label value (at_place base (cleared base outputs copy) none_held q)
   waits q iq among label value = inl (among, cleared_among base outputs copy q are iq among, relay)
 
-  undeclared : (q : Place) → IsPlace base q → declared region entry.registers q ≡ false →
+  undeclared : (q : Place) → IsProperPlace base q → declared region entry.registers q ≡ false →
       Waits side region.id outputs q (label_at (at_start labels) q) (at_place base real none_held q)
       (at_place base (cleared base outputs copy) none_held q)
   undeclared q iq none =
@@ -100,7 +100,7 @@ module _ (side : NamedSide) (base : ℕ) (region : Region) (relay : side.relay r
       (subst (λ v. Close side (before.registers q) v (slice_index copy.registers q)) value
       (beside.places (Register q) tt)))
 
-  register_waits : (q : ℕ) (t : Bool) → is_listed region.keep q ≡ t → (s : Bool) → stands_in region.outs q ≡ s →
+  register_waits : (q : ℕ) (t : Bool) → is_listed region.keep q ≡ t → (s : Bool) → is_listed region.outs q ≡ s →
       Waits side region.id outputs (Register q) (if t then labels.kept q else labels.registers q)
       (slice_index real.registers q) (slice_index (cleared base outputs copy).registers q)
   register_waits q true listed s e = kept_waits q listed
@@ -121,10 +121,10 @@ module _ (side : NamedSide) (base : ℕ) (region : Region) (relay : side.relay r
       (labels.bytes a) (slice_index real.memory (a - base))
   byte_waits a from false e = undeclared (Byte a) from e
 
-  skip_places : (place : Place) → IsPlace base place →
+  skip_places : (place : Place) → IsProperPlace base place →
       Waits side region.id outputs place (label_at (restore_labels region.keep (at_start labels)) place)
       (at_place base real none_held place) (at_place base (cleared base outputs copy) none_held place)
-  skip_places (Register q) is = register_waits q (is_listed region.keep q) refl (stands_in region.outs q) refl
+  skip_places (Register q) is = register_waits q (is_listed region.keep q) refl (is_listed region.outs q) refl
   skip_places (Byte a) is = byte_waits a is (declares_byte region entry.registers a) refl
   skip_places First is = inr (close_refl side clean 0)
   skip_places Second is = inr (close_refl side clean 0)

@@ -6,7 +6,7 @@ use Rattle.std.specs.List.{list_all}
 use Rattle.flow_base.specs.declared.points.Point.{Point}
 use Rattle.crossing_bits.specs.Askers.{feed, Fed'}
 use Rattle.enclosure_regions.specs.declared.region_parts.Region.{Region}
-use Rattle.enclosure_regions.specs.Regions.{is_register, stands_in}
+use Rattle.enclosure_regions.specs.Regions.{is_register}
 use Rattle.rv32im_machine.specs.declared.language.Place.TheVariants.{Register, Byte}
 use Rattle.rv32im_machine.specs.declared.stepping.Stepped.{Stepped}
 use Rattle.rv32im_machine.specs.declared.stepping.Stepped.TheVariants.{Ran, Exited, Stopped}
@@ -24,7 +24,7 @@ use Rattle.shadow_masks.specs.Writes.{LabelMap}
 use Rattle.run_labels.specs.TurnLabels.{at_start}
 use Rattle.run_labels.specs.Flowing.{labels_in}
 use Rattle.acceptance_law.specs.Sides.{NamedSide}
-use Rattle.acceptance_law.specs.Proper.{AreBytes, IsGuest, IsProper}
+use Rattle.acceptance_law.specs.Proper.{AreBytes, IsProperGuest, IsProper}
 use Rattle.acceptance_law.specs.ProperLaws.{ProperTurnsLaw}
 use Rattle.acceptance_law.proofs.WritesKeepRelation.{Close, Beside}
 use Rattle.acceptance_law.proofs.Turns.{SameCounts}
@@ -32,6 +32,7 @@ use Rattle.acceptance_law.proofs.TurnsKeepRelation.{CoveredTurn, turn_kept}
 use Rattle.acceptance_law.proofs.Unchanged.{real_ends}
 use Rattle.acceptance_law.proofs.Entering.{SameStarts}
 use Rattle.acceptance_law.proofs.Leaving.{KeptBeside}
+use Rattle.flow_base.specs.Listed.{is_listed}
 
 -- a state by its parts, and a place of the replay
 abbrev pub state_of : Setting → List ℕ → Control → Store → State
@@ -54,7 +55,7 @@ pub record Stands (side : NamedSide) (skip : List ℕ) (regions : List Region) (
     (labels : LabelMap) (real copy : Store) (past all : List Point) : Type 0 where
   pub beside : Beside side base (at_start labels) real none_held copy none_held
   pub counts : SameCounts skip past all
-  pub runs : stands_in skip control.region ≡ false
+  pub runs : is_listed skip control.region ≡ false
   pub nowhere : region_numbered regions control.region ≡ None → control.region ≡ 0
   pub inside : (region : Region) → region_numbered regions control.region ≡ Some region →
       InsideBeside side base region labels real copy
@@ -103,7 +104,7 @@ kept_moved side base region labels later real new copy changed el er ec h = reco
 module _ (side : NamedSide) (skip : List ℕ) (regions : List Region) (masks : Masks) (setting : Setting)
     (secret other : List ℕ) (bytes : AreBytes secret) (others : AreBytes other)
     (public_bytes : AreBytes setting.public_input) (small_start : setting.start_break < 2 ^ 32)
-    (skips : (region : ℕ) → stands_in skip region ≡ side.relay region) (proper : ProperTurnsLaw) where
+    (skips : (region : ℕ) → is_listed skip region ≡ side.relay region) (proper : ProperTurnsLaw) where
   abbrev pub At : Control → LabelMap → Store → Store → List Point → List Point → Type 0
   At control labels real copy past all = Stands side skip regions setting.base control labels real copy past all
 
@@ -112,7 +113,7 @@ module _ (side : NamedSide) (skip : List ℕ) (regions : List Region) (masks : M
       Stood side skip regions masks setting other control labels answers walk copy past all
 
   pub is_guest : (control : Control) (labels : LabelMap) (real copy : Store) (past all : List Point) →
-      At control labels real copy past all → IsGuest (state_of setting secret control real)
+      At control labels real copy past all → IsProperGuest (state_of setting secret control real)
   is_guest control labels real copy past all at = record {
     store = record {
       registers = λ r. let limit = at.beside.real_limits (Register r) in omega (arith, limit);
@@ -140,7 +141,7 @@ module _ (side : NamedSide) (skip : List ℕ) (regions : List Region) (masks : M
   still_proper control small = (small, refl)
 
   -- the turn of a step is proper, whether the guest runs or has ended
-  pub proper_turn : (control : Control) (real : Store) → IsGuest (state_of setting secret control real) →
+  pub proper_turn : (control : Control) (real : Store) → IsProperGuest (state_of setting secret control real) →
       IsProper setting.base control.region (turn_of setting control)
   proper_turn control real guest = pick control.mode
     where
@@ -149,7 +150,7 @@ module _ (side : NamedSide) (skip : List ℕ) (regions : List Region) (masks : M
       pick (Exited status) = still_proper control guest.current_break
       pick (Stopped fault) = still_proper control guest.current_break
 
-  away : (control : Control) → stands_in skip control.region ≡ false → side.relay control.region ≡ false
+  away : (control : Control) → is_listed skip control.region ≡ false → side.relay control.region ≡ false
   away control e = sym (skips control.region) ∙ e
 
   -- ---- a step
@@ -179,7 +180,7 @@ module _ (side : NamedSide) (skip : List ℕ) (regions : List Region) (masks : M
         stands = record {
           beside = kept.beside;
           counts = kept.counts;
-          runs = subst (λ r. stands_in skip r ≡ false) (sym same) at.runs;
+          runs = subst (λ r. is_listed skip r ≡ false) (sym same) at.runs;
           nowhere = λ none. same ∙ at.nowhere (subst (λ r. region_numbered regions r ≡ None) same none);
           inside = λ region is_in. kept_moved side setting.base region labels _ real _ copy _ alone.kept
               alone.ends.same_kept kept.kept

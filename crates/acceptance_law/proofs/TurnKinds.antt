@@ -4,7 +4,7 @@ use Rattle.std.specs.Prelude.{◌==◌, not, if◌then◌else◌}
 use Rattle.std.specs.List.{find, list_all}
 use Rattle.std.proofs.lemmas.Bool.{eqb-true, and_parts}
 use Rattle.enclosure_regions.specs.declared.region_parts.Region.{Region}
-use Rattle.enclosure_regions.specs.Regions.{are_regions, is_region, is_region_number, is_place, are_registers}
+use Rattle.enclosure_regions.specs.Regions.{are_regions, is_region, is_code_address, are_registers}
 use Rattle.enclosure_regions.specs.Regions.{is_register}
 use Rattle.rv32im_machine.specs.declared.stepping.Stepped.{Stepped}
 use Rattle.rv32im_machine.specs.declared.stepping.Stepped.TheVariants.{Ran, Exited, Stopped}
@@ -12,6 +12,7 @@ use Rattle.rv32im_machine.specs.State.{Control}
 use Rattle.region_machine.specs.Enclosures.{Kind, Enters, Leaves, Steps, kind_in, kind_within, kind_outside}
 use Rattle.region_machine.specs.Enclosures.{region_numbered, region_entered_at, is_enclosed_kind}
 use Rattle.acceptance_law.proofs.StepsKeepStanding.{HasRules}
+use Rattle.flow_base.specs.Points.{is_region_number}
 
 -- ---- kinds
 
@@ -127,8 +128,8 @@ found_id (first ∷ regions) number region e =
 pub rules_of : (region : Region) → is_region region ≡ true → HasRules region
 rules_of region rules =
     let one = and_parts (is_region_number region.id) _ rules in
-    let two = and_parts (is_place region.enter) _ one.1 in
-    let three = and_parts (is_place region.leave) _ two.1 in
+    let two = and_parts (is_code_address region.enter) _ one.1 in
+    let three = and_parts (is_code_address region.leave) _ two.1 in
     let four = and_parts (not (region.enter == region.leave)) _ three.1 in
     let five = and_parts (are_registers region.outs) _ four.1 in
     let six = and_parts (are_registers region.keep) _ five.1 in

@@ -14,7 +14,6 @@ use Rattle.crossing_bits.proofs.Feeding.{feed_enough}
 use Rattle.crossing_bits.proofs.Places.{length_bits_under}
 use Rattle.flow_base.proofs.PointOrders.{same-one}
 use Rattle.flow_base.specs.PointOrders.{is_same}
-use Rattle.enclosure_regions.specs.Regions.{stands_in}
 use Rattle.flow_graph.specs.declared.events.Event.{Event}
 use Rattle.flow_graph.specs.declared.events.Event.TheVariants.{Pass, Link, FromSecret, Implicit, Out}
 use Rattle.rv32im_machine.specs.declared.language.Aim.{Aim}
@@ -37,16 +36,18 @@ use Rattle.shadow_masks.specs.Pages.{label_of}
 use Rattle.run_labels.specs.TurnLabels.{TurnLabels, label_at}
 use Rattle.run_labels.specs.Masks.{byte_mask}
 use Rattle.run_labels.specs.Flowing.{link_from, source_events, byte_events, sources_events, aim_events}
-use Rattle.run_labels.specs.Looking.{first_fault, look_fault}
+use Rattle.run_labels.specs.Looking.{look_fault}
 use Rattle.run_labels.specs.declared.faults.MeasureFault.{MeasureFault}
 use Rattle.run_labels.specs.declared.faults.MeasureFault.TheVariants.{SecretCode, BaseSecret}
 use Rattle.acceptance_law.specs.Sides.{NamedSide, is_split}
 use Rattle.acceptance_law.specs.ClosedEvents.{AreClosedEvents}
-use Rattle.acceptance_law.specs.Covers.{IsWithin, AreContained, past_after}
+use Rattle.acceptance_law.specs.Covers.{IsMaskWithin, AreContained, past_after}
 use Rattle.acceptance_law.specs.RunCuts.{is_inner}
 use Rattle.acceptance_law.specs.Proper.{place_limit, IsLook}
 use Rattle.acceptance_law.proofs.AgreeOutsideMask.{agree_zero, patched_agrees, patched_covers, patched_same}
 use Rattle.acceptance_law.proofs.WritesKeepRelation.{close_equal, Beside}
+use Rattle.flow_base.specs.Listed.{is_listed}
+use Rattle.std.specs.Option.{option_or}
 
 -- ---- bits that are asked for
 
@@ -88,7 +89,7 @@ not_both : {t : Bool} → t ≡ true → t ≡ false → ⊥
 not_both p q = cc
 
 -- a point of a region that isn't skipped is none
-pub outside_never : (skip : List ℕ) (point : Point) → stands_in skip point.region ≡ false → NeverInner skip point
+pub outside_never : (skip : List ℕ) (point : Point) → is_listed skip point.region ≡ false → NeverInner skip point
 outside_never skip point out other inner = pick (is_same point other) refl
   where
     pick : (t : Bool) → is_same point other ≡ t → t ≡ false
@@ -96,8 +97,8 @@ outside_never skip point out other inner = pick (is_same point other) refl
     pick true e =
         let region : point.region ≡ other.region =
         ap (λ (p : Point). p.region) (same-one point other e) in
-        let stands : stands_in skip other.region ≡ true = (and_parts (stands_in skip other.region) _ inner).0 in
-        absurd (not_both (subst (λ r. stands_in skip r ≡ true) (sym region) stands) out)
+        let stands : is_listed skip other.region ≡ true = (and_parts (is_listed skip other.region) _ inner).0 in
+        absurd (not_both (subst (λ r. is_listed skip r ≡ true) (sym region) stands) out)
 
 -- ---- events without a passing
 
@@ -175,7 +176,7 @@ CloseAt side mask point real copy = Agree mask real copy × (side.second point �
 
 -- after the patch by a mask that holds the bits of the passing's mask where the point is split
 pub patched_close : (side : NamedSide) (point : Point) (m c r y : ℕ) → r < 2 ^ 32 → Agree m r y →
-    (side.first point ≡ false → r ≡ y) → (is_split side point ≡ true → IsWithin m c) →
+    (side.first point ≡ false → r ≡ y) → (is_split side point ≡ true → IsMaskWithin m c) →
     CloseAt side m point r (patched y c (bits_under r c))
 patched_close side point m c r y fits agree equal contained = (
   patched_agrees m c r y fits agree,
@@ -207,7 +208,7 @@ label_of_limit mask point limit h = pick (mask == 0)
 
 -- ---- looks
 
-pub first-none : (first later : Option MeasureFault) → first_fault first later ≡ None → (first ≡ None) × (later ≡ None)
+pub first-none : (first later : Option MeasureFault) → option_or first later ≡ None → (first ≡ None) × (later ≡ None)
 first-none None later e = (refl, e)
 first-none (Some fault) later e = absurd (cc)
 

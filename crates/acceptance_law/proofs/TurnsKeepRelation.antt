@@ -6,7 +6,6 @@ use Rattle.flow_base.specs.declared.points.Point.{Point}
 use Rattle.flow_base.specs.Points.{width_of}
 use Rattle.flow_base.specs.Words.{Agree, bits_under, patched}
 use Rattle.crossing_bits.specs.Askers.{feed, Fed'}
-use Rattle.enclosure_regions.specs.Regions.{stands_in}
 use Rattle.flow_graph.specs.declared.events.Event.{Event}
 use Rattle.flow_graph.specs.declared.events.Event.TheVariants.{Pass, Implicit}
 use Rattle.flow_graph.specs.declared.named_links.NamedEnd.TheVariants.{At as AtEnd, Relay, Sink}
@@ -32,12 +31,12 @@ use Rattle.run_labels.specs.TurnLabels.{TurnLabels, label_at, put_label, at_star
 use Rattle.run_labels.specs.Masks.{masks_of, work_mask, labels_after, answers_after, moved_label}
 use Rattle.run_labels.specs.Flowing.{sources_events, aim_events, labels_in, events_in}
 use Rattle.run_labels.specs.Looking.{secret_look}
-use Rattle.run_labels.specs.Answers.{IsSoundAnswer, Holds, EachAnswer}
+use Rattle.run_labels.specs.Answers.{IsSoundAnswer, HoldsOfAnswer, EachAnswer}
 use Rattle.acceptance_law.specs.Sides.{NamedSide, is_split}
 use Rattle.acceptance_law.specs.ClosedEvents.{AreClosedEvents, Stays, ends_in}
-use Rattle.acceptance_law.specs.Covers.{IsWithin, IsContained, AreContained}
+use Rattle.acceptance_law.specs.Covers.{IsMaskWithin, IsContained, AreContained}
 use Rattle.acceptance_law.specs.RunCuts.{is_inner}
-use Rattle.acceptance_law.specs.Proper.{AreBytes, place_limit, IsPassing, IsPut, IsMove, IsProper}
+use Rattle.acceptance_law.specs.Proper.{AreBytes, place_limit, IsPassing, FitsPlace, IsMove, IsProper}
 use Rattle.acceptance_law.proofs.WritesKeepRelation.{Close, close_refl, close_label_of, Beside, put_beside, put_kept}
 use Rattle.acceptance_law.proofs.WritesKeepRelation.{fresh_beside}
 use Rattle.acceptance_law.proofs.ShapesAgree.{AgreeAll, BytesBelow, shaped_agree}
@@ -46,6 +45,7 @@ use Rattle.acceptance_law.proofs.Passings.{closed_append}
 use Rattle.acceptance_law.proofs.Turns.{none_if, feed_bits, SameCounts, counts_step, mask_same, outside_never, NoPasses}
 use Rattle.acceptance_law.proofs.Turns.{none_append, none_sources, none_aim, contained_after, CloseAt, patched_close}
 use Rattle.acceptance_law.proofs.Turns.{closed_if, label_of_limit, first-none, look_equal, seen_word}
+use Rattle.flow_base.specs.Listed.{is_listed}
 
 -- what may move into a place and what it is made of
 pub copied_close : (side : NamedSide) (shape : Shape) (label : Label) (real copy : ℕ) → Close side label real copy →
@@ -83,7 +83,7 @@ pub record KeptTurn (side : NamedSide) (skip : List ℕ) (masks : Masks) (settin
 
 module _ (side : NamedSide) (skip : List ℕ) (masks : Masks) (setting : Setting) (secret other : List ℕ)
     (bytes : AreBytes secret) (others : AreBytes other) (number region : ℕ) (away : side.relay region ≡ false)
-    (run : stands_in skip region ≡ false) where
+    (run : is_listed skip region ≡ false) where
   abbrev pub Covered : TurnLabels → List ℕ → List Point → Walk → Type 0
   Covered labels answers past walk = CoveredTurn side skip masks number labels answers past walk
 
@@ -116,7 +116,7 @@ module _ (side : NamedSide) (skip : List ℕ) (masks : Masks) (setting : Setting
       (past all : List Point) (beside : Beside side setting.base labels real held copy taken)
       (counts : SameCounts skip past all) (point : Point) (making : Making) (sources : Sources)
       (is : IsPassing setting.base region point making sources)
-      (sound : Holds IsSoundAnswer (work_of making (values_of setting secret real held sources))
+      (sound : HoldsOfAnswer IsSoundAnswer (work_of making (values_of setting secret real held sources))
       (masks_of labels sources) (first_of answers)) where
     abbrev pub real_value : ℕ
     real_value = made making (values_of setting secret real held sources)
@@ -167,11 +167,11 @@ module _ (side : NamedSide) (skip : List ℕ) (masks : Masks) (setting : Setting
           (sources_equal side setting secret other bytes others labels real held copy taken beside point outside sources
           is.named (closed_append side (sources_events labels point sources) es h).0))
 
-      within : is_split side point ≡ true → IsWithin passing_mask cut_mask
+      within : is_split side point ≡ true → IsMaskWithin passing_mask cut_mask
       within split =
-          subst (λ c. IsWithin passing_mask c)
+          subst (λ c. IsMaskWithin passing_mask c)
           (sym (mask_same skip masks point past all counts
-          (outside_never skip point (subst (λ r. stands_in skip r ≡ false) (sym is.inside) run))))
+          (outside_never skip point (subst (λ r. is_listed skip r ≡ false) (sym is.inside) run))))
           (contained split (inner_of point is.inside))
 
       -- the law of one passing
@@ -190,7 +190,7 @@ module _ (side : NamedSide) (skip : List ℕ) (masks : Masks) (setting : Setting
         (closed_append side (sources_events labels point sources) (Implicit point point.region ∷ []) h).1.0))
 
     -- the value that has gone on stands beside the real one
-    pub put_passed : (place : Place) → IsPut setting.base point place →
+    pub put_passed : (place : Place) → FitsPlace setting.base point place →
         AreClosedEvents side (if passing_mask == 0 then [] else (sources_events labels point sources ++ [])) →
         IsContained side skip masks all (Pass point passing_mask) →
         Beside side setting.base (put_label place (label_of passing_mask point) labels)

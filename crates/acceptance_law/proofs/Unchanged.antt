@@ -23,11 +23,10 @@ use Rattle.rv32im_machine.specs.Language.{work_of, shaped, first_of, seen_value}
 use Rattle.rv32im_machine.specs.Folds.{real_end}
 use Rattle.flow_base.specs.declared.points.Point.{Point}
 use Rattle.flow_base.specs.Points.{is_output_slot}
-use Rattle.enclosure_regions.specs.Regions.{stands_in}
 use Rattle.region_machine.specs.Runs.{passed}
 use Rattle.replay_machine.specs.Runs.{times_passed}
 use Rattle.acceptance_law.specs.RunCuts.{is_inner}
-use Rattle.region_machine.specs.Breaking.{place_break, first_break, walk_break}
+use Rattle.region_machine.specs.Breaking.{place_break, walk_break}
 use Rattle.shadow_masks.specs.declared.labels.Label.{Label}
 use Rattle.shadow_masks.specs.Writes.{LabelMap}
 use Rattle.run_labels.specs.TurnLabels.{TurnLabels, label_at, put_label, at_start}
@@ -35,11 +34,13 @@ use Rattle.run_labels.specs.Answers.{IsSoundAnswer, EachAnswer}
 use Rattle.run_labels.specs.Masks.{masks_of, work_mask, answers_after, moved_label}
 use Rattle.shadow_masks.specs.Pages.{label_of}
 use Rattle.run_labels.specs.Flowing.{labels_in}
-use Rattle.acceptance_law.specs.Proper.{AreBytes, IsPlace, place_limit, IsProper, IsMove}
+use Rattle.acceptance_law.specs.Proper.{AreBytes, IsProperPlace, place_limit, IsProper, IsMove}
 use Rattle.acceptance_law.proofs.WritesKeepRelation.{put_limits, put_label_limits, put_registers, put_memory, put_kept}
 use Rattle.acceptance_law.proofs.WritesKeepRelation.{put_label_kept, not_alike, apart_of}
 use Rattle.acceptance_law.proofs.Passings.{slot_word, made_fits, mask_fits}
 use Rattle.acceptance_law.proofs.Turns.{NeverInner, inner_step, seen_word, label_of_limit}
+use Rattle.flow_base.specs.Listed.{is_listed}
+use Rattle.std.specs.Option.{option_or}
 
 -- ---- ends
 
@@ -53,7 +54,7 @@ pub record EndsProper (setting : Setting) (secret : List ℕ) (region : ℕ) (ke
 
 abbrev pub declared : Region → List ℕ → Place → Bool
 declared region registers (Register register) =
-    stands_in region.outs register || stands_in region.keep register
+    is_listed region.outs register || is_listed region.keep register
 declared region registers (Byte address) = declares_byte region registers address
 declared region registers First = true
 declared region registers Second = true
@@ -99,14 +100,14 @@ SamePlace base q labels store held later changed taken =
     (at_place base changed taken q ≡ at_place base store held q) × (label_at later q ≡ label_at labels q)
 
 pub put_other : (base : ℕ) (region : Region) (registers : List ℕ) (p q : Place) (label : Label) (value : ℕ)
-    (labels : TurnLabels) (store : Store) (held : Held) → IsPlace base p → IsPlace base q →
+    (labels : TurnLabels) (store : Store) (held : Held) → IsProperPlace base p → IsProperPlace base q →
     MayWrite region registers p → declared region registers q ≡ false →
     SamePlace base q labels store held (put_label p label labels) (put base p value store) (hold p value held)
 unfolding with_register with_byte
 put_other base region registers (Register r) (Register q) label value labels store held ip iq dp dq =
     register_other label (labels.map.registers q) store.registers r value q
     (⊎_elim (λ none. inl none) (λ on. inr (λ same.
-    not_alike on (subst (λ k. (stands_in region.outs k || stands_in region.keep k) ≡ false) same dq))) dp)
+    not_alike on (subst (λ k. (is_listed region.outs k || is_listed region.keep k) ≡ false) same dq))) dp)
 put_other base region registers (Register r) (Byte q) label value labels store held ip iq dp dq = (refl, refl)
 put_other base region registers (Byte p) (Register q) label value labels store held ip iq dp dq = (refl, refl)
 put_other base region registers (Byte p) (Byte q) label value labels store held ip iq dp dq =
@@ -122,7 +123,7 @@ put_other base region registers p Second label value labels store held ip iq dp 
 
 -- ---- breaks
 
-pub first-unbroken : (first later : Option Break) → first_break first later ≡ None → (first ≡ None) × (later ≡ None)
+pub first-unbroken : (first later : Option Break) → option_or first later ≡ None → (first ≡ None) × (later ≡ None)
 first-unbroken None later e = (refl, e)
 first-unbroken (Some broken) later e = absurd (cc)
 
@@ -135,8 +136,8 @@ pub may_write : (region : Region) (registers : List ℕ) (pc : ℕ) (p : Place) 
 may_write region registers pc (Register r) e =
     pick (r == 0) refl (declared_if (declares_register region r) (UndeclaredWrite region.id pc (Reg r)) e)
   where
-    pick : (t : Bool) → (r == 0) ≡ t → (t || (stands_in region.outs r || stands_in region.keep r)) ≡ true →
-        (r ≡ 0) ⊎ ((stands_in region.outs r || stands_in region.keep r) ≡ true)
+    pick : (t : Bool) → (r == 0) ≡ t → (t || (is_listed region.outs r || is_listed region.keep r)) ≡ true →
+        (r ≡ 0) ⊎ ((is_listed region.outs r || is_listed region.keep r) ≡ true)
     pick true zeroth on = inl (eqb-true r 0 zeroth)
     pick false away on = inr on
 may_write region registers pc (Byte a) e =
@@ -157,21 +158,21 @@ pub record RealEnds (setting : Setting) (secret : List ℕ) (number : ℕ) (labe
   pub memory : length (real_end walk).store.memory ≡ length store.memory
   pub kept : (labels_in labels answers walk).kept ≡ labels.map.kept
   pub same : (region : Region) (registers : List ℕ) (pc : ℕ) → walk_break region registers pc walk ≡ None →
-      (q : Place) → IsPlace setting.base q → declared region registers q ≡ false →
+      (q : Place) → IsProperPlace setting.base q → declared region registers q ≡ false →
       SamePlace setting.base q labels store held (at_start (labels_in labels answers walk)) (real_end walk).store
       none_held
   -- inside a skipped region it counts for no other point
-  pub inner : (skip : List ℕ) → stands_in skip number ≡ true → (past : List Point) (point : Point) →
+  pub inner : (skip : List ℕ) → is_listed skip number ≡ true → (past : List Point) (point : Point) →
       NeverInner skip point → times_passed point (passed past walk) ≡ times_passed point past
 
 module _ (setting : Setting) (secret : List ℕ) (bytes : AreBytes secret) (number : ℕ) where
   -- what holds at the end of the rest of the turn holds at the end of the turn, where a place is written first
   put_ends : (p : Place) (label : Label) (value : ℕ) (labels : TurnLabels) (answers later : List ℕ) (store : Store)
-      (held : Held) (walk whole : Walk) → IsPlace setting.base p → real_end whole ≡ real_end walk →
+      (held : Held) (walk whole : Walk) → IsProperPlace setting.base p → real_end whole ≡ real_end walk →
       labels_in labels answers whole ≡ labels_in (put_label p label labels) later walk →
       ((region : Region) (registers : List ℕ) (pc : ℕ) → walk_break region registers pc whole
-      ≡ first_break (place_break region registers pc p) (walk_break region registers pc walk)) →
-      ((skip : List ℕ) → stands_in skip number ≡ true → (past : List Point) (point : Point) →
+      ≡ option_or (place_break region registers pc p) (walk_break region registers pc walk)) →
+      ((skip : List ℕ) → is_listed skip number ≡ true → (past : List Point) (point : Point) →
       NeverInner skip point → times_passed point (passed past whole) ≡ times_passed point past) →
       RealEnds setting secret number (put_label p label labels) later (put setting.base p value store)
       (hold p value held) walk → RealEnds setting secret number labels answers store held whole
@@ -221,7 +222,7 @@ module _ (setting : Setting) (secret : List ℕ) (bytes : AreBytes secret) (numb
   start_label_limits labels limits Second = omega arith
 
   inner_is : (skip : List ℕ) (point : Point) → point.region ≡ number → is_output_slot point.slot ≡ false →
-      stands_in skip number ≡ true → is_inner skip point ≡ true
+      is_listed skip number ≡ true → is_inner skip point ≡ true
   inner_is skip point inside none stands = rw (inside, stands, none) refl
 
   pub move_limit : (place : Place) (shape : Shape) (source : Source) (store : Store) (held : Held) →
@@ -240,7 +241,7 @@ module _ (setting : Setting) (secret : List ℕ) (bytes : AreBytes secret) (numb
   move_label_limit place shape (Secret index) labels limits is = absurd is
 
   pub move_place : (place : Place) (shape : Shape) (source : Source) → IsMove setting.base place shape source →
-      IsPlace setting.base place
+      IsProperPlace setting.base place
   move_place place shape (At from) is = is.0
   move_place place shape (Constant value) is = is.0
   move_place place shape (Secret index) is = absurd is

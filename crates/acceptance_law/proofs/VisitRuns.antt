@@ -10,11 +10,11 @@ use Rattle.std.proofs.lemmas.List.Folds.{list_all-append}
 use Rattle.flow_base.specs.declared.points.Point.{Point}
 use Rattle.flow_base.specs.declared.points.Slot.{Slot}
 use Rattle.flow_base.specs.declared.points.Slot.TheVariants as slot
-use Rattle.flow_base.specs.Points.{width_of, is_output_slot}
+use Rattle.flow_base.specs.Points.{width_of, is_output_slot, is_region_number}
 use Rattle.flow_base.specs.Words.{bit_count}
 use Rattle.enclosure_regions.specs.declared.region_parts.Region.{Region}
-use Rattle.enclosure_regions.specs.Regions.{are_apart, are_ranges, are_registers, are_regions, is_place, is_range}
-use Rattle.enclosure_regions.specs.Regions.{is_region, is_region_number}
+use Rattle.enclosure_regions.specs.Regions.{are_apart, are_ranges, are_registers, are_regions, is_code_address, is_range}
+use Rattle.enclosure_regions.specs.Regions.{is_region}
 use Rattle.elf32_loader.specs.Pictures.{Picture}
 use Rattle.flow_graph.specs.declared.events.Event.{Event}
 use Rattle.flow_graph.specs.declared.events.Event.TheVariants.{Pass, Link, FromSecret, Implicit, Out}
@@ -137,8 +137,8 @@ visits_output point (event ∷ events) e whole =
 ranges_known : (region : Region) → is_region region ≡ true → length region.ranges ≤ 64
 ranges_known region rules =
     let one = and_parts (is_region_number region.id) _ rules in
-    let two = and_parts (is_place region.enter) _ one.1 in
-    let three = and_parts (is_place region.leave) _ two.1 in
+    let two = and_parts (is_code_address region.enter) _ one.1 in
+    let three = and_parts (is_code_address region.leave) _ two.1 in
     let four = and_parts (not (region.enter == region.leave)) _ three.1 in
     let five = and_parts (are_registers region.outs) _ four.1 in
     let six = and_parts (are_registers region.keep) _ five.1 in

@@ -15,7 +15,7 @@ use Rattle.shadow_masks.specs.Labels.{clean}
 use Rattle.shadow_masks.specs.Pages.{label_of}
 use Rattle.run_labels.specs.TurnLabels.{TurnLabels, label_at, put_label, at_start}
 use Rattle.acceptance_law.specs.Sides.{NamedSide}
-use Rattle.acceptance_law.specs.Proper.{IsPlace, place_limit}
+use Rattle.acceptance_law.specs.Proper.{IsProperPlace, place_limit}
 use Rattle.acceptance_law.proofs.AgreeOutsideMask.{agree_refl, agree_zero}
 
 -- two values agree outside a label's mask, and are equal where the second half of its point is outside the side
@@ -45,7 +45,7 @@ close_label_of side mask point real copy agree equal = pick (mask == 0) refl
 -- the two sides of a turn: the real values with their labels, and the replay's values
 pub record Beside (side : NamedSide) (base : ℕ) (labels : TurnLabels) (real : Store) (held : Held) (copy : Store)
     (taken : Held) : Type 0 where
-  pub places : (place : Place) → IsPlace base place →
+  pub places : (place : Place) → IsProperPlace base place →
       Close side (label_at labels place) (at_place base real held place) (at_place base copy taken place)
   pub registers : length real.registers ≡ length copy.registers
   pub memory : length real.memory ≡ length copy.memory
@@ -134,9 +134,9 @@ register_close side label labels xs ys r a b q same new close = pick (r == 0) re
         (λ is. eqb-true q r (and_parts (nat_lt 0 q) (q == r) is).1) (λ is. other e is) same new close
 
 pub put_close : (side : NamedSide) (base : ℕ) (p : Place) (label : Label) (a b : ℕ) (labels : TurnLabels)
-    (real : Store) (held : Held) (copy : Store) (taken : Held) → IsPlace base p → Close side label a b →
+    (real : Store) (held : Held) (copy : Store) (taken : Held) → IsProperPlace base p → Close side label a b →
     length real.registers ≡ length copy.registers → length real.memory ≡ length copy.memory →
-    (q : Place) → IsPlace base q →
+    (q : Place) → IsProperPlace base q →
     Close side (label_at labels q) (at_place base real held q) (at_place base copy taken q) →
     Close side (label_at (put_label p label labels) q) (at_place base (put base p a real) (hold p a held) q)
     (at_place base (put base p b copy) (hold p b taken) q)
@@ -265,7 +265,7 @@ put_label_kept Second label labels = refl
 -- ---- the relation
 
 pub put_beside : (side : NamedSide) (base : ℕ) (p : Place) (label : Label) (a b : ℕ) (labels : TurnLabels)
-    (real : Store) (held : Held) (copy : Store) (taken : Held) → IsPlace base p → Close side label a b →
+    (real : Store) (held : Held) (copy : Store) (taken : Held) → IsProperPlace base p → Close side label a b →
     a ≤ place_limit p → b ≤ place_limit p → label.mask ≤ place_limit p →
     Beside side base labels real held copy taken →
     Beside side base (put_label p label labels) (put base p a real) (hold p a held) (put base p b copy) (hold p b taken)
@@ -292,7 +292,7 @@ fresh_beside side base labels real held copy taken old = record {
   label_limits = label_limits;
 }
   where
-    places : (q : Place) → IsPlace base q →
+    places : (q : Place) → IsProperPlace base q →
         Close side (label_at (at_start labels.map) q) (at_place base real none_held q) (at_place base copy none_held q)
     places (Register q) iq = old.places (Register q) iq
     places (Byte q) iq = old.places (Byte q) iq

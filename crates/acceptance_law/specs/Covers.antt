@@ -5,7 +5,6 @@ use Rattle.std.specs.Int.{bit_at}
 use Rattle.flow_base.specs.declared.points.Point.{Point}
 use Rattle.cut_file.specs.Cuts.{CutPicture}
 use Rattle.cut_file.specs.Masks.{MaskAt}
-use Rattle.enclosure_regions.specs.Regions.{stands_in}
 use Rattle.flow_graph.specs.declared.events.Event.{Event}
 use Rattle.flow_graph.specs.declared.events.Event.TheVariants.{Pass, Link, FromSecret, Implicit, Out}
 use Rattle.flow_graph.specs.EventGraphs.{named_links}
@@ -13,16 +12,17 @@ use Rattle.replay_machine.specs.Runs.{Masks, mask_at}
 use Rattle.acceptance_law.specs.Sides.{NamedSide, is_split}
 use Rattle.acceptance_law.specs.ClosedEvents.{IsClosedFor}
 use Rattle.acceptance_law.specs.RunCuts.{is_inner}
+use Rattle.flow_base.specs.Listed.{is_listed}
 
 -- every bit of the first mask is one of the second
-abbrev pub IsWithin : ℕ → ℕ → Type 0
-IsWithin mask other = (i : ℕ) → bit_at other i ≡ 0 → bit_at mask i ≡ 0
+abbrev pub IsMaskWithin : ℕ → ℕ → Type 0
+IsMaskWithin mask other = (i : ℕ) → bit_at other i ≡ 0 → bit_at mask i ≡ 0
 
 -- at a visit of a split point that is no inner one, after these points, the latest first, the masks have the bits of
 -- the mask that passes
 abbrev pub IsContained : NamedSide → List ℕ → Masks → List Point → Event → Type 0
 IsContained side skip masks past (Pass point mask) =
-    is_split side point ≡ true → is_inner skip point ≡ false → IsWithin mask (mask_at masks past point)
+    is_split side point ≡ true → is_inner skip point ≡ false → IsMaskWithin mask (mask_at masks past point)
 IsContained side skip masks past (Link source target) = Unit {0}
 IsContained side skip masks past (FromSecret point) = Unit {0}
 IsContained side skip masks past (Implicit point region) = Unit {0}
@@ -46,5 +46,5 @@ pub record Covers (side : NamedSide) (events : List Event) (cut : CutPicture) : 
   pub closed : IsClosedFor side (named_links events)
   -- outside regions, where the number is 0, nothing is skipped
   pub outside : side.relay 0 ≡ false
-  pub skips : (region : ℕ) → stands_in cut.skip region ≡ side.relay region
+  pub skips : (region : ℕ) → is_listed cut.skip region ≡ side.relay region
   pub contains : AreContained side cut.skip (MaskAt cut.points) [] events

@@ -13,7 +13,7 @@ use Rattle.max_flow.specs.declared.answers.Half.{Half}
 use Rattle.max_flow.specs.Flows.{IsSideOf, side_capacity}
 use Rattle.region_machine.specs.Starts.{guest}
 use Rattle.run_labels.specs.Runs.{unlabelled, run_after}
-use Rattle.acceptance_law.specs.Laws.{IsMeasured}
+use Rattle.acceptance_law.specs.Laws.{IsMeasuredRun}
 use Rattle.acceptance_law.specs.RunCuts.{IsCutOf}
 use Rattle.acceptance_law.specs.Sides.{named_side}
 
@@ -23,7 +23,7 @@ CrossingLaw =
     (program : Picture) (public_input : List ℕ) (regions : List Region) (secret : List ℕ) (cut : CutPicture)
     (graph : Graph) (halves : List Half) (relays : List Bool) (answers : List (List ℕ))
     (secret_len capacity turns : ℕ) (output : Output) → are_regions regions ≡ true →
-    IsMeasured regions answers (guest program public_input secret) output → length answers ≤ turns →
+    IsMeasuredRun regions answers (guest program public_input secret) output → length answers ≤ turns →
     IsGraphOf (run_after regions answers (unlabelled (guest program public_input secret))).events graph →
     IsSideOf graph halves relays →
     IsCutOf secret_len (run_after regions answers (unlabelled (guest program public_input secret))).events

@@ -1,6 +1,6 @@
 -- The law that a measured run is accepted with the fold of its cut.
 use Rattle.std.specs.Prelude.{◌≡◌, ℕ, ◌≤◌, Bool, true, List, length}
-use Rattle.cut_file.specs.Cuts.{CutPicture, is_valid as is_valid_cut}
+use Rattle.cut_file.specs.Cuts.{CutPicture, is_cut_picture}
 use Rattle.cut_file.specs.Folds.{IsFold}
 use Rattle.elf32_loader.specs.Pictures.{Picture}
 use Rattle.enclosure_regions.specs.declared.region_parts.Region.{Region}
@@ -27,6 +27,6 @@ FoldedLaw =
     IsSideOf graph halves relays →
     IsCutOf (length secret) (labelled_run program public_input regions secret answers).events
     (named_side graph halves relays) (side_capacity graph halves relays) cut →
-    is_valid_cut cut ≡ true → IsFold cut folded →
+    is_cut_picture cut ≡ true → IsFold cut folded →
     Accept (task_of program public_input regions folded)
     (record { budget = side_capacity graph halves relays; turns = turns }) secret output

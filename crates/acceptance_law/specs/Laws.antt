@@ -14,11 +14,11 @@ use Rattle.run_labels.specs.Runs.{unlabelled, run_after, EachRunAnswer, IsUnrefu
 use Rattle.std.specs.Prelude.{true}
 use Rattle.acceptance_law.specs.Sides.{NamedSide}
 use Rattle.acceptance_law.specs.Covers.{Covers}
-use Rattle.acceptance_law.specs.Proper.{IsGuest}
+use Rattle.acceptance_law.specs.Proper.{IsProperGuest}
 
 -- a run that no turn refuses, by sound answers, and that has exited with this output
-pub record IsMeasured (regions : List Region) (answers : List (List ℕ)) (start : Place) (output : Output) : Type 0 where
-  pub guest : IsGuest start.state
+pub record IsMeasuredRun (regions : List Region) (answers : List (List ℕ)) (start : Place) (output : Output) : Type 0 where
+  pub guest : IsProperGuest start.state
   pub sound : EachRunAnswer IsSoundAnswer regions answers (unlabelled start)
   pub unrefused : IsUnrefused regions answers (unlabelled start)
   pub exits : HasExited (run_after regions answers (unlabelled start)).place.state output
@@ -30,7 +30,7 @@ CoveredLaw =
     (program : Picture) (public_input : List ℕ) (regions : List Region) (secret : List ℕ) (cut : CutPicture)
     (side : NamedSide) (answers : List (List ℕ)) (budget turns : ℕ) (output : Output) →
     are_regions regions ≡ true →
-    IsMeasured regions answers (guest program public_input secret) output → length answers ≤ turns →
+    IsMeasuredRun regions answers (guest program public_input secret) output → length answers ≤ turns →
     length secret ≡ cut.secret_len →
     Covers side (run_after regions answers (unlabelled (guest program public_input secret))).events cut →
     length (Cross (task_of program public_input regions cut) secret turns) ≤ budget →

@@ -1,7 +1,7 @@
 -- The law that a measured run is accepted.
 use Rattle.std.specs.Prelude.{◌≡◌, ℕ, ◌≤◌, Bool, true, List, length}
-use Rattle.cut_file.specs.Cuts.{CutPicture, is_valid as is_valid_cut}
-use Rattle.elf32_loader.specs.Pictures.{Picture, is_valid}
+use Rattle.cut_file.specs.Cuts.{CutPicture, is_cut_picture}
+use Rattle.elf32_loader.specs.Pictures.{Picture, is_image_picture}
 use Rattle.enclosure_regions.specs.declared.region_parts.Region.{Region}
 use Rattle.enclosure_regions.specs.Regions.{are_regions}
 use Rattle.flow_base.specs.declared.outputs.Output.{Output}
@@ -27,7 +27,7 @@ labelled_run program public_input regions secret answers =
 -- a program with its public input and its regions, and a secret, as files have them
 pub record AreInputs (program : Picture) (public_input : List ℕ) (regions : List Region) (secret : List ℕ) :
     Type 0 where
-  pub program_valid : is_valid program ≡ true
+  pub program_valid : is_image_picture program ≡ true
   pub program_bytes : HasBytes program.segments
   pub public_bytes : AreBytes public_input
   pub regions_valid : are_regions regions ≡ true
@@ -52,6 +52,6 @@ MeasuredLaw =
     IsSideOf graph halves relays →
     IsCutOf (length secret) (labelled_run program public_input regions secret answers).events
     (named_side graph halves relays) (side_capacity graph halves relays) cut →
-    is_valid_cut cut ≡ true →
+    is_cut_picture cut ≡ true →
     Accept (task_of program public_input regions cut)
     (record { budget = side_capacity graph halves relays; turns = turns }) secret output

@@ -21,20 +21,20 @@ use Rattle.rv32im_machine.specs.Language.{Shaped, Computed, shaped, computed}
 
 -- ---- values and states
 
-abbrev pub AreWords : List ℕ → Type 0
-AreWords values = (index : ℕ) → slice_index values index < 2 ^ 32
+abbrev pub AreAllWords : List ℕ → Type 0
+AreAllWords values = (index : ℕ) → slice_index values index < 2 ^ 32
 
 abbrev pub AreBytes : List ℕ → Type 0
 AreBytes values = (index : ℕ) → slice_index values index < 256
 
 -- the values of a guest
 pub record IsGuestStore (store : Store) : Type 0 where
-  pub registers : AreWords store.registers
-  pub kept : AreWords store.kept
+  pub registers : AreAllWords store.registers
+  pub kept : AreAllWords store.kept
   pub memory : AreBytes store.memory
 
 -- a guest: its values, the bytes of its inputs, and its break
-pub record IsGuest (state : State) : Type 0 where
+pub record IsProperGuest (state : State) : Type 0 where
   pub store : IsGuestStore state.store
   pub secret : AreBytes state.secret
   pub public_input : AreBytes state.setting.public_input
@@ -44,23 +44,23 @@ pub record IsGuest (state : State) : Type 0 where
 -- ---- sources
 
 -- a byte that is named does not lie below guest memory
-abbrev pub IsPlace : ℕ → Place → Type 0
-IsPlace base (Register register) = Unit {0}
-IsPlace base (Byte address) = base ≤ address
-IsPlace base First = Unit {0}
-IsPlace base Second = Unit {0}
+abbrev pub IsProperPlace : ℕ → Place → Type 0
+IsProperPlace base (Register register) = Unit {0}
+IsProperPlace base (Byte address) = base ≤ address
+IsProperPlace base First = Unit {0}
+IsProperPlace base Second = Unit {0}
 
-abbrev pub IsSource : ℕ → Source → Type 0
-IsSource base (At place) = IsPlace base place
-IsSource base (Constant value) = value < 2 ^ 32
-IsSource base (Secret index) = Unit {0}
+abbrev pub IsProperSource : ℕ → Source → Type 0
+IsProperSource base (At place) = IsProperPlace base place
+IsProperSource base (Constant value) = value < 2 ^ 32
+IsProperSource base (Secret index) = Unit {0}
 
-abbrev pub AreSources : ℕ → Sources → Type 0
-AreSources base (One source) = IsSource base source
-AreSources base (Two first second) = IsSource base first × IsSource base second
-AreSources base (BytesOne address) = base ≤ address
-AreSources base (BytesTwo address) = base ≤ address
-AreSources base (BytesFour address) = base ≤ address
+abbrev pub AreProperSources : ℕ → Sources → Type 0
+AreProperSources base (One source) = IsProperSource base source
+AreProperSources base (Two first second) = IsProperSource base first × IsProperSource base second
+AreProperSources base (BytesOne address) = base ≤ address
+AreProperSources base (BytesTwo address) = base ≤ address
+AreProperSources base (BytesFour address) = base ≤ address
 
 -- the greatest value that a place may have, and a source
 abbrev pub place_limit : Place → ℕ
@@ -113,20 +113,20 @@ FitsSlot point (Computed operation) sources =
 pub record IsPassing (base region : ℕ) (point : Point) (making : Making) (sources : Sources) : Type 0 where
   pub inside : point.region ≡ region
   pub no_output : is_output_slot point.slot ≡ false
-  pub named : AreSources base sources
+  pub named : AreProperSources base sources
   pub fits : FitsSlot point making sources
 
 -- what passes is put into a place whose values fit the slot's width too
-abbrev pub IsPut : ℕ → Point → Place → Type 0
-IsPut base point place = IsPlace base place × (width_of point.slot ≤ place_limit place)
+abbrev pub FitsPlace : ℕ → Point → Place → Type 0
+FitsPlace base point place = IsProperPlace base place × (width_of point.slot ≤ place_limit place)
 
 -- what is moved is a part of a word, or a number of the program
 abbrev pub IsMove : ℕ → Place → Shape → Source → Type 0
 IsMove base place shape (At source) =
-    IsPlace base place × IsPlace base source
+    IsProperPlace base place × IsProperPlace base source
     × ((value : ℕ) → value ≤ place_limit source → shaped shape (value ∷ []) ≤ place_limit place)
 IsMove base place shape (Constant value) =
-    IsPlace base place × (shaped shape (value ∷ []) ≤ place_limit place)
+    IsProperPlace base place × (shaped shape (value ∷ []) ≤ place_limit place)
 IsMove base place shape (Secret index) = ⊥
 
 abbrev pub IsLook : ℕ → Seen → Type 0
@@ -140,7 +140,7 @@ unfoldable pub IsProper : ℕ → ℕ → Turn → Type 0
 IsProper base region (Looks seen go) =
     IsLook base seen × ((value : ℕ) → value < 2 ^ 32 → IsProper base region (go value))
 IsProper base region (Passes point place making sources turn) =
-    IsPassing base region point making sources × IsPut base point place × IsProper base region turn
+    IsPassing base region point making sources × FitsPlace base point place × IsProper base region turn
 IsProper base region (Decides point making sources go) =
     IsPassing base region point making sources
     × ((value : ℕ) → value < 2 ^ 32 → IsProper base region (go value))

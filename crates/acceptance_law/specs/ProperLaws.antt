@@ -1,10 +1,10 @@
 -- The turns of a guest are as is asked of them.
 use Rattle.rv32im_machine.specs.State.{State}
 use Rattle.rv32im_machine.specs.Rows.{running}
-use Rattle.acceptance_law.specs.Proper.{IsGuest, IsProper}
+use Rattle.acceptance_law.specs.Proper.{IsProperGuest, IsProper}
 
 -- the turn of each instruction is proper
 abbrev pub ProperTurnsLaw : Type 0
 ProperTurnsLaw =
-    (state : State) → IsGuest state →
+    (state : State) → IsProperGuest state →
     IsProper state.setting.base state.control.region (running state.setting state.control)

@@ -6,11 +6,11 @@ use Rattle.flow_base.specs.Points.{is_output_slot}
 use Rattle.cut_file.specs.declared.points.CutPoint.{CutPoint}
 use Rattle.cut_file.specs.Cuts.{CutPicture}
 use Rattle.cut_file.specs.Masks.{listed_masks}
-use Rattle.enclosure_regions.specs.Regions.{stands_in}
 use Rattle.flow_graph.specs.declared.events.Event.{Event}
 use Rattle.flow_graph.specs.declared.events.Event.TheVariants.{Pass, Link, FromSecret, Implicit, Out}
 use Rattle.flow_base.specs.PointOrders.{is_same}
 use Rattle.acceptance_law.specs.Sides.{NamedSide, is_split}
+use Rattle.flow_base.specs.Listed.{is_listed}
 
 -- ---- the masks of a point
 
@@ -36,7 +36,7 @@ united (mask ∷ masks) = bit_or mask (united masks)
 -- a point that the replay never visits, where these regions are skipped: inside a region every slot but those of its
 -- outputs is an inner one
 abbrev pub is_inner : List ℕ → Point → Bool
-is_inner skip point = stands_in skip point.region && not (is_output_slot point.slot)
+is_inner skip point = is_listed skip point.region && not (is_output_slot point.slot)
 
 abbrev pub names_point : List CutPoint → Point → Bool
 names_point points point = list_any (λ cut_point. is_same cut_point.point point) points
@@ -52,6 +52,6 @@ pub record IsCutOf (secret_len : ℕ) (events : List Event) (side : NamedSide) (
   pub version : cut.version ≡ 1
   pub length : cut.secret_len ≡ secret_len
   pub bits : cut.bits ≡ capacity
-  pub skip : (region : ℕ) → stands_in cut.skip region ≡ side.relay region
+  pub skip : (region : ℕ) → is_listed cut.skip region ≡ side.relay region
   pub points : (point : Point) → names_point cut.points point ≡ (is_split side point && not (is_inner cut.skip point))
   pub masks : AllByRecursion (HasVisitMasks events) cut.points

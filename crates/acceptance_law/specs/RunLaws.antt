@@ -1,6 +1,6 @@
 -- The cut of a run has few points, and few runs of masks.
 use Rattle.std.specs.Prelude.{◌≡◌, ℕ, ◌+◌, ◌*◌, ◌≤◌, Bool, true, List, length}
-use Rattle.cut_file.specs.Cuts.{CutPicture, is_valid}
+use Rattle.cut_file.specs.Cuts.{CutPicture, is_cut_picture}
 use Rattle.cut_file.specs.TextLengths.{listed_runs}
 use Rattle.flow_graph.specs.declared.events.Event.{Event}
 use Rattle.flow_graph.specs.declared.graphs.Graph.{Graph}
@@ -21,4 +21,4 @@ FewRunsLaw =
     (secret_len : ℕ) (events : List Event) (graph : Graph) (halves : List Half) (relays : List Bool)
     (cut : CutPicture) → IsGraphOf events graph → IsSideOf graph halves relays →
     IsCutOf secret_len events (named_side graph halves relays) (side_capacity graph halves relays) cut →
-    is_valid cut ≡ true → HasFewRuns (side_capacity graph halves relays) cut
+    is_cut_picture cut ≡ true → HasFewRuns (side_capacity graph halves relays) cut

@@ -5,10 +5,10 @@ ghost use Rattle.std.specs.Prelude.{◌≡◌, true};
 ghost use Rattle.acceptance_law.specs.GuestLaws.{HasBytes};
 ghost use Rattle.acceptance_law.specs.MeasuredLaws.{AreInputs};
 ghost use Rattle.acceptance_law.specs.Proper.{AreBytes};
-ghost use Rattle.cut_file.specs.Cuts.{is_valid as is_valid_cut};
-ghost use Rattle.cut_file.specs.Pictures.{picture_of as cut_picture};
-ghost use Rattle.elf32_loader.specs.Images.{picture_of};
-ghost use Rattle.elf32_loader.specs.Pictures.{is_valid};
+ghost use Rattle.cut_file.specs.Cuts.{is_cut_picture};
+ghost use Rattle.cut_file.specs.Pictures.{cut_picture};
+ghost use Rattle.elf32_loader.specs.Images.{image_picture};
+ghost use Rattle.elf32_loader.specs.Pictures.{is_image_picture};
 ghost use Rattle.enclosure_regions.specs.Regions.{are_regions};
 
 use cut_file::Cut;
@@ -41,7 +41,7 @@ fn tell_segments(segments: &[Segment])
 
 /// Tells what an image keeps by its type.
 fn tell_image(image: &Image)
-    ensures valid { is_valid (picture_of image.now) ≡ true }
+    ensures valid { is_image_picture (image_picture image.now) ≡ true }
     ensures bytes { HasBytes image.now.segments }
 {
     tell_segments(image.segments.as_slice());
@@ -56,7 +56,7 @@ fn tell_regions(regions: &Regions)
 
 /// Tells that a program, its inputs and its regions are as files have them.
 pub fn tell_inputs(image: &Image, public: &Bytes, secret: &Bytes, regions: &Regions)
-    ensures { AreInputs (picture_of image.now) public.now regions.now.items secret.now }
+    ensures { AreInputs (image_picture image.now) public.now regions.now.items secret.now }
 {
     tell_image(image);
     tell_bytes(public);
@@ -66,5 +66,5 @@ pub fn tell_inputs(image: &Image, public: &Bytes, secret: &Bytes, regions: &Regi
 
 /// Tells what a cut keeps by its type.
 pub fn tell_cut(cut: &Cut)
-    ensures { is_valid_cut (cut_picture cut.now) ≡ true }
+    ensures { is_cut_picture (cut_picture cut.now) ≡ true }
 {}

@@ -1,6 +1,6 @@
 ghost use Rattle.std.specs.Prelude.{◌≡◌, ◌<◌, ◌^◌, length, IfErr, IfOk};
 ghost use Rattle.cut_file.specs.Faults.{FirstCutFault};
-ghost use Rattle.cut_file.specs.Pictures.{picture_of};
+ghost use Rattle.cut_file.specs.Pictures.{cut_picture};
 ghost use Rattle.base_rows.specs.Rows.{IsFoldText, IsMigratedText, IsWritten};
 
 use cut_file::{Cut, CutFault, fold, mask_at, migrate, read_cut, write_cut};
@@ -20,7 +20,7 @@ pub fn written(alloc: Global, file: &[u8]) -> Result<Bytes, CutFault>
 /// The text of the fold of a cut in version 1.
 pub fn fold_text(alloc: Global, cut: &Cut) -> Result<Bytes, NoMemory>
     requires { cut.now.version ≡ 1 }
-    ensures { IfOk result (λ text. IsFoldText (picture_of cut.now) text) }
+    ensures { IfOk result (λ text. IsFoldText (cut_picture cut.now) text) }
 {
     let folded = fold(alloc, cut)?;
     write_cut(alloc, &folded)
@@ -28,7 +28,7 @@ pub fn fold_text(alloc: Global, cut: &Cut) -> Result<Bytes, NoMemory>
 
 /// The text of a cut in version 2.
 pub fn migrated_text(alloc: Global, cut: &Cut) -> Result<Bytes, NoMemory>
-    ensures { IfOk result (λ text. IsMigratedText (picture_of cut.now) text) }
+    ensures { IfOk result (λ text. IsMigratedText (cut_picture cut.now) text) }
 {
     let migrated = migrate(alloc, cut)?;
     write_cut(alloc, &migrated)

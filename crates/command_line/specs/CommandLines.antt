@@ -10,7 +10,7 @@ use Rattle.command_line.specs.declared.judgings.Judging.{Judging}
 use Rattle.command_line.specs.declared.judgings.Judging.TheVariants.{Replay, Masks}
 use Rattle.command_line.specs.declared.tellings.Telling.{Telling}
 use Rattle.command_line.specs.declared.tellings.Telling.TheVariants.{CutText, Certificate, Report, Declaration}
-use Rattle.command_line.specs.Parts.{Parts, are_taken, has_option, parts_of, value_of}
+use Rattle.command_line.specs.Parts.{Parts, are_taken, has_option, parts_of, option_value}
 
 -- ---- what commands name
 
@@ -111,9 +111,9 @@ abbrev pub IsChoice : Option (List ℕ) → ℕ → Type 0
 IsChoice value choice = IsNumberOr 1 1 2 value choice
 
 -- a table of mask rules is 1 or 2
-abbrev pub is_known : Judging → Bool
-is_known Replay = true
-is_known (Masks table) = nat_le 1 table && nat_le table 2
+abbrev pub has_table : Judging → Bool
+has_table Replay = true
+has_table (Masks table) = nat_le 1 table && nat_le table 2
 
 -- ---- what stands after each name of a command
 
@@ -128,8 +128,8 @@ pub record IsCheck (options : List (List ℕ)) (judging : Judging) (parts : Part
   pub some : 1 ≤ length check.secrets
   pub few : length check.secrets ≤ 64
   pub bits : IsNumber 0 highest_budget budget check.budget
-  pub turns : IsTurnLimit (value_of (codes "--turns") parts.options) check.turns
-  pub regions : value_of (codes "--regions") parts.options ≡ check.guest.region_file
+  pub turns : IsTurnLimit (option_value (codes "--turns") parts.options) check.turns
+  pub regions : option_value (codes "--regions") parts.options ≡ check.guest.region_file
   pub taken : are_taken options [] parts.options ≡ true
   pub judged : check.judging ≡ judging
 
@@ -138,10 +138,10 @@ pub record IsAllSecrets (parts : Parts) (all : AllSecrets) : Type 0 where
   pub budget : List ℕ
   pub plain : parts.plain ≡ all.guest.program ∷ all.guest.public_input ∷ all.cut ∷ budget ∷ []
   pub bits : IsNumber 0 highest_budget budget all.budget
-  pub turns : IsTurnLimit (value_of (codes "--turns") parts.options) all.turns
-  pub regions : value_of (codes "--regions") parts.options ≡ all.guest.region_file
-  pub rules : IsChoice (value_of (codes "--rules") parts.options) all.table
-  pub paths : IsNumberOr default_paths 1 highest_paths (value_of (codes "--paths") parts.options) all.paths
+  pub turns : IsTurnLimit (option_value (codes "--turns") parts.options) all.turns
+  pub regions : option_value (codes "--regions") parts.options ≡ all.guest.region_file
+  pub rules : IsChoice (option_value (codes "--rules") parts.options) all.table
+  pub paths : IsNumberOr default_paths 1 highest_paths (option_value (codes "--paths") parts.options) all.paths
   pub listed : all.listed ≡ has_option (codes "--list") parts.options
   pub taken :
       are_taken (codes "--rules" ∷ codes "--paths" ∷ check_options) (codes "--list" ∷ []) parts.options ≡ true
@@ -153,9 +153,9 @@ run_options = codes "--turns" ∷ codes "--regions" ∷ codes "--rules" ∷ []
 -- PROG PUBLIC SECRET, with none but these options and flags
 pub record IsRun (options flags : List (List ℕ)) (parts : Parts) (run : Run) : Type 0 where
   pub plain : parts.plain ≡ run.guest.program ∷ run.guest.public_input ∷ run.secret ∷ []
-  pub turns : IsTurnLimit (value_of (codes "--turns") parts.options) run.turns
-  pub regions : value_of (codes "--regions") parts.options ≡ run.guest.region_file
-  pub rules : IsChoice (value_of (codes "--rules") parts.options) run.table
+  pub turns : IsTurnLimit (option_value (codes "--turns") parts.options) run.turns
+  pub regions : option_value (codes "--regions") parts.options ≡ run.guest.region_file
+  pub rules : IsChoice (option_value (codes "--rules") parts.options) run.table
   pub taken : are_taken options flags parts.options ≡ true
 
 -- PROG PUBLIC SECRET.., with 1 to 64 secrets
@@ -163,9 +163,9 @@ pub record IsManyRuns (parts : Parts) (runs : ManyRuns) : Type 0 where
   pub plain : parts.plain ≡ runs.guest.program ∷ runs.guest.public_input ∷ runs.secrets
   pub some : 1 ≤ length runs.secrets
   pub few : length runs.secrets ≤ 64
-  pub turns : IsTurnLimit (value_of (codes "--turns") parts.options) runs.turns
-  pub regions : value_of (codes "--regions") parts.options ≡ runs.guest.region_file
-  pub rules : IsChoice (value_of (codes "--rules") parts.options) runs.table
+  pub turns : IsTurnLimit (option_value (codes "--turns") parts.options) runs.turns
+  pub regions : option_value (codes "--regions") parts.options ≡ runs.guest.region_file
+  pub rules : IsChoice (option_value (codes "--rules") parts.options) runs.table
   pub taken : are_taken (codes "--cut" ∷ run_options) [] parts.options ≡ true
 
 -- PROG PUBLIC SECRET FILE, with no option but the limit of turns: FILE is the region file
@@ -173,7 +173,7 @@ pub record IsLearning (parts : Parts) (run : Run) : Type 0 where
   pub file : List ℕ
   pub plain : parts.plain ≡ run.guest.program ∷ run.guest.public_input ∷ run.secret ∷ file ∷ []
   pub regions : Some file ≡ run.guest.region_file
-  pub turns : IsTurnLimit (value_of (codes "--turns") parts.options) run.turns
+  pub turns : IsTurnLimit (option_value (codes "--turns") parts.options) run.turns
   -- no mask rule is asked
   pub rules : run.table ≡ 1
   pub taken : are_taken (codes "--turns" ∷ []) [] parts.options ≡ true
@@ -196,14 +196,14 @@ Fits names.Check parts command =
     (check : Check) × IsCheck check_options Replay parts check × (command ≡ Checks check)
 Fits names.Taint parts command =
     (table : ℕ) × (check : Check) × IsCheck (codes "--rules" ∷ check_options) (Masks table) parts check
-    × IsChoice (value_of (codes "--rules") parts.options) table × (command ≡ Checks check)
+    × IsChoice (option_value (codes "--rules") parts.options) table × (command ≡ Checks check)
 Fits names.Bound parts command = (all : AllSecrets) × IsAllSecrets parts all × (command ≡ Bounds all)
 Fits names.Measure parts command =
     (version : ℕ) × (run : Run) × IsRun (codes "--cut" ∷ run_options) [] parts run
-    × IsChoice (value_of (codes "--cut") parts.options) version × (command ≡ Tells (CutText version) run)
+    × IsChoice (option_value (codes "--cut") parts.options) version × (command ≡ Tells (CutText version) run)
 Fits names.MeasureAll parts command =
     (version : ℕ) × (runs : ManyRuns) × IsManyRuns parts runs
-    × IsChoice (value_of (codes "--cut") parts.options) version × (command ≡ MeasuresAll version runs)
+    × IsChoice (option_value (codes "--cut") parts.options) version × (command ≡ MeasuresAll version runs)
 Fits names.Graph parts command = (run : Run) × IsRun run_options [] parts run × (command ≡ Tells Certificate run)
 Fits names.Report parts command =
     (run : Run) × IsRun run_options (codes "--json" ∷ []) parts run

@@ -18,8 +18,8 @@ pub record Parts : Type 0 where
   pub waiting : Option (List ℕ)
 
 -- the word is one of these names
-abbrev pub is_among : List (List ℕ) → List ℕ → Bool
-is_among names word = list_any (λ name. bytes_eq name word) names
+abbrev pub is_name_of : List (List ℕ) → List ℕ → Bool
+is_name_of names word = list_any (λ name. bytes_eq name word) names
 
 -- ---- what a command finds of its options
 
@@ -28,24 +28,24 @@ abbrev pub has_option : List ℕ → List Named → Bool
 has_option name options = list_any (λ option. bytes_eq option.name name) options
 
 -- the value of the option of this name, where it stands there with one
-abbrev pub value_of : List ℕ → List Named → Option (List ℕ)
-value_of name options = option_and_then (λ option. option.value) (find (λ option. bytes_eq option.name name) options)
+abbrev pub option_value : List ℕ → List Named → Option (List ℕ)
+option_value name options = option_and_then (λ option. option.value) (find (λ option. bytes_eq option.name name) options)
 
 -- an option with a value is one of these options, one without is one of these flags
-abbrev pub is_taken : List (List ℕ) → List (List ℕ) → List ℕ → Option (List ℕ) → Bool
-is_taken options flags name None = is_among flags name
-is_taken options flags name (Some value) = is_among options name
+abbrev pub may_take : List (List ℕ) → List (List ℕ) → List ℕ → Option (List ℕ) → Bool
+may_take options flags name None = is_name_of flags name
+may_take options flags name (Some value) = is_name_of options name
 
 -- no option stands there but these, with a value, and these flags
 abbrev pub are_taken : List (List ℕ) → List (List ℕ) → List Named → Bool
-are_taken options flags named = list_all (λ option. is_taken options flags option.name option.value) named
+are_taken options flags named = list_all (λ option. may_take options flags option.name option.value) named
 
 -- ---- how words are parted
 
 -- a word that names a file, or is a value by itself, is not empty and does not begin with a dash
-abbrev pub is_name : List ℕ → Bool
-is_name [] = false
-is_name (byte ∷ bytes) = not (byte == 45)
+abbrev pub is_plain_word : List ℕ → Bool
+is_plain_word [] = false
+is_plain_word (byte ∷ bytes) = not (byte == 45)
 
 -- the word is an option without a value
 abbrev pub is_flag : List ℕ → Bool
@@ -69,7 +69,7 @@ with_option before name value =
 
 -- an option in two words
 abbrev pub with_beside : Parts → List ℕ → List ℕ → Option Parts
-with_beside before name value = if is_name value then with_option before name (Some value) else None
+with_beside before name value = if is_plain_word value then with_option before name (Some value) else None
 
 -- an option in one word, with its value after the first `=`
 abbrev pub with_behind : Parts → List ℕ → List ℕ → Option Parts
@@ -81,7 +81,7 @@ with_behind before name (byte ∷ bytes) = with_option before name (Some (byte �
 abbrev pub after_word : Parts → Option (List ℕ) → List ℕ → Option Parts
 after_word before (Some name) word = with_beside before name word
 after_word before None word =
-    if is_name word then Some (record before { plain = before.plain ++ word ∷ [] })
+    if is_plain_word word then Some (record before { plain = before.plain ++ word ∷ [] })
     else if is_flag word then with_option before word None
     else if has_equals word then with_behind before (before_first is_equals word) (after_first is_equals word)
     else Some (record before { waiting = Some word })

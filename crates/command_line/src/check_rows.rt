@@ -1,5 +1,5 @@
 ghost use Rattle.std.specs.Prelude.{◌≡◌, None, Ok, IfOk, IfSome, IsTrue, map};
-ghost use Rattle.command_line.specs.CommandLines.{Check, IsCheck, is_known};
+ghost use Rattle.command_line.specs.CommandLines.{Check, IsCheck, has_table};
 ghost use Rattle.command_line.specs.Words.{check_of, parts_in};
 
 use crate::checks::CheckWords;
@@ -19,7 +19,7 @@ pub fn check_words<'a>(
     allowed: &[&str],
     judging: Judging,
 ) -> Result<Option<CheckWords<'a>>, NoMemory>
-    requires { IsTrue (is_known judging) }
+    requires { IsTrue (has_table judging) }
     ensures is { IfOk result (λ found. IfSome found (λ check. IsCheck (map (λ name. name.now) allowed.now) judging
         (parts_in parts.now) (check_of check))) }
     ensures none { result ≡ Ok None → (check : Check) → ¬ IsCheck (map (λ name. name.now) allowed.now) judging

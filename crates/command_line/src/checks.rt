@@ -1,5 +1,5 @@
 ghost use Rattle.std.specs.Prelude.{IsTrue};
-ghost use Rattle.command_line.specs.CommandLines.{is_known};
+ghost use Rattle.command_line.specs.CommandLines.{has_table};
 
 use crate::guests::GuestWords;
 use crate::judgings::Judging;
@@ -19,5 +19,5 @@ pub struct CheckWords<'a> {
     pub limits: Limits,
     /// By what they are judged; a table is 1 or 2.
     pub judging: Judging,
-    ghost known: { IsTrue (is_known judging) },
+    ghost known: { IsTrue (has_table judging) },
 }

@@ -4,7 +4,7 @@ ghost use Rattle.std.specs.Prelude.{◌≡◌, ◌≤◌, ◌<◌, ℕ, None, Ok
 ghost use Rattle.std.specs.Fmt.{decimal};
 ghost use Rattle.command_line.specs.CommandLines.{IsChoice, IsNumber, IsNumberOr, IsTurnLimit, default_paths};
 ghost use Rattle.command_line.specs.CommandLines.{highest_budget, highest_paths, highest_turns};
-ghost use Rattle.command_line.specs.Parts.{value_of as value_of_of};
+ghost use Rattle.command_line.specs.Parts.{option_value};
 ghost use Rattle.command_line.specs.Words.{parts_in};
 
 use crate::limits::Limits;
@@ -101,11 +101,11 @@ pub fn choice_of(alloc: Global, value: Option<&str>) -> Result<Option<u32>, NoMe
 
 /// The choice of 1 or 2 that the option of this name has, 1 without the option; None exactly where it names none.
 pub(crate) fn choice_in(alloc: Global, parts: &Parts, name: &str) -> Result<Option<u32>, NoMemory>
-    ensures is { IfOk result (λ found. IfSome found (λ choice. IsChoice (value_of_of name.now
+    ensures is { IfOk result (λ found. IfSome found (λ choice. IsChoice (option_value name.now
         (parts_in parts.now).options) choice)) }
     ensures one { IfOk result (λ found. IfSome found (λ choice. 1 ≤ choice)) }
     ensures two { IfOk result (λ found. IfSome found (λ choice. choice ≤ 2)) }
-    ensures none { result ≡ Ok None → (choice : ℕ) → ¬ IsChoice (value_of_of name.now
+    ensures none { result ≡ Ok None → (choice : ℕ) → ¬ IsChoice (option_value name.now
         (parts_in parts.now).options) choice }
 {
     choice_of(alloc, value_of(parts.options.as_slice(), name))
@@ -113,15 +113,15 @@ pub(crate) fn choice_in(alloc: Global, parts: &Parts, name: &str) -> Result<Opti
 
 /// The limit of turns and the table of mask rules that the options name; None exactly where one of them names none.
 pub(crate) fn turns_and_table(alloc: Global, parts: &Parts) -> Result<Option<(u32, u32)>, NoMemory>
-    ensures turns { IfOk result (λ found. IfSome found (λ both. IsTurnLimit (value_of_of (codes "--turns")
+    ensures turns { IfOk result (λ found. IfSome found (λ both. IsTurnLimit (option_value (codes "--turns")
         (parts_in parts.now).options) both.0)) }
     ensures few { IfOk result (λ found. IfSome found (λ both. both.0 ≤ highest_turns)) }
-    ensures table { IfOk result (λ found. IfSome found (λ both. IsChoice (value_of_of (codes "--rules")
+    ensures table { IfOk result (λ found. IfSome found (λ both. IsChoice (option_value (codes "--rules")
         (parts_in parts.now).options) both.1)) }
     ensures one { IfOk result (λ found. IfSome found (λ both. 1 ≤ both.1)) }
     ensures two { IfOk result (λ found. IfSome found (λ both. both.1 ≤ 2)) }
-    ensures none { result ≡ Ok None → (turns table : ℕ) → IsTurnLimit (value_of_of (codes "--turns")
-        (parts_in parts.now).options) turns → ¬ IsChoice (value_of_of (codes "--rules")
+    ensures none { result ≡ Ok None → (turns table : ℕ) → IsTurnLimit (option_value (codes "--turns")
+        (parts_in parts.now).options) turns → ¬ IsChoice (option_value (codes "--rules")
         (parts_in parts.now).options) table }
 {
     let Some(turns) = turns_of(alloc, value_of(parts.options.as_slice(), "--turns"))? else {
@@ -140,10 +140,10 @@ pub(crate) fn limits_of(
     parts: &Parts,
 ) -> Result<Option<Limits>, NoMemory>
     ensures bits { IfOk result (λ found. IfSome found (λ limits. IsNumber 0 highest_budget bits.now limits.budget)) }
-    ensures turns { IfOk result (λ found. IfSome found (λ limits. IsTurnLimit (value_of_of (codes "--turns")
+    ensures turns { IfOk result (λ found. IfSome found (λ limits. IsTurnLimit (option_value (codes "--turns")
         (parts_in parts.now).options) limits.turns)) }
     ensures none { result ≡ Ok None → (budget turns : ℕ) → IsNumber 0 highest_budget bits.now budget → ¬ IsTurnLimit
-        (value_of_of (codes "--turns") (parts_in parts.now).options) turns }
+        (option_value (codes "--turns") (parts_in parts.now).options) turns }
 {
     let Some(budget) = number_of(alloc, bits, 0, HIGHEST_BUDGET)? else {
         return Ok(None);

@@ -1,6 +1,6 @@
 ghost use Rattle.std.specs.Prelude.{◌≡◌, List as Seq, ℕ, map, option_map};
 ghost use Rattle.command_line.specs.Parts.{are_taken as are_taken_of, has_option as has_option_of};
-ghost use Rattle.command_line.specs.Parts.{is_among as is_among_of, is_taken as is_taken_of, value_of as value_of_of};
+ghost use Rattle.command_line.specs.Parts.{is_name_of, may_take, option_value};
 ghost use Rattle.command_line.specs.Words.{named_in};
 
 /// An option as it stands in words: its name, and its value, if it has one.
@@ -14,7 +14,7 @@ pub struct OptionWord<'a> {
 
 /// Whether a word is one of these names.
 fn is_among(names: &[&str], word: &str) -> bool
-    ensures { result ≡ is_among_of (map (λ name. name.now) names.now) word.now }
+    ensures { result ≡ is_name_of (map (λ name. name.now) names.now) word.now }
 {
     for name in names {
         if *name == word {
@@ -38,7 +38,7 @@ pub(crate) fn has_option(options: &[OptionWord], name: &str) -> bool
 
 /// The value of the option of this name, where it stands there with one.
 pub(crate) fn value_of<'a>(options: &[OptionWord<'a>], name: &str) -> Option<&'a str>
-    ensures { option_map (λ value. value.now) result ≡ value_of_of name.now (map named_in options.now) }
+    ensures { option_map (λ value. value.now) result ≡ option_value name.now (map named_in options.now) }
 {
     for option in options {
         if option.name == name {
@@ -50,7 +50,7 @@ pub(crate) fn value_of<'a>(options: &[OptionWord<'a>], name: &str) -> Option<&'a
 
 /// Whether an option may stand there.
 fn is_taken(option: &OptionWord, options: &[&str], flags: &[&str]) -> bool
-    ensures { result ≡ is_taken_of (map (λ name. name.now) options.now) (map (λ name. name.now) flags.now)
+    ensures { result ≡ may_take (map (λ name. name.now) options.now) (map (λ name. name.now) flags.now)
         (named_in option.now).name (named_in option.now).value }
 {
     match option.value {

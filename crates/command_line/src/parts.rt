@@ -1,7 +1,7 @@
 ghost use Rattle.std.specs.Prelude.{◌≡◌, true, false, map, string_bytes, option_map, IfNone, IfOk, IfSome, Some, ◌++◌};
 ghost use Rattle.std.specs.Prelude.{◌∷◌, []};
 ghost use Rattle.std.specs.List.{before_first, after_first};
-ghost use Rattle.command_line.specs.Parts.{after_word as after_word_of, has_equals, is_equals, is_name as is_name_of};
+ghost use Rattle.command_line.specs.Parts.{after_word as after_word_of, has_equals, is_equals, is_plain_word};
 ghost use Rattle.command_line.specs.Parts.{parts_of as parts_of_of, with_behind as with_behind_of};
 ghost use Rattle.command_line.specs.Parts.{with_beside as with_beside_of, with_option as with_option_of};
 ghost use Rattle.command_line.specs.Words.{parts_in};
@@ -23,7 +23,7 @@ pub struct Parts<'a> {
 
 /// Whether a word can name a file, or be a value by itself.
 fn is_name(word: &str) -> bool
-    ensures { result ≡ is_name_of word.now }
+    ensures { result ≡ is_plain_word word.now }
 {
     match word.as_bytes() {
         [] => false,

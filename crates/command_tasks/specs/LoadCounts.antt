@@ -5,8 +5,8 @@ use Rattle.command_tasks.specs.declared.refusals.Refusal.{Refusal}
 use Rattle.command_tasks.specs.declared.refusals.Refusal.TheVariants.{Load, Memory}
 
 -- a load that fails raised the count of faults
-abbrev pub HasCause : {A : Type 0} → Result A Refusal → ℕ → ℕ → Type 0
-HasCause result before now = (name : List ℕ) → result ≡ Err (Load name) → Rose before now
+abbrev pub CountsFault : {A : Type 0} → Result A Refusal → ℕ → ℕ → Type 0
+CountsFault result before now = (name : List ℕ) → result ≡ Err (Load name) → Rose before now
 
 -- and only such a load raised it
 abbrev pub KeepsCount : {A : Type 0} → Result A Refusal → ℕ → ℕ → Type 0

@@ -1,10 +1,10 @@
 -- What is read of the files of a command line, and the limits of that.
 use Rattle.std.specs.Prelude.{◌≡◌, ◌≤◌, true, ℕ, List, length, All}
-use Rattle.cut_file.specs.Pictures.{picture_of as cut_of}
-use Rattle.elf32_loader.specs.Images.{picture_of}
+use Rattle.cut_file.specs.Pictures.{cut_picture}
+use Rattle.elf32_loader.specs.Images.{image_picture}
 use Rattle.lockstep_replay.specs.Tasks.{Limits as CheckLimits}
 use Rattle.command_line.specs.declared.limits.Limits.{Limits}
-use Rattle.command_line.specs.CommandLines.{highest_turns, is_known}
+use Rattle.command_line.specs.CommandLines.{highest_turns, has_table}
 use Rattle.command_tasks.specs.declared.guests.Guest.{Guest as ReadGuest}
 use Rattle.command_tasks.specs.declared.tasks.AllSecretsTask.{AllSecretsTask as ReadAllSecrets}
 use Rattle.command_tasks.specs.declared.tasks.CheckTask.{CheckTask as ReadCheck}
@@ -19,7 +19,7 @@ use Rattle.command_tasks.specs.Guests.{Guest}
 
 abbrev pub guest_in : ReadGuest → Guest
 guest_in guest = record {
-  program = picture_of guest.image;
+  program = image_picture guest.image;
   public_input = guest.public_input.now;
   regions = guest.regions.items;
 }
@@ -30,7 +30,7 @@ limits_in limits = record { budget = limits.budget; turns = limits.turns }
 abbrev pub check_in : ReadCheck → CheckTask
 check_in check = record {
   guest = guest_in check.guest;
-  cut = cut_of check.cut;
+  cut = cut_picture check.cut;
   secrets = check.secrets.now;
   limits = limits_in check.limits;
   judging = check.judging;
@@ -39,7 +39,7 @@ check_in check = record {
 abbrev pub all_secrets_in : ReadAllSecrets → AllSecretsTask
 all_secrets_in all = record {
   guest = guest_in all.guest;
-  cut = cut_of all.cut;
+  cut = cut_picture all.cut;
   limits = limits_in all.limits;
   table = all.table;
   paths = all.paths;
@@ -62,10 +62,10 @@ task_in (tasks.JudgeSecrets check) = JudgeSecrets (check_in check)
 task_in (tasks.BoundAll all) = BoundAll (all_secrets_in all)
 task_in (tasks.TellRun telling run) = TellRun telling (run_in run)
 task_in (tasks.MeasureAll version runs) = MeasureAll version (many_runs_in runs)
-task_in (tasks.WriteProgram image) = WriteProgram (picture_of image)
-task_in (tasks.ListProgram image) = ListProgram (picture_of image)
+task_in (tasks.WriteProgram image) = WriteProgram (image_picture image)
+task_in (tasks.ListProgram image) = ListProgram (image_picture image)
 task_in (tasks.VerifyCertificate certificate) = VerifyCertificate certificate.graph certificate.solved
-task_in (tasks.MigrateCut cut) = MigrateCut (cut_of cut)
+task_in (tasks.MigrateCut cut) = MigrateCut (cut_picture cut)
 task_in (tasks.TryNumber number) = TryNumber number
 
 -- ---- limits
@@ -77,7 +77,7 @@ AreShort secrets = All (λ secret. length secret ≤ 65536) secrets
 -- the secrets are within their limits, and a table is 1 or 2
 pub record IsBoundedCheck (check : ReadCheck) : Type 0 where
   pub secrets : AreShort check.secrets.now
-  pub known : is_known check.judging ≡ true
+  pub known : has_table check.judging ≡ true
 
 -- a path may be walked, and the table is 1 or 2
 pub record IsBoundedAll (all : ReadAllSecrets) : Type 0 where

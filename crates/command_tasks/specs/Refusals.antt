@@ -12,7 +12,7 @@ use Rattle.cut_file.specs.Faults.{FirstCutFault}
 use Rattle.enclosure_regions.specs.declared.region_faults.RegionFault.{RegionFault}
 use Rattle.enclosure_regions.specs.declared.region_faults.RegionFault.TheVariants.{Memory as NoRoomForRegions}
 use Rattle.enclosure_regions.specs.Reading.{FirstRegionFault}
-use Rattle.enclosure_regions.specs.Texts.{fault_text as region_fault_text}
+use Rattle.enclosure_regions.specs.Texts.{region_fault_text}
 use Rattle.rv32im_asm.specs.declared.fault.AsmFault.{AsmFault}
 use Rattle.rv32im_asm.specs.declared.fault.AsmFault.TheVariants.{Memory as NoRoomForSource}
 use Rattle.rv32im_asm.specs.Assembling.{assembled}

@@ -1,21 +1,16 @@
 -- The numbers of the statuses.
-use Rattle.std.specs.Prelude.{ℕ, ◌==◌, List, Bool}
-use Rattle.std.specs.List.{list_any}
+use Rattle.std.specs.Prelude.{ℕ}
 use Rattle.command_tasks.specs.declared.statuses.Status.{Status}
 use Rattle.command_tasks.specs.declared.statuses.Status.TheVariants.{Done, Rejected, Usage, Malformed, RunRefused}
 use Rattle.command_tasks.specs.declared.statuses.Status.TheVariants.{LoadFailed, TooLarge, PutFailed, NoMemory}
 
-abbrev pub number_of : Status → ℕ
-number_of Done = 0
-number_of Rejected = 1
-number_of Usage = 2
-number_of Malformed = 3
-number_of RunRefused = 4
-number_of LoadFailed = 5
-number_of TooLarge = 6
-number_of PutFailed = 7
-number_of NoMemory = 8
-
--- the status is one of these
-abbrev pub is_one_of : List ℕ → ℕ → Bool
-is_one_of statuses status = list_any (λ one. one == status) statuses
+abbrev pub status_number : Status → ℕ
+status_number Done = 0
+status_number Rejected = 1
+status_number Usage = 2
+status_number Malformed = 3
+status_number RunRefused = 4
+status_number LoadFailed = 5
+status_number TooLarge = 6
+status_number PutFailed = 7
+status_number NoMemory = 8

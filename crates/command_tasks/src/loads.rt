@@ -4,8 +4,8 @@ ghost use Rattle.flow_base.specs.Loads.{after_load};
 ghost use Rattle.command_tasks.specs.FileLimits.{limit_of};
 ghost use Rattle.command_tasks.specs.Loading.{Leaves, LeavesPart, Loads, IsLoadRefusal};
 ghost use Rattle.command_tasks.specs.Wants.{want_of};
-ghost use Rattle.command_tasks.specs.Private.SingleLoads.{AnswersOne, Refuses};
-ghost use Rattle.command_tasks.specs.LoadCounts.{HasCause, KeepsCount};
+ghost use Rattle.command_tasks.specs.Private.SingleLoads.{AnswersOne, RefusesLoad};
+ghost use Rattle.command_tasks.specs.LoadCounts.{CountsFault, KeepsCount};
 ghost use Rattle.command_tasks.specs.declared.refusals.Refusal.TheVariants.{Load, Memory};
 
 use crate::kinds::FileKind;
@@ -25,7 +25,7 @@ pub struct Want<'a> {
 
 /// The refusal of a name whose load was answered by a fault.
 fn refused(alloc: Global, name: &str, fault: LoadFault) -> Refusal
-    ensures { Refuses name.now fault result }
+    ensures { RefusesLoad name.now fault result }
 {
     if let LoadFault::Memory = fault {
         return Refusal::Memory;
@@ -44,7 +44,7 @@ fn refused(alloc: Global, name: &str, fault: LoadFault) -> Refusal
 fn load<F: Files>(alloc: Global, files: &mut F, want: Want) -> Result<Bytes, Refusal>
     ensures answers { AnswersOne (F.told files.old) (want_of want.entry) result }
     ensures counts { F.told files.new ≡ option_map after_load (F.told files.old) }
-    ensures cause { HasCause result (F.faults files.old) (F.faults files.new) }
+    ensures cause { CountsFault result (F.faults files.old) (F.faults files.new) }
     ensures kept { KeepsCount result (F.faults files.old) (F.faults files.new) }
     ensures faults { F.faults files.old ≤ F.faults files.new }
     ensures limit { IfOk result (λ file. length file ≤ limit_of want.entry.kind) }
@@ -65,7 +65,7 @@ pub fn load_all<F: Files>(
     ensures loads { result ≢ Err Memory → Loads (F.told files.old) (map want_of wants.now) result }
     ensures leaves { result ≢ Err Memory → Leaves (F.told files.old) (map want_of wants.now) (F.told files.new) }
     ensures part { LeavesPart (F.told files.old) (map want_of wants.now) (F.told files.new) }
-    ensures cause { HasCause result (F.faults files.old) (F.faults files.new) }
+    ensures cause { CountsFault result (F.faults files.old) (F.faults files.new) }
     ensures kept { KeepsCount result (F.faults files.old) (F.faults files.new) }
     ensures faults { F.faults files.old ≤ F.faults files.new }
 {

@@ -1,9 +1,9 @@
 //! What a command line asks for, as it is read of its words and its files.
 
 ghost use Rattle.std.specs.Prelude.{◌≡◌, ◌≢◌, ◌≤◌, ◌∷◌, [], Ok as Fine, length, option_map, IfErr, IfOk};
-ghost use Rattle.cut_file.specs.Pictures.{picture_of as cut_of};
+ghost use Rattle.cut_file.specs.Pictures.{cut_picture};
 ghost use Rattle.cut_file.specs.Texts.{CutText};
-ghost use Rattle.elf32_loader.specs.Images.{picture_of};
+ghost use Rattle.elf32_loader.specs.Images.{image_picture};
 ghost use Rattle.elf32_loader.specs.Programs.{IsImage};
 ghost use Rattle.rv32im_asm.specs.Assembling.{assembled};
 ghost use Rattle.command_line.specs.Words.{all_secrets_of, check_of, command_of, guest_of, many_runs_of, run_of};
@@ -40,7 +40,7 @@ use std::alloc::Global;
 /// The image of a program file, or its first fault.
 fn read_program(alloc: Global, file: &Bytes) -> Result<Image, Refusal>
     requires short { length file.now ≤ 16777216 }
-    ensures ok { IfOk result (λ image. IsImage file.now (picture_of image)) }
+    ensures ok { IfOk result (λ image. IsImage file.now (image_picture image)) }
     ensures err { IfErr result (λ refusal. refusal ≢ Memory → IsProgramRefusal file.now refusal) }
 {
     Ok(load_image(alloc, file.as_slice())?)
@@ -61,7 +61,7 @@ fn read_region_file(alloc: Global, file: Option<&Bytes>) -> Result<Regions, Refu
 /// The cut of a cut file, or its first fault.
 fn read_cut_file(alloc: Global, file: &Bytes) -> Result<Cut, Refusal>
     requires short { length file.now ≤ 67108864 }
-    ensures ok { IfOk result (λ cut. CutText file.now (cut_of cut)) }
+    ensures ok { IfOk result (λ cut. CutText file.now (cut_picture cut)) }
     ensures err { IfErr result (λ refusal. refusal ≢ Memory → IsCutRefusal file.now refusal) }
 {
     Ok(read_cut(alloc, file.as_slice())?)
@@ -70,7 +70,7 @@ fn read_cut_file(alloc: Global, file: &Bytes) -> Result<Cut, Refusal>
 /// The image of a source, or its first fault.
 fn read_source(alloc: Global, file: &Bytes) -> Result<Image, Refusal>
     requires short { length file.now ≤ 1048576 }
-    ensures ok { IfOk result (λ image. assembled file.now ≡ Fine (picture_of image)) }
+    ensures ok { IfOk result (λ image. assembled file.now ≡ Fine (image_picture image)) }
     ensures one { IfOk result (λ image. length image.segments ≤ 64) }
     ensures err { IfErr result (λ refusal. refusal ≢ Memory → IsSourceRefusal file.now refusal) }
 {

@@ -1,5 +1,5 @@
 ghost use Rattle.std.specs.Prelude.{◌≡◌};
-ghost use Rattle.command_tasks.specs.Statuses.{number_of};
+ghost use Rattle.command_tasks.specs.Statuses.{status_number};
 
 /// What a command line is answered by, beside its text.
 #[derive(Clone, Copy)]
@@ -28,7 +28,7 @@ pub enum Status {
 impl Status {
     /// The number with which a process ends: 0 to 8, in the order above.
     pub fn number(self) -> u8
-        ensures { result ≡ number_of self }
+        ensures { result ≡ status_number self }
     {
         match self {
             Status::Done => 0,

@@ -5,7 +5,7 @@ use Rattle.flow_base.specs.declared.outputs.Output.{Output}
 use Rattle.flow_base.specs.Loads.{Told}
 use Rattle.cut_file.specs.Cuts.{CutPicture}
 use Rattle.cut_file.specs.Folds.{IsFold}
-use Rattle.cut_file.specs.Pictures.{picture_of as cut_of}
+use Rattle.cut_file.specs.Pictures.{cut_picture}
 use Rattle.cut_file.specs.Texts.{CutText as IsTextOfCut, cut_text}
 use Rattle.lockstep_replay.specs.Tasks.{Task as JudgedTask, Limits}
 use Rattle.lockstep_replay.specs.Acceptance.{Accept, IsOutput}
@@ -36,7 +36,7 @@ use Rattle.command_tasks.specs.Tasks.{AllSecretsTask, CheckTask, RunTask, ManyRu
 use Rattle.command_tasks.specs.Tasks.{IsAllSecretsTask, IsCheckTask, IsFormRefusal, IsManyRunsTask, IsRunTask, IsTaskOf}
 use Rattle.command_tasks.specs.Tasks.{wants_of}
 use Rattle.command_tasks.specs.Loading.{Want, IsLoadRefusal, Loads, want}
-use Rattle.command_tasks.specs.Statuses.{number_of}
+use Rattle.command_tasks.specs.Statuses.{status_number}
 use Rattle.task_answers.specs.Answers.{Answer, done_by, told}
 use Rattle.task_answers.specs.AllSecrets.{AnswersBound, bound_of}
 use Rattle.task_answers.specs.Checks.{AnswersBy, judged_by, judgements_of}
@@ -119,7 +119,7 @@ are-few-of-all task limits outputs different each = bound_law task limits output
 
 -- ---- a check
 
-status-number : (b : Bool) → number_of (if b then Done else Rejected) ≡ (if b then 0 else 1)
+status-number : (b : Bool) → status_number (if b then Done else Rejected) ≡ (if b then 0 else 1)
 status-number true = refl
 status-number false = refl
 
@@ -254,31 +254,31 @@ bound-headline source all files task answer loads is h = record {
 -- ---- a measured run
 
 accepted-in : (run : RunTask) (measured : Measured) (version : ℕ) (cut : CutPicture) → IsMeasured run measured →
-    IsInVersion version (cut_of measured.cut) cut → (b : Bool) → (version == 2) ≡ b →
+    IsInVersion version (cut_picture measured.cut) cut → (b : Bool) → (version == 2) ≡ b →
     HasAccepted (judged_by run.guest cut) (record { budget = measured.value; turns = run.turns }) run.secret
 accepted-in run measured version cut is in_version true e =
     (measured.output, is.folds cut (rw e at in_version))
 accepted-in run measured version cut is in_version false e =
-    let same : cut ≡ cut_of measured.cut = rw e at in_version in
+    let same : cut ≡ cut_picture measured.cut = rw e at in_version in
     subst (λ c. HasAccepted (judged_by run.guest c) (record { budget = measured.value; turns = run.turns }) run.secret)
     (sym same) (measured.output, is.accepted)
 
 bits-in : (run : RunTask) (measured : Measured) (version : ℕ) (cut : CutPicture) → IsMeasured run measured →
-    IsInVersion version (cut_of measured.cut) cut → (b : Bool) → (version == 2) ≡ b → cut.bits ≡ measured.value
+    IsInVersion version (cut_picture measured.cut) cut → (b : Bool) → (version == 2) ≡ b → cut.bits ≡ measured.value
 bits-in run measured version cut is in_version true e =
-    let fold : IsFold (cut_of measured.cut) cut = rw e at in_version in fold.bits ∙ is.measures.measure.cut.bits
+    let fold : IsFold (cut_picture measured.cut) cut = rw e at in_version in fold.bits ∙ is.measures.measure.cut.bits
 bits-in run measured version cut is in_version false e =
-    let same : cut ≡ cut_of measured.cut = rw e at in_version in
+    let same : cut ≡ cut_picture measured.cut = rw e at in_version in
     ap (λ (c : CutPicture). c.bits) same ∙ is.measures.measure.cut.bits
 
 short-in : (run : RunTask) (measured : Measured) (version : ℕ) (text : List ℕ) (cut : CutPicture) →
-    IsMeasured run measured → IsInVersion version (cut_of measured.cut) cut → IsTextOfCut text cut → (b : Bool) →
+    IsMeasured run measured → IsInVersion version (cut_picture measured.cut) cut → IsTextOfCut text cut → (b : Bool) →
     (version == 2) ≡ b → length text ≤ 67108864
 short-in run measured version text cut is in_version spells true e =
-    let fold : IsFold (cut_of measured.cut) cut = rw e at in_version in
+    let fold : IsFold (cut_picture measured.cut) cut = rw e at in_version in
     rw spells.text (is.short.fold cut spells.valid fold)
 short-in run measured version text cut is in_version spells false e =
-    let same : cut ≡ cut_of measured.cut = rw e at in_version in
+    let same : cut ≡ cut_picture measured.cut = rw e at in_version in
     rw spells.text (subst (λ c. length (cut_text c) ≤ 67108864) (sym same) is.short.text)
 
 low-bits : (bits value secret : ℕ) → bits ≡ value → value ≤ 8 * secret → secret ≤ 65536 → bits ≤ 1048576
@@ -286,7 +286,7 @@ low-bits bits value secret e few short = omega arith
 
 cut-headline : (source : Option Told) (version : ℕ) (run : Run) (files : List (List ℕ)) (task : RunTask)
     (measured : Measured) (text : List ℕ) (answer : Answer) → Loads source (wants_of (Tells (CutText version) run)) (Ok files) →
-    IsRunTask run files task → IsMeasured task measured → IsCutText version (cut_of measured.cut) text → answer ≡ done_by text →
+    IsRunTask run files task → IsMeasured task measured → IsCutText version (cut_picture measured.cut) text → answer ≡ done_by text →
     MeasuredHeadline IsGraphOfRun source run.guest (run.secret ∷ []) (record { turns = run.turns; table = run.table })
     (reply_of answer)
 cut-headline source version run files task measured text answer loads is measure told e =
@@ -341,30 +341,30 @@ cut-headline source version run files task measured text answer loads is measure
 -- ---- several runs
 
 accepted-all-in : (runs : ManyRunsTask) (many : Many) (version : ℕ) (cut : CutPicture) → AreMeasured runs many →
-    IsInVersion version (cut_of many.cut) cut → (b : Bool) → (version == 2) ≡ b →
+    IsInVersion version (cut_picture many.cut) cut → (b : Bool) → (version == 2) ≡ b →
     AllByRecursion (HasAccepted (judged_by runs.guest cut) (record { budget = many.value; turns = runs.turns })) runs.secrets
 accepted-all-in runs many version cut are in_version true e = are.folds cut (rw e at in_version)
 accepted-all-in runs many version cut are in_version false e =
-    let same : cut ≡ cut_of many.cut = rw e at in_version in
+    let same : cut ≡ cut_picture many.cut = rw e at in_version in
     subst (λ c. AllByRecursion (HasAccepted (judged_by runs.guest c) (record { budget = many.value; turns = runs.turns }))
     runs.secrets) (sym same) are.accepted
 
 bits-all-in : (runs : ManyRunsTask) (many : Many) (version : ℕ) (cut : CutPicture) → AreMeasured runs many →
-    IsInVersion version (cut_of many.cut) cut → (b : Bool) → (version == 2) ≡ b → cut.bits ≡ many.value
+    IsInVersion version (cut_picture many.cut) cut → (b : Bool) → (version == 2) ≡ b → cut.bits ≡ many.value
 bits-all-in runs many version cut are in_version true e =
-    let fold : IsFold (cut_of many.cut) cut = rw e at in_version in fold.bits ∙ are.measures.measure.cut.bits
+    let fold : IsFold (cut_picture many.cut) cut = rw e at in_version in fold.bits ∙ are.measures.measure.cut.bits
 bits-all-in runs many version cut are in_version false e =
-    let same : cut ≡ cut_of many.cut = rw e at in_version in
+    let same : cut ≡ cut_picture many.cut = rw e at in_version in
     ap (λ (c : CutPicture). c.bits) same ∙ are.measures.measure.cut.bits
 
 short-all-in : (runs : ManyRunsTask) (many : Many) (version : ℕ) (text : List ℕ) (cut : CutPicture) →
-    AreMeasured runs many → IsInVersion version (cut_of many.cut) cut → IsTextOfCut text cut → (b : Bool) →
+    AreMeasured runs many → IsInVersion version (cut_picture many.cut) cut → IsTextOfCut text cut → (b : Bool) →
     (version == 2) ≡ b → length text ≤ 67108864
 short-all-in runs many version text cut are in_version spells true e =
-    let fold : IsFold (cut_of many.cut) cut = rw e at in_version in
+    let fold : IsFold (cut_picture many.cut) cut = rw e at in_version in
     rw spells.text (are.short.fold cut spells.valid fold)
 short-all-in runs many version text cut are in_version spells false e =
-    let same : cut ≡ cut_of many.cut = rw e at in_version in
+    let same : cut ≡ cut_picture many.cut = rw e at in_version in
     rw spells.text (subst (λ c. length (cut_text c) ≤ 67108864) (sym same) are.short.text)
 
 low-as-budget : (bits value : ℕ) → bits ≡ value → value ≤ 1048576 → bits ≤ 1048576
@@ -372,7 +372,7 @@ low-as-budget bits value e low = omega arith
 
 many-headline : (source : Option Told) (version : ℕ) (runs : ManyRuns) (files : List (List ℕ)) (task : ManyRunsTask)
     (many : Many) (text : List ℕ) (answer : Answer) → Loads source (wants_of (MeasuresAll version runs)) (Ok files) →
-    IsManyRunsTask runs files task → AreMeasured task many → IsCutText version (cut_of many.cut) text →
+    IsManyRunsTask runs files task → AreMeasured task many → IsCutText version (cut_picture many.cut) text →
     answer ≡ done_by text →
     MeasuredHeadline IsGraphOfRuns source runs.guest runs.secrets (record { turns = runs.turns; table = runs.table })
     (reply_of answer)

@@ -12,11 +12,11 @@ use Rattle.cut_file.specs.declared.faults.CutFault.TheVariants as cut
 use Rattle.cut_file.specs.FaultTexts.{cut_fault_text}
 use Rattle.enclosure_regions.specs.declared.region_faults.RegionFault.{RegionFault}
 use Rattle.enclosure_regions.specs.declared.region_faults.RegionFault.TheVariants as regions
-use Rattle.enclosure_regions.specs.Texts.{break_text, fault_text, place_text}
+use Rattle.enclosure_regions.specs.Texts.{break_text, region_fault_text, place_text}
 use Rattle.rv32im_asm.specs.declared.fault.AsmFault.{AsmFault}
 use Rattle.rv32im_asm.specs.declared.fault.AsmFault.TheVariants as source
 use Rattle.rv32im_asm.specs.FaultTexts.{source_fault_text}
-use Rattle.rv32im_asm.specs.Kinds.{number_of}
+use Rattle.rv32im_asm.specs.Kinds.{kind_number}
 use Rattle.flow_certificate.specs.declared.faults.FormFault.{FormFault}
 use Rattle.flow_certificate.specs.declared.faults.FormFault.TheVariants as forms
 use Rattle.flow_certificate.specs.VerdictTexts.{form_fault_text}
@@ -124,7 +124,7 @@ cut_fault cut.Truncated = is refl
 cut_fault (cut.Trailing offset) = two (codes "trailing ") offset (is refl)
 cut_fault cut.Memory = is refl
 
-pub region : (fault : RegionFault) → Clean (fault_text fault)
+pub region : (fault : RegionFault) → Clean (region_fault_text fault)
 region regions.Json = is refl
 region (regions.Shape index) = two (codes "shape ") index (is refl)
 region (regions.SameAddress index) = two (codes "same-address ") index (is refl)
@@ -134,7 +134,7 @@ region (regions.TooMany count) = two (codes "too-many ") count (is refl)
 region regions.Memory = is refl
 
 pub source_fault : (fault : AsmFault) → Clean (source_fault_text fault)
-source_fault (source.Line line kind) = more (codes "line ") _ line (is refl) (two (codes " kind ") (number_of kind) (is refl))
+source_fault (source.Line line kind) = more (codes "line ") _ line (is refl) (two (codes " kind ") (kind_number kind) (is refl))
 source_fault (source.LabelTwice line) = two (codes "label-twice ") line (is refl)
 source_fault (source.LabelMissing line) = two (codes "label-missing ") line (is refl)
 source_fault (source.ImmediateRange line) = two (codes "range ") line (is refl)

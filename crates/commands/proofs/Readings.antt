@@ -4,13 +4,13 @@ use Rattle.std.proofs.Common.{◌≡◌, ◌≤◌, ◌<◌, ◌∙◌, inl, inr
 use Rattle.command_line.specs.CommandLines.{Command, IsCommand}
 use Rattle.command_line.proofs.OneCommand.{one_command}
 use Rattle.command_tasks.specs.declared.refusals.Refusal.{Refusal}
-use Rattle.command_tasks.specs.Statuses.{number_of}
+use Rattle.command_tasks.specs.Statuses.{status_number}
 use Rattle.task_answers.specs.Answers.{Answer, Reads, told}
 use Rattle.commands.specs.Replies.{IsUsage}
 
 -- the status that an answer is told with
 abbrev pub status_of : Answer → ℕ
-status_of answer = number_of (told answer).status
+status_of answer = status_number (told answer).status
 
 -- two answers of one status
 abbrev pub AreOne : Answer → Answer → Type 0

@@ -6,8 +6,8 @@ use Rattle.flow_base.specs.Puts.{Taken, after_put}
 use Rattle.command_line.specs.CommandLines.{IsNoCommand}
 use Rattle.command_tasks.specs.declared.refusals.Refusal.{Refusal}
 use Rattle.command_tasks.specs.declared.refusals.Refusal.TheVariants.{Load, Memory, Usage}
-use Rattle.command_tasks.specs.LoadCounts.{HasCause, KeepsCount}
-use Rattle.command_tasks.specs.Statuses.{number_of}
+use Rattle.command_tasks.specs.LoadCounts.{CountsFault, KeepsCount}
+use Rattle.command_tasks.specs.Statuses.{status_number}
 use Rattle.task_answers.specs.declared.replies.Reply.{Reply as MadeReply}
 use Rattle.task_answers.specs.Answers.{Answer, told}
 use Rattle.commands.specs.Clauses.{CountsFaults, IsPut, IsReply}
@@ -66,11 +66,11 @@ is_reply source words answer answers = record {
 -- ---- what is put
 
 same-told : (answer : Answer) (made : MadeReply) → made ≡ told answer →
-    record { status = number_of made.status; text = made.text } ≡ reply_of answer
-same-told answer made is = ap (λ (r : MadeReply). record { status = number_of r.status; text = r.text }) is
+    record { status = status_number made.status; text = made.text } ≡ reply_of answer
+same-told answer made is = ap (λ (r : MadeReply). record { status = status_number r.status; text = r.text }) is
 
 pub put_whole : (answer : Answer) (made : MadeReply) (status : ℕ) (before now : Option Taken) → made ≡ told answer →
-    status ≡ number_of made.status → now ≡ option_map (after_put made.text) before →
+    status ≡ status_number made.status → now ≡ option_map (after_put made.text) before →
     IsPut (reply_of answer) status before now
 put_whole answer made status before now is number puts =
     subst (λ (r : Reply). IsPut r status before now) (same-told answer made is) (inl (number, puts))
@@ -95,11 +95,11 @@ low-seven n m e low seven = omega arith
 
 pub faults_put : (source : Option Told) (words : List (List ℕ)) (answer : Answer) (made : MadeReply)
     (status loads_before loads puts_before puts : ℕ) → AnswersWords source words answer → answer ≢ Err Memory →
-    made ≡ told answer → status ≡ number_of made.status → HasCause answer loads_before loads →
+    made ≡ told answer → status ≡ status_number made.status → CountsFault answer loads_before loads →
     KeepsCount answer loads_before loads → puts ≡ puts_before →
     CountsFaults status loads_before loads puts_before puts
 faults_put source words answer made status loads_before loads puts_before puts answers known is number cause kept same =
-    let statuses : status ≡ status_of answer = number ∙ ap (λ (r : MadeReply). number_of r.status) is in
+    let statuses : status ≡ status_of answer = number ∙ ap (λ (r : MadeReply). status_number r.status) is in
     record {
       load_failed = λ five.
           let load = load-of source words answer answers (sym statuses ∙ five) in

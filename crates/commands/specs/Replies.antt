@@ -5,7 +5,7 @@ use Rattle.command_line.specs.CommandLines.{Command, IsCommand, IsNoCommand}
 use Rattle.command_tasks.specs.declared.refusals.Refusal.{Refusal}
 use Rattle.command_tasks.specs.declared.refusals.Refusal.TheVariants.{Usage}
 use Rattle.command_tasks.specs.Loading.{Leaves, LeavesPart, Loads}
-use Rattle.command_tasks.specs.Statuses.{number_of}
+use Rattle.command_tasks.specs.Statuses.{status_number}
 use Rattle.command_tasks.specs.Tasks.{IsFormRefusal, IsTaskOf, wants_of}
 use Rattle.task_answers.specs.Answers.{Answer, Reads, told}
 use Rattle.task_answers.specs.TaskAnswers.{AnswersTask}
@@ -33,7 +33,7 @@ pub record Reply : Type 0 where
   pub text : List ℕ
 
 abbrev pub reply_of : Answer → Reply
-reply_of answer = record { status = number_of (told answer).status; text = (told answer).text }
+reply_of answer = record { status = status_number (told answer).status; text = (told answer).text }
 
 -- the reply to words
 abbrev pub Replies : Option Told → List (List ℕ) → Reply → Type 0

@@ -1,7 +1,7 @@
 //! The answer to words: they name a command, its files are loaded, what it asks for is read of them, and that is made.
 
 ghost use Rattle.std.specs.Prelude.{◌≡◌, ◌≢◌, ◌≤◌, ◌∷◌, [], Err, map, string_bytes};
-ghost use Rattle.command_tasks.specs.LoadCounts.{HasCause, KeepsCount};
+ghost use Rattle.command_tasks.specs.LoadCounts.{CountsFault, KeepsCount};
 ghost use Rattle.command_tasks.specs.declared.refusals.Refusal.TheVariants.{Memory};
 ghost use Rattle.commands.specs.Replies.{AnswersWords, LeavesWords, LeavesWordsPart};
 
@@ -24,7 +24,7 @@ pub fn answer<F: Files>(
     ensures leaves { result ≢ Err Memory → LeavesWords (F.told files.old) (map string_bytes words.now) (F.told
         files.new) }
     ensures part { LeavesWordsPart (F.told files.old) (map string_bytes words.now) (F.told files.new) }
-    ensures cause { HasCause result (F.faults files.old) (F.faults files.new) }
+    ensures cause { CountsFault result (F.faults files.old) (F.faults files.new) }
     ensures kept { KeepsCount result (F.faults files.old) (F.faults files.new) }
     ensures faults { F.faults files.old ≤ F.faults files.new }
 {

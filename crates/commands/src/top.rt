@@ -1,7 +1,7 @@
 ghost use Rattle.std.specs.Prelude.{◌≡◌, ◌≢◌, ◌≤◌, ◌∷◌, [], map, string_bytes, IsTrue};
-ghost use Rattle.command_tasks.specs.Statuses.{is_one_of};
 ghost use Rattle.commands.specs.Clauses.{CountsFaults, IsPut, IsReply};
 ghost use Rattle.commands.specs.Replies.{LeavesWords, LeavesWordsPart, Reply as WholeReply};
+ghost use Rattle.flow_base.specs.Listed.{is_listed};
 
 use crate::answering::answer;
 use command_tasks::Status;
@@ -30,7 +30,7 @@ pub fn flowcheck<F: Files, K: Sink>(
     books: &[RuleBook],
 ) -> u8
     requires books { map (λ book. book.table) books.now ≡ 1 ∷ 2 ∷ [] }
-    ensures known { IsTrue (is_one_of (0 ∷ 1 ∷ 2 ∷ 3 ∷ 4 ∷ 5 ∷ 6 ∷ 7 ∷ 8 ∷ []) result) }
+    ensures known { IsTrue (is_listed (0 ∷ 1 ∷ 2 ∷ 3 ∷ 4 ∷ 5 ∷ 6 ∷ 7 ∷ 8 ∷ []) result) }
     ensures reply { result ≢ 8 →
         (reply : WholeReply) × IsReply (F.told files.old) (map string_bytes words.items) reply
         × IsPut reply result (K.told out.old) (K.told out.new) }

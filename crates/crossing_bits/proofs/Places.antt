@@ -6,7 +6,7 @@ use Rattle.std.proofs.lemmas.Nat.Bits.{bit_at_lowest, bit_at-suc}
 use Rattle.std.specs.Int.Count.{ones}
 use mir.Val.{bool_byte}
 use Rattle.std.proofs.lemmas.List.{take_rest, take_all}
-use Rattle.crossing_bits.specs.HexText.{number_of, byte_at, first_bytes}
+use Rattle.crossing_bits.specs.HexText.{spelt_number, byte_at, first_bytes}
 use Rattle.crossing_bits.specs.Returns.{ReturnLaw, AgreeLaw}
 use Rattle.crossing_bits.proofs.Feeding.{le_or_lt}
 use Rattle.std.proofs.lemmas.Nat.{ones_cat, and_block, and_le_r, and_mask}
@@ -312,13 +312,13 @@ patched_empty v m (b ∷ bs) k h o l = absurd (omega arith)
 
 pub number_read :
     (bs : List Bool) → 1 ≤ length bs →
-    bool_byte (get_or bs 0 false) + 2 * number_of (take (length bs - 1) (drop 1 bs)) ≡ number_of bs
-unfolding number_of
+    bool_byte (get_or bs 0 false) + 2 * spelt_number (take (length bs - 1) (drop 1 bs)) ≡ spelt_number bs
+unfolding spelt_number
 number_read [] l = absurd (omega arith)
 number_read (b ∷ bs) l = rw (later_slice (b ∷ bs), first_read (b ∷ bs) l) refl
 
-pub number_empty : (bs : List Bool) → length bs < 1 → number_of bs ≡ 0
-unfolding number_of
+pub number_empty : (bs : List Bool) → length bs < 1 → spelt_number bs ≡ 0
+unfolding spelt_number
 number_empty [] l = refl
 number_empty (b ∷ bs) l = absurd (omega arith)
 

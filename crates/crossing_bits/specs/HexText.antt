@@ -5,13 +5,13 @@ use Rattle.flow_base.specs.Words.{number_of_bit}
 use Rattle.hex.specs.Hex.{encode_lower}
 
 -- the number whose bits are these, lowest first
-unfoldable pub number_of : List Bool → ℕ
-number_of [] = 0
-number_of (bit ∷ bits) = number_of_bit bit + 2 * number_of bits
+unfoldable pub spelt_number : List Bool → ℕ
+spelt_number [] = 0
+spelt_number (bit ∷ bits) = number_of_bit bit + 2 * spelt_number bits
 
 -- byte j holds the bits 8 j to 8 j + 7; bits that the string lacks are 0
 abbrev pub byte_at : List Bool → ℕ → ℕ
-byte_at bits j = number_of (take 8 (drop (8 * j) bits))
+byte_at bits j = spelt_number (take 8 (drop (8 * j) bits))
 
 -- the first n bytes
 unfoldable pub first_bytes : ℕ → List Bool → List ℕ

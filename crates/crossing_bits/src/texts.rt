@@ -1,6 +1,6 @@
 ghost use Rattle.std.specs.Prelude.{◌≡◌, ◌*◌, ◌^◌, ◌≤◌, ◌<◌, length, IfOk};
 ghost use Rattle.hex.specs.Hex.{encode_lower};
-ghost use Rattle.crossing_bits.specs.HexText.{number_of, byte_at, bytes_of, hex_of};
+ghost use Rattle.crossing_bits.specs.HexText.{spelt_number, byte_at, bytes_of, hex_of};
 
 use flow_base::{Bytes, List, NoMemory};
 use std::alloc::Global;
@@ -8,7 +8,7 @@ use std::alloc::Global;
 /// The number of at most eight bits, the first of them lowest.
 fn number(bits: &[bool]) -> u8
     requires { length bits.now ≤ 8 }
-    ensures value { result ≡ number_of bits.now }
+    ensures value { result ≡ spelt_number bits.now }
     ensures bound { result < 2 ^ length bits.now }
 {
     match bits {

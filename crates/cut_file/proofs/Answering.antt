@@ -7,19 +7,19 @@ use Rattle.cut_file.specs.declared.faults.CutFault.TheVariants.{Version, Line, O
 use Rattle.cut_file.specs.Cuts.{CutPicture}
 use Rattle.cut_file.specs.Texts.{CutText}
 use Rattle.cut_file.specs.Faults.{FirstCutFault}
-use Rattle.cut_file.specs.Pictures.{picture_of}
+use Rattle.cut_file.specs.Pictures.{cut_picture}
 use Rattle.cut_file.specs.Private.Reading.{cut_in}
 use Rattle.cut_file.proofs.FileReads.{CutAnswer, cut-answer}
 use Rattle.cut_file.proofs.FileTexts.{cut-own, fault-own, faulty, faulty-same, fine}
 
 abbrev pub ReadsFile : List ℕ → Result Cut CutFault → Type 0
-ReadsFile file answer = IfOk answer (λ cut. cut_in file ≡ Ok (picture_of cut))
+ReadsFile file answer = IfOk answer (λ cut. cut_in file ≡ Ok (cut_picture cut))
 
 abbrev pub RefusesFile : List ℕ → Result Cut CutFault → Type 0
 RefusesFile file answer = IfErr answer (λ fault. fault ≢ Memory → cut_in file ≡ Err fault)
 
 pub answers-text : (file : List ℕ) (answer : Result Cut CutFault) → ReadsFile file answer →
-    IfOk answer (λ cut. CutText file (picture_of cut))
+    IfOk answer (λ cut. CutText file (cut_picture cut))
 answers-text file (Ok cut) ok = subst (CutAnswer file) ok (cut-answer file)
 answers-text file (Err fault) ok = tt
 
@@ -51,7 +51,7 @@ failed fault = Err fault
 pub answers-only : (file : List ℕ) (answer : Result Cut CutFault) (fault : CutFault) → ReadsFile file answer →
     RefusesFile file answer →
     FirstCutFault file fault → fault ≢ Memory → answer ≢ Err Memory → answer ≡ Err fault
-answers-only file (Ok cut) fault ok err known free fits = absurd (differ (picture_of cut) fault (sym ok
+answers-only file (Ok cut) fault ok err known free fits = absurd (differ (cut_picture cut) fault (sym ok
     ∙ fault-own fault file free known))
 answers-only file (Err other) fault ok err known free fits =
     let told : cut_in file ≡ Err other = err (λ e. fits (ap failed e)) in

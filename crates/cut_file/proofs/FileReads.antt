@@ -7,13 +7,13 @@ use Rattle.std.proofs.lemmas.List.{append-nil}
 use Rattle.cut_file.specs.declared.faults.CutFault.{CutFault}
 use Rattle.cut_file.specs.declared.faults.CutFault.TheVariants as faults
 use Rattle.cut_file.specs.declared.lines.Line.{Line}
-use Rattle.cut_file.specs.Cuts.{CutPicture, is_empty, is_valid}
+use Rattle.cut_file.specs.Cuts.{CutPicture, is_empty, is_cut_picture}
 use Rattle.cut_file.specs.Faults.{FirstCutFault, HasLine, IsOpen, IsOutOfOrder, MayStand, Stands, has_feed}
 use Rattle.cut_file.specs.Fronts.{Front, followed, front_text, is_front, is_whole, lines_before, version_of}
 use Rattle.cut_file.specs.Fronts.Front.{Nothing, Versioned, Sized, Listed, Whole}
 use Rattle.cut_file.specs.Private.Reading.{◌>>◌, Read, cut_in, is_in_order, line_in, lines_in, or_fault, parts, unfit}
 use Rattle.cut_file.specs.Private.Reading.{unless_whole, whole_cut, with_line, with_text}
-use Rattle.cut_file.specs.Texts.{CutText, cut_text, joined}
+use Rattle.cut_file.specs.Texts.{CutText, cut_text, separated}
 use Rattle.cut_file.proofs.Fronts.{next-lines, next-ordered}
 use Rattle.cut_file.proofs.LineTexts.{line-found, line-own}
 use Rattle.cut_file.proofs.Parts.{clean_words, has_byte, joined-parts, parts-clean, parts-some}
@@ -81,10 +81,10 @@ record IsAt (file : List ℕ) (number : ℕ) (front : Front) (texts : List (List
   pub before : IsOpen front
   pub count : number ≡ suc (length (lines_before front))
   pub clean : clean_words 10 texts ≡ true
-  pub is : file ≡ front_text front ++ joined 10 texts
+  pub is : file ≡ front_text front ++ separated 10 texts
 
 abbrev FileAnswer : List ℕ → Read → Type 0
-FileAnswer file (Ok read) = (is_valid read.0 ≡ true) × (file ≡ cut_text read.0 ++ joined 10 read.1)
+FileAnswer file (Ok read) = (is_cut_picture read.0 ≡ true) × (file ≡ cut_text read.0 ++ separated 10 read.1)
 FileAnswer file (Err fault) = FirstCutFault file fault
 
 later-fault : (file : List ℕ) (number : ℕ) → 2 ≤ number → FirstCutFault file (faults.Line number) →
@@ -130,7 +130,7 @@ at-next file number front longer text next texts at stands ordered goes_on =
       before = record { ordered = ordered; goes_on = goes_on };
       count = omega (arith, count, counted);
       clean = (and_parts (not (has_byte 10 text)) (clean_words 10 (next ∷ texts)) at.clean).1;
-      is = at.is ∙ line-over front longer text (joined 10 (next ∷ texts)) stands;
+      is = at.is ∙ line-over front longer text (separated 10 (next ∷ texts)) stands;
     }
 
 has-line : (file : List ℕ) (number : ℕ) (front : Front) (text next : List ℕ) (texts : List (List ℕ)) →
@@ -138,7 +138,7 @@ has-line : (file : List ℕ) (number : ℕ) (front : Front) (text next : List �
 has-line file number front text next texts at = record {
   before = at.before;
   whole = feed-byte text ∙ not-true _ (and_parts (not (has_byte 10 text)) (clean_words 10 (next ∷ texts)) at.clean).0;
-  more = joined 10 (next ∷ texts);
+  more = separated 10 (next ∷ texts);
   is = at.is;
 }
 
@@ -158,7 +158,7 @@ step-answer file number front text next texts (Ok (Sized version secret_len)) at
 step-answer file number front text next texts (Ok (Listed cut)) at told more =
     more _ (at-next file number front (Listed cut) text next texts at told.0 told.1 refl)
 step-answer file number front text next texts (Ok (Whole cut)) at told more =
-    (told.1, at.is ∙ line-over front (Whole cut) text (joined 10 (next ∷ texts)) told.0)
+    (told.1, at.is ∙ line-over front (Whole cut) text (separated 10 (next ∷ texts)) told.0)
 step-answer file number front text next texts (Err fault) at told more =
     let here = has-line file number front text next texts at in
     elim told [
@@ -187,7 +187,7 @@ CutAnswer file (Err fault) = FirstCutFault file fault
 trailing-place : (text rest : List ℕ) → length (text ++ rest) - length rest ≡ length text
 trailing-place text rest = omega (arith, length-append text rest)
 
-rest-answer : (file : List ℕ) (cut : CutPicture) (rest : List ℕ) → is_valid cut ≡ true →
+rest-answer : (file : List ℕ) (cut : CutPicture) (rest : List ℕ) → is_cut_picture cut ≡ true →
     file ≡ cut_text cut ++ rest → CutAnswer file (whole_cut (length file) cut rest)
 rest-answer file cut [] valid is = record { valid = valid; text = is ∙ append-nil (cut_text cut) }
 rest-answer file cut (byte ∷ rest) valid is = (
@@ -200,8 +200,8 @@ rest-answer file cut (byte ∷ rest) valid is = (
 )
 
 read-answer : (file : List ℕ) (read : Read) → FileAnswer file read →
-    CutAnswer file (read >> λ whole. whole_cut (length file) whole.0 (joined 10 whole.1))
-read-answer file (Ok read) known = rest-answer file read.0 (joined 10 read.1) known.0 known.1
+    CutAnswer file (read >> λ whole. whole_cut (length file) whole.0 (separated 10 whole.1))
+read-answer file (Ok read) known = rest-answer file read.0 (separated 10 read.1) known.0 known.1
 read-answer file (Err fault) known = known
 
 pub cut-answer : (file : List ℕ) → CutAnswer file (cut_in file)

@@ -11,20 +11,21 @@ use Rattle.cut_file.specs.declared.faults.CutFault.TheVariants as faults
 use Rattle.cut_file.specs.declared.lines.Line.{Line}
 use Rattle.cut_file.specs.declared.lines.Line.TheVariants.{Version, Secret, Bits, Skip, Point, End}
 use Rattle.cut_file.specs.declared.points.CutPoint.{CutPoint}
-use Rattle.cut_file.specs.Cuts.{CutPicture, are_points_of, are_regions, is_empty, is_point_of, is_region, is_valid}
+use Rattle.cut_file.specs.Cuts.{CutPicture, are_points_of, are_regions, is_empty, is_point_of, is_cut_picture}
 use Rattle.cut_file.specs.Cuts.{is_version, is_word, stands_before}
 use Rattle.cut_file.specs.Faults.{FirstCutFault, HasLine, IsOpen, MayStand, Stands}
 use Rattle.cut_file.specs.Fronts.{Front, followed, front_text, is_front, is_whole, lines_before, version_of}
 use Rattle.cut_file.specs.Fronts.Front.{Nothing, Versioned, Sized, Listed, Whole}
 use Rattle.cut_file.specs.Private.Reading.{◌>>◌, Read, cut_in, is_in_order, lines_in, or_fault, parts, unfit}
 use Rattle.cut_file.specs.Private.Reading.{unless_whole, whole_cut, with_line, with_text}
-use Rattle.cut_file.specs.Texts.{CutText, cut_text, is_line, joined, line_text, lines_text, open_lines}
+use Rattle.cut_file.specs.Texts.{CutText, cut_text, is_line, separated, line_text, lines_text, open_lines}
 use Rattle.cut_file.proofs.FileReads.{TextAnswer, feed-byte, text-answer}
 use Rattle.cut_file.proofs.Following.{is_kept, kept-step}
 use Rattle.cut_file.proofs.Fronts.{next-ordered}
 use Rattle.cut_file.proofs.LineTexts.{line-clean, line-own}
 use Rattle.cut_file.proofs.Parts.{joined-parts, parts-front, parts-last, parts-some, has_byte}
 use Rattle.cut_file.proofs.Pieces.{lines-append}
+use Rattle.flow_base.specs.Points.{is_region_number}
 
 abbrev pub fine : {A : Type 0} → A → Result A CutFault
 fine value = Ok value
@@ -161,7 +162,7 @@ abbrev of_lists : CutPicture → List ℕ → List CutPoint → Front
 of_lists cut skip points = Listed (record cut { skip = skip; points = points })
 
 skip-kind : (cut : CutPicture) → IsHead cut.version cut.secret_len cut.bits →
-    IsKind cut.version (λ r. Skip r) (λ l. of_lists cut l []) is_region nat_lt
+    IsKind cut.version (λ r. Skip r) (λ l. of_lists cut l []) is_region_number nat_lt
 skip-kind cut head = record {
   known = λ region own. own;
   same = λ skip. refl;
@@ -204,7 +205,7 @@ lists-own cut tail head skip points some =
     ap (λ (l : List (List ℕ)). lines_in 4 (of_lists cut [] []) (l ++ tail)) (map-append (line_text cut.version)
     (map Skip cut.skip) (map Point cut.points))
     ∙ ap (lines_in 4 (of_lists cut [] [])) (append_assoc skips others tail)
-    ∙ items-own cut.version (λ r. Skip r) (λ l. of_lists cut l []) is_region nat_lt (skip-kind cut head) cut.skip [] 4
+    ∙ items-own cut.version (λ r. Skip r) (λ l. of_lists cut l []) is_region_number nat_lt (skip-kind cut head) cut.skip [] 4
     (others ++ tail) refl skip (some-behind others tail some)
     ∙ items-own cut.version (λ p. Point p) (λ l. of_lists cut cut.skip l) (is_point_of cut.version) stands_before
     (point-kind cut head skip) cut.points [] (4 + length cut.skip) tail refl points some
@@ -276,11 +277,11 @@ lines-known (Listed cut) is_open =
     let short = and_parts (is_line cut.version (Secret cut.secret_len)) _ known.1 in
     let bits = and_parts (is_word cut.bits) _ short.1 in
     let lists = and_parts (are_regions cut.skip) (are_points_of cut.version cut.points) bits.1 in
-    let skips = and_parts (list_all is_region cut.skip) _ lists.0 in
+    let skips = and_parts (list_all is_region_number cut.skip) _ lists.0 in
     let points = and_parts (list_all (is_point_of cut.version) cut.points) _ lists.1 in
     and_from _ _ known.0 (and_from _ _ short.0 (and_from _ _ bits.0
     (all-append (is_line cut.version) (map Skip cut.skip) (map Point cut.points)
-    (all-map (λ r. Skip r) is_region (is_line cut.version) cut.skip (λ region own. own) skips.0)
+    (all-map (λ r. Skip r) is_region_number (is_line cut.version) cut.skip (λ region own. own) skips.0)
     (all-map (λ p. Point p) (is_point_of cut.version) (is_line cut.version) cut.points (λ point own. own) points.0))))
 lines-known (Whole cut) is_open = let closed = is_open.goes_on in absurd cc
 
@@ -304,13 +305,13 @@ file-front file front rest is_open is =
 -- ---- the whole file
 
 abbrev pub finish : List ℕ → Read → Result CutPicture CutFault
-finish file read = read >> λ whole. whole_cut (length file) whole.0 (joined 10 whole.1)
+finish file read = read >> λ whole. whole_cut (length file) whole.0 (separated 10 whole.1)
 
 pub file-finish : (file : List ℕ) (read : Read) → lines_in 1 Nothing (parts 10 file) ≡ read → cut_in file ≡ finish file read
 unfolding cut_in
 file-finish file read is = ap (finish file) is
 
-ended-own : (file : List ℕ) (cut : CutPicture) (rest : List ℕ) → is_valid cut ≡ true → file ≡ cut_text cut ++ rest →
+ended-own : (file : List ℕ) (cut : CutPicture) (rest : List ℕ) → is_cut_picture cut ≡ true → file ≡ cut_text cut ++ rest →
     cut_in file ≡ whole_cut (length file) cut rest
 ended-own file cut rest valid is =
     let number : ℕ = suc (length (open_lines cut)) in

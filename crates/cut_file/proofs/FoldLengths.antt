@@ -8,7 +8,7 @@ use Rattle.std.proofs.lemmas.List.Sums.{sum_by-cons}
 use Rattle.cut_file.specs.declared.points.CutPoint.{CutPoint}
 use Rattle.cut_file.specs.declared.points.Run.{Run}
 use Rattle.cut_file.specs.Cuts.{CutPicture, are_runs, have_other_masks, is_cut_point}
-use Rattle.cut_file.specs.Cuts.{is_point, is_point_of, is_rest, is_run, is_valid}
+use Rattle.cut_file.specs.Cuts.{is_point, is_point_of, is_rest, is_run, is_cut_picture}
 use Rattle.cut_file.specs.Cuts.{neighbours_pass}
 use Rattle.cut_file.specs.Folds.{AreFolded, IsFold, IsFolded}
 use Rattle.cut_file.specs.Masks.{listed_masks}
@@ -164,7 +164,7 @@ folded-bytes (point ∷ points) (first ∷ folded) all own made =
     let count = sum_by-cons (λ (p : CutPoint). length p.runs) point points in
     omega (arith, here, inner, count)
 
-pub fold-short : (cut folded : CutPicture) → is_valid cut ≡ true → cut.version ≡ 1 → is_valid folded ≡ true →
+pub fold-short : (cut folded : CutPicture) → is_cut_picture cut ≡ true → cut.version ≡ 1 → is_cut_picture folded ≡ true →
     IsFold cut folded → length (cut_text folded) ≤ byte_bound cut
 fold-short cut folded valid first own made =
     let single = subst (λ (n : ℕ). list_all (is_point_of n) cut.points ≡ true) first (points-of cut valid) in

@@ -5,12 +5,12 @@ use Rattle.std.proofs.Common.{sym, ap, ◌∙◌, append_assoc, arith}
 use Rattle.std.specs.List.{list_all}
 use Rattle.std.proofs.Common.{nat_lt, nat_le, IsTrue}
 use Rattle.std.proofs.lemmas.Bool.{and_parts, and_from}
-use Rattle.flow_base.specs.Points.{is_slot}
+use Rattle.flow_base.specs.Points.{is_slot, is_region_number}
 use Rattle.cut_file.specs.declared.points.CutPoint.{CutPoint}
-use Rattle.cut_file.specs.Cuts.{are_points, are_points_of, are_regions, is_valid, is_cut_point, is_point, is_point_of}
-use Rattle.cut_file.specs.Cuts.{is_region, is_single, is_word, neighbours_pass, stands_before}
+use Rattle.cut_file.specs.Cuts.{are_points, are_points_of, are_regions, is_cut_picture, is_cut_point, is_point, is_point_of}
+use Rattle.cut_file.specs.Cuts.{is_single, is_word, neighbours_pass, stands_before}
 use Rattle.cut_file.specs.declared.cuts.Cut.{Cut}
-use Rattle.cut_file.specs.Pictures.{picture_of}
+use Rattle.cut_file.specs.Pictures.{cut_picture}
 use Rattle.cut_file.specs.Private.Reading.{may_follow}
 
 pub may_follow-last : {A : Type 0} (test : A → A → Bool) (items : List A) (item last : A) → 0 < length items →
@@ -59,10 +59,10 @@ list-push each test items item known own follows =
     and_from _ _ (all-push each items item ∙ and_from _ _ both.0 own) (neighbours-push test items item
     ∙ and_from _ _ both.1 follows)
 
-pub regions-push : (skip : List ℕ) (region : ℕ) → IsTrue (are_regions skip) → IsTrue (is_region region) →
+pub regions-push : (skip : List ℕ) (region : ℕ) → IsTrue (are_regions skip) → IsTrue (is_region_number region) →
     may_follow nat_lt skip region ≡ true → IsTrue (are_regions (skip ++ (region ∷ [])))
 regions-push skip region known own follows =
-    is_true _ (list-push is_region nat_lt skip region (is_so _ known) (is_so _ own) follows)
+    is_true _ (list-push is_region_number nat_lt skip region (is_so _ known) (is_so _ own) follows)
 
 pub points-push : (version : ℕ) (points : List CutPoint) (point : CutPoint) → IsTrue (are_points_of version points) →
     IsTrue (is_point_of version point) →
@@ -119,7 +119,7 @@ point-known version point known =
     is_true _ (and_parts (is_cut_point point) ((version == 2) || is_single point.rest) (is_so _ known)).0
 
 -- what a cut keeps makes its picture valid
-pub cut-valid : (cut : Cut) → is_valid (picture_of cut) ≡ true
+pub cut-valid : (cut : Cut) → is_cut_picture (cut_picture cut) ≡ true
 cut-valid cut =
     and_from _ _ (is_so _ cut.is_known) (and_from _ _ (is_so _ cut.is_short) (and_from _ _ (is_so _ cut.is_number)
     (and_from _ _ (is_so _ cut.skips) (is_so _ cut.crosses))))

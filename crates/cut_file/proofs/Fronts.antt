@@ -8,7 +8,7 @@ use Rattle.std.proofs.lemmas.List.{append-nil}
 use Rattle.cut_file.specs.declared.lines.Line.{Line}
 use Rattle.cut_file.specs.declared.lines.Line.TheVariants.{Version, Secret, Bits, Skip, Point, End}
 use Rattle.cut_file.specs.declared.points.CutPoint.{CutPoint}
-use Rattle.cut_file.specs.Cuts.{CutPicture, are_points_of, are_regions, is_empty, is_point_of, is_region, is_valid}
+use Rattle.cut_file.specs.Cuts.{CutPicture, are_points_of, are_regions, is_empty, is_point_of, is_cut_picture}
 use Rattle.cut_file.specs.Cuts.{is_version, is_word, neighbours_pass, stands_before}
 use Rattle.cut_file.specs.Fronts.{Front, bare_cut, followed, front_text, is_front, lines_before, version_of}
 use Rattle.cut_file.specs.Fronts.Front.{Nothing, Versioned, Sized, Listed, Whole}
@@ -17,6 +17,7 @@ use Rattle.cut_file.specs.Texts.{is_line, line_text, lines_text, open_lines}
 use Rattle.cut_file.proofs.Following.{all-push, neighbours-push}
 use Rattle.cut_file.proofs.Pieces.{lines-append}
 use Rattle.cut_file.proofs.Steps.{not-both, the-same}
+use Rattle.flow_base.specs.Points.{is_region_number}
 
 abbrev pub some_front : Front → Option Front
 some_front front = Some front
@@ -131,18 +132,18 @@ and-true : (test : Bool) → (test && true) ≡ test
 and-true true = refl
 and-true false = refl
 
-skip-ordered : (cut : CutPicture) (region : ℕ) → is_valid cut ≡ true → is_region region ≡ true →
-    is_valid (record cut { skip = cut.skip ++ (region ∷ []) }) ≡ may_follow nat_lt cut.skip region
+skip-ordered : (cut : CutPicture) (region : ℕ) → is_cut_picture cut ≡ true → is_region_number region ≡ true →
+    is_cut_picture (record cut { skip = cut.skip ++ (region ∷ []) }) ≡ may_follow nat_lt cut.skip region
 skip-ordered cut region valid own =
     let version = and_parts (is_version cut.version) _ valid in
     let short = and_parts (nat_le cut.secret_len 65536) _ version.1 in
     let bits = and_parts (is_word cut.bits) _ short.1 in
     let lists = and_parts (are_regions cut.skip) (are_points_of cut.version cut.points) bits.1 in
-    let pushed = kept-push is_region nat_lt cut.skip region lists.0 own in
+    let pushed = kept-push is_region_number nat_lt cut.skip region lists.0 own in
     rw (version.0, short.0, bits.0, lists.1, pushed) (and-true (may_follow nat_lt cut.skip region))
 
-point-ordered : (cut : CutPicture) (point : CutPoint) → is_valid cut ≡ true → is_point_of cut.version point ≡ true →
-    is_valid (record cut { points = cut.points ++ (point ∷ []) }) ≡ may_follow stands_before cut.points point
+point-ordered : (cut : CutPicture) (point : CutPoint) → is_cut_picture cut ≡ true → is_point_of cut.version point ≡ true →
+    is_cut_picture (record cut { points = cut.points ++ (point ∷ []) }) ≡ may_follow stands_before cut.points point
 point-ordered cut point valid own =
     let version = and_parts (is_version cut.version) _ valid in
     let short = and_parts (nat_le cut.secret_len 65536) _ version.1 in

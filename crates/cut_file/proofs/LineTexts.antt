@@ -11,7 +11,7 @@ use Rattle.cut_file.specs.declared.lines.Line.TheVariants as forms
 use Rattle.flow_base.specs.TextPieces.{after_text}
 use Rattle.flow_base.proofs.WantedTexts.{after-found, after-own}
 use Rattle.cut_file.specs.declared.points.CutPoint.{CutPoint}
-use Rattle.cut_file.specs.Cuts.{is_region, is_version, is_word}
+use Rattle.cut_file.specs.Cuts.{is_version, is_word}
 use Rattle.cut_file.specs.Texts.{is_line, line_text}
 use Rattle.cut_file.specs.Private.Reading.{is_short, line_in, number_behind, number_in}
 use Rattle.cut_file.specs.Private.Reading.{number_line_in, point_in, tested_number}
@@ -19,6 +19,7 @@ use Rattle.cut_file.proofs.Numbers.{clean-append, decimal-clean, number-found, n
 use Rattle.cut_file.proofs.Parts.{has_byte}
 use Rattle.cut_file.proofs.PointLines.{point-found, point-own, point_line-clean}
 use Rattle.cut_file.proofs.Steps.{else-found, kept-found, map-found, then-found, then-own}
+use Rattle.flow_base.specs.Points.{is_region_number}
 
 pub record IsLineOf (version : ℕ) (text : List ℕ) (line : Line) : Type 0 where
   pub known : is_line version line ≡ true
@@ -44,7 +45,7 @@ bits-form : (version : ℕ) → IsNumberForm (λ n. forms.Bits n) (codes "bits "
 bits-form version =
     record { text = λ number. refl; known = λ number. refl; small = λ number known. grind arith }
 
-skip-form : (version : ℕ) → IsNumberForm (λ n. forms.Skip n) (codes "skip ") is_region version
+skip-form : (version : ℕ) → IsNumberForm (λ n. forms.Skip n) (codes "skip ") is_region_number version
 skip-form version =
     record { text = λ number. refl; known = λ number. refl; small = λ number known. grind arith }
 
@@ -129,7 +130,7 @@ line-own version (forms.Bits number) known =
     let own = number-tested (codes "bits ") is_word number known ((bits-form version).small number known) in
     rw own refl
 line-own version (forms.Skip number) known =
-    let own = number-tested (codes "skip ") is_region number known ((skip-form version).small number known) in
+    let own = number-tested (codes "skip ") is_region_number number known ((skip-form version).small number known) in
     rw own refl
 line-own version (forms.Point point) known =
     let own = point-own version point known in

@@ -6,7 +6,7 @@ use Rattle.std.proofs.lemmas.Bool.{and_parts}
 use Rattle.flow_base.specs.declared.points.Point.{Point}
 use Rattle.cut_file.specs.declared.points.CutPoint.{CutPoint}
 use Rattle.cut_file.specs.declared.points.Run.{Run}
-use Rattle.cut_file.specs.Cuts.{CutPicture, are_points_of, are_regions, are_runs, is_cut_point, is_point, is_point_of, is_rest, is_single, is_valid, is_version, is_word, neighbours_pass, stands_before}
+use Rattle.cut_file.specs.Cuts.{CutPicture, are_points_of, are_regions, are_runs, is_cut_point, is_point, is_point_of, is_rest, is_single, is_cut_picture, is_version, is_word, neighbours_pass, stands_before}
 use Rattle.cut_file.specs.Folds.{AreFolded, HasNoPeriod, IsFold, IsFolded, IsLeastPeriod, is_period}
 use Rattle.cut_file.specs.Masks.{listed_masks}
 use Rattle.cut_file.proofs.OneRuns.{one-runs}
@@ -89,7 +89,7 @@ pub record HasLists (cut : CutPicture) : Type 0 where
   pub points : list_all (is_point_of cut.version) cut.points ≡ true
   pub ascend : neighbours_pass stands_before cut.points ≡ true
 
-pub lists-of : (cut : CutPicture) → is_valid cut ≡ true → HasLists cut
+pub lists-of : (cut : CutPicture) → is_cut_picture cut ≡ true → HasLists cut
 lists-of cut valid =
     let versions = and_parts (is_version cut.version) (nat_le cut.secret_len 65536 && (is_word cut.bits
     && (are_regions cut.skip && are_points_of cut.version cut.points))) valid in
@@ -120,7 +120,7 @@ cuts-same one other version secret_len bits skip points =
     ∙ (ap (λ (v : List ℕ). picture other.version other.secret_len other.bits v one.points) skip
     ∙ ap (λ (v : List CutPoint). picture other.version other.secret_len other.bits other.skip v) points)))
 
-pub one-fold : (cut one other : CutPicture) → is_valid one ≡ true → is_valid other ≡ true → IsFold cut one →
+pub one-fold : (cut one other : CutPicture) → is_cut_picture one ≡ true → is_cut_picture other ≡ true → IsFold cut one →
     IsFold cut other → one ≡ other
 one-fold cut one other first second fold also =
     let own = lists-of one first in

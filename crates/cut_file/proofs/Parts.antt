@@ -4,7 +4,7 @@ use Rattle.std.proofs.Common.{if◌then◌else◌, refl, sym, ap, ◌∙◌, ari
 use Rattle.std.proofs.Common.{◌&&◌, not, inl, inr, eq-eqb}
 use Rattle.std.proofs.lemmas.Bool.{and_parts, cases_Bool, cond-false, cond-true, eqb-true, not-true, or_from}
 use Rattle.std.proofs.lemmas.Bool.{or_parts}
-use Rattle.cut_file.specs.Texts.{joined}
+use Rattle.cut_file.specs.Texts.{separated}
 use Rattle.cut_file.specs.Cuts.{is_empty}
 use Rattle.cut_file.specs.Private.Reading.{divided, with_byte, onto_first, parts}
 
@@ -85,19 +85,19 @@ parts-clean separator (byte ∷ bytes) =
       | inr other ↦ rw other (onto-clean separator byte (parts separator bytes) other (parts-clean separator bytes))
     ]
 
-joined-onto : (separator byte : ℕ) (others : List (List ℕ)) → joined separator
-    (onto_first byte others) ≡ byte ∷ joined separator others
+joined-onto : (separator byte : ℕ) (others : List (List ℕ)) → separated separator
+    (onto_first byte others) ≡ byte ∷ separated separator others
 joined-onto separator byte [] = refl
 joined-onto separator byte (part ∷ []) = refl
 joined-onto separator byte (part ∷ (next ∷ others)) = refl
 
 joined-second : (separator byte : ℕ) (others : List (List ℕ)) →
-    joined separator ([] ∷ onto_first byte others) ≡ separator ∷ joined separator (onto_first byte others)
+    separated separator ([] ∷ onto_first byte others) ≡ separator ∷ separated separator (onto_first byte others)
 joined-second separator byte [] = refl
 joined-second separator byte (part ∷ others) = refl
 
-joined-empty : (separator : ℕ) (bytes : List ℕ) → joined separator
-    ([] ∷ parts separator bytes) ≡ separator ∷ joined separator (parts separator bytes)
+joined-empty : (separator : ℕ) (bytes : List ℕ) → separated separator
+    ([] ∷ parts separator bytes) ≡ separator ∷ separated separator (parts separator bytes)
 joined-empty separator [] = refl
 joined-empty separator (byte ∷ bytes) =
     elim (cases_Bool (byte == separator)) [
@@ -105,7 +105,7 @@ joined-empty separator (byte ∷ bytes) =
       | inr other ↦ rw other (joined-second separator byte (parts separator bytes))
     ]
 
-pub joined-parts : (separator : ℕ) (bytes : List ℕ) → joined separator (parts separator bytes) ≡ bytes
+pub joined-parts : (separator : ℕ) (bytes : List ℕ) → separated separator (parts separator bytes) ≡ bytes
 joined-parts separator [] = refl
 joined-parts separator (byte ∷ bytes) =
     elim (cases_Bool (byte == separator)) [
@@ -146,13 +146,13 @@ parts-last separator (byte ∷ part) clean =
 
 pub parts-joined : (separator : ℕ) (word : List ℕ) (words : List (List ℕ)) →
     clean_words separator (word ∷ words) ≡ true →
-    parts separator (joined separator (word ∷ words)) ≡ word ∷ words
+    parts separator (separated separator (word ∷ words)) ≡ word ∷ words
 parts-joined separator word [] clean =
     let both = and_parts (not (has_byte separator word)) _ clean in
     parts-last separator word (not-true _ both.0)
 parts-joined separator word (next ∷ words) clean =
     let both = and_parts (not (has_byte separator word)) _ clean in
-    parts-front separator word (joined separator (next ∷ words)) (not-true _ both.0)
+    parts-front separator word (separated separator (next ∷ words)) (not-true _ both.0)
     ∙ ap (λ (l : List (List ℕ)). word ∷ l) (parts-joined separator next words both.1)
 
 -- ---- the first separator

@@ -11,10 +11,10 @@ use Rattle.flow_base.specs.HexWords.{hex_word}
 use Rattle.flow_base.specs.Points.{point_text, slot_text}
 use Rattle.cut_file.specs.declared.lines.Line.{Line}
 use Rattle.cut_file.specs.declared.lines.Line.TheVariants.{Version, Secret, Bits, Skip, Point, End}
-use Rattle.cut_file.specs.Texts.{cut_text, joined, line_text, lines_text, rest_text, run_text}
+use Rattle.cut_file.specs.Texts.{cut_text, separated, line_text, lines_text, rest_text, run_text}
 use Rattle.cut_file.specs.Private.Writing.{later_lines, led, point_pieces}
 
-pub joined-led : (word : List ℕ) (words : List (List ℕ)) → joined 32 (word ∷ words) ≡ word ++ led words
+pub joined-led : (word : List ℕ) (words : List (List ℕ)) → separated 32 (word ∷ words) ≡ word ++ led words
 joined-led word [] = sym (append-nil word)
 joined-led word (next ∷ words) = ap (λ (l : List ℕ). word ++ (32 ∷ l)) (joined-led next words)
 

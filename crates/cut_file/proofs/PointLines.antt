@@ -22,7 +22,7 @@ use Rattle.flow_base.specs.HexWords.{hex_word}
 use Rattle.flow_base.specs.TextPieces.{after_text}
 use Rattle.flow_base.proofs.WantedTexts.{after-found, after-own}
 use Rattle.cut_file.specs.declared.lines.Line.TheVariants as forms
-use Rattle.cut_file.specs.Texts.{joined, line_text, point_words, rest_text, run_text}
+use Rattle.cut_file.specs.Texts.{separated, line_text, point_words, rest_text, run_text}
 use Rattle.cut_file.specs.Private.Reading.{◌>>=◌, divided, first_of, may_follow}
 use Rattle.cut_file.specs.Private.Reading.{number_in, others_of, parts}
 use Rattle.cut_file.specs.Private.Reading.{only_mask_in, pattern_in, place_in, point_in, point_in_words, rest_in}
@@ -553,7 +553,7 @@ point-found version line point e =
     let own = words-found version (parts 32 rest.value) point rest.then_is in
     record {
       text = after-found (codes "point ") line rest.value rest.is
-          ∙ ap (λ (l : List ℕ). codes "point " ++ l) (sym (joined-parts 32 rest.value) ∙ ap (joined 32) own.text);
+          ∙ ap (λ (l : List ℕ). codes "point " ++ l) (sym (joined-parts 32 rest.value) ∙ ap (separated 32) own.text);
       known = own.known;
     }
 
@@ -562,24 +562,24 @@ pub point-own : (version : ℕ) (point : CutPoint) → is_point_of version point
 unfolding point_in
 point-own version point known =
     then-own (after_text (codes "point ") (line_text version (forms.Point point))) (λ words. point_in_words version (parts 32
-    words)) (joined 32
+    words)) (separated 32
     (point_words version point))
-    (after-own (codes "point ") (joined 32 (point_words version point)))
+    (after-own (codes "point ") (separated 32 (point_words version point)))
     ∙ ap (point_in_words version) (parts-joined 32 _ _ (words-clean 32 version point (omega arith) known))
     ∙ words-own version point known
 
 clean-joined : (separator : ℕ) (words : List (List ℕ)) → (32 ≡ separator → ⊥) → clean_words separator words ≡ true →
-    has_byte separator (joined 32 words) ≡ false
+    has_byte separator (separated 32 words) ≡ false
 clean-joined separator [] other clean = refl
 clean-joined separator (word ∷ []) other clean = not-true _ (and_parts (not (has_byte separator word)) _ clean).0
 clean-joined separator (word ∷ (next ∷ words)) other clean =
     let both = and_parts (not (has_byte separator word)) _ clean in
-    clean-append separator word (32 ∷ joined 32 (next ∷ words)) (not-true _ both.0)
-    (clean-cons separator 32 (joined 32 (next ∷ words)) other (clean-joined separator (next ∷ words) other both.1))
+    clean-append separator word (32 ∷ separated 32 (next ∷ words)) (not-true _ both.0)
+    (clean-cons separator 32 (separated 32 (next ∷ words)) other (clean-joined separator (next ∷ words) other both.1))
 
 pub point_line-clean : (version : ℕ) (point : CutPoint) → is_point_of version point ≡ true →
     has_byte 10 (line_text version (forms.Point point)) ≡ false
 point_line-clean version point known =
-    clean-append 10 (codes "point ") (joined 32 (point_words version point)) refl
+    clean-append 10 (codes "point ") (separated 32 (point_words version point)) refl
     (clean-joined 10 (point_words version point) (λ e. omega (arith, e)) (words-clean 10 version point (omega arith)
     known))

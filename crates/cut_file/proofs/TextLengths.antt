@@ -8,7 +8,7 @@ use Rattle.std.proofs.lemmas.Bool.{and_parts, leb-true, ltb-true}
 use Rattle.std.proofs.lemmas.List.Sums.{sum_by-cons}
 use Rattle.std.proofs.lemmas.Fmt.{length-decimal-le}
 use Rattle.flow_base.specs.HexWords.{hex_word}
-use Rattle.flow_base.specs.Points.{is_slot, slot_text}
+use Rattle.flow_base.specs.Points.{is_slot, slot_text, is_region_number}
 use Rattle.flow_base.specs.declared.points.Slot.{Slot}
 use Rattle.flow_base.specs.declared.points.Slot.TheVariants as slots
 use Rattle.cut_file.specs.declared.points.CutPoint.{CutPoint}
@@ -16,9 +16,9 @@ use Rattle.cut_file.specs.declared.points.Run.{Run}
 use Rattle.cut_file.specs.declared.lines.Line.{Line}
 use Rattle.cut_file.specs.declared.lines.Line.TheVariants.{Version, Secret, Bits, Skip, Point, End}
 use Rattle.cut_file.specs.Cuts.{CutPicture, are_points_of, are_regions, are_runs, have_other_masks, is_cut_point}
-use Rattle.cut_file.specs.Cuts.{is_point, is_point_of, is_region, is_rest, is_run, is_single, is_valid, is_version}
+use Rattle.cut_file.specs.Cuts.{is_point, is_point_of, is_rest, is_run, is_single, is_cut_picture, is_version}
 use Rattle.cut_file.specs.Cuts.{is_word, neighbours_pass, stands_before}
-use Rattle.cut_file.specs.Texts.{cut_text, joined, line_text, lines_text, point_words, rest_text, run_text}
+use Rattle.cut_file.specs.Texts.{cut_text, separated, line_text, lines_text, point_words, rest_text, run_text}
 use Rattle.cut_file.specs.TextLengths.{byte_bound, listed_runs}
 use Rattle.cut_file.proofs.Following.{points-all}
 
@@ -81,13 +81,13 @@ spread : List (List ℕ) → ℕ
 spread [] = 0
 spread (word ∷ words) = suc (length word) + spread words
 
-joined-length : (separator : ℕ) (words : List (List ℕ)) → length (joined separator words) ≤ spread words
+joined-length : (separator : ℕ) (words : List (List ℕ)) → length (separated separator words) ≤ spread words
 unfolding spread
 joined-length separator [] = omega arith
 joined-length separator (word ∷ []) = omega arith
 joined-length separator (word ∷ (next ∷ words)) =
     let inner = joined-length separator (next ∷ words) in
-    let whole = length-append word (separator ∷ joined separator (next ∷ words)) in
+    let whole = length-append word (separator ∷ separated separator (next ∷ words)) in
     omega (arith, inner, whole)
 
 spread-append : (first second : List (List ℕ)) → spread (first ++ second) ≡ spread first + spread second
@@ -151,11 +151,11 @@ points-length version (point ∷ points) more all =
     let whole = length-append (line_text version (Point point)) (10 ∷ lines_text version (map Point points ++ more)) in
     omega (arith, own, inner, whole)
 
-skips-length : (version : ℕ) (skip : List ℕ) (more : List Line) → list_all is_region skip ≡ true →
+skips-length : (version : ℕ) (skip : List ℕ) (more : List Line) → list_all is_region_number skip ≡ true →
     length (lines_text version (map Skip skip ++ more)) ≤ 11 * length skip + length (lines_text version more)
 skips-length version [] more all = omega arith
 skips-length version (region ∷ skip) more all =
-    let both = and_parts (is_region region) (list_all is_region skip) all in
+    let both = and_parts (is_region_number region) (list_all is_region_number skip) all in
     let range = and_parts (nat_le 1 region) (nat_le region 65535) both.0 in
     let own = region-length region (leb-true _ _ range.1) in
     let inner = skips-length version skip more both.1 in
@@ -181,14 +181,14 @@ head-length version secret_len bits more known short word =
 version-small : (version : ℕ) → is_version version ≡ true → version < 64
 version-small version known = grind arith
 
-pub cut-length : (cut : CutPicture) → is_valid cut ≡ true →
+pub cut-length : (cut : CutPicture) → is_cut_picture cut ≡ true →
     length (cut_text cut) ≤ 64 + 11 * length cut.skip + point_bytes cut.points
 cut-length cut valid =
     let known = and_parts (is_version cut.version) _ valid in
     let short = and_parts (nat_le cut.secret_len 65536) _ known.1 in
     let bits = and_parts (is_word cut.bits) _ short.1 in
     let lists = and_parts (are_regions cut.skip) (are_points_of cut.version cut.points) bits.1 in
-    let skip = and_parts (list_all is_region cut.skip) _ lists.0 in
+    let skip = and_parts (list_all is_region_number cut.skip) _ lists.0 in
     let points = and_parts (list_all (is_point_of cut.version) cut.points) _ lists.1 in
     let head = head-length cut.version cut.secret_len cut.bits ((map Skip cut.skip ++ map Point cut.points) ++
     (End ∷ [])) (version-small cut.version known.0) (leb-true _ _ short.0) (ltb-true _ _ bits.0) in
@@ -222,7 +222,7 @@ single-bytes (point ∷ points) all =
     let count = sum_by-cons (λ (p : CutPoint). length p.runs) point points in
     omega (arith, own, inner, count)
 
-pub points-of : (cut : CutPicture) → is_valid cut ≡ true → list_all (is_point_of cut.version) cut.points ≡ true
+pub points-of : (cut : CutPicture) → is_cut_picture cut ≡ true → list_all (is_point_of cut.version) cut.points ≡ true
 points-of cut valid =
     let known = and_parts (is_version cut.version) _ valid in
     let short = and_parts (nat_le cut.secret_len 65536) _ known.1 in
@@ -230,7 +230,7 @@ points-of cut valid =
     let lists = and_parts (are_regions cut.skip) (are_points_of cut.version cut.points) bits.1 in
     (and_parts (list_all (is_point_of cut.version) cut.points) (neighbours_pass stands_before cut.points) lists.1).0
 
-pub text-short : (cut : CutPicture) → is_valid cut ≡ true → cut.version ≡ 1 → length (cut_text cut) ≤ byte_bound cut
+pub text-short : (cut : CutPicture) → is_cut_picture cut ≡ true → cut.version ≡ 1 → length (cut_text cut) ≤ byte_bound cut
 text-short cut valid first =
     let single = subst (λ (n : ℕ). list_all (is_point_of n) cut.points ≡ true) first (points-of cut valid) in
     let lines = single-bytes cut.points single in

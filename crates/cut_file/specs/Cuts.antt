@@ -3,7 +3,7 @@ use Rattle.std.specs.Prelude.{ℕ, ◌==◌, ◌&&◌, ◌||◌, nat_le, nat_lt,
 use Rattle.std.specs.List.{list_all}
 use Rattle.flow_base.specs.declared.points.Point.{Point}
 use Rattle.flow_base.specs.PointOrders.{is_below}
-use Rattle.flow_base.specs.Points.{is_slot}
+use Rattle.flow_base.specs.Points.{is_slot, is_region_number}
 use Rattle.cut_file.specs.declared.points.CutPoint.{CutPoint}
 use Rattle.cut_file.specs.declared.points.Run.{Run}
 
@@ -52,13 +52,9 @@ is_single [] = false
 is_single (run ∷ []) = run.count == 1
 is_single (run ∷ (next ∷ runs)) = false
 
--- the number of a region; 0 stands for what is outside regions
-abbrev pub is_region : ℕ → Bool
-is_region region = nat_le 1 region && nat_le region 65535
-
 -- regions to be skipped, strictly ascending
 abbrev pub are_regions : List ℕ → Bool
-are_regions skip = list_all is_region skip && neighbours_pass nat_lt skip
+are_regions skip = list_all is_region_number skip && neighbours_pass nat_lt skip
 
 abbrev pub is_point : Point → Bool
 is_point point = nat_le point.region 65535 && (is_word point.address && is_slot point.slot)
@@ -85,7 +81,7 @@ abbrev pub are_points_of : ℕ → List CutPoint → Bool
 are_points_of version points = list_all (is_point_of version) points && neighbours_pass stands_before points
 
 -- the picture is that of a cut
-abbrev pub is_valid : CutPicture → Bool
-is_valid cut =
+abbrev pub is_cut_picture : CutPicture → Bool
+is_cut_picture cut =
     is_version cut.version && (nat_le cut.secret_len 65536 && (is_word cut.bits
     && (are_regions cut.skip && are_points_of cut.version cut.points)))

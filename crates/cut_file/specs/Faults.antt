@@ -3,7 +3,7 @@ use Rattle.std.specs.Prelude.{◌≡◌, ℕ, suc, ◌≤◌, ◌||◌, ◌==◌
 use Rattle.cut_file.specs.declared.faults.CutFault.{CutFault}
 use Rattle.cut_file.specs.declared.faults.CutFault.TheVariants as faults
 use Rattle.cut_file.specs.declared.lines.Line.{Line}
-use Rattle.cut_file.specs.Cuts.{CutPicture, is_valid}
+use Rattle.cut_file.specs.Cuts.{CutPicture, is_cut_picture}
 use Rattle.cut_file.specs.Fronts.{Front, followed, front_text, is_front, is_whole, lines_before, version_of}
 use Rattle.cut_file.specs.Fronts.Front.{Nothing}
 use Rattle.cut_file.specs.Texts.{cut_text, is_line, line_text}
@@ -50,6 +50,6 @@ FirstCutFault file (faults.Order number) =
 FirstCutFault file faults.Truncated =
     (front : Front) × (text : List ℕ) × IsOpen front × (has_feed text ≡ false) × (file ≡ front_text front ++ text)
 FirstCutFault file (faults.Trailing offset) =
-    (cut : CutPicture) × (byte : ℕ) × (more : List ℕ) × (is_valid cut ≡ true)
+    (cut : CutPicture) × (byte : ℕ) × (more : List ℕ) × (is_cut_picture cut ≡ true)
     × (file ≡ cut_text cut ++ (byte ∷ more)) × (offset ≡ length (cut_text cut))
 FirstCutFault file faults.Memory = Unit {0}

@@ -3,7 +3,7 @@ use Rattle.std.specs.Prelude.{ℕ, ◌&&◌, nat_le, if◌then◌else◌, Bool, 
 use Rattle.std.specs.Prelude.{Option, Some, None}
 use Rattle.cut_file.specs.declared.lines.Line.{Line}
 use Rattle.cut_file.specs.declared.lines.Line.TheVariants.{Version, Secret, Bits, Skip, Point, End}
-use Rattle.cut_file.specs.Cuts.{CutPicture, is_empty, is_valid, is_version}
+use Rattle.cut_file.specs.Cuts.{CutPicture, is_empty, is_cut_picture, is_version}
 use Rattle.cut_file.specs.Texts.{cut_lines, lines_text, open_lines}
 
 -- no line, the first, the first two, at least three but not the last, or all
@@ -37,8 +37,8 @@ abbrev pub is_front : Front → Bool
 is_front Nothing = true
 is_front (Versioned version) = is_version version
 is_front (Sized version secret_len) = is_version version && nat_le secret_len 65536
-is_front (Listed cut) = is_valid cut
-is_front (Whole cut) = is_valid cut
+is_front (Listed cut) = is_cut_picture cut
+is_front (Whole cut) = is_cut_picture cut
 
 abbrev pub is_whole : Front → Bool
 is_whole Nothing = false

@@ -6,8 +6,8 @@ use Rattle.cut_file.specs.Cuts.{CutPicture}
 use Rattle.cut_file.specs.Fronts.{Front}
 use Rattle.cut_file.specs.Fronts.Front.{Nothing, Versioned, Sized, Listed, Whole}
 
-abbrev pub picture_of : Cut → CutPicture
-picture_of cut = record {
+abbrev pub cut_picture : Cut → CutPicture
+cut_picture cut = record {
   version = cut.version;
   secret_len = cut.secret_len;
   bits = cut.bits;
@@ -19,5 +19,5 @@ abbrev pub front_of : Draft → Front
 front_of drafts.Nothing = Nothing
 front_of (drafts.Versioned version) = Versioned version
 front_of (drafts.Sized version secret_len) = Sized version secret_len
-front_of (drafts.Listed cut) = Listed (picture_of cut)
-front_of (drafts.Whole cut) = Whole (picture_of cut)
+front_of (drafts.Listed cut) = Listed (cut_picture cut)
+front_of (drafts.Whole cut) = Whole (cut_picture cut)

@@ -2,22 +2,22 @@
 use Rattle.std.specs.Prelude.{◌≡◌, ℕ, ◌==◌, nat_le, if◌then◌else◌, Bool, true, List, [], ◌∷◌, ◌++◌, codes, map}
 use Rattle.std.specs.Fmt.{decimal}
 use Rattle.flow_base.specs.HexWords.{hex_word}
-use Rattle.flow_base.specs.Points.{slot_text}
+use Rattle.flow_base.specs.Points.{slot_text, is_region_number}
 use Rattle.cut_file.specs.declared.points.CutPoint.{CutPoint}
 use Rattle.cut_file.specs.declared.points.Run.{Run}
 use Rattle.cut_file.specs.declared.lines.Line.{Line}
 use Rattle.cut_file.specs.declared.lines.Line.TheVariants.{Version, Secret, Bits, Skip, Point, End}
-use Rattle.cut_file.specs.Cuts.{CutPicture, is_point_of, is_region, is_valid, is_version, is_word}
+use Rattle.cut_file.specs.Cuts.{CutPicture, is_point_of, is_cut_picture, is_version, is_word}
 
 -- parts with a separator between them
-abbrev pub joined : ℕ → List (List ℕ) → List ℕ
-joined separator [] = []
-joined separator (part ∷ []) = part
-joined separator (part ∷ (next ∷ parts)) = part ++ (separator ∷ joined separator (next ∷ parts))
+abbrev pub separated : ℕ → List (List ℕ) → List ℕ
+separated separator [] = []
+separated separator (part ∷ []) = part
+separated separator (part ∷ (next ∷ parts)) = part ++ (separator ∷ separated separator (next ∷ parts))
 
 -- words with one space between them
 abbrev pub spaced : List (List ℕ) → List ℕ
-spaced words = joined 32 words
+spaced words = separated 32 words
 
 -- a count, * and a mask
 abbrev pub run_text : Run → List ℕ
@@ -49,7 +49,7 @@ abbrev pub is_line : ℕ → Line → Bool
 is_line version (Version number) = is_version number
 is_line version (Secret length) = nat_le length 65536
 is_line version (Bits bits) = is_word bits
-is_line version (Skip region) = is_region region
+is_line version (Skip region) = is_region_number region
 is_line version (Point cut_point) = is_point_of version cut_point
 is_line version End = true
 
@@ -72,5 +72,5 @@ cut_text cut = lines_text cut.version (cut_lines cut)
 
 -- the file is the text of this cut
 pub record CutText (file : List ℕ) (cut : CutPicture) : Type 0 where
-  pub valid : is_valid cut ≡ true
+  pub valid : is_cut_picture cut ≡ true
   pub text : file ≡ cut_text cut

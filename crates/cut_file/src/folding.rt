@@ -3,7 +3,7 @@ ghost use Rattle.cut_file.specs.Cuts.{are_points, are_points_of, is_cut_point};
 ghost use Rattle.cut_file.specs.Folds.{begins_with as begins, first_runs as first_of_runs, AreFolded, HasNoPeriod};
 ghost use Rattle.cut_file.specs.Folds.{is_period as is_period_of, IsFold, IsFolded, IsLeastPeriod};
 ghost use Rattle.cut_file.specs.Masks.{listed_masks};
-ghost use Rattle.cut_file.specs.Pictures.{picture_of};
+ghost use Rattle.cut_file.specs.Pictures.{cut_picture};
 
 use crate::copies::{copy_point, copy_regions};
 use crate::cuts::Cut;
@@ -159,7 +159,7 @@ fn points_of(alloc: Global, cut: &Cut) -> Result<List<CutPoint>, NoMemory>
 /// the number of masks that are listed. Its error is lack of memory.
 pub fn fold(alloc: Global, cut: &Cut) -> Result<Cut, NoMemory>
     requires { cut.now.version ≡ 1 }
-    ensures { IfOk result (λ folded. IsFold (picture_of cut.now) (picture_of folded)) }
+    ensures { IfOk result (λ folded. IsFold (cut_picture cut.now) (cut_picture folded)) }
 {
     let skip = copy_regions(alloc, &cut.skip)?;
     let points = points_of(alloc, cut)?;

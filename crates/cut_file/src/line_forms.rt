@@ -1,8 +1,9 @@
 ghost use Rattle.std.specs.Prelude.{◌≡◌, [], codes, option_map, IfOk, OnSome};
-ghost use Rattle.cut_file.specs.Cuts.{have_other_masks, is_region, is_version, is_word};
+ghost use Rattle.cut_file.specs.Cuts.{have_other_masks, is_version, is_word};
 ghost use Rattle.cut_file.specs.Private.Reading.{is_short, line_in, may_follow, number_behind as number_behind_text};
 ghost use Rattle.cut_file.specs.Private.Reading.{number_line_in, only_mask_in, others_of, pattern_in, place_in, point_in};
 ghost use Rattle.cut_file.specs.Private.Reading.{point_in_words, rest_in, runs_in, single_in, tested_number};
+ghost use Rattle.flow_base.specs.Points.{is_region_number};
 
 use crate::line_words::LineWords;
 use crate::lines::Line;
@@ -58,7 +59,7 @@ fn bits(text: &[u8]) -> Option<u32>
 
 // The skipped region in a line of that form.
 fn skipped_region(text: &[u8]) -> Option<u16>
-    ensures { result ≡ tested_number (codes "skip ") is_region text.now }
+    ensures { result ≡ tested_number (codes "skip ") is_region_number text.now }
 {
     let region = number_behind(b"skip ", text)?;
     if 1 <= region && region <= HIGHEST_REGION {

@@ -1,6 +1,6 @@
 ghost use Rattle.std.specs.Prelude.{◌≡◌, IfOk};
 ghost use Rattle.cut_file.specs.Folds.{migrated};
-ghost use Rattle.cut_file.specs.Pictures.{picture_of};
+ghost use Rattle.cut_file.specs.Pictures.{cut_picture};
 
 use crate::copies::{copy_points, copy_regions};
 use crate::cuts::Cut;
@@ -9,7 +9,7 @@ use std::alloc::Global;
 
 /// The same cut in version 2; its masks are the same at each visit. Its error is lack of memory.
 pub fn migrate(alloc: Global, cut: &Cut) -> Result<Cut, NoMemory>
-    ensures { IfOk result (λ other. picture_of other ≡ migrated (picture_of cut.now)) }
+    ensures { IfOk result (λ other. cut_picture other ≡ migrated (cut_picture cut.now)) }
 {
     let skip = copy_regions(alloc, &cut.skip)?;
     let points = copy_points(alloc, &cut.points)?;

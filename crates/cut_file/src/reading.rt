@@ -2,14 +2,15 @@ ghost use Rattle.std.specs.Prelude.{◌≡◌, ◌≢◌, ◌<◌, ◌≤◌, �
 ghost use Rattle.std.specs.Prelude.{Err, IfErr, IfOk, IsTrue, None, OnOk, Some};
 ghost use Rattle.cut_file.specs.declared.lines.Line.TheVariants as forms;
 ghost use Rattle.cut_file.specs.Cuts.{CutPicture, are_points, is_cut_point};
-ghost use Rattle.cut_file.specs.Cuts.{is_point_of, is_region, is_version, stands_before};
+ghost use Rattle.cut_file.specs.Cuts.{is_point_of, is_version, stands_before};
 ghost use Rattle.cut_file.specs.Faults.{FirstCutFault};
 ghost use Rattle.cut_file.specs.Fronts.{bare_cut as bare, is_front, version_of};
 ghost use Rattle.cut_file.specs.Fronts.Front.{Listed, Nothing, Sized, Versioned};
-ghost use Rattle.cut_file.specs.Pictures.{front_of, picture_of};
+ghost use Rattle.cut_file.specs.Pictures.{front_of, cut_picture};
 ghost use Rattle.cut_file.specs.Private.Reading.{cut_in, is_short, line_in, lines_in, may_follow, parts, unfit as unfit_line};
 ghost use Rattle.cut_file.specs.Private.Reading.{with_line as lined, with_text as texted};
 ghost use Rattle.cut_file.specs.Texts.{CutText, is_line};
+ghost use Rattle.flow_base.specs.Points.{is_region_number};
 
 use crate::cuts::Cut;
 use crate::drafts::Draft;
@@ -92,11 +93,11 @@ fn push_point(points: &mut List<CutPoint>, number: u32, point: CutPoint) -> Resu
 // The draft of a cut with a region after its own, by the line of that number.
 #[tactic(auto, unfolding(crate::specs::Private::Reading::with_line))]
 fn with_region(cut: Cut, number: u32, region: u16) -> Result<Draft, CutFault>
-    requires { IsTrue (is_region region) }
-    ensures ok { IfOk result (λ longer. lined number (Listed (picture_of cut)) (forms.Skip region)
+    requires { IsTrue (is_region_number region) }
+    ensures ok { IfOk result (λ longer. lined number (Listed (cut_picture cut)) (forms.Skip region)
         ≡ Ok (front_of longer)) }
     ensures err { IfErr result (λ fault. fault ≢ CutFault.Memory
-        → lined number (Listed (picture_of cut)) (forms.Skip region) ≡ Err fault) }
+        → lined number (Listed (cut_picture cut)) (forms.Skip region) ≡ Err fault) }
 {
     if cut.points.len() != 0 {
         return Err(unfit(number));
@@ -122,10 +123,10 @@ fn with_region(cut: Cut, number: u32, region: u16) -> Result<Draft, CutFault>
 #[tactic(auto, unfolding(crate::specs::Private::Reading::with_line))]
 fn with_point(cut: Cut, number: u32, point: CutPoint) -> Result<Draft, CutFault>
     requires { IsTrue (is_point_of cut.version point) }
-    ensures ok { IfOk result (λ longer. lined number (Listed (picture_of cut)) (forms.Point point)
+    ensures ok { IfOk result (λ longer. lined number (Listed (cut_picture cut)) (forms.Point point)
         ≡ Ok (front_of longer)) }
     ensures err { IfErr result (λ fault. fault ≢ CutFault.Memory
-        → lined number (Listed (picture_of cut)) (forms.Point point) ≡ Err fault) }
+        → lined number (Listed (cut_picture cut)) (forms.Point point) ≡ Err fault) }
 {
     let Cut {
         version,
@@ -148,7 +149,7 @@ fn with_point(cut: Cut, number: u32, point: CutPoint) -> Result<Draft, CutFault>
 fn bare_cut(alloc: Global, version: u8, secret_len: u32, bits: u32) -> Cut
     requires version { IsTrue (is_version version) }
     requires short { IsTrue (is_short secret_len) }
-    ensures { picture_of result ≡ bare version secret_len bits }
+    ensures { cut_picture result ≡ bare version secret_len bits }
 {
     Cut {
         version,
@@ -207,9 +208,9 @@ fn with_bits(
 #[tactic(auto, unfolding(crate::specs::Private::Reading::with_line))]
 fn with_later(cut: Cut, number: u32, line: Line) -> Result<Draft, CutFault>
     requires { IsTrue (is_line cut.version line) }
-    ensures ok { IfOk result (λ longer. lined number (Listed (picture_of cut)) line ≡ Ok (front_of longer)) }
+    ensures ok { IfOk result (λ longer. lined number (Listed (cut_picture cut)) line ≡ Ok (front_of longer)) }
     ensures err { IfErr result (λ fault. fault ≢ CutFault.Memory
-        → lined number (Listed (picture_of cut)) line ≡ Err fault) }
+        → lined number (Listed (cut_picture cut)) line ≡ Err fault) }
 {
     match line {
         Line::Skip(region) => with_region(cut, number, region),
@@ -276,7 +277,7 @@ fn with_text(alloc: Global, draft: Draft, number: u32, text: &[u8]) -> Result<Dr
 // The cut of the lines up to `end`, and the rest of the file after that line.
 fn lines(alloc: Global, file: &[u8]) -> Result<(Cut, &[u8]), CutFault>
     requires { length file.now < 2 ^ 32 }
-    ensures ok { IfOk result (λ p. lines_in 1 Nothing (parts 10 file.now) ≡ Ok (picture_of p.0, parts 10 p.1.now)) }
+    ensures ok { IfOk result (λ p. lines_in 1 Nothing (parts 10 file.now) ≡ Ok (cut_picture p.0, parts 10 p.1.now)) }
     ensures err { IfErr result (λ fault. fault ≢ CutFault.Memory → lines_in 1 Nothing (parts 10 file.now) ≡ Err fault) }
     ensures shorter { IfOk result (λ p. length p.1.now ≤ length file.now) }
 {
@@ -298,7 +299,7 @@ fn lines(alloc: Global, file: &[u8]) -> Result<(Cut, &[u8]), CutFault>
 #[tactic(auto, unfolding(crate::specs::Private::Reading::cut_in))]
 fn cut_of(alloc: Global, file: &[u8]) -> Result<Cut, CutFault>
     requires { length file.now < 2 ^ 32 }
-    ensures ok { IfOk result (λ cut. cut_in file.now ≡ Ok (picture_of cut)) }
+    ensures ok { IfOk result (λ cut. cut_in file.now ≡ Ok (cut_picture cut)) }
     ensures err { IfErr result (λ fault. fault ≢ CutFault.Memory → cut_in file.now ≡ Err fault) }
 {
     let (cut, rest) = lines(alloc, file)?;
@@ -322,7 +323,7 @@ fn cut_of(alloc: Global, file: &[u8]) -> Result<Cut, CutFault>
 /// It takes time in the length of the file.
 pub fn read_cut(alloc: Global, file: &[u8]) -> Result<Cut, CutFault>
     requires { length file.now < 2 ^ 32 }
-    ensures text { IfOk result (λ cut. CutText file.now (picture_of cut)) }
+    ensures text { IfOk result (λ cut. CutText file.now (cut_picture cut)) }
     ensures fault { IfErr result (λ fault. FirstCutFault file.now fault) }
     ensures refused { IfErr result (λ fault. fault ≢ CutFault.Memory → (cut : CutPicture) → ¬ CutText file.now cut) }
     ensures only { (fault : CutFault) → FirstCutFault file.now fault → fault ≢ CutFault.Memory

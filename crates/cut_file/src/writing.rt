@@ -2,7 +2,7 @@ ghost use Rattle.std.specs.Prelude.{◌≡◌, ◌++◌, ◌∷◌, ℕ, IfOk, O
 ghost use Rattle.std.specs.Fmt.{decimal};
 ghost use Rattle.flow_base.specs.HexWords.{hex_word};
 ghost use Rattle.flow_base.specs.Points.{point_text};
-ghost use Rattle.cut_file.specs.Pictures.{picture_of};
+ghost use Rattle.cut_file.specs.Pictures.{cut_picture};
 ghost use Rattle.cut_file.specs.Private.Writing.{later_lines, led, point_pieces};
 ghost use Rattle.cut_file.specs.Texts.{CutText, lines_text, rest_text, run_text};
 ghost use Rattle.cut_file.specs.declared.lines.Line.TheVariants.{Bits, Point as PointLine, Secret, Skip, Version};
@@ -132,7 +132,7 @@ fn head(alloc: Global, version: u8, secret_len: u32, bits: u32) -> Result<Vec<u8
 // Puts the lines of a cut after the first three at the end of a text.
 fn put_lines(alloc: Global, text: &mut Vec<u8>, cut: &Cut) -> Result<(), NoMemory>
     ensures { OnOk result (text.new.items
-        ≡ text.old.items ++ lines_text cut.now.version (later_lines (picture_of cut.now))) }
+        ≡ text.old.items ++ lines_text cut.now.version (later_lines (cut_picture cut.now))) }
 {
     put_regions(alloc, text, cut.skip.as_slice())?;
     put_points(alloc, text, cut.version, cut.points.as_slice())?;
@@ -141,7 +141,7 @@ fn put_lines(alloc: Global, text: &mut Vec<u8>, cut: &Cut) -> Result<(), NoMemor
 
 /// The one text of a cut, as [`read_cut`](crate::read_cut) reads it. Its error is lack of memory.
 pub fn write_cut(alloc: Global, cut: &Cut) -> Result<Bytes, NoMemory>
-    ensures { IfOk result (λ text. CutText text (picture_of cut.now)) }
+    ensures { IfOk result (λ text. CutText text (cut_picture cut.now)) }
 {
     let mut text = head(alloc, cut.version, cut.secret_len, cut.bits)?;
     put_lines(alloc, &mut text, cut)?;

@@ -7,7 +7,7 @@ use Rattle.byteorder.specs.Endian.{little_bytes, little_from}
 use Rattle.byteorder.specs.Numbers.{little_number-reads_back}
 use Rattle.elf32_loader.specs.declared.headers.Header.{Header}
 use Rattle.elf32_loader.specs.declared.segments.Segment.{Segment}
-use Rattle.elf32_loader.specs.Headers.{header_from, word_at}
+use Rattle.elf32_loader.specs.Headers.{header_from, file_word}
 use Rattle.elf32_loader.specs.Written.{contents, program_header, program_headers}
 
 -- a word reads as it was written
@@ -29,18 +29,18 @@ little-behind (suc count) front xs start place at =
 header-behind : (front xs : List ℕ) (start : ℕ) → start ≡ length front
     → header_from (front ++ xs) start ≡ header_from xs 0
 header-behind front xs start at =
-    let word : (place : ℕ) → word_at (front ++ xs) (start + place) ≡ word_at xs place =
+    let word : (place : ℕ) → file_word (front ++ xs) (start + place) ≡ file_word xs place =
     λ place. little-behind 4 front xs (start + place) place (omega arith) in
     let make : ℕ → ℕ → ℕ → ℕ → ℕ → Header =
     λ (k o a f m : ℕ). record { kind = k; offset = o; address = a; file_size = f; memory_size = m } in
     let file : List ℕ = front ++ xs in
-    let kind : word_at file start ≡ word_at xs 0 = little-behind 4 front xs start 0 (omega arith) in
-    ap (λ (n : ℕ). make n (word_at file (start + 4)) (word_at file (start + 8)) (word_at file (start + 16)) (word_at file (start + 20))) kind
-    ∙ ap (λ (n : ℕ). make (word_at xs 0) n (word_at file (start + 8)) (word_at file (start + 16)) (word_at file (start + 20))) (word 4)
-    ∙ ap (λ (n : ℕ). make (word_at xs 0) (word_at xs 4) n (word_at file (start + 16)) (word_at file (start + 20)))
+    let kind : file_word file start ≡ file_word xs 0 = little-behind 4 front xs start 0 (omega arith) in
+    ap (λ (n : ℕ). make n (file_word file (start + 4)) (file_word file (start + 8)) (file_word file (start + 16)) (file_word file (start + 20))) kind
+    ∙ ap (λ (n : ℕ). make (file_word xs 0) n (file_word file (start + 8)) (file_word file (start + 16)) (file_word file (start + 20))) (word 4)
+    ∙ ap (λ (n : ℕ). make (file_word xs 0) (file_word xs 4) n (file_word file (start + 16)) (file_word file (start + 20)))
     (word 8)
-    ∙ ap (λ (n : ℕ). make (word_at xs 0) (word_at xs 4) (word_at xs 8) n (word_at file (start + 20))) (word 16)
-    ∙ ap (λ (n : ℕ). make (word_at xs 0) (word_at xs 4) (word_at xs 8) (word_at xs 16) n) (word 20)
+    ∙ ap (λ (n : ℕ). make (file_word xs 0) (file_word xs 4) (file_word xs 8) n (file_word file (start + 20))) (word 16)
+    ∙ ap (λ (n : ℕ). make (file_word xs 0) (file_word xs 4) (file_word xs 8) (file_word xs 16) n) (word 20)
 
 -- the header that is written for bytes at an offset
 abbrev pub written_header : ℕ → ℕ → ℕ → Header

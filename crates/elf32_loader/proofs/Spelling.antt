@@ -11,9 +11,9 @@ use Rattle.elf32_loader.specs.declared.headers.Header.{Header}
 use Rattle.elf32_loader.specs.declared.segments.Segment.{Segment}
 use Rattle.elf32_loader.specs.FaultTable.{HasCleanHeader, HasCleanLoads, IsEntryIn, IsFileBase, IsOutOfRange}
 use Rattle.elf32_loader.specs.Headers.{HoldsAddress, IsLoad, entry_of, file_type, flags_of, header_at, header_count, header_from, header_size, identification, machine_type, table_offset}
-use Rattle.elf32_loader.specs.Pictures.{Picture, is_valid}
+use Rattle.elf32_loader.specs.Pictures.{Picture, is_image_picture}
 use Rattle.elf32_loader.specs.Programs.{IsImage, IsLoaded}
-use Rattle.elf32_loader.specs.Segments.{are_inside, end_of, highest_base, highest_end, holds, is_ascending, is_base, is_entry, rounded_down, some_holds}
+use Rattle.elf32_loader.specs.Segments.{are_inside, end_of, highest_base, highest_end, holds, is_ascending, is_base_of, is_entry, rounded_down, some_holds}
 use Rattle.elf32_loader.specs.Written.{contents, elf_header, headers, program_headers, written}
 use Rattle.flow_base.specs.Guests.{memory_size}
 use Rattle.elf32_loader.proofs.Bases.{same_base}
@@ -127,7 +127,7 @@ holder (first ∷ rest) address d held = elim (either (holds first address)) [
 -- a valid picture, part by part; there is a first segment
 record IsWhole (picture : Picture) : Type 0 where
   ascends : IsTrue (is_ascending picture.segments)
-  based : IsTrue (is_base picture.segments picture.base)
+  based : IsTrue (is_base_of picture.segments picture.base)
   inside : IsTrue (are_inside picture.base picture.segments)
   entered : IsTrue (is_entry picture.segments picture.entry)
 
@@ -135,11 +135,11 @@ both : (one other : Bool) → IsTrue (one && other) → IsTrue one × IsTrue oth
 both true other holds = (refl, holds)
 both false other holds = absurd (false≢true holds)
 
-whole : (picture : Picture) → IsTrue (is_valid picture) → IsWhole picture
+whole : (picture : Picture) → IsTrue (is_image_picture picture) → IsWhole picture
 whole picture valid =
     let entered : Bool = is_entry picture.segments picture.entry in
     let inside : Bool = are_inside picture.base picture.segments in
-    let based : Bool = is_base picture.segments picture.base in
+    let based : Bool = is_base_of picture.segments picture.base in
     let first = both (is_ascending picture.segments) (based && (inside && entered)) valid in
     let second = both based (inside && entered) first.1 in
     let third = both inside entered second.1 in
@@ -151,7 +151,7 @@ record IsFirst (base : ℕ) (segments : List Segment) : Type 0 where
   rounded : (d : Segment) → base ≡ rounded_down (slice_index_or segments 0 d).address
   low : base ≤ highest_base
 
-first-of : (base : ℕ) (segments : List Segment) → IsTrue (is_base segments base) → IsFirst base segments
+first-of : (base : ℕ) (segments : List Segment) → IsTrue (is_base_of segments base) → IsFirst base segments
 first-of base [] based = absurd (false≢true based)
 first-of base (first ∷ rest) based = record {
   some = omega arith;
@@ -278,7 +278,7 @@ clean-header file picture given =
 clean-loads : (file : List ℕ) (picture : Picture) → IsGiven file picture → HasCleanLoads file
 clean-loads file picture given =
     let laid = given.spells in
-    let is_base = file-base file picture given in
+    let is_base_of = file-base file picture given in
     record {
       is_not_dynamic = λ dynamic.
           let below : dynamic.0 < length picture.segments = omega (arith, laid.count, dynamic.1.0) in
@@ -290,11 +290,11 @@ clean-loads file picture given =
           let below : fault.1 < length picture.segments = at-place file picture given fault.1 fault.3.0 in
           let at_base : IsOutOfRange file picture.base (header_at file fault.1) =
           subst (λ (n : ℕ). IsOutOfRange file n (header_at file fault.1))
-          (same_base file fault.0 picture.base fault.2 is_base) fault.3.1 in
+          (same_base file fault.0 picture.base fault.2 is_base_of) fault.3.1 in
           in-range file picture given fault.1 below
           (subst (λ (h : Header). IsOutOfRange file picture.base h) (laid.header fault.1 nothing below) at_base);
       has_low_base = λ high.
-          omega (arith, same_base file high.0 picture.base high.1 is_base, high.2, given.first.low);
+          omega (arith, same_base file high.0 picture.base high.1 is_base_of, high.2, given.first.low);
       has_no_overlap = λ overlap.
           let shared = overlap.2.3 in
           no-overlap file picture given overlap.0 overlap.1 shared.0 overlap.2.0 overlap.2.1 overlap.2.2 shared.1 shared.2;
@@ -322,7 +322,7 @@ loaded-at file picture given place d below =
     } in
     subst (λ (h : Header). IsLoaded file h segment) (sym header) written
 
-given-of : (picture : Picture) → IsTrue (is_valid picture) → length picture.segments ≤ 64
+given-of : (picture : Picture) → IsTrue (is_image_picture picture) → length picture.segments ≤ 64
     → IsGiven (written picture) picture
 given-of picture valid few =
     let keeps = whole picture valid in
@@ -337,7 +337,7 @@ given-of picture valid few =
     λ place d below. omega (arith, (fit place d below).in_bounds, (fit place d below).some) in
     record { spells = spelt picture low_entry few fits low; keeps = keeps; few = few; first = first; fits = fits; fit = fit }
 
-pub written-image : (picture : Picture) → IsTrue (is_valid picture) → length picture.segments ≤ 64
+pub written-image : (picture : Picture) → IsTrue (is_image_picture picture) → length picture.segments ≤ 64
     → IsImage (written picture) picture
 written-image picture valid few =
     let file : List ℕ = written picture in

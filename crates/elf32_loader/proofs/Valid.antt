@@ -11,7 +11,7 @@ use Rattle.elf32_loader.specs.Headers.{HoldsAddress, entry_of, header_at, header
 use Rattle.elf32_loader.specs.Pictures.{Picture}
 use Rattle.elf32_loader.specs.Programs.{IsImage}
 use Rattle.elf32_loader.specs.Private.Searches.{AreLoads, is_climbing}
-use Rattle.elf32_loader.specs.Segments.{are_inside, end_of, highest_base, highest_end, holds, is_ascending, is_base, is_entry, is_inside, rounded_down, some_holds}
+use Rattle.elf32_loader.specs.Segments.{are_inside, end_of, highest_base, highest_end, holds, is_ascending, is_base_of, is_entry, holds_segment, rounded_down, some_holds}
 use Rattle.flow_base.specs.Guests.{memory_size}
 use Rattle.elf32_loader.proofs.Loads.{in-range}
 use Rattle.elf32_loader.proofs.Memory.{either, holds-true, later-begins}
@@ -27,13 +27,13 @@ pub image-from : (file : List ℕ) (base entry : ℕ) (segments loaded : List Se
     → IsFileBase file base
     → entry ≡ entry_of file → segments ≡ loaded → AreLoads file (header_count file) loaded
     → IsImage file (record { base = base; entry = entry; segments = segments })
-image-from file base entry segments loaded clean is_base at_entry same loads =
+image-from file base entry segments loaded clean is_base_of at_entry same loads =
     let moved : AreLoads file (header_count file) segments =
     subst (λ (xs : List Segment). AreLoads file (header_count file) xs) (sym same) loads in
-    let lowest = moved.stand is_base.0 is_base.1.0.0 is_base.1.0 in
+    let lowest = moved.stand is_base_of.0 is_base_of.1.0.0 is_base_of.1.0 in
     record {
       no_fault = clean;
-      base = is_base;
+      base = is_base_of;
       entry = at_entry;
       ascends = ascends-from segments lowest.0 lowest.1 moved.climbs;
       each_is_load = λ place other below. let found = moved.each place other below in (found.0, found.2, found.3);
@@ -52,7 +52,7 @@ first-lowest first rest (suc place) other ascends below =
 
 -- the base is that of the first segment
 based-on : (file : List ℕ) (base entry : ℕ) (segments : List Segment)
-    → IsImage file (record { base = base; entry = entry; segments = segments }) → IsTrue (is_base segments base)
+    → IsImage file (record { base = base; entry = entry; segments = segments }) → IsTrue (is_base_of segments base)
 based-on file base entry [] image = absurd (false≢true image.ascends)
 based-on file base entry (first ∷ rest) image =
     let lowest = image.base.0 in
@@ -73,17 +73,17 @@ based-on file base entry (first ∷ rest) image =
     grind (arith, nat_tests)
 
 -- each segment is inside where each one is
-each-inside : (base : ℕ) (segments : List Segment) → All (λ s. IsTrue (is_inside base s)) segments
+each-inside : (base : ℕ) (segments : List Segment) → All (λ s. IsTrue (holds_segment base s)) segments
     → IsTrue (are_inside base segments)
 each-inside base [] all = refl
 each-inside base (first ∷ rest) all =
-    let here : IsTrue (is_inside base first) = All-head (λ (s : Segment). IsTrue (is_inside base s)) first rest all in
+    let here : IsTrue (holds_segment base first) = All-head (λ (s : Segment). IsTrue (holds_segment base s)) first rest all in
     let there : IsTrue (are_inside base rest) =
-    each-inside base rest (All-tail (λ (s : Segment). IsTrue (is_inside base s)) first rest all) in
+    each-inside base rest (All-tail (λ (s : Segment). IsTrue (holds_segment base s)) first rest all) in
     grind (arith, nat_tests, common_steps)
 
 is-inside : (base : ℕ) (segment : Segment) → base ≤ segment.address → end_of segment ≤ base + memory_size
-    → end_of segment ≤ highest_end → IsTrue (is_inside base segment)
+    → end_of segment ≤ highest_end → IsTrue (holds_segment base segment)
 is-inside base segment based guest bounds = grind (arith, nat_tests)
 
 inside : (file : List ℕ) (picture : Picture) → IsImage file picture → IsTrue (are_inside picture.base picture.segments)
@@ -140,7 +140,7 @@ entered file picture image =
 -- what the type of an image keeps
 pub record Keeps (picture : Picture) : Type 0 where
   pub ascends : IsTrue (is_ascending picture.segments)
-  pub based : IsTrue (is_base picture.segments picture.base)
+  pub based : IsTrue (is_base_of picture.segments picture.base)
   pub inside : IsTrue (are_inside picture.base picture.segments)
   pub entered : IsTrue (is_entry picture.segments picture.entry)
 

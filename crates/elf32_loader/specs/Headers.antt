@@ -5,11 +5,11 @@ use Rattle.byteorder.specs.Endian.{little_from}
 use Rattle.elf32_loader.specs.declared.headers.Header.{Header}
 
 -- the field of two or four bytes at an offset
-abbrev pub half_at : List ℕ → ℕ → ℕ
-half_at file offset = little_from offset 2 file
+abbrev pub file_half : List ℕ → ℕ → ℕ
+file_half file offset = little_from offset 2 file
 
-abbrev pub word_at : List ℕ → ℕ → ℕ
-word_at file offset = little_from offset 4 file
+abbrev pub file_word : List ℕ → ℕ → ℕ
+file_word file offset = little_from offset 4 file
 
 -- the first bytes of e_ident: the magic number, 32 bits, little-endian, version 1
 abbrev pub identification : List ℕ
@@ -17,34 +17,34 @@ identification = 0x7f ∷ 0x45 ∷ 0x4c ∷ 0x46 ∷ 1 ∷ 1 ∷ 1 ∷ []
 
 -- e_type, e_machine, e_entry, e_phoff, e_flags, e_phentsize and e_phnum
 abbrev pub file_type : List ℕ → ℕ
-file_type file = half_at file 16
+file_type file = file_half file 16
 
 abbrev pub machine_type : List ℕ → ℕ
-machine_type file = half_at file 18
+machine_type file = file_half file 18
 
 abbrev pub entry_of : List ℕ → ℕ
-entry_of file = word_at file 24
+entry_of file = file_word file 24
 
 abbrev pub table_offset : List ℕ → ℕ
-table_offset file = word_at file 28
+table_offset file = file_word file 28
 
 abbrev pub flags_of : List ℕ → ℕ
-flags_of file = word_at file 36
+flags_of file = file_word file 36
 
 abbrev pub header_size : List ℕ → ℕ
-header_size file = half_at file 42
+header_size file = file_half file 42
 
 abbrev pub header_count : List ℕ → ℕ
-header_count file = half_at file 44
+header_count file = file_half file 44
 
 -- a program header: p_type, p_offset, p_vaddr, p_filesz and p_memsz
 abbrev pub header_from : List ℕ → ℕ → Header
 header_from file start = record {
-  kind = word_at file start;
-  offset = word_at file (start + 4);
-  address = word_at file (start + 8);
-  file_size = word_at file (start + 16);
-  memory_size = word_at file (start + 20);
+  kind = file_word file start;
+  offset = file_word file (start + 4);
+  address = file_word file (start + 8);
+  file_size = file_word file (start + 16);
+  memory_size = file_word file (start + 20);
 }
 
 -- the program header of an index, counted from 0

@@ -6,7 +6,7 @@ use Rattle.elf32_loader.specs.declared.segments.Segment.{Segment}
 use Rattle.elf32_loader.specs.FaultTable.{HasNoFault, IsFileBase}
 use Rattle.elf32_loader.specs.FirstFault.{IsFirstFault}
 use Rattle.elf32_loader.specs.Headers.{HoldsAddress, IsLoad, entry_of, header_at}
-use Rattle.elf32_loader.specs.Pictures.{Picture, is_valid, mem}
+use Rattle.elf32_loader.specs.Pictures.{Picture, is_image_picture, mem}
 use Rattle.elf32_loader.specs.Segments.{is_ascending}
 use Rattle.elf32_loader.specs.Written.{written}
 
@@ -38,7 +38,7 @@ pub record IsImage (file : List ℕ) (picture : Picture) : Type 0 where
 -- the file that is written for an image of at most 64 segments gives that image
 abbrev pub WrittenAreImages : Type 0
 WrittenAreImages =
-    (picture : Picture) → IsTrue (is_valid picture) → length picture.segments ≤ 64 → IsImage (written picture) picture
+    (picture : Picture) → IsTrue (is_image_picture picture) → length picture.segments ≤ 64 → IsImage (written picture) picture
 
 -- a file with a fault gives none
 abbrev pub FaultsHaveNoImage : Type 0

@@ -35,19 +35,19 @@ abbrev pub rounded_down : ℕ → ℕ
 rounded_down address = address / 4096 * 4096
 
 -- the base of segments that ascend
-abbrev pub is_base : List Segment → ℕ → Bool
-is_base [] base = false
-is_base (segment ∷ segments) base = (base == rounded_down segment.address) && nat_le base highest_base
+abbrev pub is_base_of : List Segment → ℕ → Bool
+is_base_of [] base = false
+is_base_of (segment ∷ segments) base = (base == rounded_down segment.address) && nat_le base highest_base
 
 -- a segment lies in the memory from the base on
-abbrev pub is_inside : ℕ → Segment → Bool
-is_inside base segment =
+abbrev pub holds_segment : ℕ → Segment → Bool
+holds_segment base segment =
     nat_le base segment.address && (nat_le (end_of segment) (base + memory_size) && nat_le (end_of segment) highest_end)
 
 -- all segments do
 abbrev pub are_inside : ℕ → List Segment → Bool
 are_inside base [] = true
-are_inside base (segment ∷ segments) = is_inside base segment && are_inside base segments
+are_inside base (segment ∷ segments) = holds_segment base segment && are_inside base segments
 
 -- an instruction may stand there
 abbrev pub is_entry : List Segment → ℕ → Bool

@@ -1,5 +1,5 @@
 ghost use Rattle.std.specs.Prelude.{◌≡◌, ◌+◌, ◌*◌, ◌<◌, ◌≤◌, MatchOption, length};
-ghost use Rattle.elf32_loader.specs.Headers.{HasTable, IsLoad, entry_of, header_at, header_count, header_size, table_offset, word_at};
+ghost use Rattle.elf32_loader.specs.Headers.{HasTable, IsLoad, entry_of, header_at, header_count, header_size, table_offset, file_word};
 
 use crate::headers::Header;
 use byteorder::{ByteOrder, LittleEndian};
@@ -10,7 +10,7 @@ const LOAD: u32 = 1;
 /// The word at an offset.
 fn word_from(file: &[u8], offset: usize) -> u32
     requires { offset + 4 ≤ length file.now }
-    ensures { result ≡ word_at file.now offset }
+    ensures { result ≡ file_word file.now offset }
 {
     LittleEndian::read_u32(&file[offset..])
 }

@@ -1,5 +1,5 @@
 ghost use Rattle.std.specs.Prelude.{IsTrue};
-ghost use Rattle.elf32_loader.specs.Segments.{are_inside, is_ascending, is_base, is_entry};
+ghost use Rattle.elf32_loader.specs.Segments.{are_inside, is_ascending, is_base_of, is_entry};
 
 use crate::Segment;
 use flow_base::List;
@@ -19,7 +19,7 @@ pub struct Image {
     /// The segments by ascending address.
     pub segments: List<Segment>,
     ghost ascends: { IsTrue (is_ascending segments) },
-    ghost is_based: { IsTrue (is_base segments base) },
+    ghost is_based: { IsTrue (is_base_of segments base) },
     ghost is_inside: { IsTrue (are_inside base segments) },
     ghost is_entered: { IsTrue (is_entry segments entry) },
 }

@@ -2,7 +2,7 @@ ghost use Rattle.std.specs.Prelude.{◌≡◌, ◌≢◌, ℕ, ◌+◌, ◌^◌,
 ghost use Rattle.elf32_loader.specs.FaultTable.{HasNoFault, IsFileBase};
 ghost use Rattle.elf32_loader.specs.FirstFault.{IsFirstFault};
 ghost use Rattle.elf32_loader.specs.Headers.{header_count};
-ghost use Rattle.elf32_loader.specs.Images.{picture_of};
+ghost use Rattle.elf32_loader.specs.Images.{image_picture};
 ghost use Rattle.elf32_loader.specs.Programs.{IsImage, IsLoaded};
 ghost use Rattle.elf32_loader.specs.Private.Searches.{AreLoads, IsPlace, IsPutIn};
 
@@ -95,7 +95,7 @@ fn read_segments(alloc: Global, file: &[u8]) -> Result<Vec<Segment>, NoMemory>
 /// load, a load out of range, the base, an overlap, the entry. Lack of memory answers [`ElfFault::Memory`].
 pub fn load_image(alloc: Global, file: &[u8]) -> Result<Image, ElfFault>
     requires { length file.now < 2 ^ 32 }
-    ensures loaded { IfOk result (λ image. IsImage file.now (picture_of image)) }
+    ensures loaded { IfOk result (λ image. IsImage file.now (image_picture image)) }
     ensures fault { IfErr result (λ fault. fault ≢ ElfFault.Memory → IsFirstFault file.now fault) }
 {
     let base = check_file(file)?;

@@ -1,5 +1,5 @@
 ghost use Rattle.std.specs.Prelude.{◌≡◌, ◌+◌, ◌^◌, ◌<◌, ◌≤◌, ◌++◌, IfOk, OnOk, length};
-ghost use Rattle.elf32_loader.specs.Images.{picture_of};
+ghost use Rattle.elf32_loader.specs.Images.{image_picture};
 ghost use Rattle.elf32_loader.specs.Written.{contents, elf_header, program_header, program_headers, written};
 
 use crate::{Image, Segment};
@@ -74,7 +74,7 @@ fn put_contents(file: &mut Vec<u8>, segments: &[Segment]) -> Result<(), NoMemory
 /// p_align 1. The image has at most 64 segments. Its error is lack of memory.
 pub fn write_image(alloc: Global, image: &Image) -> Result<Bytes, NoMemory>
     requires { length image.now.segments ≤ 64 }
-    ensures { IfOk result (λ bytes. bytes ≡ written (picture_of image.now)) }
+    ensures { IfOk result (λ bytes. bytes ≡ written (image_picture image.now)) }
 {
     let segments = image.segments.as_slice();
     let count = segments.len() as u16;

@@ -6,14 +6,15 @@ use Rattle.std.specs.List.{list_all}
 use Rattle.serde_json.specs.View.{items_view}
 use Rattle.serde_json.specs.declared.value.Value.{Value}
 use Rattle.enclosure_regions.specs.declared.region_parts.Region.{Region}
-use Rattle.enclosure_regions.specs.Regions.{are_distinct, are_regions, enters_of, ids_of, is_region, stands_in}
+use Rattle.enclosure_regions.specs.Regions.{are_distinct, are_regions, enters_of, ids_of, is_region}
 use Rattle.enclosure_regions.specs.Reading.{count_of}
+use Rattle.flow_base.specs.Listed.{is_listed}
 
-stands-longer : (xs : List ℕ) (x y : ℕ) → stands_in xs x ≡ false → (y == x) ≡ false → stands_in (xs ++ y ∷ []) x ≡ false
+stands-longer : (xs : List ℕ) (x y : ℕ) → is_listed xs x ≡ false → (y == x) ≡ false → is_listed (xs ++ y ∷ []) x ≡ false
 stands-longer [] x y none other = grind (arith, common_steps)
 stands-longer (z ∷ xs) x y none other = grind (arith, common_steps, stands-longer xs x y)
 
-distinct-longer : (xs : List ℕ) (y : ℕ) → IsTrue (are_distinct xs) → stands_in xs y ≡ false
+distinct-longer : (xs : List ℕ) (y : ℕ) → IsTrue (are_distinct xs) → is_listed xs y ≡ false
     → IsTrue (are_distinct (xs ++ y ∷ []))
 distinct-longer [] y h none = refl
 distinct-longer (x ∷ xs) y h none = grind (arith, common_steps, stands-longer xs x y, distinct-longer xs y)
@@ -34,8 +35,8 @@ enters-longer [] region = refl
 enters-longer (other ∷ regions) region = ap (λ enters. other.enter ∷ enters) (enters-longer regions region)
 
 pub longer : (regions : List Region) (region : Region) → length regions < 256 → IsTrue (are_regions regions)
-    → IsTrue (is_region region) → stands_in (ids_of regions) region.id ≡ false
-    → stands_in (enters_of regions) region.enter ≡ false → IsTrue (are_regions (regions ++ region ∷ []))
+    → IsTrue (is_region region) → is_listed (ids_of regions) region.id ≡ false
+    → is_listed (enters_of regions) region.enter ≡ false → IsTrue (are_regions (regions ++ region ∷ []))
 longer regions region few h one new_id new_enter =
     grind (
       arith,

@@ -6,7 +6,8 @@ use Rattle.enclosure_regions.specs.declared.orders.TheConstants.{ALL_REGISTERS}
 use Rattle.enclosure_regions.specs.declared.region_parts.Region.{Region}
 use Rattle.enclosure_regions.specs.RegionItems.{is_written}
 use Rattle.enclosure_regions.specs.Orders.{all_registers, ordered, stands_twice, times, lowest_twice, in_order}
-use Rattle.enclosure_regions.specs.Regions.{are_apart, are_registers, ascends_above, is_region, is_register, stands_in}
+use Rattle.enclosure_regions.specs.Regions.{are_apart, are_registers, ascends_above, is_region, is_register}
+use Rattle.flow_base.specs.Listed.{is_listed}
 
 pub table : ALL_REGISTERS ≡ all_registers
 unfolding all_registers
@@ -37,22 +38,22 @@ picked registers =
       arith,
       common_steps,
       all-are,
-      filter-all is_register (stands_in registers) all_registers,
-      ascends (stands_in registers) 0 all_registers,
+      filter-all is_register (is_listed registers) all_registers,
+      ascends (is_listed registers) 0 all_registers,
     )
 
 -- ---- twice
 
-stands-times : (r : ℕ) (xs : List ℕ) → IsTrue (stands_in xs r) → 1 ≤ times xs r
+stands-times : (r : ℕ) (xs : List ℕ) → IsTrue (is_listed xs r) → 1 ≤ times xs r
 stands-times r [] h = grind arith
 stands-times r (x ∷ xs) h = grind (arith, common_steps, stands-times r xs)
 
-stands-picked : (pick : ℕ → Bool) (r : ℕ) (xs : List ℕ) → IsTrue (stands_in (filter pick xs) r) → IsTrue (pick r)
+stands-picked : (pick : ℕ → Bool) (r : ℕ) (xs : List ℕ) → IsTrue (is_listed (filter pick xs) r) → IsTrue (pick r)
 stands-picked pick r [] h = grind arith
 stands-picked pick r (x ∷ xs) h = grind (arith, common_steps, stands-picked pick r xs)
 
 apart-of : (outs keep ys xs : List ℕ) → find (stands_twice outs keep) xs ≡ None
-    → IsTrue (are_apart (filter (stands_in outs) xs) (filter (stands_in keep) ys))
+    → IsTrue (are_apart (filter (is_listed outs) xs) (filter (is_listed keep) ys))
 apart-of outs keep ys [] h = refl
 apart-of outs keep ys (x ∷ xs) h =
     grind (
@@ -60,7 +61,7 @@ apart-of outs keep ys (x ∷ xs) h =
       common_steps,
       stands-times x outs,
       stands-times x keep,
-      stands-picked (stands_in keep) x ys,
+      stands-picked (is_listed keep) x ys,
       apart-of outs keep ys xs,
     )
 

@@ -8,15 +8,15 @@ use Rattle.enclosure_regions.specs.declared.break_kinds.Break.{Break}
 use Rattle.enclosure_regions.specs.declared.break_kinds.Break.TheVariants.{UndeclaredWrite, KeepBroken, CallInRegion}
 use Rattle.enclosure_regions.specs.declared.break_kinds.Break.TheVariants.{RangeOutside}
 use Rattle.enclosure_regions.specs.declared.break_kinds.Place.TheVariants.{Reg, Byte}
-use Rattle.enclosure_regions.specs.Regions.{stands_in}
 use Rattle.enclosure_regions.specs.Turns.{start_of}
+use Rattle.flow_base.specs.Listed.{is_listed}
 
 -- ---- writes
 
 -- the region declares a register among its outputs or its kept registers; a write to x0 is none
 abbrev pub declares_register : Region → ℕ → Bool
 declares_register region register =
-    (register == 0) || (stands_in region.outs register || stands_in region.keep register)
+    (register == 0) || (is_listed region.outs register || is_listed region.keep register)
 
 -- a range that starts there has the byte
 abbrev pub has_byte : ℕ → ℕ → ℕ → Bool

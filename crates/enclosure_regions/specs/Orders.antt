@@ -2,7 +2,7 @@
 use Rattle.std.specs.Prelude.{ℕ, ◌+◌, ◌==◌, nat_le, Bool, List, [], ◌∷◌, count_by, Option}
 use Rattle.std.specs.List.{filter, find}
 use Rattle.enclosure_regions.specs.declared.region_parts.Region.{Region}
-use Rattle.enclosure_regions.specs.Regions.{stands_in}
+use Rattle.flow_base.specs.Listed.{is_listed}
 
 -- the registers that a region may name
 unfoldable pub all_registers : List ℕ
@@ -12,7 +12,7 @@ all_registers =
 
 -- those of them that stand in a list, ascending
 abbrev pub in_order : List ℕ → List ℕ
-in_order registers = filter (λ register. stands_in registers register) all_registers
+in_order registers = filter (λ register. is_listed registers register) all_registers
 
 -- how often a register stands in a list
 abbrev pub times : List ℕ → ℕ → ℕ

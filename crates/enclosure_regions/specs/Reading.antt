@@ -11,8 +11,9 @@ use Rattle.enclosure_regions.specs.declared.region_faults.RegionFault.TheVariant
 use Rattle.enclosure_regions.specs.declared.region_faults.RegionFault.TheVariants.{RegisterTwice, TooMany, Memory}
 use Rattle.enclosure_regions.specs.Orders.{lowest_twice, ordered}
 use Rattle.enclosure_regions.specs.RegionItems.{written_in}
-use Rattle.enclosure_regions.specs.Regions.{enters_of, ids_of, stands_in}
+use Rattle.enclosure_regions.specs.Regions.{enters_of, ids_of}
 use Rattle.enclosure_regions.specs.Shapes.{has_keys}
+use Rattle.flow_base.specs.Listed.{is_listed}
 
 infixl 10 ◌>>◌
 abbrev pub ◌>>◌ : {A B : Type 0} → Result A RegionFault → (A → Result B RegionFault) → Result B RegionFault
@@ -29,12 +30,12 @@ UnlessMemory result answer = result ≢ Err Memory → result ≡ answer
 abbrev pub without_twice : List Region → Region → Option ℕ → Result Region RegionFault
 without_twice found region (Some register) = Err (RegisterTwice (suc (length found)) register)
 without_twice found region None =
-    if stands_in (enters_of found) region.enter then Err (EnterTwice (suc (length found))) else Ok (ordered region)
+    if is_listed (enters_of found) region.enter then Err (EnterTwice (suc (length found))) else Ok (ordered region)
 
 -- a number that an earlier region has comes before equal addresses
 abbrev pub placed_behind : List Region → Region → Result Region RegionFault
 placed_behind found region =
-    if stands_in (ids_of found) region.id then Err (Shape (suc (length found)))
+    if is_listed (ids_of found) region.id then Err (Shape (suc (length found)))
     else if region.enter == region.leave then Err (SameAddress (suc (length found)))
     else without_twice found region (lowest_twice region.outs region.keep)
 

@@ -6,8 +6,9 @@ use Rattle.serde_json.specs.Data.{Data}
 use Rattle.serde_json.specs.Find.{get}
 use Rattle.enclosure_regions.specs.declared.region_parts.Region.{Region}
 use Rattle.enclosure_regions.specs.RangeItems.{ranges_if}
-use Rattle.enclosure_regions.specs.Regions.{are_ranges, is_place, is_region_number, is_register}
+use Rattle.enclosure_regions.specs.Regions.{are_ranges, is_code_address, is_register}
 use Rattle.enclosure_regions.specs.Shapes.{has_keys, number_within, place_at, registers_if}
+use Rattle.flow_base.specs.Points.{is_region_number}
 
 abbrev pub is_region_key : List ℕ → Bool
 is_region_key key =
@@ -24,7 +25,7 @@ place_if d = option_and_then place_at d
 abbrev pub is_written : Region → Bool
 is_written region =
     is_region_number region.id
-    && (is_place region.enter && (is_place region.leave && (list_all is_register region.outs
+    && (is_code_address region.enter && (is_code_address region.leave && (list_all is_register region.outs
     && (list_all is_register region.keep && are_ranges region.ranges))))
 
 infixl 10 ◌>>=◌

@@ -32,12 +32,12 @@ break_text (CallInRegion region pc) = codes "region " ++ (decimal region ++ (cod
 break_text (RangeOutside region range) = range_text region range
 
 -- what is wrong with a region file
-abbrev pub fault_text : RegionFault → List ℕ
-fault_text Json = codes "json"
-fault_text (Shape index) = codes "shape " ++ decimal index
-fault_text (SameAddress index) = codes "same-address " ++ decimal index
-fault_text (EnterTwice index) = codes "enter-twice " ++ decimal index
-fault_text (RegisterTwice index register) =
+abbrev pub region_fault_text : RegionFault → List ℕ
+region_fault_text Json = codes "json"
+region_fault_text (Shape index) = codes "shape " ++ decimal index
+region_fault_text (SameAddress index) = codes "same-address " ++ decimal index
+region_fault_text (EnterTwice index) = codes "enter-twice " ++ decimal index
+region_fault_text (RegisterTwice index register) =
     codes "register-twice " ++ (decimal index ++ (codes " x" ++ decimal register))
-fault_text (TooMany count) = codes "too-many " ++ decimal count
-fault_text Memory = codes "out of memory"
+region_fault_text (TooMany count) = codes "too-many " ++ decimal count
+region_fault_text Memory = codes "out of memory"

@@ -4,7 +4,8 @@ ghost use Rattle.enclosure_regions.specs.Orders.{all_registers, in_order as in_o
 ghost use Rattle.enclosure_regions.specs.Orders.{lowest_twice as lowest_twice_of};
 ghost use Rattle.enclosure_regions.specs.Orders.{ordered as ordered_of, stands_twice as stands_twice_in, times};
 ghost use Rattle.enclosure_regions.specs.RegionItems.{is_written};
-ghost use Rattle.enclosure_regions.specs.Regions.{are_registers, is_region, stands_in};
+ghost use Rattle.enclosure_regions.specs.Regions.{are_registers, is_region};
+ghost use Rattle.flow_base.specs.Listed.{is_listed};
 
 use crate::region_parts::Region;
 use flow_base::{List, NoMemory};
@@ -18,7 +19,7 @@ pub const ALL_REGISTERS: [u8; 31] = [
 
 // Those of the registers that stand in a list.
 fn those_in(alloc: Global, all: &[u8], registers: &[u8]) -> Result<List<u8>, NoMemory>
-    ensures { IfOk result (λ found. found ≡ filter (λ register. stands_in registers.now register) all.now) }
+    ensures { IfOk result (λ found. found ≡ filter (λ register. is_listed registers.now register) all.now) }
 {
     let mut found = List::new(alloc);
     for register in all {

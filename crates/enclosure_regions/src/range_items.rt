@@ -4,7 +4,7 @@ ghost use Rattle.std.specs.Prelude.{option_map};
 ghost use Rattle.serde_json.specs.View.{items_view, view};
 ghost use Rattle.enclosure_regions.specs.RangeItems.{base_if, few as few_of, length_if, offset_if, range_at, ranges_at};
 ghost use Rattle.enclosure_regions.specs.RangeItems.{ranges_onto};
-ghost use Rattle.enclosure_regions.specs.Regions.{are_ranges, is_base, is_range};
+ghost use Rattle.enclosure_regions.specs.Regions.{are_ranges, is_base_register, is_range};
 
 use crate::object_keys::has_range_keys;
 use crate::region_parts::Range;
@@ -16,7 +16,7 @@ use std::alloc::Global;
 // A register name, or null, or left out.
 fn base(value: Option<&Value>) -> Option<Option<u8>>
     ensures exact { result ≡ base_if (option_map (λ v. view v.now) value.entry) }
-    ensures base { IfSome result (λ base. IsTrue (is_base base)) }
+    ensures base { IfSome result (λ base. IsTrue (is_base_register base)) }
 {
     match value {
         None | Some(Value::Null) => Some(None),

@@ -3,7 +3,8 @@ ghost use Rattle.enclosure_regions.specs.Orders.{lowest_twice as lowest_twice_of
 ghost use Rattle.serde_json.specs.View.{view};
 ghost use Rattle.enclosure_regions.specs.Reading.{UnlessMemory, placed_behind, written_behind};
 ghost use Rattle.enclosure_regions.specs.RegionItems.{is_written, written_in};
-ghost use Rattle.enclosure_regions.specs.Regions.{enters_of, ids_of, is_region, stands_in};
+ghost use Rattle.enclosure_regions.specs.Regions.{enters_of, ids_of, is_region};
+ghost use Rattle.flow_base.specs.Listed.{is_listed};
 
 use crate::orders::{lowest_twice, ordered};
 use crate::region_faults::RegionFault;
@@ -14,14 +15,14 @@ use std::alloc::Global;
 
 // Whether one of the regions has a number.
 fn has_id(regions: &[Region], id: u16) -> bool
-    ensures { result ≡ stands_in (ids_of regions.now) id }
+    ensures { result ≡ is_listed (ids_of regions.now) id }
 {
     regions.iter().any(|region| region.id == id)
 }
 
 // Whether one of the regions has an enter address.
 fn has_enter(regions: &[Region], enter: u32) -> bool
-    ensures { result ≡ stands_in (enters_of regions.now) enter }
+    ensures { result ≡ is_listed (enters_of regions.now) enter }
 {
     regions.iter().any(|region| region.enter == enter)
 }
@@ -31,10 +32,10 @@ fn may_stand(found: &[Region], region: &Region) -> Result<(), RegionFault>
     requires { length found.now < 256 }
     ensures ok { OnOk result (placed_behind found.now region.now ≡ Ok (ordered_of region.now)) }
     ensures err { IfErr result (λ fault. placed_behind found.now region.now ≡ Err fault) }
-    ensures new_id { OnOk result (stands_in (ids_of found.now) region.now.id ≡ false) }
+    ensures new_id { OnOk result (is_listed (ids_of found.now) region.now.id ≡ false) }
     ensures addresses { OnOk result (region.now.enter ≢ region.now.leave) }
     ensures registers { OnOk result (lowest_twice_of region.now.outs region.now.keep ≡ None) }
-    ensures new_enter { OnOk result (stands_in (enters_of found.now) region.now.enter ≡ false) }
+    ensures new_enter { OnOk result (is_listed (enters_of found.now) region.now.enter ≡ false) }
 {
     let index = found.len() as u32 + 1;
     if has_id(found, region.id) {
@@ -58,8 +59,8 @@ fn placed(alloc: Global, found: &[Region], region: Region) -> Result<Region, Reg
     requires written { IsTrue (is_written region) }
     ensures exact { UnlessMemory result (placed_behind found.now region) }
     ensures rules { IfOk result (λ other. IsTrue (is_region other)) }
-    ensures new_id { IfOk result (λ other. stands_in (ids_of found.now) other.id ≡ false) }
-    ensures new_enter { IfOk result (λ other. stands_in (enters_of found.now) other.enter ≡ false) }
+    ensures new_id { IfOk result (λ other. is_listed (ids_of found.now) other.id ≡ false) }
+    ensures new_enter { IfOk result (λ other. is_listed (enters_of found.now) other.enter ≡ false) }
 {
     may_stand(found, &region)?;
     Ok(ordered(alloc, region)?)
@@ -70,8 +71,8 @@ pub fn behind(alloc: Global, found: &[Region], item: &Value) -> Result<Region, R
     requires { length found.now < 256 }
     ensures exact { UnlessMemory result (written_behind found.now (written_in (view item.now))) }
     ensures rules { IfOk result (λ other. IsTrue (is_region other)) }
-    ensures new_id { IfOk result (λ other. stands_in (ids_of found.now) other.id ≡ false) }
-    ensures new_enter { IfOk result (λ other. stands_in (enters_of found.now) other.enter ≡ false) }
+    ensures new_id { IfOk result (λ other. is_listed (ids_of found.now) other.id ≡ false) }
+    ensures new_enter { IfOk result (λ other. is_listed (enters_of found.now) other.enter ≡ false) }
 {
     match written(alloc, item)? {
         Some(region) => placed(alloc, found, region),

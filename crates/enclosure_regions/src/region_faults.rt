@@ -35,9 +35,9 @@ pub enum RegionFault {
 
 impl fmt::Display for RegionFault {
     ghost use Rattle.std.specs.Prelude.{Some};
-    ghost use Rattle.enclosure_regions.specs.Texts.{fault_text};
+    ghost use Rattle.enclosure_regions.specs.Texts.{region_fault_text};
 
-    ghost output = { λ fault. Some (fault_text fault) };
+    ghost output = { λ fault. Some (region_fault_text fault) };
 
     fn fmt<W: fmt::Write>(&self, f: &mut fmt::Formatter<W>) -> fmt::Result {
         match self {

@@ -3,8 +3,9 @@ ghost use Rattle.std.specs.List.{list_all};
 ghost use Rattle.serde_json.specs.View.{view};
 ghost use Rattle.enclosure_regions.specs.RangeItems.{ranges_if};
 ghost use Rattle.enclosure_regions.specs.RegionItems.{are_lists, id_if, is_written, lists_in, place_if, written_in};
-ghost use Rattle.enclosure_regions.specs.Regions.{are_ranges, is_place, is_region_number, is_register};
+ghost use Rattle.enclosure_regions.specs.Regions.{are_ranges, is_code_address, is_register};
 ghost use Rattle.enclosure_regions.specs.Shapes.{registers_if};
+ghost use Rattle.flow_base.specs.Points.{is_region_number};
 
 use crate::object_keys::has_region_keys;
 use crate::range_items::ranges;
@@ -26,7 +27,7 @@ fn id(value: Option<&Value>) -> Option<u16>
 // An address.
 fn address(value: Option<&Value>) -> Option<u32>
     ensures exact { result ≡ place_if (option_map (λ v. view v.now) value.entry) }
-    ensures place { IfSome result (λ place. IsTrue (is_place place)) }
+    ensures place { IfSome result (λ place. IsTrue (is_code_address place)) }
 {
     place(value?)
 }

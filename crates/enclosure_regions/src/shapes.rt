@@ -1,7 +1,7 @@
 ghost use Rattle.std.specs.Prelude.{◌≡◌, ◌≤◌, [], map, string_bytes, IfOk, IfSome, IsTrue};
 ghost use Rattle.std.specs.List.{list_all};
 ghost use Rattle.serde_json.specs.View.{view};
-ghost use Rattle.enclosure_regions.specs.Regions.{is_place, is_register};
+ghost use Rattle.enclosure_regions.specs.Regions.{is_code_address, is_register};
 ghost use Rattle.enclosure_regions.specs.Shapes.{number_within, place_at, register_at, registers_at, registers_onto};
 ghost use Rattle.enclosure_regions.specs.Shapes.{registers_if, word_at};
 ghost use Rattle.serde_json.specs.View.{items_view};
@@ -35,7 +35,7 @@ pub fn word(value: &Value) -> Option<u32>
 /// The address of an instruction.
 pub fn place(value: &Value) -> Option<u32>
     ensures exact { result ≡ place_at (view value.now) }
-    ensures place { IfSome result (λ place. IsTrue (is_place place)) }
+    ensures place { IfSome result (λ place. IsTrue (is_code_address place)) }
 {
     place_in(value.as_str()?.as_bytes())
 }

@@ -1,5 +1,5 @@
 ghost use Rattle.std.specs.Prelude.{◌≡◌, IfSome, IsTrue};
-ghost use Rattle.enclosure_regions.specs.Regions.{is_place};
+ghost use Rattle.enclosure_regions.specs.Regions.{is_code_address};
 ghost use Rattle.enclosure_regions.specs.Words.{aligned as aligned_word, digits_after, digits_in, place_in};
 ghost use Rattle.enclosure_regions.specs.Words.{word_in, word_of};
 
@@ -45,7 +45,7 @@ fn word(text: &[u8]) -> Option<u32>
 // A word that is a multiple of 4.
 fn aligned(word: u32) -> Option<u32>
     ensures exact { result ≡ aligned_word word }
-    ensures place { IfSome result (λ place. IsTrue (is_place place)) }
+    ensures place { IfSome result (λ place. IsTrue (is_code_address place)) }
 {
     if word % 4 == 0 { Some(word) } else { None }
 }
@@ -53,7 +53,7 @@ fn aligned(word: u32) -> Option<u32>
 /// The address of an instruction: `0x` and one to eight hexadecimal digits of either case, a multiple of 4.
 pub fn place(text: &[u8]) -> Option<u32>
     ensures exact { result ≡ place_in text.now }
-    ensures place { IfSome result (λ place. IsTrue (is_place place)) }
+    ensures place { IfSome result (λ place. IsTrue (is_code_address place)) }
 {
     aligned(word(text)?)
 }

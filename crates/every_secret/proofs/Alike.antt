@@ -20,7 +20,7 @@ use Rattle.guest_calls.specs.declared.kinds.CallKind.TheVariants.{Read, Write as
 use Rattle.guest_calls.specs.declared.kinds.CallKind.TheVariants.{Brk as BrkCall, Unknown}
 use Rattle.guest_calls.specs.declared.writing.WriteCheck.{WriteCheck}
 use Rattle.guest_calls.specs.declared.writing.WriteCheck.TheVariants.{Append, BadAddress, OverLimit}
-use Rattle.guest_calls.specs.Calls.{bad_address, bad_descriptor, checked_write, is_output, kind_of, unknown_call}
+use Rattle.guest_calls.specs.Calls.{bad_address, bad_descriptor, checked_write, is_output, call_kind, unknown_call}
 use Rattle.rv32im_machine.specs.declared.stepping.Fault.{Fault}
 use Rattle.rv32im_machine.specs.declared.stepping.Fault.TheVariants.{Illegal, FetchOutside, FetchUnaligned}
 use Rattle.rv32im_machine.specs.declared.stepping.Fault.TheVariants.{LoadOutside, StoreOutside, Breakpoint, OutputLimit}
@@ -263,7 +263,7 @@ module _ (mask : ℕ) where
         Pass _ _ _ _ refl (Pass _ _ _ _ refl (Pass _ _ _ _ refl (goes masks output written agree control)))
     row-alike (Fence rd rs1 imm) setting control = goes masks output written agree control
     row-alike Ecall setting control =
-        Decide _ _ _ refl (λ number. kind-alike (kind_of number) setting control)
+        Decide _ _ _ refl (λ number. kind-alike (call_kind number) setting control)
     row-alike Ebreak setting control = stopped masks output written agree (Breakpoint control.pc) control
 
     fetched-alike : (found : Option Instr) (word : ℕ) (setting : Setting) (control : Control) →

@@ -5,7 +5,7 @@ use Rattle.std.specs.Prelude.{◌==◌, if◌then◌else◌}
 use Rattle.std.specs.List.{AllByRecursion}
 use Rattle.crossing_bits.specs.Askers.{AllDifferent, Asker}
 use Rattle.acceptance_law.specs.MeasuredLaws.{AreInputs}
-use Rattle.cut_file.specs.Cuts.{CutPicture, is_valid as is_valid_cut}
+use Rattle.cut_file.specs.Cuts.{CutPicture, is_cut_picture}
 use Rattle.elf32_loader.specs.Pictures.{Picture}
 use Rattle.enclosure_regions.specs.declared.region_parts.Region.{Region}
 use Rattle.flow_base.specs.declared.outputs.Output.{Output}
@@ -13,7 +13,7 @@ use Rattle.lockstep_replay.specs.Acceptance.{Accept, HasExited}
 use Rattle.lockstep_replay.specs.Tasks.{Limits, Task, real_of, real_start, task_of}
 use Rattle.region_machine.specs.Breaking.{Breaks, kind_break}
 use Rattle.region_machine.specs.Enclosures.{Enclosures, kind_in, kind_within, region_numbered}
-use Rattle.region_machine.specs.Runs.{Place, real_after, turn_unless}
+use Rattle.region_machine.specs.Runs.{Place, Real, turn_unless}
 use Rattle.rv32im_machine.specs.declared.stepping.Stepped.{Stepped}
 use Rattle.rv32im_machine.specs.declared.stepping.Stepped.TheVariants.{Ran, Exited, Stopped}
 use Rattle.rv32im_machine.specs.State.{State}
@@ -21,7 +21,7 @@ use Rattle.every_secret.specs.declared.path_ends.PathEnd.{PathEnd}
 use Rattle.every_secret.specs.declared.path_ends.PathEnd.TheVariants.{Exits, Stops, Unclear}
 use Rattle.every_secret.specs.AllSecrets.{Gives, IsGiven, IsSecret}
 use Rattle.every_secret.specs.Bounds.{Bounds, Found, IsBounded, nothing_found, output_count}
-use Rattle.every_secret.specs.Laws.{AllSecretsLaw, Chooses, EndsAs, IsLost, RunLaw}
+use Rattle.every_secret.specs.Laws.{AllSecretsLaw, Chooses, EndsPath, IsLost, RunLaw}
 use Rattle.every_secret.specs.Listed.{IsListed, StandsFor}
 use Rattle.every_secret.specs.Paths.{Paths, tree_of}
 use Rattle.every_secret.specs.Replays.{MaskedReplay}
@@ -63,11 +63,11 @@ never_breaks regions state none =
     ∙ breaks_none state.control.mode state.control.region state.control.pc state
 
 unbroken_after : (enclosures : Enclosures) (turns : ℕ) (place : Place) → enclosures.regions ≡ [] →
-    place.broken ≡ None → (real_after enclosures turns place).broken ≡ None
-unfolding real_after
+    place.broken ≡ None → (Real enclosures turns place).broken ≡ None
+unfolding Real
 unbroken_after enclosures zero place none whole = whole
 unbroken_after enclosures (suc turns) place none whole =
-    let before : Place = real_after enclosures turns place in
+    let before : Place = Real enclosures turns place in
     subst (λ broken. (turn_unless broken enclosures before).broken ≡ None)
     (sym (unbroken_after enclosures turns place none whole)) (never_breaks enclosures.regions before.state none)
 
@@ -75,7 +75,7 @@ unbroken_after enclosures (suc turns) place none whole =
 
 module _ (run : RunLaw) (rules : Rules) (program : Picture) (public_input : List ℕ) (regions : List Region)
     (cut : CutPicture) (limits : Limits) (paths : ℕ) (found : Found) (sound : AreSoundRules rules)
-    (inputs : AreInputs program public_input regions []) (valid : is_valid_cut cut ≡ true)
+    (inputs : AreInputs program public_input regions []) (valid : is_cut_picture cut ≡ true)
     (small : limits.budget < 4294967295)
     (answer : Bounds rules (task_of program public_input regions cut) limits paths ≡ IsBounded found) where
   abbrev pub task : Task
@@ -107,7 +107,7 @@ module _ (run : RunLaw) (rules : Rules) (program : Picture) (public_input : List
       }) valid small is unbroken
 
   accepted_at : (secret : List ℕ) (output : Output) → Gives task limits secret output → (e : PathEnd) →
-      EndsAs task limits secret e → Shows found e → Accept task limits secret output × IsListed found.patterns output
+      EndsPath task limits secret e → Shows found e → Accept task limits secret output × IsListed found.patterns output
   accepted_at secret output gives (Unclear why) alike shown = absurd shown
   accepted_at secret output gives (Stops stop) alike shown = absurd (alike output gives)
   accepted_at secret output gives (Exits pattern) alike shown =
@@ -146,7 +146,7 @@ module _ (run : RunLaw) (rules : Rules) (program : Picture) (public_input : List
       (paths_from_ends EndsInWords (tree_of walks) (replay_words rules task limits (cut_masks_fit cut.points))) in
       few_outputs found.patterns outputs words different (all_listed outputs given)
 
-  given_at : (secret : List ℕ) → found.stopped ≡ 0 → (e : PathEnd) → EndsAs task limits secret e → Shows found e →
+  given_at : (secret : List ℕ) → found.stopped ≡ 0 → (e : PathEnd) → EndsPath task limits secret e → Shows found e →
       (output : Output) × Gives task limits secret output
   given_at secret none (Unclear why) alike shown = absurd shown
   given_at secret none (Stops stop) alike shown = absurd (omega (arith, none, shown))

@@ -18,7 +18,7 @@ use Rattle.replay_machine.proofs.MasksAhead.{ahead-self}
 use Rattle.replay_machine.proofs.ReplayEnds.{kind_inside, replay_kind_keeps}
 use Rattle.run_labels.specs.Runs.{entered_number}
 use Rattle.tracked_run.specs.declared.held.Held.{Held}
-use Rattle.tracked_run.specs.Labels.{labels_of, map_of, none_held}
+use Rattle.tracked_run.specs.Labels.{labels_of, map_of, clean_held}
 use Rattle.lockstep_replay.specs.Tasks.{Task}
 use Rattle.every_secret.specs.declared.whys.UnclearWhy.TheVariants.{BaseSecret}
 use Rattle.every_secret.specs.Private.Ends.{lengthens-none}
@@ -26,7 +26,7 @@ use Rattle.every_secret.specs.Masked.{MaskedPlace, Reached, Goes, Meets, Halts, 
 use Rattle.every_secret.specs.Rules.{AnswerAs, Rules}
 use Rattle.every_secret.specs.Private.Tapes.{Arrives, EndsAt, EndsMasked, HoldsPlace, HoldsReached, Lengthens, PlaysWalk, Tape}
 use Rattle.every_secret.specs.Private.Tapes.{TellsWalk, knowledge_of}
-use Rattle.every_secret.specs.Private.Turning.{HoldsTurn, IsReady, Makes, MakesBy, MakesKind}
+use Rattle.every_secret.specs.Private.Turning.{HoldsTurn, IsReady, MakesFed, MakesBy, MakesKind}
 use Rattle.every_secret.specs.Turns.{cutting_of, kind_turn, knowledge_at, masked_turn, secret_base_of, skips}
 use Rattle.every_secret.specs.Turns.{turn_from, turn_inside}
 
@@ -143,10 +143,10 @@ module _ (rules : Rules) (task : Task) (kind : Kind) (machine : State) (past : L
   held-turn (Halts range) h none = absurd h
 
   makes-by : (register : Option ℕ) (range : Option Outside) → AnswerAs before.table rules →
-      MakesBy register range task.enclosures kind (entered_number kind) (skips task.enclosures kind) none_held machine
+      MakesBy register range task.enclosures kind (entered_number kind) (skips task.enclosures kind) clean_held machine
       before outside state after →
       HoldsPlace task.masks (placed machine past before) machine before →
-      Makes task.masks (turn_as register range) before.stream outside state after
+      MakesFed task.masks (turn_as register range) before.stream outside state after
   unfolding turn_as
   makes-by (Some register) range answers h at = record {
     reached = Meets (BaseSecret (entered_number kind) register);
@@ -176,15 +176,15 @@ pub turn-makes : (rules : Rules) (task : Task) (place : MaskedPlace) (machine : 
     (outside : Option Outside) (state : State) (after : Tape) (enclosures : Enclosures) (kind : Kind) (region : ℕ)
     (skipped : Bool) (held : Held) → AnswerAs before.table rules → task.enclosures ≡ enclosures →
     HoldsPlace task.masks place machine before → kind ≡ kind_of enclosures.regions machine.control →
-    region ≡ entered_number kind → skipped ≡ skips enclosures kind → held ≡ none_held →
+    region ≡ entered_number kind → skipped ≡ skips enclosures kind → held ≡ clean_held →
     MakesKind enclosures kind region skipped held machine before outside state after →
-    Makes task.masks (masked_turn rules task place) before.stream outside state after
+    MakesFed task.masks (masked_turn rules task place) before.stream outside state after
 unfolding turn_as
 turn-makes rules task place machine before outside state after enclosures kind region skipped held answers same at is
     region_is skipped_is held_is made =
-    let regular : MakesKind task.enclosures kind (entered_number kind) (skips task.enclosures kind) none_held machine before
+    let regular : MakesKind task.enclosures kind (entered_number kind) (skips task.enclosures kind) clean_held machine before
     outside state after =
-    subst (λ e. MakesKind e kind (entered_number kind) (skips e kind) none_held machine before outside state after)
+    subst (λ e. MakesKind e kind (entered_number kind) (skips e kind) clean_held machine before outside state after)
     (sym same)
     (subst (λ h. MakesKind enclosures kind (entered_number kind) (skips enclosures kind) h machine before outside state
     after) held_is
@@ -199,9 +199,9 @@ turn-makes rules task place machine before outside state after enclosures kind r
       status_mask = refl;
       clear = at.clear;
     } in
-    subst (λ p. Makes task.masks (masked_turn rules task p) before.stream outside state after)
+    subst (λ p. MakesFed task.masks (masked_turn rules task p) before.stream outside state after)
     (place-is task.masks place machine before at)
-    (subst (λ k. Makes task.masks (kind_turn rules task k (placed machine place.past before)) before.stream outside state
+    (subst (λ k. MakesFed task.masks (kind_turn rules task k (placed machine place.past before)) before.stream outside state
     after) (is ∙ ap (λ (e : Enclosures). kind_of e.regions machine.control) (sym same))
     (makes-by rules task kind machine place.past before outside state after at.clear
     (secret_base_of kind (map_of before.shades)) (kind_outside_range kind machine) answers regular here))

@@ -21,7 +21,7 @@ use Rattle.masked_turns.specs.Clearing.{Cutting}
 use Rattle.masked_turns.specs.Deciding.{left_at}
 use Rattle.masked_turns.specs.Looking.{look_at}
 use Rattle.every_secret.specs.declared.whys.UnclearWhy.{UnclearWhy}
-use Rattle.every_secret.specs.Masked.{Reached, Meets, masked, unless_met, why_left, why_looked}
+use Rattle.every_secret.specs.Masked.{Reached, Meets, masked, unless_met, unclear_by_left, unclear_by_look}
 use Rattle.every_secret.specs.Rules.{Rules, AnswerAs}
 use Rattle.every_secret.specs.Shown.{asked_for, shown_at}
 use Rattle.every_secret.specs.Private.Tapes.{Arrives, EndsAt, EndsMasked, Lengthens, PlaysMasked, Rests, Tape, TellsWalk}
@@ -96,7 +96,7 @@ module _ (cutting : Cutting) (region : ℕ) (past : List Point) (old : TurnLabel
   -- ---- a look
 
   looked-arrives : (rules : Rules) (seen : Seen) (value : ℕ) (walk : Walk) (state : State) (after : Tape)
-      (look : Option UnclearWhy) → look ≡ why_looked (look_at region old seen) →
+      (look : Option UnclearWhy) → look ≡ unclear_by_look (look_at region old seen) →
       TellsWalk look cutting.masks (masked rules cutting region known walk) (record before { unclear = look }) state
       after →
       Arrives cutting.masks (masked rules cutting region known (Looked seen value walk)) before.stream state after
@@ -115,7 +115,7 @@ module _ (cutting : Cutting) (region : ℕ) (past : List Point) (old : TurnLabel
       h
 
   pub masks-looked : (look : Option UnclearWhy) (seen : Seen) (value : ℕ) (walk : Walk) (out : Played NoMemory Tape) →
-      look ≡ why_looked (look_at region old seen) →
+      look ≡ unclear_by_look (look_at region old seen) →
       PlaysMasked cutting region known (record before { unclear = look }) walk out →
       PlaysMasked cutting region known before (Looked seen value walk) out
   unfolding EndsAt
@@ -145,7 +145,7 @@ module _ (cutting : Cutting) (region : ℕ) (past : List Point) (old : TurnLabel
           (drop mid.stream.taken after.stream.bits)
       goes w is =
           let differing = differing_at rules cutting known passing in
-          let decides = why_left (left_at passing.aim passing.point (left_of_mask rules cutting known passing)) in
+          let decides = unclear_by_left (left_at passing.aim passing.point (left_of_mask rules cutting known passing)) in
           let then_known = known_after rules cutting known passing in
           let left = drop mid.stream.taken after.stream.bits in
           feeds-taken (asked_for (shown_at passing.point.slot) differing)

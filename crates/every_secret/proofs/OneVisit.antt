@@ -3,19 +3,18 @@ use Rattle.std.proofs.Common.{◌≡◌, ℕ, ◌+◌, ◌≤◌, List, ◌∷�
 use Rattle.std.specs.Prelude.{bit_and}
 use Rattle.std.proofs.lemmas.Nat.{and_le_r}
 use Rattle.flow_base.specs.declared.points.Point.{Point}
-use Rattle.flow_base.specs.Points.{width_of}
+use Rattle.flow_base.specs.Points.{width_of, nowhere}
 use Rattle.flow_base.specs.Words.{bit_count, patched}
 use Rattle.rv32im_machine.specs.declared.language.Passing.{Passing}
 use Rattle.replay_machine.proofs.PatchesKeepWidth.{patched_width}
 use Rattle.shadow_masks.specs.Pages.{label_of}
-use Rattle.shadow_masks.specs.Points.{nowhere}
 use Rattle.run_labels.specs.Masks.{masks_of}
 use Rattle.run_labels.specs.TurnLabels.{TurnLabels, aim_label}
 use Rattle.lockstep_replay.specs.Verdicts.{counted_bits}
 use Rattle.masked_turns.specs.Clearing.{Cutting, crossing_at, passing_mask, uncrossed}
 use Rattle.masked_turns.specs.Deciding.{left_at}
 use Rattle.every_secret.specs.declared.shown.Shown.{Shown}
-use Rattle.every_secret.specs.Masked.{why_left}
+use Rattle.every_secret.specs.Masked.{unclear_by_left}
 use Rattle.every_secret.specs.Rules.{Rules, answer_to}
 use Rattle.every_secret.specs.Shown.{asked_for, byte_masks_after, shown_at, status_mask_after}
 use Rattle.every_secret.specs.Private.Tapes.{Takes, Tape, knowledge_of}
@@ -46,7 +45,7 @@ module _ (rules : Rules) (cutting : Cutting) (past : List Point) (old : TurnLabe
       Takes (asked_for shown (bit_and mask crossing)) before.stream after.stream →
       value ≡ patched passing.value (bit_and mask crossing)
       (take (asked_for shown (bit_and mask crossing)) (drop before.stream.taken after.stream.bits)) →
-      after.unclear ≡ why_left (left_at passing.aim passing.point left) →
+      after.unclear ≡ unclear_by_left (left_at passing.aim passing.point left) →
       IsVisited rules cutting past old before passing value new after
   visited mask crossing left shown mask_is crossing_is left_is new_is crossed_is shown_is bytes_are status_is takes
       value_is unclear_is =
@@ -72,5 +71,5 @@ module _ (rules : Rules) (cutting : Cutting) (past : List Point) (old : TurnLabe
         takes = subst (λ n. Takes n before.stream after.stream) (ap₂ (λ s d. asked_for s d) shown_is differing_is) takes;
         value_is = value_is ∙ ap₂ (λ s d. patched passing.value d
             (take (asked_for s d) (drop before.stream.taken after.stream.bits))) shown_is differing_is;
-        unclear = unclear_is ∙ ap (λ l. why_left (left_at passing.aim passing.point l)) rest_is;
+        unclear = unclear_is ∙ ap (λ l. unclear_by_left (left_at passing.aim passing.point l)) rest_is;
       }

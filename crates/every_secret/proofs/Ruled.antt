@@ -6,24 +6,24 @@ use Rattle.rv32im_machine.specs.declared.language.Work.{Work}
 use Rattle.rv32im_machine.specs.declared.language.Work.TheVariants.{Shaped, Computed}
 use Rattle.rv32im_decode.specs.Operations.{extended}
 use Rattle.rv32im_machine.specs.Language.{part_of, shaped}
-use Rattle.run_labels.specs.Answers.{Holds, IsTableAnswer, operands_of}
+use Rattle.run_labels.specs.Answers.{HoldsOfAnswer, IsTableAnswer, operands_of}
 use Rattle.run_labels.specs.Masks.{answered_mask, work_mask}
 use Rattle.tracked_run.specs.declared.source_masks.SourceMasks.{SourceMasks}
-use Rattle.tracked_run.specs.Labels.{AreMasks, listed_masks}
+use Rattle.tracked_run.specs.Labels.{AreMasks, masks_in_order}
 use Rattle.every_secret.specs.Rules.{AnswerAs, Rules, answer_to}
 
 shaped-same : (shape : Shape) (masks : SourceMasks) (list : List ℕ) → AreMasks masks list →
-    shaped shape (listed_masks masks) ≡ shaped shape list
+    shaped shape (masks_in_order masks) ≡ shaped shape list
 shaped-same Copied masks list are = are.first
 shaped-same (Extended kind) masks list are = ap (λ word. extended kind word) are.all
 shaped-same (Part part) masks list are = ap (λ word. part_of part word) are.first
 
 pub work-ruled : (table : ℕ) (rules : Rules) → AnswerAs table rules → (work : Work) (masks : SourceMasks)
     (list : List ℕ) → AreMasks masks list → (answer : ℕ) →
-    Holds (IsTableAnswer table) work (listed_masks masks) answer →
-    work_mask work (listed_masks masks) answer ≡ work_mask work list (answer_to rules work list)
+    HoldsOfAnswer (IsTableAnswer table) work (masks_in_order masks) answer →
+    work_mask work (masks_in_order masks) answer ≡ work_mask work list (answer_to rules work list)
 work-ruled table rules as' (Shaped shape) masks list are answer holds = shaped-same shape masks list are
 work-ruled table rules as' (Computed operation first second) masks list are answer holds =
     ap (λ a. answered_mask operation a)
-    (as' operation (operands_of first second (listed_masks masks)) answer holds
+    (as' operation (operands_of first second (masks_in_order masks)) answer holds
     ∙ ap₂ (λ m n. rules operation (record { v1 = first; m1 = m; v2 = second; m2 = n })) are.first are.second)

@@ -7,7 +7,7 @@ use Rattle.std.proofs.lemmas.Bool.{eqb-true}
 use Rattle.flow_base.specs.declared.points.Point.{Point}
 use Rattle.crossing_bits.specs.Askers.{Fed', feed}
 use Rattle.enclosure_regions.specs.declared.region_parts.Region.{Region}
-use Rattle.enclosure_regions.specs.Regions.{are_regions, stands_in}
+use Rattle.enclosure_regions.specs.Regions.{are_regions}
 use Rattle.rv32im_machine.specs.declared.stepping.Stepped.{Stepped}
 use Rattle.rv32im_machine.specs.declared.stepping.Stepped.TheVariants.{Ran, Exited, Stopped}
 use Rattle.rv32im_machine.specs.Folds.{real_end}
@@ -17,7 +17,7 @@ use Rattle.rv32im_machine.specs.State.{Control, Setting, State, Store}
 use Rattle.region_machine.specs.Breaking.{kind_break}
 use Rattle.region_machine.specs.Guests.{kind_walk}
 use Rattle.region_machine.specs.Enclosures.{Kind, Enters, Leaves, Steps, is_enclosed_kind, kind_of}
-use Rattle.region_machine.specs.Runs.{Place, common_turns, has_exited, real_after}
+use Rattle.region_machine.specs.Runs.{Place, common_turns, has_exited, Real}
 use Rattle.region_machine.proofs.NoExitInside.{enclosed_runs_on}
 use Rattle.region_machine.proofs.RangesStayInside.{entered-found, numbered}
 use Rattle.replay_machine.specs.Runs.{Replay, replay_fresh}
@@ -50,13 +50,14 @@ use Rattle.every_secret.proofs.WalkKeeps.{IsMet}
 use Rattle.every_secret.proofs.WalkRuns.{Inside, Mode, Outside, Settled, after_common, along_stays, met_ends}
 use Rattle.every_secret.proofs.WalkSkips.{Skipping, skip_begins, skip_ends, skip_goes}
 use Rattle.every_secret.proofs.WalkStands.{Turned, entry_walks, leave_turn, step_walks, walking_at}
+use Rattle.flow_base.specs.Listed.{is_listed}
 
 module _ (rules : Rules) (sound : AreSoundRules rules) (task : Task) (limits : Limits) (setting : Setting)
     (secret other : List ℕ) (bytes : AreBytes secret) (others : AreBytes other)
     (public_bytes : AreBytes setting.public_input) (small_start : setting.start_break < 2 ^ 32)
     (small : AreSmall task.masks) (proper : ProperTurnsLaw) (is_secret : IsSecret task secret)
     (low : limits.budget < 4294967295) (whole : (real_of task secret limits.turns).broken ≡ None)
-    (listed : are_regions task.enclosures.regions ≡ true) (nowhere : stands_in task.enclosures.skip 0 ≡ false) where
+    (listed : are_regions task.enclosures.regions ≡ true) (nowhere : is_listed task.enclosures.skip 0 ≡ false) where
   abbrev regions : List Region
   regions = task.enclosures.regions
 
@@ -111,7 +112,7 @@ module _ (rules : Rules) (sound : AreSoundRules rules) (task : Task) (limits : L
           after_common rules sound task limits setting secret other bytes others public_bytes small_start small proper
           is_secret low whole turns before here run.real run.past here run.copy place run.at kind e exposed run.along
 
-      goes_in : (region : Region) → kind_of regions here ≡ Enters region → stands_in task.enclosures.skip region.id ≡ true →
+      goes_in : (region : Region) → kind_of regions here ≡ Enters region → is_listed task.enclosures.skip region.id ≡ true →
           IsMet (masked_turn rules task place)
           ⊎ Skipping task.enclosures.skip regions setting.base (real_end (walk (Enters region))).control here run.labels
           (real_end (walk (Enters region))).store run.copy → ModeAt (suc turns)
@@ -142,7 +143,7 @@ module _ (rules : Rules) (sound : AreSoundRules rules) (task : Task) (limits : L
           }))
 
       enters : (region : Region) → kind_of regions here ≡ Enters region → (t : Bool) →
-          stands_in task.enclosures.skip region.id ≡ t → ModeAt (suc turns)
+          is_listed task.enclosures.skip region.id ≡ t → ModeAt (suc turns)
       enters region e false unskipped =
           let found = numbered regions (λ another. another.enter == here.pc) region listed
           (entered-found here.mode regions here region e) in
@@ -160,7 +161,7 @@ module _ (rules : Rules) (sound : AreSoundRules rules) (task : Task) (limits : L
           skipped found (run.stands.nowhere out.1) (unbroken (Enters region) e) run.stands)
 
       outside_turn : (kind : Kind) → kind_of regions here ≡ kind → ModeAt (suc turns)
-      outside_turn (Enters region) e = enters region e (stands_in task.enclosures.skip region.id) refl
+      outside_turn (Enters region) e = enters region e (is_listed task.enclosures.skip region.id) refl
       outside_turn (Leaves region) e =
           let found = leaves_inside here.mode regions here region e in
           common (Leaves region) e refl
@@ -174,8 +175,8 @@ module _ (rules : Rules) (sound : AreSoundRules rules) (task : Task) (limits : L
           run.stands)
       outside_turn (Steps (Some region)) e =
           let found = steps_inside here.mode regions here region e in
-          let unskipped : stands_in task.enclosures.skip region.id ≡ false =
-          subst (λ r. stands_in task.enclosures.skip r ≡ false) (sym (numbered_id regions here.region region found))
+          let unskipped : is_listed task.enclosures.skip region.id ≡ false =
+          subst (λ r. is_listed task.enclosures.skip r ≡ false) (sym (numbered_id regions here.region region found))
           run.stands.runs in
           common (Steps (Some region)) e unskipped
           (step_walks rules sound task setting secret other bytes others public_bytes small_start small proper run.control
@@ -337,7 +338,7 @@ module _ (rules : Rules) (sound : AreSoundRules rules) (task : Task) (limits : L
 -- ---- the law
 
 pub run_law : RunLaw
-unfolding real_after Replay common_turns cross_after
+unfolding Real Replay common_turns cross_after
 run_law rules program public_input regions secret cut limits sound inputs valid low is_secret whole =
     let task = task_of program public_input regions cut in
     let state = (real_start task secret).state in

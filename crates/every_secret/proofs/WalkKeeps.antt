@@ -7,7 +7,7 @@ use Rattle.std.specs.Prelude.{bit_and}
 use Rattle.std.proofs.lemmas.List.{length-append}
 use Rattle.std.proofs.lemmas.Nat.{and_le_l}
 use Rattle.flow_base.specs.declared.points.Point.{Point}
-use Rattle.flow_base.specs.Points.{width_of}
+use Rattle.flow_base.specs.Points.{width_of, nowhere}
 use Rattle.flow_base.specs.Words.{Agree, bit_count, bits_under, patched}
 use Rattle.crossing_bits.proofs.Feeding.{feed_enough}
 use Rattle.crossing_bits.proofs.Places.{length_bits_under}
@@ -29,15 +29,14 @@ use Rattle.region_machine.specs.Runs.{passed}
 use Rattle.replay_machine.specs.Runs.{ReplayPlace, mask_at, replayed}
 use Rattle.lockstep_replay.specs.Crossing.{crossing}
 use Rattle.lockstep_replay.specs.Verdicts.{counted_bits}
-use Rattle.run_labels.specs.Answers.{Holds, IsSoundAnswer, operands_of}
+use Rattle.run_labels.specs.Answers.{HoldsOfAnswer, IsSoundAnswer, operands_of}
 use Rattle.run_labels.specs.Masks.{byte_mask, masks_of, source_mask, work_mask, moved_label}
 use Rattle.run_labels.specs.TurnLabels.{TurnLabels, label_at, at_start, put_label}
 use Rattle.shadow_masks.specs.declared.labels.Label.{Label}
 use Rattle.shadow_masks.specs.Writes.{LabelMap}
 use Rattle.shadow_masks.specs.Pages.{label_of}
-use Rattle.shadow_masks.specs.Points.{nowhere}
 use Rattle.transfer_rules.specs.Table1.{flipped}
-use Rattle.acceptance_law.specs.Proper.{AreBytes, IsPassing, IsPut, IsProper, place_limit}
+use Rattle.acceptance_law.specs.Proper.{AreBytes, IsPassing, FitsPlace, IsProper, place_limit}
 use Rattle.acceptance_law.proofs.AgreeOutsideMask.{agree_zero, patched_uncrossed}
 use Rattle.acceptance_law.proofs.Passings.{first_word, made_agrees, made_fits, mask_fits, patched_slot, second_word, slot_word}
 use Rattle.acceptance_law.proofs.Turns.{feed_bits, label_of_limit, seen_word}
@@ -52,7 +51,7 @@ use Rattle.masked_turns.proofs.LooksAgree.{look_same}
 use Rattle.masked_turns.proofs.MovesAgree.{moved_beside}
 use Rattle.masked_turns.proofs.OutsideMasks.{AreSmall, close_of, decided_none, everything}
 use Rattle.every_secret.specs.declared.whys.UnclearWhy.{UnclearWhy}
-use Rattle.every_secret.specs.Masked.{Goes, MaskedPlace, Meets, Reached, masked, unless_met, why_left, why_looked}
+use Rattle.every_secret.specs.Masked.{Goes, MaskedPlace, Meets, Reached, masked, unless_met, unclear_by_left, unclear_by_look}
 use Rattle.every_secret.specs.Rules.{AreSoundRules, Rules, answer_to}
 use Rattle.every_secret.specs.Shown.{asked_for, byte_masks_after, status_mask_after}
 use Rattle.every_secret.specs.Visits.{Knowledge}
@@ -167,7 +166,7 @@ module _ (setting : Setting) (other : List ℕ) where
   unless_looked : (look : Option SecretLook) (rest : Asker Reached) (crossed : ℕ) (end : State) (past : List Point)
       (bits : List Bool) (copied : Asker ReplayPlace) (kept : KeptPart) →
       (look ≡ None → Outcome rest crossed end past bits copied kept) →
-      Outcome (unless_met (why_looked look) rest) crossed end past bits copied kept
+      Outcome (unless_met (unclear_by_look look) rest) crossed end past bits copied kept
   unless_looked None rest crossed end past bits copied kept goes = goes refl
   unless_looked (Some (Code pc)) rest crossed end past bits copied kept goes =
       inl (record { chosen = []; why = _; meets = λ more. refl })
@@ -177,7 +176,7 @@ module _ (setting : Setting) (other : List ℕ) where
   unless_left : (left : Option LeftBits) (rest : Asker Reached) (crossed : ℕ) (end : State) (past : List Point)
       (bits : List Bool) (copied : Asker ReplayPlace) (kept : KeptPart) →
       (left ≡ None → Outcome rest crossed end past bits copied kept) →
-      Outcome (unless_met (why_left left) rest) crossed end past bits copied kept
+      Outcome (unless_met (unclear_by_left left) rest) crossed end past bits copied kept
   unless_left None rest crossed end past bits copied kept goes = goes refl
   unless_left (Some left) rest crossed end past bits copied kept goes =
       inl (record { chosen = []; why = _; meets = λ more. refl })
@@ -218,7 +217,7 @@ module _ (labels : TurnLabels) (limits : (place : Place) → (label_at labels pl
 
   sound-answer : (rules : Rules) → AreSoundRules rules → (making : Making) (values : List ℕ) (sources : Sources) →
       first_of values < 2 ^ 32 → second_of values < 2 ^ 32 →
-      Holds IsSoundAnswer (work_of making values) (masks_of labels sources)
+      HoldsOfAnswer IsSoundAnswer (work_of making values) (masks_of labels sources)
       (answer_to rules (work_of making values) (masks_of labels sources))
   sound-answer rules sound (Shaped shape) values sources first second = tt
   sound-answer rules sound (Computed operation) values sources first second =
@@ -259,7 +258,7 @@ module _ (rules : Rules) (sound : AreSoundRules rules) (cutting : Cutting) (smal
     abbrev pub passed_value : ℕ
     passed_value = patched copy_value cut_mask (bits_under real_value cut_mask)
 
-    sound_here : Holds IsSoundAnswer (work_of making (values_of setting other copy taken sources))
+    sound_here : HoldsOfAnswer IsSoundAnswer (work_of making (values_of setting other copy taken sources))
         (masks_of labels sources) rule_answer
     sound_here =
         sound-answer labels beside.label_limits rules sound making (values_of setting other copy taken sources) sources
@@ -316,7 +315,7 @@ module _ (rules : Rules) (sound : AreSoundRules rules) (cutting : Cutting) (smal
         (patches_agree open_mask copy_value (bits_under real_value open_mask) [] copy_word)
 
     -- the value that has gone on stands beside the real one
-    pub put_passed : (place : Place) → IsPut setting.base point place →
+    pub put_passed : (place : Place) → FitsPlace setting.base point place →
         Beside everything setting.base (put_label place (label_of mask_left nowhere) labels)
         (put setting.base place real_value real) (hold place real_value held)
         (put setting.base place passed_value copy) (hold place passed_value taken)
@@ -465,7 +464,7 @@ module _ (rules : Rules) (sound : AreSoundRules rules) (cutting : Cutting) (smal
       masked rules cutting number (knows (point ∷ past) labels count masks mask)
       (walked setting other (to value) copy taken) in
       let goes : ℕ → Asker Reached = λ value.
-      unless_met (why_left (left_at Decision point left)) (walks value) in
+      unless_met (unclear_by_left (left_at Decision point left)) (walks value) in
       let copied : ℕ → Asker ReplayPlace = λ value.
       replayed cutting.masks (point ∷ past) (walked setting other (go value) copy taken) in
       let cut = mask_at cutting.masks past point in
@@ -476,7 +475,7 @@ module _ (rules : Rules) (sound : AreSoundRules rules) (cutting : Cutting) (smal
       let whole = bits_under r cut ++ bits in
       let replay = Asks (bit_count cut) (λ string. copied (patched y cut string)) in
       subst (λ shown. Outcome setting other (Asks (asked_for shown open_bits) (λ chosen.
-      unless_met (why_left (left_at Decision point left))
+      unless_met (unclear_by_left (left_at Decision point left))
       (masked rules cutting number (knows (point ∷ past) labels count (byte_masks_after shown open_bits masks)
       (status_mask_after shown open_bits mask))
       (walked setting other (to (patched y open_bits chosen)) copy taken)))) crossed end points whole replay (kept_of copy labels.map)) (sym nothing)
@@ -498,7 +497,7 @@ module _ (rules : Rules) (sound : AreSoundRules rules) (cutting : Cutting) (smal
       masked rules cutting number (knows (point ∷ past) labels count (masks ++ open_bits ∷ []) mask)
       (walked setting other (to value) copy taken) in
       let goes : ℕ → Asker Reached = λ value.
-      unless_met (why_left (left_at Decision point left)) (walks value) in
+      unless_met (unclear_by_left (left_at Decision point left)) (walks value) in
       let copied : ℕ → Asker ReplayPlace = λ value.
       replayed cutting.masks (point ∷ past) (walked setting other (go value) copy taken) in
       let cut = mask_at cutting.masks past point in
@@ -509,7 +508,7 @@ module _ (rules : Rules) (sound : AreSoundRules rules) (cutting : Cutting) (smal
       let whole = bits_under r cut ++ bits in
       let replay = Asks (bit_count cut) (λ string. copied (patched y cut string)) in
       subst (λ shown. Outcome setting other (Asks (asked_for shown open_bits) (λ chosen.
-      unless_met (why_left (left_at Decision point left))
+      unless_met (unclear_by_left (left_at Decision point left))
       (masked rules cutting number (knows (point ∷ past) labels count (byte_masks_after shown open_bits masks)
       (status_mask_after shown open_bits mask))
       (walked setting other (to (patched y open_bits chosen)) copy taken)))) crossed end points whole replay (kept_of copy labels.map)) (sym written)
@@ -531,7 +530,7 @@ module _ (rules : Rules) (sound : AreSoundRules rules) (cutting : Cutting) (smal
       masked rules cutting number (knows (point ∷ past) labels count masks open_bits)
       (walked setting other (to value) copy taken) in
       let goes : ℕ → Asker Reached = λ value.
-      unless_met (why_left (left_at Decision point left)) (walks value) in
+      unless_met (unclear_by_left (left_at Decision point left)) (walks value) in
       let copied : ℕ → Asker ReplayPlace = λ value.
       replayed cutting.masks (point ∷ past) (walked setting other (go value) copy taken) in
       let cut = mask_at cutting.masks past point in
@@ -542,7 +541,7 @@ module _ (rules : Rules) (sound : AreSoundRules rules) (cutting : Cutting) (smal
       let whole = bits_under r cut ++ bits in
       let replay = Asks (bit_count cut) (λ string. copied (patched y cut string)) in
       subst (λ shown. Outcome setting other (Asks (asked_for shown open_bits) (λ chosen.
-      unless_met (why_left (left_at Decision point left))
+      unless_met (unclear_by_left (left_at Decision point left))
       (masked rules cutting number (knows (point ∷ past) labels count (byte_masks_after shown open_bits masks)
       (status_mask_after shown open_bits mask))
       (walked setting other (to (patched y open_bits chosen)) copy taken)))) crossed end points whole replay (kept_of copy labels.map)) (sym status)

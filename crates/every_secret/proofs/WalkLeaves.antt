@@ -22,7 +22,6 @@ use Rattle.replay_machine.specs.Runs.{ReplayPlace, replayed}
 use Rattle.lockstep_replay.specs.Crossing.{crossing}
 use Rattle.lockstep_replay.specs.Verdicts.{counted_bits}
 use Rattle.shadow_masks.specs.Labels.{clean}
-use Rattle.shadow_masks.specs.Shades.{is_listed}
 use Rattle.shadow_masks.specs.Writes.{LabelMap, Save, after}
 use Rattle.run_labels.specs.TurnLabels.{TurnLabels, at_start, label_at, put_label, restore_labels}
 use Rattle.acceptance_law.specs.Proper.{place_limit}
@@ -40,6 +39,7 @@ use Rattle.every_secret.specs.Masked.{Reached, masked}
 use Rattle.every_secret.specs.Rules.{Rules}
 use Rattle.every_secret.proofs.WalkKeeps.{AlikeControl, Outcome, kept_of, knows, same_part, step}
 use Rattle.every_secret.proofs.WalkOutputs.{given_walks}
+use Rattle.flow_base.specs.Listed.{is_listed}
 
 -- ---- controls
 

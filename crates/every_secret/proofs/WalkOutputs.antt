@@ -5,7 +5,7 @@ use Rattle.std.proofs.Common.{refl, sym, ap, subst, ◌∙◌, arith}
 use Rattle.std.specs.Prelude.{bit_and}
 use Rattle.std.proofs.lemmas.Nat.{and_le_l}
 use Rattle.flow_base.specs.declared.points.Point.{Point}
-use Rattle.flow_base.specs.Points.{width_of}
+use Rattle.flow_base.specs.Points.{width_of, nowhere}
 use Rattle.flow_base.specs.Words.{Agree, bit_count, bits_under, patched}
 use Rattle.crossing_bits.proofs.Places.{length_bits_under}
 use Rattle.crossing_bits.specs.Askers.{Asker, Asks, feed}
@@ -20,7 +20,6 @@ use Rattle.lockstep_replay.specs.Crossing.{crossing}
 use Rattle.lockstep_replay.specs.Verdicts.{counted_bits}
 use Rattle.run_labels.specs.TurnLabels.{TurnLabels, label_at, put_label}
 use Rattle.shadow_masks.specs.Pages.{label_of}
-use Rattle.shadow_masks.specs.Points.{nowhere}
 use Rattle.transfer_rules.specs.Table1.{flipped}
 use Rattle.acceptance_law.specs.Proper.{place_limit}
 use Rattle.acceptance_law.proofs.AgreeOutsideMask.{patched_uncrossed}

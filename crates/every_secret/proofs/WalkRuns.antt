@@ -38,7 +38,7 @@ use Rattle.every_secret.specs.declared.path_ends.PathEnd.TheVariants.{Exits, Sto
 use Rattle.every_secret.specs.declared.stops.PathStop.TheVariants.{Guest}
 use Rattle.every_secret.specs.declared.whys.UnclearWhy.TheVariants.{Budget}
 use Rattle.every_secret.specs.AllSecrets.{IsSecret}
-use Rattle.every_secret.specs.Laws.{Chooses, EndsAs, GivesAs, IsLost}
+use Rattle.every_secret.specs.Laws.{Chooses, EndsPath, GivesAs, IsLost}
 use Rattle.every_secret.specs.Listed.{AgreeEach}
 use Rattle.every_secret.specs.Masked.{Goes, MaskedPlace, Meets, Reached}
 use Rattle.every_secret.specs.Replays.{MaskedReplay, ended_or, pattern_of, unless_exited, unless_over, unless_stopped, walked_on}
@@ -211,7 +211,7 @@ module _ (rules : Rules) (sound : AreSoundRules rules) (task : Task) (limits : L
     -- a path ends with the turn
     ends_so : (chosen : List Bool) (reached : Reached) (ends : PathEnd) →
         feed (masked_turn rules task place) (chosen ++ []) ≡ Fed' reached [] →
-        feed (ended_or limits.budget reached later) [] ≡ Fed' ends [] → EndsAs task limits secret ends → Settled
+        feed (ended_or limits.budget reached later) [] ≡ Fed' ends [] → EndsPath task limits secret ends → Settled
     ends_so chosen reached ends goes over alike =
         inl (record {
           bits = along.bits ++ chosen;
@@ -252,7 +252,7 @@ module _ (rules : Rules) (sound : AreSoundRules rules) (task : Task) (limits : L
     abbrev EndsHere : List Bool → Reached → PathEnd → Type 0
     EndsHere chosen reached ends =
         feed (masked_turn rules task place) (chosen ++ []) ≡ Fed' reached [] →
-        feed (ended_or limits.budget reached goes_later) [] ≡ Fed' ends [] → EndsAs task limits secret ends → Settled
+        feed (ended_or limits.budget reached goes_later) [] ≡ Fed' ends [] → EndsPath task limits secret ends → Settled
 
     ends_here : (chosen : List Bool) (reached : Reached) (ends : PathEnd) → EndsHere chosen reached ends
     ends_here chosen reached ends = ends_so turns before by copy past place along chosen reached ends

@@ -7,7 +7,6 @@ use Rattle.flow_base.specs.declared.points.Point.{Point}
 use Rattle.crossing_bits.specs.Askers.{Asker, feed}
 use Rattle.enclosure_regions.specs.declared.region_parts.Region.{Region}
 use Rattle.enclosure_regions.specs.Breaks.{keep_break, outside_range, range_break}
-use Rattle.enclosure_regions.specs.Regions.{stands_in}
 use Rattle.rv32im_machine.specs.declared.language.Place.TheVariants.{Register}
 use Rattle.rv32im_machine.specs.declared.stepping.Stepped.TheVariants.{Ran}
 use Rattle.rv32im_machine.specs.Folds.{real_end}
@@ -26,7 +25,7 @@ use Rattle.lockstep_replay.specs.Crossing.{crossing}
 use Rattle.lockstep_replay.specs.Tasks.{Task}
 use Rattle.shadow_masks.specs.Writes.{LabelMap, Save, after}
 use Rattle.run_labels.specs.TurnLabels.{at_start}
-use Rattle.acceptance_law.specs.Proper.{AreBytes, IsGuest, IsProper}
+use Rattle.acceptance_law.specs.Proper.{AreBytes, IsProperGuest, IsProper}
 use Rattle.acceptance_law.specs.ProperLaws.{ProperTurnsLaw}
 use Rattle.acceptance_law.proofs.Entering.{SameStarts, entry_end, outside_same}
 use Rattle.acceptance_law.proofs.RegionTurns.{leave_end, left_break, left_region, ranges_unbroken}
@@ -49,6 +48,7 @@ use Rattle.every_secret.proofs.Alike.{with_output}
 use Rattle.every_secret.proofs.WalkKeeps.{IsMet, Outcome, kept_of, knows}
 use Rattle.every_secret.proofs.WalkLeaves.{skip_walks}
 use Rattle.every_secret.proofs.WalkStands.{At, Turned, clear_starts, walking_at}
+use Rattle.flow_base.specs.Listed.{is_listed}
 
 -- the real run is inside a skipped region that was entered with this control, these masks and these values
 pub record Skipping (skip : List ℕ) (regions : List Region) (base : ℕ) (control entered_by : Control) (before : LabelMap)
@@ -56,7 +56,7 @@ pub record Skipping (skip : List ℕ) (regions : List Region) (base : ℕ) (cont
   pub region : Region
   pub entry_store : Store
   pub beside : Beside everything base (at_start before) entry_store none_held copy none_held
-  pub skipped : stands_in skip region.id ≡ true
+  pub skipped : is_listed skip region.id ≡ true
   pub numbered : region_numbered regions control.region ≡ Some region
   pub to : SkippedTo base region before entry_store (after Save before) real
   pub clear : secret_base region.ranges before ≡ None
@@ -94,7 +94,7 @@ module _ (rules : Rules) (sound : AreSoundRules rules) (task : Task) (setting : 
   -- ---- a turn inside, which the walk does not make
 
   inside_guest : (now entered_by : Control) (before : LabelMap) (real copy : Store) →
-      Within now entered_by before real copy → IsGuest (state_of setting secret now real)
+      Within now entered_by before real copy → IsProperGuest (state_of setting secret now real)
   inside_guest now entered_by before real copy at =
       guest_within setting secret now real bytes public_bytes small_start at.small_break at.to.limits
       (λ r. subst (λ xs. slice_index xs r ≤ 4294967295) (sym at.to.kept) (at.beside.real_limits (Register r)))
@@ -169,7 +169,7 @@ module _ (rules : Rules) (sound : AreSoundRules rules) (task : Task) (setting : 
     -- ---- the entry
 
     pub skip_begins : (real : Store) (region : Region) → kind_of task.enclosures.regions here ≡ Enters region →
-        stands_in task.enclosures.skip region.id ≡ true →
+        is_listed task.enclosures.skip region.id ≡ true →
         region_numbered task.enclosures.regions region.id ≡ Some region → control.region ≡ 0 →
         range_break region real.registers setting.base ≡ None → Standing here before real copy past →
         IsMet (masked_turn rules task place)
@@ -217,7 +217,7 @@ module _ (rules : Rules) (sound : AreSoundRules rules) (task : Task) (setting : 
     -- ---- the leave
 
     pub skip_ends : (now : Control) (real : Store) (at : Within now here before real copy) → AgreeEach masks output written →
-        now.pc ≡ at.region.leave → HasRules at.region → stands_in task.enclosures.skip 0 ≡ false →
+        now.pc ≡ at.region.leave → HasRules at.region → is_listed task.enclosures.skip 0 ≡ false →
         keep_break at.region real.kept real.registers ≡ None →
         Made here place (walked setting secret (leave at.region real.kept now) real none_held) copy past
     skip_ends now real at agree pc are_rules outside unbroken =

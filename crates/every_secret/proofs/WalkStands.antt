@@ -9,7 +9,6 @@ use Rattle.crossing_bits.specs.Askers.{Asker, Over, feed, Fed'}
 use Rattle.enclosure_regions.specs.declared.region_parts.Region.{Region}
 use Rattle.enclosure_regions.specs.declared.region_parts.Range.{Range}
 use Rattle.enclosure_regions.specs.Breaks.{keep_break, outside_range, range_break}
-use Rattle.enclosure_regions.specs.Regions.{stands_in}
 use Rattle.enclosure_regions.specs.Turns.{base_value}
 use Rattle.rv32im_machine.specs.declared.language.Place.TheVariants.{Register}
 use Rattle.rv32im_machine.specs.declared.stepping.Stepped.TheVariants.{Ran}
@@ -28,7 +27,7 @@ use Rattle.lockstep_replay.specs.Tasks.{Task}
 use Rattle.lockstep_replay.specs.Verdicts.{counted_bits}
 use Rattle.shadow_masks.specs.Writes.{LabelMap, Save, after}
 use Rattle.run_labels.specs.TurnLabels.{at_start}
-use Rattle.acceptance_law.specs.Proper.{AreBytes, IsGuest, IsProper}
+use Rattle.acceptance_law.specs.Proper.{AreBytes, IsProperGuest, IsProper}
 use Rattle.acceptance_law.specs.ProperLaws.{ProperTurnsLaw}
 use Rattle.acceptance_law.proofs.StepsKeepStanding.{HasRules, InsideBeside, Stands, kept_moved, placed, state_of}
 use Rattle.acceptance_law.proofs.Entering.{SameStarts, entry_crossing, entry_end, entry_passed, entry_replayed, outside_same}
@@ -41,7 +40,7 @@ use Rattle.masked_turns.proofs.GuestStates.{guest_within}
 use Rattle.masked_turns.proofs.OutsideMasks.{AreSmall, everything}
 use Rattle.masked_turns.proofs.RegionsKeepStanding.{stands_entered, stands_left}
 use Rattle.masked_turns.proofs.StepEnds.{step_ends}
-use Rattle.every_secret.specs.Masked.{Goes, MaskedPlace, Reached, masked, unless_met, why_looked}
+use Rattle.every_secret.specs.Masked.{Goes, MaskedPlace, Reached, masked, unless_met, unclear_by_look}
 use Rattle.every_secret.specs.Rules.{AreSoundRules, Rules}
 use Rattle.every_secret.specs.Turns.{cutting_of, kind_turn, masked_turn, secret_base, secret_or, turn_from, turn_inside}
 use Rattle.every_secret.specs.Listed.{AgreeEach}
@@ -49,6 +48,7 @@ use Rattle.every_secret.proofs.Alike.{running_alike, with_output}
 use Rattle.every_secret.proofs.WalkKeeps.{AlikeControl, IsMet, KeptPart, Outcome, kept_of, knows}
 use Rattle.every_secret.proofs.WalkKeeps.{turn_walks}
 use Rattle.every_secret.proofs.WalkLeaves.{alike_entered, leave_walks}
+use Rattle.flow_base.specs.Listed.{is_listed}
 
 -- ---- between two turns
 
@@ -117,7 +117,7 @@ looks_masked rules cutting number setting other past labels crossed masks mask t
     one None clear later = later clear
     one (Some register) clear later =
         let both = base_clear register labels (secret_base ranges labels) clear in
-        ap (λ m. unless_met (why_looked (if m == 0 then None else Some (BaseRegister number register)))
+        ap (λ m. unless_met (unclear_by_look (if m == 0 then None else Some (BaseRegister number register)))
         (masked rules cutting number (knows past (at_start labels) crossed masks mask)
         (walked setting other (looks ranges turn) copy none_held))) both.0
         ∙ later both.1
@@ -163,7 +163,7 @@ module _ (rules : Rules) (sound : AreSoundRules rules) (task : Task) (setting : 
       IsMet (masked_turn rules task here) ⊎ HasWalked control here walk copy past
 
   guest_of : (control : Control) (labels : LabelMap) (real copy : Store) (past : List Point) →
-      At control labels real copy past → IsGuest (state_of setting secret control real)
+      At control labels real copy past → IsProperGuest (state_of setting secret control real)
   guest_of control labels real copy past at =
       guest_within setting secret control real bytes public_bytes small_start at.small_break at.beside.real_limits
       at.kept_words
@@ -231,7 +231,7 @@ module _ (rules : Rules) (sound : AreSoundRules rules) (task : Task) (setting : 
             stands = record {
               beside = along.beside;
               counts = λ point never. refl;
-              runs = subst (λ r. stands_in task.enclosures.skip r ≡ false) (sym same) at.runs;
+              runs = subst (λ r. is_listed task.enclosures.skip r ≡ false) (sym same) at.runs;
               nowhere = λ none. same
                   ∙ at.nowhere (subst (λ r. region_numbered task.enclosures.regions r ≡ None) same none);
               inside = λ region is_in. kept_moved everything setting.base region labels _ real _ copy _
@@ -248,7 +248,7 @@ module _ (rules : Rules) (sound : AreSoundRules rules) (task : Task) (setting : 
   pub entry_walks : (control : Control) (output written : List ℕ) (labels : LabelMap) (real copy : Store)
       (past : List Point) (crossed : ℕ) (masks : List ℕ) (mask : ℕ) (region : Region) → AgreeEach masks output written →
       kind_of task.enclosures.regions (with_output control output Ran) ≡ Enters region →
-      stands_in task.enclosures.skip region.id ≡ false →
+      is_listed task.enclosures.skip region.id ≡ false →
       region_numbered task.enclosures.regions region.id ≡ Some region →
       range_break region real.registers setting.base ≡ None → At (with_output control output Ran) labels real copy past →
       Turned (with_output control output Ran)
@@ -351,7 +351,7 @@ module _ (rules : Rules) (sound : AreSoundRules rules) (task : Task) (setting : 
       (past : List Point) (crossed : ℕ) (masks : List ℕ) (mask : ℕ) (region : Region) → AgreeEach masks output written →
       kind_of task.enclosures.regions (with_output control output Ran) ≡ Leaves region →
       region_numbered task.enclosures.regions control.region ≡ Some region → HasRules region →
-      stands_in task.enclosures.skip 0 ≡ false → keep_break region real.kept real.registers ≡ None →
+      is_listed task.enclosures.skip 0 ≡ false → keep_break region real.kept real.registers ≡ None →
       At (with_output control output Ran) labels real copy past →
       Turned (with_output control output Ran)
       (walking_at setting other (with_output control written Ran) copy past labels crossed masks mask)

@@ -32,7 +32,7 @@ use Rattle.every_secret.specs.declared.path_ends.PathEnd.TheVariants.{Stops, Unc
 use Rattle.every_secret.specs.declared.stops.PathStop.TheVariants.{RangeOutside}
 use Rattle.every_secret.specs.declared.whys.UnclearWhy.TheVariants.{BaseSecret}
 use Rattle.every_secret.specs.Bounds.{free_count}
-use Rattle.every_secret.specs.Masked.{MaskedPlace, Reached, Goes, Meets, Halts, masked, unless_met, why_left, why_looked}
+use Rattle.every_secret.specs.Masked.{MaskedPlace, Reached, Goes, Meets, Halts, masked, unless_met, unclear_by_left, unclear_by_look}
 use Rattle.every_secret.specs.Paths.{tree_of}
 use Rattle.every_secret.specs.Replays.{MaskedReplay, ended_or, unless_exited, unless_over, unless_stopped, unmasked, walked_on}
 use Rattle.every_secret.specs.Rules.{Rules}
@@ -164,7 +164,7 @@ module _ (rules : Rules) (budget : ℕ) (small : budget < 4294967295) (next : Re
       ≤ room budget known.crossed (free_of known.byte_masks known.status_mask)
   unfolding masked tree_of
   walk_weight cutting region known (Looked seen value walk) =
-      met_weight (why_looked (look_at region known.labels seen)) (masked rules cutting region known walk)
+      met_weight (unclear_by_look (look_at region known.labels seen)) (masked rules cutting region known walk)
       (room budget known.crossed (free_of known.byte_masks known.status_mask))
       (walk_weight cutting region known walk)
   walk_weight cutting region known (Passed passing go) =
@@ -174,9 +174,9 @@ module _ (rules : Rules) (budget : ℕ) (small : budget < 4294967295) (next : Re
       let limit = room budget after.crossed (free_of after.byte_masks after.status_mask) in
       let asked = asked_for (shown_at passing.point.slot) differing in
       let all = forks_weight asked (λ bits. tree_of (then_ask
-      (unless_met (why_left (left_at passing.aim passing.point (left_of_mask rules cutting known passing)))
+      (unless_met (unclear_by_left (left_at passing.aim passing.point (left_of_mask rules cutting known passing)))
       (masked rules cutting region after (go (patched passing.value differing bits)))) next)) limit
-      (λ bits. met_weight (why_left (left_at passing.aim passing.point (left_of_mask rules cutting known passing)))
+      (λ bits. met_weight (unclear_by_left (left_at passing.aim passing.point (left_of_mask rules cutting known passing)))
       (masked rules cutting region after (go (patched passing.value differing bits))) limit
       (walk_weight cutting region after (go (patched passing.value differing bits)))) in
       let fits = room_after budget known.crossed (free_of known.byte_masks known.status_mask) asked

@@ -31,7 +31,7 @@ use Rattle.every_secret.specs.declared.whys.UnclearWhy.{UnclearWhy}
 use Rattle.every_secret.specs.declared.path_ends.PathEnd.TheVariants.{Stops, Unclear}
 use Rattle.every_secret.specs.declared.stops.PathStop.TheVariants.{RangeOutside}
 use Rattle.every_secret.specs.declared.whys.UnclearWhy.TheVariants.{BaseSecret}
-use Rattle.every_secret.specs.Masked.{MaskedPlace, Reached, Goes, Meets, Halts, masked, unless_met, why_left, why_looked}
+use Rattle.every_secret.specs.Masked.{MaskedPlace, Reached, Goes, Meets, Halts, masked, unless_met, unclear_by_left, unclear_by_look}
 use Rattle.every_secret.specs.Paths.{tree_of}
 use Rattle.every_secret.specs.Replays.{MaskedReplay, ended_or, unless_exited, unless_over, unless_stopped, unmasked, walked_on}
 use Rattle.every_secret.specs.Rules.{Rules}
@@ -95,7 +95,7 @@ module _ (rules : Rules) (next : Reached → Asker PathEnd)
       AllEnd EndsInWords (tree_of (then_ask (masked rules cutting region known walk) next))
   unfolding masked tree_of
   walk_words cutting fit region known (Looked seen value walk) keeps =
-      met_words (why_looked (look_at region known.labels seen)) (masked rules cutting region known walk)
+      met_words (unclear_by_look (look_at region known.labels seen)) (masked rules cutting region known walk)
       (walk_words cutting fit region known walk keeps)
   walk_words cutting fit region known (Passed passing go) keeps =
       let differing = differing_at rules cutting known passing in
@@ -107,9 +107,9 @@ module _ (rules : Rules) (next : Reached → Asker PathEnd)
       let kept = words_after (shown_at passing.point.slot) differing known.byte_masks known.status_mask
       (fits_within within crosses) keeps in
       forks_all EndsInWords (asked_for (shown_at passing.point.slot) differing) (λ bits. tree_of (then_ask
-      (unless_met (why_left (left_at passing.aim passing.point (left_of_mask rules cutting known passing)))
+      (unless_met (unclear_by_left (left_at passing.aim passing.point (left_of_mask rules cutting known passing)))
       (masked rules cutting region after (go (patched passing.value differing bits)))) next))
-      (λ bits. met_words (why_left (left_at passing.aim passing.point (left_of_mask rules cutting known passing)))
+      (λ bits. met_words (unclear_by_left (left_at passing.aim passing.point (left_of_mask rules cutting known passing)))
       (masked rules cutting region after (go (patched passing.value differing bits)))
       (walk_words cutting fit region after (go (patched passing.value differing bits)) kept))
     where

@@ -23,7 +23,7 @@ use Rattle.every_secret.specs.declared.path_ends.PathEnd.{PathEnd}
 use Rattle.every_secret.specs.Replays.{ended_or, unless_exited, unless_over, unless_stopped, walked_on}
 use Rattle.every_secret.specs.Rules.{Rules}
 use Rattle.every_secret.specs.Private.Tapes.{HoldsPlace, Lengthens, Tape}
-use Rattle.every_secret.specs.Private.Turning.{HoldsTurn, Makes}
+use Rattle.every_secret.specs.Private.Turning.{HoldsTurn, MakesFed}
 use Rattle.every_secret.specs.Turns.{masked_turn}
 use Rattle.every_secret.specs.Private.Walks.{end_of, ending_after, ending_met, ending_mode, ending_within}
 use Rattle.every_secret.proofs.MadeTurns.{placed, place-is}
@@ -170,7 +170,7 @@ module _ (rules : Rules) (task : Task) (limits : Limits) (place : MaskedPlace) (
     (tape : Tape) (on : IsOn rules task limits place first (suc left) state tape) (outside : Option Outside)
     (new : State) (after : Tape) (within : tape.stream.taken ≤ length tape.stream.bits)
     (longer : Lengthens tape.stream after.stream)
-    (makes : Makes task.masks (masked_turn rules task on.next) tape.stream outside new after) where
+    (makes : MakesFed task.masks (masked_turn rules task on.next) tape.stream outside new after) where
   -- the walk after one turn more
   turned : (later : Stream) → Lengthens after.stream later →
       feed (walked_on rules task limits limits.turns place) (drop first.taken later.bits)

@@ -1,7 +1,7 @@
 -- The law of all secrets, and what it stands on: the run of a secret and the path that it chooses.
 use Rattle.std.specs.Prelude.{◌≡◌, ◌⊎◌, ℕ, ◌<◌, Bool, true, List, [], None}
 use Rattle.crossing_bits.specs.Askers.{Fed', feed}
-use Rattle.cut_file.specs.Cuts.{CutPicture, is_valid as is_valid_cut}
+use Rattle.cut_file.specs.Cuts.{CutPicture, is_cut_picture}
 use Rattle.elf32_loader.specs.Pictures.{Picture}
 use Rattle.enclosure_regions.specs.declared.region_parts.Region.{Region}
 use Rattle.flow_base.specs.declared.outputs.Output.{Output}
@@ -25,17 +25,17 @@ pub record GivesAs (task : Task) (limits : Limits) (secret : List ℕ) (pattern 
   pub stands : StandsFor pattern output
 
 -- what the run of a secret has to do with the end of the path that it chooses
-abbrev pub EndsAs : Task → Limits → List ℕ → PathEnd → Type 0
-EndsAs task limits secret (Unclear why) = Unit {0}
-EndsAs task limits secret (Stops stop) = (output : Output) → ¬ Gives task limits secret output
-EndsAs task limits secret (Exits pattern) = GivesAs task limits secret pattern
+abbrev pub EndsPath : Task → Limits → List ℕ → PathEnd → Type 0
+EndsPath task limits secret (Unclear why) = Unit {0}
+EndsPath task limits secret (Stops stop) = (output : Output) → ¬ Gives task limits secret output
+EndsPath task limits secret (Exits pattern) = GivesAs task limits secret pattern
 
 -- the path that the run of a secret chooses
 pub record Chooses (rules : Rules) (task : Task) (limits : Limits) (secret : List ℕ) : Type 0 where
   pub bits : List Bool
   pub ends : PathEnd
   pub uses : feed (MaskedReplay rules task limits) bits ≡ Fed' ends []
-  pub alike : EndsAs task limits secret ends
+  pub alike : EndsPath task limits secret ends
 
 -- the run of a secret does not exit within the turns, and regions are listed: it may have gone into one that is skipped
 pub record IsLost (task : Task) (limits : Limits) (secret : List ℕ) : Type 0 where
@@ -47,7 +47,7 @@ abbrev pub RunLaw : Type 0
 RunLaw =
     (rules : Rules) (program : Picture) (public_input : List ℕ) (regions : List Region) (secret : List ℕ)
     (cut : CutPicture) (limits : Limits) → AreSoundRules rules → AreInputs program public_input regions secret →
-    is_valid_cut cut ≡ true → limits.budget < 4294967295 → IsSecret (task_of program public_input regions cut) secret →
+    is_cut_picture cut ≡ true → limits.budget < 4294967295 → IsSecret (task_of program public_input regions cut) secret →
     (real_of (task_of program public_input regions cut) secret limits.turns).broken ≡ None →
     Chooses rules (task_of program public_input regions cut) limits secret
     ⊎ IsLost (task_of program public_input regions cut) limits secret
@@ -57,6 +57,6 @@ abbrev pub AllSecretsLaw : Type 0
 AllSecretsLaw =
     (rules : Rules) (program : Picture) (public_input : List ℕ) (regions : List Region) (cut : CutPicture)
     (limits : Limits) (paths : ℕ) (found : Found) → AreSoundRules rules → AreInputs program public_input regions [] →
-    is_valid_cut cut ≡ true → limits.budget < 4294967295 →
+    is_cut_picture cut ≡ true → limits.budget < 4294967295 →
     Bounds rules (task_of program public_input regions cut) limits paths ≡ IsBounded found →
     AreAll (task_of program public_input regions cut) limits found

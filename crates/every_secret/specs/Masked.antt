@@ -39,14 +39,14 @@ pub data Reached : Type 0 where
   Halts : Outside → Reached
 
 -- something that may differ is looked at, or bits that are left decide
-abbrev pub why_looked : Option SecretLook → Option UnclearWhy
-why_looked None = None
-why_looked (Some (Code pc)) = Some (SecretCode pc)
-why_looked (Some (BaseRegister region register)) = Some (BaseSecret region register)
+abbrev pub unclear_by_look : Option SecretLook → Option UnclearWhy
+unclear_by_look None = None
+unclear_by_look (Some (Code pc)) = Some (SecretCode pc)
+unclear_by_look (Some (BaseRegister region register)) = Some (BaseSecret region register)
 
-abbrev pub why_left : Option LeftBits → Option UnclearWhy
-why_left None = None
-why_left (Some left) = Some (Left left.point left.mask)
+abbrev pub unclear_by_left : Option LeftBits → Option UnclearWhy
+unclear_by_left None = None
+unclear_by_left (Some left) = Some (Left left.point left.mask)
 
 -- the rest of the turn, unless something is met
 abbrev pub unless_met : Option UnclearWhy → Asker Reached → Asker Reached
@@ -67,10 +67,10 @@ place_of state known = record {
 -- a turn, which may look at base registers at the entry of the region with this number
 unfoldable pub masked : Rules → Cutting → ℕ → Knowledge → Walk → Asker Reached
 masked rules cutting region known (Looked seen value walk) =
-    unless_met (why_looked (look_at region known.labels seen)) (masked rules cutting region known walk)
+    unless_met (unclear_by_look (look_at region known.labels seen)) (masked rules cutting region known walk)
 masked rules cutting region known (Passed passing go) =
     Asks (asked_for (shown_at passing.point.slot) (differing_at rules cutting known passing)) (λ bits.
-    unless_met (why_left (left_at passing.aim passing.point (left_of_mask rules cutting known passing)))
+    unless_met (unclear_by_left (left_at passing.aim passing.point (left_of_mask rules cutting known passing)))
     (masked rules cutting region (known_after rules cutting known passing)
     (go (patched passing.value (differing_at rules cutting known passing) bits))))
 masked rules cutting region known (Moved place shape source value walk) =

@@ -2,10 +2,10 @@
 
 ghost use Rattle.std.specs.Prelude.{◌≡◌, ◌+◌, ◌<◌, ◌≤◌, ◌^◌, [], IfOk, None, length};
 ghost use Rattle.cut_file.specs.Masks.{MaskAt};
-ghost use Rattle.cut_file.specs.Pictures.{picture_of as cut_picture};
+ghost use Rattle.cut_file.specs.Pictures.{cut_picture};
 ghost use Rattle.crossing_bits.specs.Askers.{Fed', feed};
 ghost use Rattle.crossing_bits.specs.Streams.{left_of};
-ghost use Rattle.elf32_loader.specs.Images.{picture_of};
+ghost use Rattle.elf32_loader.specs.Images.{image_picture};
 ghost use Rattle.flow_base.specs.Guests.{memory_size};
 ghost use Rattle.lockstep_replay.specs.Tasks.{task_of};
 ghost use Rattle.replay_machine.specs.Visits.{IsAhead};
@@ -167,7 +167,7 @@ pub(crate) fn walk_afresh(
     ensures longer { IfOk result (λ walked. Lengthens bits walked.bits) }
     ensures end { IfOk result (λ walked. (rules : Rules) → AnswerAs walks.entry.book.now.table rules → bits.taken ≡ 0 →
         walks.entry.zeros.now ≡ zeros walks.entry.cut.now.secret_len →
-        feed (MaskedReplay rules (task_of (picture_of walks.entry.image.now) walks.entry.public.now walks.entry.marked.now.regions.items
+        feed (MaskedReplay rules (task_of (image_picture walks.entry.image.now) walks.entry.public.now walks.entry.marked.now.regions.items
         (cut_picture walks.entry.cut.now)) (record { budget = walks.entry.budget; turns = walks.entry.turns })) walked.bits.bits
         ≡ Fed' walked.end (left_of walked.bits)) }
 {

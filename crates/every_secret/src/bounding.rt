@@ -1,6 +1,6 @@
 ghost use Rattle.std.specs.Prelude.{◌≡◌, ℕ, ◌+◌, ◌<◌, ◌≤◌, ◌^◌, [], length, IfOk};
-ghost use Rattle.cut_file.specs.Pictures.{picture_of as cut_picture};
-ghost use Rattle.elf32_loader.specs.Images.{picture_of};
+ghost use Rattle.cut_file.specs.Pictures.{cut_picture};
+ghost use Rattle.elf32_loader.specs.Images.{image_picture};
 ghost use Rattle.lockstep_replay.specs.Tasks.{task_of};
 ghost use Rattle.rv32im_machine.specs.Start.{zeros};
 ghost use Rattle.every_secret.specs.Bounds.{answer_of, judged, nothing_found};
@@ -79,10 +79,10 @@ fn next_path(
     ensures counts { IfOk result (λ step. CountsStep step limit found.paths) }
     ensures steps { IfOk result (λ step. (rules : Rules) → AnswerAs walks.entry.book.now.table rules → bits.taken ≡ 0 →
         walks.entry.zeros.now ≡ zeros walks.entry.cut.now.secret_len →
-        Opens (tree_of (MaskedReplay rules (task_of (picture_of walks.entry.image.now) walks.entry.public.now
+        Opens (tree_of (MaskedReplay rules (task_of (image_picture walks.entry.image.now) walks.entry.public.now
         walks.entry.marked.now.regions.items (cut_picture walks.entry.cut.now))
         (record { budget = walks.entry.budget; turns = walks.entry.turns }))) bits.bits →
-        Steps step limit (found_by found) (tree_of (MaskedReplay rules (task_of (picture_of walks.entry.image.now)
+        Steps step limit (found_by found) (tree_of (MaskedReplay rules (task_of (image_picture walks.entry.image.now)
         walks.entry.public.now walks.entry.marked.now.regions.items (cut_picture walks.entry.cut.now))
         (record { budget = walks.entry.budget; turns = walks.entry.turns }))) bits.bits) }
 {
@@ -112,7 +112,7 @@ pub(crate) fn walk_all(
     requires limit { 1 ≤ limit }
     ensures { IfOk result (λ verdict. (rules : Rules) → AnswerAs walks.entry.book.now.table rules →
         walks.entry.zeros.now ≡ zeros walks.entry.cut.now.secret_len →
-        judged limit nothing_found (Paths (MaskedReplay rules (task_of (picture_of walks.entry.image.now)
+        judged limit nothing_found (Paths (MaskedReplay rules (task_of (image_picture walks.entry.image.now)
         walks.entry.public.now walks.entry.marked.now.regions.items (cut_picture walks.entry.cut.now))
         (record { budget = walks.entry.budget; turns = walks.entry.turns }))) ≡ answer_of verdict) }
 {

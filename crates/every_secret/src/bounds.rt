@@ -1,6 +1,6 @@
 ghost use Rattle.std.specs.Prelude.{◌≡◌, ◌<◌, ◌≤◌, length, IfOk};
-ghost use Rattle.cut_file.specs.Pictures.{picture_of as cut_picture};
-ghost use Rattle.elf32_loader.specs.Images.{picture_of};
+ghost use Rattle.cut_file.specs.Pictures.{cut_picture};
+ghost use Rattle.elf32_loader.specs.Images.{image_picture};
 ghost use Rattle.lockstep_replay.specs.Tasks.{task_of};
 ghost use Rattle.rv32im_machine.specs.Start.{zeros};
 ghost use Rattle.every_secret.specs.AllSecrets.{TellsAll};
@@ -51,10 +51,10 @@ pub fn bound(
     requires paths { 1 ≤ paths }
     ensures answer { IfOk result (λ verdict. (rules : Rules) → AnswerAs book.now.table rules →
         answer_of verdict ≡ Bounds rules
-        (task_of (picture_of image.now) public.now regions.now.items (cut_picture cut.now))
+        (task_of (image_picture image.now) public.now regions.now.items (cut_picture cut.now))
         (record { budget = budget; turns = turns }) paths) }
     ensures all { IfOk result (λ verdict. (rules : Rules) → AnswerAs book.now.table rules → AreSoundRules rules →
-        TellsAll (task_of (picture_of image.now) public.now regions.now.items (cut_picture cut.now))
+        TellsAll (task_of (image_picture image.now) public.now regions.now.items (cut_picture cut.now))
         (record { budget = budget; turns = turns }) (answer_of verdict)) }
 {
     let zeros = zeroed(alloc, cut.secret_len as usize)?;

@@ -3,7 +3,7 @@
 ghost use Rattle.std.specs.Prelude.{◌≡◌, Some, None, IsTrue};
 ghost use Rattle.std.specs.List.{list_all};
 ghost use Rattle.enclosure_regions.specs.Breaks.{outside_range};
-ghost use Rattle.enclosure_regions.specs.Regions.{is_base, is_range, is_region};
+ghost use Rattle.enclosure_regions.specs.Regions.{is_base_register, is_range, is_region};
 ghost use Rattle.region_machine.specs.Within.{are_inside};
 ghost use Rattle.replay_machine.specs.ReplayTurns.{outside_of};
 ghost use Rattle.tracked_run.specs.Labels.{map_of};
@@ -16,7 +16,7 @@ use shadow_masks::Shadow;
 
 /// A base register, where it may differ, or the first of the others.
 fn secret_or(shadow: &Shadow, base: Option<u8>, later: Option<u8>) -> Option<u8>
-    requires { IsTrue (is_base base) }
+    requires { IsTrue (is_base_register base) }
     ensures { result ≡ or_secret base (map_of shadow.now) later }
 {
     match base {

@@ -11,7 +11,7 @@ ghost use Rattle.lockstep_replay.specs.Tasks.{Task};
 ghost use Rattle.every_secret.specs.Masked.{MaskedPlace};
 ghost use Rattle.every_secret.specs.Rules.{AnswerAs, Rules};
 ghost use Rattle.every_secret.specs.Private.Tapes.{HoldsPlace, Lengthens, tape_of};
-ghost use Rattle.every_secret.specs.Private.Turning.{IsReady, Makes, MakesKind};
+ghost use Rattle.every_secret.specs.Private.Turning.{IsReady, MakesFed, MakesKind};
 ghost use Rattle.every_secret.specs.Turns.{masked_turn, skips as is_skip};
 
 use crate::entries::{outside_at_entry, secret_base};
@@ -162,7 +162,7 @@ pub(crate) fn make_turn(
         task.enclosures ≡ record { regions = marked.now.regions.items; skip = skip.now } →
         HoldsPlace task.masks place machine.old (tape_of side.old.book.now.table side.old.shadow side.old.masks
         side.old.bits side.old.crossed side.old.byte_masks.items side.old.status_mask side.old.unclear) →
-        Makes task.masks (masked_turn rules task place) side.old.bits outside machine.new
+        MakesFed task.masks (masked_turn rules task place) side.old.bits outside machine.new
         (tape_of side.new.book.now.table side.new.shadow side.new.masks side.new.bits side.new.crossed
         side.new.byte_masks.items side.new.status_mask side.new.unclear)) }
 {

@@ -3,7 +3,7 @@ ghost use Rattle.flow_base.specs.Points.{is_slot, width_of};
 ghost use Rattle.rv32im_machine.specs.Language.{Passed, Walk};
 ghost use Rattle.rv32im_machine.specs.Playing.{AreSources, Goes, IsAim};
 ghost use Rattle.tracked_run.specs.Labels.{labels_of};
-ghost use Rattle.every_secret.specs.Masked.{why_left, why_looked};
+ghost use Rattle.every_secret.specs.Masked.{unclear_by_left, unclear_by_look};
 ghost use Rattle.every_secret.specs.Private.Tapes.{PlaysWalk, tape_of};
 
 use crate::shown::shown_of;
@@ -53,7 +53,7 @@ pub(crate) struct Walking<'b> {
 
 /// What a look at what may differ makes of a walk.
 fn looked(look: Option<SecretLook>) -> Option<UnclearWhy>
-    ensures { result ≡ why_looked look }
+    ensures { result ≡ unclear_by_look look }
 {
     match look {
         Some(SecretLook::Code { pc }) => Some(UnclearWhy::SecretCode { pc }),
@@ -66,7 +66,7 @@ fn looked(look: Option<SecretLook>) -> Option<UnclearWhy>
 
 /// What bits that are left at a decision make of it.
 fn decided(left: Option<LeftBits>) -> Option<UnclearWhy>
-    ensures { result ≡ why_left left }
+    ensures { result ≡ unclear_by_left left }
 {
     left.map(|left| UnclearWhy::Left {
         point: left.point,

@@ -4,12 +4,12 @@ use Rattle.flow_graph.specs.declared.graphs.Graph.{Graph}
 use Rattle.max_flow.specs.declared.answers.Solved.{Solved}
 use Rattle.flow_certificate.specs.declared.verdicts.CertVerdict.{CertVerdict}
 use Rattle.flow_certificate.specs.Certificates.{CertText}
-use Rattle.flow_certificate.specs.Pictures.{picture_of}
+use Rattle.flow_certificate.specs.Pictures.{certificate_picture}
 use Rattle.flow_certificate.specs.Verdicts.{IsVerdict}
 
 -- the file is the text of a certificate, and this is what the certificate shows
 pub record IsJudged (file : List ℕ) (verdict : CertVerdict) : Type 0 where
   pub graph : Graph
   pub solved : Solved
-  pub text : CertText file (picture_of graph solved)
+  pub text : CertText file (certificate_picture graph solved)
   pub shows : IsVerdict graph solved verdict

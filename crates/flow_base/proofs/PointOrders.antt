@@ -14,7 +14,7 @@ use Rattle.flow_base.specs.declared.points.Slot.TheVariants.{First, Second, Addr
 use Rattle.flow_base.specs.declared.points.Slot.TheVariants.{Arg2, SecretIn, ByteOut, Status, OutReg, OutRange}
 use Rattle.flow_base.specs.contracts.points.SlotOrd.TheImpl as slot_ord
 use Rattle.flow_base.specs.contracts.points.PointOrd.TheImpl.Laws.{total-law}
-use Rattle.flow_base.specs.Points.{is_slot, number_of}
+use Rattle.flow_base.specs.Points.{is_slot, slot_number}
 use Rattle.flow_base.specs.PointOrders.{is_below, is_below_by_number, is_same, point_cmp}
 
 abbrev pub slot_cmp : Slot → Slot → Ordering
@@ -140,7 +140,7 @@ register_range register range valid =
 
 -- slots are ordered by their numbers
 pub slots-numbered : (s t : Slot) → is_slot s ≡ true → is_slot t ≡ true →
-    is_lt (slot_cmp s t) ≡ nat_lt (number_of s) (number_of t)
+    is_lt (slot_cmp s t) ≡ nat_lt (slot_number s) (slot_number t)
 slots-numbered First (OutReg m) a b = to_register 1 m (omega arith) b
 slots-numbered First (OutRange m) a b = to_range 1 m (omega arith)
 slots-numbered First t a b = refl
@@ -179,12 +179,12 @@ slots-numbered Status (OutRange m) a b = to_range 12 m (omega arith)
 slots-numbered Status t a b = refl
 slots-numbered (OutReg n) (OutReg m) a b = is_lt-number n m ∙ shifted 12 n m
 slots-numbered (OutReg n) (OutRange m) a b = sym (register_range n m a)
-slots-numbered (OutReg n) t a b = behind (number_of t) (12 + n) (omega arith)
+slots-numbered (OutReg n) t a b = behind (slot_number t) (12 + n) (omega arith)
 slots-numbered (OutRange n) (OutRange m) a b = is_lt-number n m ∙ shifted 44 n m
 slots-numbered (OutRange n) (OutReg m) a b =
     let before : nat_lt (12 + m) (44 + n) ≡ true = register_range m n b in
     behind (12 + m) (44 + n) (let low : 12 + m < 44 + n = ltb-true (12 + m) (44 + n) before in omega (arith, low))
-slots-numbered (OutRange n) t a b = behind (number_of t) (44 + n) (omega arith)
+slots-numbered (OutRange n) t a b = behind (slot_number t) (44 + n) (omega arith)
 
 pub points-numbered : (p q : Point) → is_slot p.slot ≡ true → is_slot q.slot ≡ true →
     is_below p q ≡ is_below_by_number p q

@@ -8,6 +8,7 @@ pub mod Memory
 pub mod Room
 pub mod Guests
 pub mod HexWords
+pub mod Listed
 pub mod RegisterNames
 pub mod TextPieces
 pub mod Private

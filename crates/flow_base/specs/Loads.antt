@@ -43,8 +43,8 @@ Answers None name limit result = Unit {0}
 Answers (Some t) name limit result = UnlessMemory result (next_answer t name limit)
 
 -- what each answer shows of the limit and of the count of faults before and after, told or not
-abbrev pub HasCause : ℕ → ℕ → ℕ → Result (List ℕ) LoadFault → Type 0
-HasCause limit before now (Ok bytes) = length bytes ≤ limit
-HasCause limit before now (Err Failed) = Rose before now
-HasCause limit before now (Err (TooLarge number)) = number ≡ limit + 1
-HasCause limit before now (Err Memory) = now ≡ before
+abbrev pub ShowsCause : ℕ → ℕ → ℕ → Result (List ℕ) LoadFault → Type 0
+ShowsCause limit before now (Ok bytes) = length bytes ≤ limit
+ShowsCause limit before now (Err Failed) = Rose before now
+ShowsCause limit before now (Err (TooLarge number)) = number ≡ limit + 1
+ShowsCause limit before now (Err Memory) = now ≡ before

@@ -4,7 +4,7 @@ use Rattle.std.specs.Ordering.{eq_by_cmp, is_lt}
 use Rattle.std.specs.declared.cmp.Ordering.{Ordering}
 use Rattle.flow_base.specs.declared.points.Point.{Point}
 use Rattle.flow_base.specs.contracts.points.PointOrd.TheImpl as point_ord
-use Rattle.flow_base.specs.Points.{is_slot, number_of}
+use Rattle.flow_base.specs.Points.{is_slot, slot_number}
 
 -- the order of points: by region, address and slot
 abbrev pub point_cmp : Point → Point → Ordering
@@ -21,7 +21,7 @@ abbrev pub is_below_by_number : Point → Point → Bool
 is_below_by_number p q =
     nat_lt p.region q.region
     || ((p.region == q.region) && (nat_lt p.address q.address
-    || ((p.address == q.address) && nat_lt (number_of p.slot) (number_of q.slot))))
+    || ((p.address == q.address) && nat_lt (slot_number p.slot) (slot_number q.slot))))
 
 -- points are the same where they are one
 abbrev pub AreSameWhereOne : Type 0

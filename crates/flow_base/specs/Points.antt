@@ -24,21 +24,21 @@ is_slot (OutReg register) = nat_le 1 register && nat_le register 31
 is_slot (OutRange range) = nat_lt range 64
 
 -- the number by which slots are ordered
-abbrev pub number_of : Slot → ℕ
-number_of First = 1
-number_of Second = 2
-number_of Address = 3
-number_of Result = 4
-number_of Decision = 5
-number_of Number = 6
-number_of Arg0 = 7
-number_of Arg1 = 8
-number_of Arg2 = 9
-number_of SecretIn = 10
-number_of ByteOut = 11
-number_of Status = 12
-number_of (OutReg register) = 12 + register
-number_of (OutRange range) = 44 + range
+abbrev pub slot_number : Slot → ℕ
+slot_number First = 1
+slot_number Second = 2
+slot_number Address = 3
+slot_number Result = 4
+slot_number Decision = 5
+slot_number Number = 6
+slot_number Arg0 = 7
+slot_number Arg1 = 8
+slot_number Arg2 = 9
+slot_number SecretIn = 10
+slot_number ByteOut = 11
+slot_number Status = 12
+slot_number (OutReg register) = 12 + register
+slot_number (OutRange range) = 44 + range
 
 -- the mask of all bits that a value of the slot may have
 abbrev pub width_of : Slot → ℕ
@@ -95,3 +95,11 @@ slot_text (OutRange range) = 114 ∷ decimal range
 abbrev pub point_text : Point → List ℕ
 point_text point =
     decimal point.region ++ (codes " " ++ (hex_word point.address ++ (codes " " ++ slot_text point.slot)))
+
+-- the number of a region; 0 stands for what is outside regions
+abbrev pub is_region_number : ℕ → Bool
+is_region_number number = nat_le 1 number && nat_le number 65535
+
+-- the point of what no point has passed
+abbrev pub nowhere : Point
+nowhere = record { region = 0; address = 0; slot = First }

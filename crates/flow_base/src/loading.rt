@@ -1,5 +1,5 @@
 ghost use Rattle.std.specs.Prelude.{◌≡◌, ◌≢◌, ◌+◌, ◌^◌, ◌<◌, ◌≤◌, ℕ, Option, Err, option_map};
-ghost use Rattle.flow_base.specs.Loads.{Told, after_load, Answers, HasCause};
+ghost use Rattle.flow_base.specs.Loads.{Told, after_load, Answers, ShowsCause};
 ghost use Rattle.flow_base.specs.declared.loading.LoadFault.TheVariants.{Failed};
 
 use crate::lists::{Bytes, NoMemory};
@@ -33,7 +33,7 @@ pub trait Files {
         requires { limit + 1 < 2 ^ 32 }
         ensures counts { told self.new ≡ option_map after_load (told self.old) }
         ensures answers { Answers (told self.old) name.now limit result }
-        ensures cause { HasCause limit (faults self.old) (faults self.new) result }
+        ensures cause { ShowsCause limit (faults self.old) (faults self.new) result }
         ensures kept { result ≢ Err Failed → faults self.new ≡ faults self.old }
         ensures faults { faults self.old ≤ faults self.new };
 }

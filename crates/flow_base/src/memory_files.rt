@@ -1,5 +1,5 @@
 ghost use Rattle.std.specs.Prelude.{◌≡◌, ◌≢◌, ◌+◌, ◌^◌, ◌<◌, ◌≤◌, Err, option_map, option_copied, List as Seq};
-ghost use Rattle.flow_base.specs.Loads.{after_load, last_answer, UnlessMemory, Answers, HasCause};
+ghost use Rattle.flow_base.specs.Loads.{after_load, last_answer, UnlessMemory, Answers, ShowsCause};
 ghost use Rattle.flow_base.specs.declared.loading.LoadFault.TheVariants.{Failed};
 ghost use Rattle.flow_base.specs.Memory.{held_under, told_of, files_after};
 
@@ -73,7 +73,7 @@ impl Files for MemoryFiles {
         requires { limit + 1 < 2 ^ 32 }
         ensures counts { Some (told_of self.new) ≡ option_map after_load (Some (told_of self.old)) }
         ensures answers { Answers (Some (told_of self.old)) name.now limit result }
-        ensures cause { HasCause limit self.old.faults self.new.faults result }
+        ensures cause { ShowsCause limit self.old.faults self.new.faults result }
         ensures kept { result ≢ Err Failed → self.new.faults ≡ self.old.faults }
         ensures faults { self.old.faults ≤ self.new.faults }
         ensures after { self.new ≡ files_after self.old result }

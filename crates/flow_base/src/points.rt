@@ -1,6 +1,6 @@
 ghost use Rattle.std.specs.Prelude.{◌≡◌, ◌++◌, IfSome, None};
 ghost use Rattle.std.specs.Fmt.{decimal};
-ghost use Rattle.flow_base.specs.Points.{is_output_slot, is_slot, number_of, slot_text, width_of};
+ghost use Rattle.flow_base.specs.Points.{is_output_slot, is_slot, slot_number, slot_text, width_of};
 
 use crate::hex_words::HexWord;
 use std::fmt;
@@ -56,7 +56,7 @@ pub struct Point {
 impl Slot {
     /// The number by which known slots are ordered, 1 to 107.
     pub fn number(self) -> u16
-        ensures { result ≡ number_of self }
+        ensures { result ≡ slot_number self }
     {
         match self {
             Slot::First => 1,

@@ -19,7 +19,7 @@ use Rattle.flow_certificate.specs.Certificates.{Picture, arc_of, makes_graph, no
 use Rattle.flow_certificate.specs.Private.Drafts.{Sketch, blank, is_bare, is_empty, is_nothing, is_open, is_version, lines_in}
 use Rattle.flow_certificate.specs.Private.Drafts.{link_line_cmp, may_add_link, may_add_point, may_add_relay, may_follow}
 use Rattle.flow_certificate.specs.Private.Drafts.{point_line_cmp, step, steps, with_link, with_point, with_relay}
-use Rattle.flow_certificate.specs.Keeping.{is_number, is_place}
+use Rattle.flow_certificate.specs.Keeping.{is_number, is_certificate_point}
 use Rattle.flow_certificate.specs.Lines.{is_line}
 use Rattle.flow_certificate.proofs.LastItems.{all-push, ascend-push, follow-map, map-append}
 
@@ -110,7 +110,7 @@ point-graph : (value : ℕ) (points : List PointLine) (line : PointLine) →
 point-graph value points line may known made =
     let graph = and_parts (are_points (map node_of points)) _ made in
     let nodes = and_parts (list_all has_capacity (map node_of points)) (ascend node_cmp (map node_of points)) graph.0 in
-    let parts = and_parts (is_place line.point) _ known in
+    let parts = and_parts (is_certificate_point line.point) _ known in
     let some = and_parts (has_capacity (node_of line)) (is_number line.capacity && is_number line.flow) parts.1 in
     let split = map-append node_of points (line ∷ []) in
     let all : list_all has_capacity (map node_of (points ++ (line ∷ []))) ≡ true =

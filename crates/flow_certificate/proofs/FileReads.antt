@@ -14,7 +14,7 @@ use Rattle.flow_certificate.specs.declared.drafts.Stage.{Stage}
 use Rattle.flow_certificate.specs.declared.drafts.Stage.TheVariants as stages
 use Rattle.flow_certificate.specs.declared.lines.Line.{Line}
 use Rattle.flow_certificate.specs.declared.lines.Line.TheVariants.{Version, Value, Point, Relay, Link, End}
-use Rattle.flow_certificate.specs.Certificates.{BeginsWith, CertText, IsFirstFailure, Picture, is_valid, lines_of}
+use Rattle.flow_certificate.specs.Certificates.{BeginsWith, CertText, IsFirstFailure, Picture, is_certificate_picture, lines_of}
 use Rattle.flow_certificate.specs.Certificates.{lines_text, makes_graph, open_lines}
 use Rattle.flow_certificate.specs.Private.Drafts.{IsDraft, blank, lines_in, sketch_of, step, steps}
 use Rattle.flow_certificate.specs.Private.Guessing.{line_in}
@@ -109,7 +109,7 @@ reading-done file rest draft number reading end none =
 -- some certificate goes on from these lines
 record GoesOn (lines : List Line) : Type 0 where
   picture : Picture
-  valid : is_valid picture ≡ true
+  valid : is_certificate_picture picture ≡ true
   tail : List Line
   split : lines_of picture ≡ lines ++ tail
 
@@ -163,7 +163,7 @@ no-next draft lines more rest other picture line so_far made split known text st
     absurd cc
 
 ends-here : (draft : Draft) (lines more tail : List Line) (rest other : List ℕ) (picture : Picture) (line : Line) →
-    steps blank lines ≡ Some (sketch_of draft) → is_valid picture ≡ true →
+    steps blank lines ≡ Some (sketch_of draft) → is_certificate_picture picture ≡ true →
     lines_of picture ≡ lines ++ (line ∷ (more ++ tail)) → rest ≡ lines_text (line ∷ more) ++ other →
     IsStuck draft rest → ⊥
 ends-here draft lines more tail rest other picture line so_far valid split text stuck =
@@ -174,7 +174,7 @@ ends-here draft lines more tail rest other picture line so_far valid split text 
     (10 ∷ lines_text more) other)) stuck
 
 fails-by : (draft : Draft) (lines more : List Line) (rest other : List ℕ) (number : ℕ) (picture : Picture) →
-    steps blank lines ≡ Some (sketch_of draft) → is_valid picture ≡ true → number ≡ length lines + 1 →
+    steps blank lines ≡ Some (sketch_of draft) → is_certificate_picture picture ≡ true → number ≡ length lines + 1 →
     length (take number (lines_of picture)) ≡ number → take number (lines_of picture) ≡ lines ++ more →
     rest ≡ lines_text more ++ other → IsStuck draft rest → ⊥
 fails-by draft lines [] rest other number picture so_far valid counted size split text stuck =
@@ -200,7 +200,7 @@ fails-at file rest draft number reading stuck picture begins =
     front.lines front.text stuck
 
 ends-by : (draft : Draft) (lines more : List Line) (rest : List ℕ) (picture : Picture) →
-    steps blank lines ≡ Some (sketch_of draft) → is_valid picture ≡ true → lines_of picture ≡ lines ++ more →
+    steps blank lines ≡ Some (sketch_of draft) → is_certificate_picture picture ≡ true → lines_of picture ≡ lines ++ more →
     rest ≡ lines_text more ++ [] → IsStuck draft rest → (is_whole draft.stage ≡ true → rest ≡ [] → ⊥) → ⊥
 ends-by draft lines [] rest picture so_far valid split text stuck going =
     let parts = and_parts (list_all is_line (lines_of picture)) (makes_graph picture) valid in

@@ -17,7 +17,7 @@ use Rattle.flow_graph.specs.declared.ends.End.{End}
 use Rattle.flow_graph.specs.declared.ends.End.TheVariants as ends
 use Rattle.flow_certificate.specs.Private.Guessing.{below, digit_of, digits_at, end_at, grown, is_digit, number_at, slot_at}
 use Rattle.flow_certificate.specs.Private.Guessing.{guess, half_of, line_in, link_at, point_at, relay_at, with_line, word_at}
-use Rattle.flow_certificate.specs.Keeping.{is_number, is_place, is_region}
+use Rattle.flow_certificate.specs.Keeping.{is_number, is_certificate_point, is_region_or_outside}
 use Rattle.flow_certificate.specs.Lines.{half_text, inside_text, is_end, is_line, line_text, link_text, point_text}
 use Rattle.flow_certificate.specs.Lines.{relay_text}
 use Rattle.flow_certificate.specs.declared.lines.Line.{Line}
@@ -235,8 +235,8 @@ point-own : (line : PointLine) (rest : List ℕ) → is_line (forms.Point line) 
     point_at (point_tail line rest) ≡ line
 unfolding point_at
 point-own line rest known =
-    let place = and_parts (is_place line.point) _ known in
-    let address = and_parts (is_region line.point.region) _ place.0 in
+    let place = and_parts (is_certificate_point line.point) _ known in
+    let address = and_parts (is_region_or_outside line.point.region) _ place.0 in
     let slot_known = and_parts (nat_lt line.point.address (2 ^ 32)) (is_slot line.point.slot) address.1 in
     let some = and_parts (nat_lt 0 line.capacity) _ place.1 in
     let numbers = and_parts (is_number line.capacity) (is_number line.flow) some.1 in

@@ -12,7 +12,7 @@ use Rattle.flow_certificate.specs.declared.verdicts.CertFault.{CertFault}
 use Rattle.flow_certificate.specs.declared.verdicts.CertFault.TheVariants.{Over, Unbalanced, OpenAcross, Values}
 use Rattle.flow_certificate.specs.declared.verdicts.CertVerdict.{CertVerdict}
 use Rattle.flow_certificate.specs.declared.verdicts.CertVerdict.TheVariants.{Verified, Rejected}
-use Rattle.flow_certificate.specs.Verdicts.{HasNone, HasNoneAcross, HasNoneOver, HasNoneUnbalanced, HasValues, IsFirst, IsFirstAcross, IsFirstFault, IsOpenAcross, IsOver, IsUnbalanced, IsVerdict, IsVerified, is_across, is_node_of, is_over, is_unbalanced, number_of}
+use Rattle.flow_certificate.specs.Verdicts.{HasNone, HasNoneAcross, HasNoneOver, HasNoneUnbalanced, HasValues, IsFirst, IsFirstAcross, IsFirstFlowFault, IsOpenAcross, IsOver, IsUnbalanced, IsVerdict, IsVerified, is_across, is_node_of, is_over, is_unbalanced, member_number}
 
 -- ---- the first that passes
 
@@ -37,7 +37,7 @@ not-none test from end i first none =
 -- ---- a node has a number of its own
 
 one-member : (count : ℕ) (a b : Member) → is_node_of count a ≡ true → is_node_of count b ≡ true →
-    number_of count a ≡ number_of count b → a ≡ b
+    member_number count a ≡ member_number count b → a ≡ b
 one-member count (In p) (In q) known other same = ap (λ (n : ℕ). In n) (omega (arith, same))
 one-member count (In p) (Out q) known other same = absurd (omega (arith, same))
 one-member count (In p) (Relay q) known other same =
@@ -61,7 +61,7 @@ over-clash graph solved point first none =
 unbalanced-clash : (graph : Graph) (solved : Solved) (node : Member) → IsUnbalanced graph solved node →
     HasNoneUnbalanced graph solved → ⊥
 unbalanced-clash graph solved node first none =
-    not-none (is_unbalanced graph solved) 2 ((network_of graph).nodes) (number_of (length graph.points) node)
+    not-none (is_unbalanced graph solved) 2 ((network_of graph).nodes) (member_number (length graph.points) node)
     first.first none
 
 across-clash : (graph : Graph) (solved : Solved) (link : Arc) → IsOpenAcross graph solved link →
@@ -73,8 +73,8 @@ one-unbalanced : (graph : Graph) (solved : Solved) (a b : Member) → IsUnbalanc
     IsUnbalanced graph solved b → a ≡ b
 one-unbalanced graph solved a b first second =
     one-member (length graph.points) a b first.known second.known
-    (one-of_first (is_unbalanced graph solved) 2 ((network_of graph).nodes) (number_of (length graph.points) a)
-    (number_of (length graph.points) b) first.first second.first)
+    (one-of_first (is_unbalanced graph solved) 2 ((network_of graph).nodes) (member_number (length graph.points) a)
+    (member_number (length graph.points) b) first.first second.first)
 
 one-across : (graph : Graph) (solved : Solved) (a b : Arc) → IsFirstAcross graph solved a →
     IsFirstAcross graph solved b → a ≡ b
@@ -95,8 +95,8 @@ one-values graph solved value other flow carried cut capacity first second =
     let cuts : cut ≡ capacity = first.cut_is ∙ sym second.cut_is in
     cc
 
-pub one-first_fault : (graph : Graph) (solved : Solved) (a b : CertFault) → IsFirstFault graph solved a →
-    IsFirstFault graph solved b → a ≡ b
+pub one-first_fault : (graph : Graph) (solved : Solved) (a b : CertFault) → IsFirstFlowFault graph solved a →
+    IsFirstFlowFault graph solved b → a ≡ b
 one-first_fault graph solved (Over p) (Over q) first second =
     ap (λ (n : ℕ). Over n) (one-of_first (is_over graph solved) 0 (length graph.points) p q first second)
 one-first_fault graph solved (Over p) (Unbalanced node) first second =

@@ -13,11 +13,11 @@ use Rattle.flow_certificate.specs.declared.lines.Line.TheVariants.{Point, Relay,
 use Rattle.flow_certificate.specs.declared.lines.LinkLine.{LinkLine}
 use Rattle.flow_certificate.specs.declared.lines.PointLine.{PointLine}
 use Rattle.flow_certificate.specs.declared.lines.RelayLine.{RelayLine}
-use Rattle.flow_certificate.specs.Certificates.{Picture, arc_of, is_valid, lines_of, makes_graph, node_of, region_of}
-use Rattle.flow_certificate.specs.Keeping.{is_node, is_number, is_place, is_region}
+use Rattle.flow_certificate.specs.Certificates.{Picture, arc_of, is_certificate_picture, lines_of, makes_graph, node_of, region_of}
+use Rattle.flow_certificate.specs.Keeping.{is_node, is_number, is_certificate_point, is_region_or_outside}
 use Rattle.flow_certificate.specs.Lines.{is_line}
 use Rattle.flow_certificate.specs.Pictures.{flow_at_link, flow_at_point, half_at, have_texts, inside_at, link_lines}
-use Rattle.flow_certificate.specs.Pictures.{picture_of, point_lines, relay_lines}
+use Rattle.flow_certificate.specs.Pictures.{certificate_picture, point_lines, relay_lines}
 
 point-parts : (lines : List PointLine) →
     point_lines (map node_of lines) (map flow_at_point lines) (map half_at lines) ≡ lines
@@ -47,7 +47,7 @@ abbrev pictured : ℕ → List PointLine → List RelayLine → List LinkLine �
 pictured value points relays links = record { value = value; points = points; relays = relays; links = links }
 
 pub same-picture : (graph : Graph) (solved : Solved) (picture : Picture) → AreParts graph solved picture →
-    picture_of graph solved ≡ picture
+    certificate_picture graph solved ≡ picture
 same-picture graph solved picture are =
     let points : point_lines graph.points solved.flow.points solved.side.points ≡ picture.points =
     ap (λ (ns : List Node). point_lines ns solved.flow.points solved.side.points) are.points
@@ -79,29 +79,29 @@ point-texts : (lines : List PointLine) (rest : List Line) → list_all is_line (
 point-texts [] rest all = record { nodes = refl; flows = refl; others = all }
 point-texts (line ∷ lines) rest all =
     let parts = and_parts (is_line (Point line)) (list_all is_line (map Point lines ++ rest)) all in
-    let place = and_parts (is_place line.point) _ parts.0 in
+    let place = and_parts (is_certificate_point line.point) _ parts.0 in
     let numbers = and_parts _ (is_number line.capacity && is_number line.flow) place.1 in
     let both = and_parts (is_number line.capacity) (is_number line.flow) numbers.1 in
     let later = point-texts lines rest parts.1 in
     record {
       nodes = and_from (is_node (node_of line)) (list_all is_node (map node_of lines)) (and_from
-          (is_number line.capacity) (is_place line.point) both.0 place.0) later.nodes;
+          (is_number line.capacity) (is_certificate_point line.point) both.0 place.0) later.nodes;
       flows = and_from (is_number line.flow) (list_all is_number (map flow_at_point lines)) both.1 later.flows;
       others = later.others;
     }
 
 record AreRelayTexts (lines : List RelayLine) (rest : List Line) : Type 0 where
-  regions : list_all is_region (map region_of lines) ≡ true
+  regions : list_all is_region_or_outside (map region_of lines) ≡ true
   others : list_all is_line rest ≡ true
 
 relay-texts : (lines : List RelayLine) (rest : List Line) → list_all is_line (map Relay lines ++ rest) ≡ true →
     AreRelayTexts lines rest
 relay-texts [] rest all = record { regions = refl; others = all }
 relay-texts (line ∷ lines) rest all =
-    let parts = and_parts (is_region line.region) (list_all is_line (map Relay lines ++ rest)) all in
+    let parts = and_parts (is_region_or_outside line.region) (list_all is_line (map Relay lines ++ rest)) all in
     let later = relay-texts lines rest parts.1 in
     record {
-      regions = and_from (is_region line.region) (list_all is_region (map region_of lines)) parts.0 later.regions;
+      regions = and_from (is_region_or_outside line.region) (list_all is_region_or_outside (map region_of lines)) parts.0 later.regions;
       others = later.others;
     }
 
@@ -116,7 +116,7 @@ link-texts (line ∷ lines) rest all =
     (link-texts lines rest parts.1)
 
 pub parts-texts : (graph : Graph) (solved : Solved) (picture : Picture) → AreParts graph solved picture →
-    is_valid picture ≡ true → have_texts graph solved ≡ true
+    is_certificate_picture picture ≡ true → have_texts graph solved ≡ true
 parts-texts graph solved picture are valid =
     let parts = and_parts (list_all is_line (lines_of picture)) (makes_graph picture) valid in
     let value = and_parts (is_number picture.value) _ parts.0 in
@@ -132,6 +132,6 @@ parts-texts graph solved picture are valid =
     let links = link-texts picture.links (End ∷ []) relays.others in
     and_from (is_number solved.value) _ (ap is_number are.value ∙ value.0)
     (and_from (list_all is_node graph.points) _ (ap (list_all is_node) are.points ∙ points.nodes)
-    (and_from (list_all is_region graph.relays) _ (ap (list_all is_region) are.relays ∙ relays.regions)
+    (and_from (list_all is_region_or_outside graph.relays) _ (ap (list_all is_region_or_outside) are.relays ∙ relays.regions)
     (and_from (list_all is_number solved.flow.points) (list_all is_number solved.flow.links)
     (ap (list_all is_number) are.point_flows ∙ points.flows) (ap (list_all is_number) are.link_flows ∙ links))))

@@ -13,11 +13,11 @@ use Rattle.max_flow.specs.declared.answers.Half.{Half}
 use Rattle.flow_certificate.specs.declared.certificates.Certificate.{Certificate}
 use Rattle.flow_certificate.specs.declared.lines.Line.{Line}
 use Rattle.flow_certificate.specs.declared.lines.Line.TheVariants.{Version, Value, Point, Relay, Link, End}
-use Rattle.flow_certificate.specs.Certificates.{Picture, arc_of, is_valid, lines_of, lines_text, makes_graph, node_of}
+use Rattle.flow_certificate.specs.Certificates.{Picture, arc_of, is_certificate_picture, lines_of, lines_text, makes_graph, node_of}
 use Rattle.flow_certificate.specs.Certificates.{region_of}
-use Rattle.flow_certificate.specs.Keeping.{is_node, is_number, is_place, is_region}
+use Rattle.flow_certificate.specs.Keeping.{is_node, is_number, is_certificate_point, is_region_or_outside}
 use Rattle.flow_certificate.specs.Lines.{is_end, is_line, line_text}
-use Rattle.flow_certificate.specs.Pictures.{link_lines, picture_of, point_lines, relay_lines}
+use Rattle.flow_certificate.specs.Pictures.{link_lines, certificate_picture, point_lines, relay_lines}
 use Rattle.flow_certificate.proofs.Prefixes.{text-append, text-more, text-none}
 
 -- ---- the text
@@ -61,18 +61,18 @@ points-known (node ∷ nodes) (flow ∷ flows) (half ∷ halves) rest named some
     let a = and_parts (is_node node) (list_all is_node nodes) named in
     let b = and_parts (has_capacity node) (list_all has_capacity nodes) some in
     let c = and_parts (is_number flow) (list_all is_number flows) small in
-    let n = and_parts (is_number node.capacity) (is_place node.point) a.0 in
+    let n = and_parts (is_number node.capacity) (is_certificate_point node.point) a.0 in
     and_from _ (list_all is_line (map Point (point_lines nodes flows halves) ++ rest))
-    (and_from (is_place node.point) _ n.1 (and_from (has_capacity node) _ b.0 (and_from (is_number node.capacity)
+    (and_from (is_certificate_point node.point) _ n.1 (and_from (has_capacity node) _ b.0 (and_from (is_number node.capacity)
     (is_number flow) n.0 c.0))) (points-known nodes flows halves rest a.1 b.1 c.1 all)
 
-relays-known : (regions : List ℕ) (answers : List Bool) (rest : List Line) → list_all is_region regions ≡ true →
+relays-known : (regions : List ℕ) (answers : List Bool) (rest : List Line) → list_all is_region_or_outside regions ≡ true →
     list_all is_line rest ≡ true → list_all is_line (map Relay (relay_lines regions answers) ++ rest) ≡ true
 relays-known [] answers rest small all = all
 relays-known (region ∷ regions) [] rest small all = all
 relays-known (region ∷ regions) (answer ∷ answers) rest small all =
-    let a = and_parts (is_region region) (list_all is_region regions) small in
-    and_from (is_region region) _ a.0 (relays-known regions answers rest a.1 all)
+    let a = and_parts (is_region_or_outside region) (list_all is_region_or_outside regions) small in
+    and_from (is_region_or_outside region) _ a.0 (relays-known regions answers rest a.1 all)
 
 origin-known : (count : ℕ) (relays : List ℕ) (end : AnEnd) → count < 2 ^ 32 → is_origin count relays end ≡ true →
     is_end end ≡ true
@@ -129,11 +129,11 @@ arcs-kept (link ∷ links) [] same = absurd (omega (arith, same))
 arcs-kept (link ∷ links) (flow ∷ flows) same =
     ap (λ (ls : List Arc). link ∷ ls) (arcs-kept links flows (omega (arith, same)))
 
-pub written-valid : (certificate : Certificate) → is_valid (picture_of certificate.graph certificate.solved) ≡ true
+pub written-valid : (certificate : Certificate) → is_certificate_picture (certificate_picture certificate.graph certificate.solved) ≡ true
 written-valid certificate =
     let graph = certificate.graph in
     let solved = certificate.solved in
-    let picture = picture_of certificate.graph certificate.solved in
+    let picture = certificate_picture certificate.graph certificate.solved in
     let nodes = and_parts (list_all has_capacity certificate.graph.points) (ascend node_cmp
     certificate.graph.points) certificate.graph.points_ascend in
     let links = links-known (length certificate.graph.points) certificate.graph.relays certificate.graph.links

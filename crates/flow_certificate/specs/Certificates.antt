@@ -49,17 +49,17 @@ makes_graph picture =
     is_graph (map node_of picture.points) (map region_of picture.relays) (map arc_of picture.links)
 
 -- its lines may stand in a certificate, and make a graph
-abbrev pub is_valid : Picture → Bool
-is_valid picture = list_all is_line (lines_of picture) && makes_graph picture
+abbrev pub is_certificate_picture : Picture → Bool
+is_certificate_picture picture = list_all is_line (lines_of picture) && makes_graph picture
 
 -- the file is the text of this certificate
 pub record CertText (file : List ℕ) (picture : Picture) : Type 0 where
-  pub valid : is_valid picture ≡ true
+  pub valid : is_certificate_picture picture ≡ true
   pub text : file ≡ lines_text (lines_of picture)
 
 -- the file begins with the first n lines of this certificate
 pub record BeginsWith (file : List ℕ) (n : ℕ) (picture : Picture) : Type 0 where
-  pub valid : is_valid picture ≡ true
+  pub valid : is_certificate_picture picture ≡ true
   pub count : n ≤ length (lines_of picture)
   pub rest : List ℕ
   pub text : file ≡ lines_text (take n (lines_of picture)) ++ rest

@@ -9,12 +9,12 @@ abbrev pub is_number : ℕ → Bool
 is_number number = nat_lt number (2 ^ 48)
 
 -- the number of a region, or 0
-abbrev pub is_region : ℕ → Bool
-is_region region = nat_lt region 65536
+abbrev pub is_region_or_outside : ℕ → Bool
+is_region_or_outside region = nat_lt region 65536
 
 -- a point that a certificate can name
-abbrev pub is_place : Point → Bool
-is_place point = is_region point.region && (nat_lt point.address (2 ^ 32) && is_slot point.slot)
+abbrev pub is_certificate_point : Point → Bool
+is_certificate_point point = is_region_or_outside point.region && (nat_lt point.address (2 ^ 32) && is_slot point.slot)
 
 abbrev pub is_node : Node → Bool
-is_node node = is_number node.capacity && is_place node.point
+is_node node = is_number node.capacity && is_certificate_point node.point

@@ -12,7 +12,7 @@ use Rattle.flow_certificate.specs.declared.lines.Line.TheVariants as forms
 use Rattle.flow_certificate.specs.declared.lines.LinkLine.{LinkLine}
 use Rattle.flow_certificate.specs.declared.lines.PointLine.{PointLine}
 use Rattle.flow_certificate.specs.declared.lines.RelayLine.{RelayLine}
-use Rattle.flow_certificate.specs.Keeping.{is_number, is_place, is_region}
+use Rattle.flow_certificate.specs.Keeping.{is_number, is_certificate_point, is_region_or_outside}
 use Rattle.flow_certificate.specs.VerdictTexts.{end_text}
 
 -- which halves of a point are in the side
@@ -54,7 +54,7 @@ line_text forms.End = codes "end"
 abbrev pub is_end : End → Bool
 is_end ends.Source = true
 is_end (ends.Point index) = nat_lt index (2 ^ 32)
-is_end (ends.Relay region) = is_region region
+is_end (ends.Relay region) = is_region_or_outside region
 is_end ends.Sink = true
 
 -- the numbers of a line are in their ranges, and its slot is one
@@ -62,7 +62,7 @@ abbrev pub is_line : Line → Bool
 is_line forms.Version = true
 is_line (forms.Value value) = is_number value
 is_line (forms.Point line) =
-    is_place line.point && (nat_lt 0 line.capacity && (is_number line.capacity && is_number line.flow))
-is_line (forms.Relay line) = is_region line.region
+    is_certificate_point line.point && (nat_lt 0 line.capacity && (is_number line.capacity && is_number line.flow))
+is_line (forms.Relay line) = is_region_or_outside line.region
 is_line (forms.Link line) = is_end line.link.source && (is_end line.link.target && is_number line.flow)
 is_line forms.End = true

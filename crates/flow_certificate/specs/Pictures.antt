@@ -10,7 +10,7 @@ use Rattle.flow_certificate.specs.declared.lines.LinkLine.{LinkLine}
 use Rattle.flow_certificate.specs.declared.lines.PointLine.{PointLine}
 use Rattle.flow_certificate.specs.declared.lines.RelayLine.{RelayLine}
 use Rattle.flow_certificate.specs.Certificates.{Picture}
-use Rattle.flow_certificate.specs.Keeping.{is_node, is_number, is_region}
+use Rattle.flow_certificate.specs.Keeping.{is_node, is_number, is_region_or_outside}
 
 -- points with their flows and their halves in the side
 abbrev pub point_lines : List Node → List ℕ → List Half → List PointLine
@@ -34,8 +34,8 @@ link_lines (link ∷ links) [] = []
 link_lines (link ∷ links) (flow ∷ flows) = record { link = link; flow = flow } ∷ link_lines links flows
 
 -- what a graph, a flow and a side say
-abbrev pub picture_of : Graph → Solved → Picture
-picture_of graph solved = record {
+abbrev pub certificate_picture : Graph → Solved → Picture
+certificate_picture graph solved = record {
   value = solved.value;
   points = point_lines graph.points solved.flow.points solved.side.points;
   relays = relay_lines graph.relays solved.side.relays;
@@ -52,7 +52,7 @@ have_counts graph solved =
 
 abbrev pub have_texts : Graph → Solved → Bool
 have_texts graph solved =
-    is_number solved.value && (list_all is_node graph.points && (list_all is_region graph.relays
+    is_number solved.value && (list_all is_node graph.points && (list_all is_region_or_outside graph.relays
     && (list_all is_number solved.flow.points && list_all is_number solved.flow.links)))
 
 -- the parts of lines

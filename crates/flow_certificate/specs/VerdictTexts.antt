@@ -25,16 +25,16 @@ node_text (nodes.Out point) = codes "p" ++ (decimal point ++ codes ".out")
 node_text (nodes.Relay region) = codes "r" ++ decimal region
 
 -- what is wrong with a certificate
-abbrev pub fault_text : CertFault → List ℕ
-fault_text (Over point) = codes "over p" ++ decimal point
-fault_text (Unbalanced node) = codes "unbalanced " ++ node_text node
-fault_text (OpenAcross link) = codes "across " ++ (end_text link.source ++ (codes " " ++ end_text link.target))
-fault_text (Values value flow cut) =
+abbrev pub certificate_fault_text : CertFault → List ℕ
+certificate_fault_text (Over point) = codes "over p" ++ decimal point
+certificate_fault_text (Unbalanced node) = codes "unbalanced " ++ node_text node
+certificate_fault_text (OpenAcross link) = codes "across " ++ (end_text link.source ++ (codes " " ++ end_text link.target))
+certificate_fault_text (Values value flow cut) =
     codes "values value " ++ (decimal value ++ (codes " flow " ++ (decimal flow ++ (codes " cut " ++ decimal cut))))
 
 abbrev pub verdict_text : CertVerdict → List ℕ
 verdict_text (Verified value) = codes "verified " ++ decimal value
-verdict_text (Rejected fault) = codes "rejected " ++ fault_text fault
+verdict_text (Rejected fault) = codes "rejected " ++ certificate_fault_text fault
 
 -- why a file is no certificate
 abbrev pub form_fault_text : FormFault → List ℕ

@@ -50,10 +50,10 @@ is_across graph solved link =
     leaves (network_of graph) (member graph solved.side.points solved.side.relays) (length graph.points + link)
 
 -- the number of a node of the network, where there are so many points
-abbrev pub number_of : ℕ → Member → ℕ
-number_of count (In point) = 2 + 2 * point
-number_of count (Out point) = 3 + 2 * point
-number_of count (Relay region) = 2 + 2 * count + region
+abbrev pub member_number : ℕ → Member → ℕ
+member_number count (In point) = 2 + 2 * point
+member_number count (Out point) = 3 + 2 * point
+member_number count (Relay region) = 2 + 2 * count + region
 
 -- the node stands in a graph of so many points
 abbrev pub is_node_of : ℕ → Member → Bool
@@ -95,7 +95,7 @@ IsOver graph solved point = IsFirst (is_over graph solved) 0 (length graph.point
 pub record IsUnbalanced (graph : Graph) (solved : Solved) (node : Member) : Type 0 where
   pub none_over : HasNoneOver graph solved
   pub known : is_node_of (length graph.points) node ≡ true
-  pub first : IsFirst (is_unbalanced graph solved) 2 ((network_of graph).nodes) (number_of (length graph.points) node)
+  pub first : IsFirst (is_unbalanced graph solved) 2 ((network_of graph).nodes) (member_number (length graph.points) node)
 
 -- this link is the first that leaves the source side
 pub record IsFirstAcross (graph : Graph) (solved : Solved) (link : Arc) : Type 0 where
@@ -120,13 +120,13 @@ pub record HasValues (graph : Graph) (solved : Solved) (value flow cut : ℕ) : 
   pub differ : value ≡ flow → value ≡ cut → ⊥
 
 -- the fault is the first that the certificate has
-abbrev pub IsFirstFault : Graph → Solved → CertFault → Type 0
-IsFirstFault graph solved (Over point) = IsOver graph solved point
-IsFirstFault graph solved (Unbalanced node) = IsUnbalanced graph solved node
-IsFirstFault graph solved (OpenAcross link) = IsOpenAcross graph solved link
-IsFirstFault graph solved (Values value flow cut) = HasValues graph solved value flow cut
+abbrev pub IsFirstFlowFault : Graph → Solved → CertFault → Type 0
+IsFirstFlowFault graph solved (Over point) = IsOver graph solved point
+IsFirstFlowFault graph solved (Unbalanced node) = IsUnbalanced graph solved node
+IsFirstFlowFault graph solved (OpenAcross link) = IsOpenAcross graph solved link
+IsFirstFlowFault graph solved (Values value flow cut) = HasValues graph solved value flow cut
 
 -- what the certificate shows
 abbrev pub IsVerdict : Graph → Solved → CertVerdict → Type 0
 IsVerdict graph solved (Verified value) = IsVerified graph solved value
-IsVerdict graph solved (Rejected fault) = IsFirstFault graph solved fault
+IsVerdict graph solved (Rejected fault) = IsFirstFlowFault graph solved fault

@@ -2,7 +2,7 @@ ghost use Rattle.std.specs.Prelude.{◌≡◌, ◌+◌, ◌*◌, ◌≤◌, ◌<
 ghost use Rattle.max_flow.specs.Flows.{network_of};
 ghost use Rattle.flow_certificate.specs.Private.Sums.{AreZero, differ_at};
 ghost use Rattle.flow_certificate.specs.Verdicts.{HasNone, HasNoneUnbalanced, IsFirst, is_node_of, is_unbalanced};
-ghost use Rattle.flow_certificate.specs.Verdicts.{number_of};
+ghost use Rattle.flow_certificate.specs.Verdicts.{member_number};
 
 use crate::certificates::Certificate;
 use crate::sums::{sum_inflows, sum_outflows};
@@ -57,7 +57,7 @@ fn node_at(count: usize, number: usize) -> Member
     requires count { count < 4294967296 }
     requires from_on { 2 ≤ number }
     requires below { number < 2 + 2 * count + 65536 }
-    ensures number { number_of count result ≡ number }
+    ensures number { member_number count result ≡ number }
     ensures known { is_node_of count result ≡ true }
 {
     if number >= 2 + 2 * count {
@@ -75,7 +75,7 @@ fn node_at(count: usize, number: usize) -> Member
 /// block of nodes.
 pub fn first_unbalanced(certificate: &Certificate) -> Option<Member>
     ensures some { IfSome result (λ node. IsFirst (is_unbalanced certificate.now.graph certificate.now.solved) 2
-        ((network_of certificate.now.graph).nodes) (number_of (length certificate.now.graph.points) node)) }
+        ((network_of certificate.now.graph).nodes) (member_number (length certificate.now.graph.points) node)) }
     ensures known { IfSome result (λ node. is_node_of (length certificate.now.graph.points) node ≡ true) }
     ensures none { result ≡ None → HasNoneUnbalanced certificate.now.graph certificate.now.solved }
 {

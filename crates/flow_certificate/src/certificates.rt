@@ -1,6 +1,6 @@
 ghost use Rattle.std.specs.Prelude.{◌≡◌, ◌^◌, ◌<◌, IsTrue, length};
 ghost use Rattle.std.specs.List.{list_all};
-ghost use Rattle.flow_certificate.specs.Keeping.{is_node, is_number, is_region};
+ghost use Rattle.flow_certificate.specs.Keeping.{is_node, is_number, is_region_or_outside};
 
 use flow_graph::Graph;
 use max_flow::Solved;
@@ -20,7 +20,7 @@ pub struct Certificate {
     ghost relay_answers: { length solved.side.relays ≡ length graph.relays },
     ghost value_is_number: { IsTrue (is_number solved.value) },
     ghost nodes_are_named: { IsTrue (list_all is_node graph.points) },
-    ghost relays_are_regions: { IsTrue (list_all is_region graph.relays) },
+    ghost relays_are_regions: { IsTrue (list_all is_region_or_outside graph.relays) },
     ghost point_flows_are_numbers: { IsTrue (list_all is_number solved.flow.points) },
     ghost link_flows_are_numbers: { IsTrue (list_all is_number solved.flow.links) },
 }

@@ -1,8 +1,8 @@
 ghost use Rattle.std.specs.Prelude.{◌≡◌, ◌^◌, ◌<◌, ◌++◌, ◌∷◌, [], IfOk, OnOk, length, map, true};
 ghost use Rattle.flow_graph.specs.Graphs.{is_graph};
-ghost use Rattle.flow_certificate.specs.Certificates.{arc_of, is_valid, node_of};
+ghost use Rattle.flow_certificate.specs.Certificates.{arc_of, is_certificate_picture, node_of};
 ghost use Rattle.flow_certificate.specs.Private.Drafts.{IsDraft, sketch_of};
-ghost use Rattle.flow_certificate.specs.Pictures.{flow_at_link, flow_at_point, half_at, inside_at, picture_of};
+ghost use Rattle.flow_certificate.specs.Pictures.{flow_at_link, flow_at_point, half_at, inside_at, certificate_picture};
 ghost use Rattle.flow_certificate.specs.Pictures.{have_counts, have_texts};
 
 use crate::certificates::Certificate;
@@ -161,10 +161,10 @@ fn whole_of(graph: Graph, solved: Solved) -> Certificate
 
 /// The certificate of a whole draft.
 pub fn certificate_of(alloc: Global, draft: Draft) -> Result<Certificate, NoMemory>
-    requires valid { is_valid ((sketch_of draft).picture) ≡ true }
+    requires valid { is_certificate_picture ((sketch_of draft).picture) ≡ true }
     requires draft { IsDraft draft }
     requires few { length draft.points < 2 ^ 32 }
-    ensures { IfOk result (λ c. picture_of c.graph c.solved ≡ (sketch_of draft).picture) }
+    ensures { IfOk result (λ c. certificate_picture c.graph c.solved ≡ (sketch_of draft).picture) }
 {
     let said = said_in(alloc, &draft)?;
     let graph = graph_of(said.nodes, draft.regions, said.arcs);

@@ -1,7 +1,7 @@
 ghost use Rattle.std.specs.Prelude.{◌≡◌, IfOk, nat_lt, option_map};
 ghost use Rattle.flow_certificate.specs.Private.Guessing.{line_in};
-ghost use Rattle.flow_certificate.specs.Keeping.{is_number as is_known_number, is_place as is_known_place};
-ghost use Rattle.flow_certificate.specs.Keeping.{is_region as is_known_region};
+ghost use Rattle.flow_certificate.specs.Keeping.{is_number as is_known_number, is_certificate_point};
+ghost use Rattle.flow_certificate.specs.Keeping.{is_region_or_outside};
 ghost use Rattle.flow_certificate.specs.Lines.{is_end as is_known_end, is_line as is_known_line};
 
 use crate::guessing::guess;
@@ -16,7 +16,7 @@ pub const LIMIT: u64 = 281_474_976_710_656;
 
 /// Whether a number of 16 bits can be that of a region: each can.
 pub fn is_region(region: u16) -> bool
-    ensures { result ≡ is_known_region region }
+    ensures { result ≡ is_region_or_outside region }
 {
     let _ = region;
     true
@@ -39,7 +39,7 @@ pub fn is_number(number: u64) -> bool
 
 /// Whether a certificate can name a point.
 pub fn is_place(point: Point) -> bool
-    ensures { result ≡ is_known_place point }
+    ensures { result ≡ is_certificate_point point }
 {
     is_region(point.region) && is_word(point.address) && point.slot.is_known()
 }

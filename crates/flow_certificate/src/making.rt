@@ -2,7 +2,7 @@ ghost use Rattle.std.specs.Prelude.{◌≡◌, ◌&&◌, IfSome};
 ghost use Rattle.std.specs.List.{list_all};
 ghost use Rattle.std.specs.Option.{is_some};
 ghost use Rattle.flow_certificate.specs.Keeping.{is_node as is_known_node, is_number as is_known_number};
-ghost use Rattle.flow_certificate.specs.Keeping.{is_region as is_known_region};
+ghost use Rattle.flow_certificate.specs.Keeping.{is_region_or_outside};
 ghost use Rattle.flow_certificate.specs.Pictures.{have_counts as have_their_counts, have_texts as have_their_texts};
 
 use crate::certificates::Certificate;
@@ -33,7 +33,7 @@ fn are_nodes(nodes: &[Node]) -> bool
 
 /// Whether numbers of 16 bits can be those of regions: all can.
 fn are_regions(regions: &[u16]) -> bool
-    ensures { result ≡ list_all is_known_region regions.now }
+    ensures { result ≡ list_all is_region_or_outside regions.now }
 {
     regions.iter().all(|region| is_region(*region))
 }

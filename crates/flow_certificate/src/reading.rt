@@ -1,6 +1,6 @@
 ghost use Rattle.std.specs.Prelude.{◌≡◌, ◌==◌, ◌&&◌, ◌^◌, ◌<◌, IfErr, IfOk, OnOk, length};
 ghost use Rattle.flow_certificate.specs.Certificates.{CertText, IsFormFault};
-ghost use Rattle.flow_certificate.specs.Pictures.{picture_of};
+ghost use Rattle.flow_certificate.specs.Pictures.{certificate_picture};
 ghost use Rattle.flow_certificate.specs.Private.Drafts.{IsDraft, blank, sketch_of};
 ghost use Rattle.flow_certificate.specs.Private.Reading.{IsWholeDraft, is_whole as is_whole_stage};
 
@@ -76,7 +76,7 @@ fn draft_of(alloc: Global, file: &[u8]) -> Result<Draft, FormFault>
 /// the length of the file.
 pub fn read_certificate(alloc: Global, file: &[u8]) -> Result<Certificate, FormFault>
     requires { length file.now < 2 ^ 32 }
-    ensures text { IfOk result (λ c. CertText file.now (picture_of c.graph c.solved)) }
+    ensures text { IfOk result (λ c. CertText file.now (certificate_picture c.graph c.solved)) }
     ensures fault { IfErr result (IsFormFault file.now) }
 {
     let draft = draft_of(alloc, file)?;

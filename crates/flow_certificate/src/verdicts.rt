@@ -70,9 +70,9 @@ impl fmt::Display for Member {
 
 impl fmt::Display for CertFault {
     ghost use Rattle.std.specs.Prelude.{Some};
-    ghost use Rattle.flow_certificate.specs.VerdictTexts.{fault_text};
+    ghost use Rattle.flow_certificate.specs.VerdictTexts.{certificate_fault_text};
 
-    ghost output = { λ fault. Some (fault_text fault) };
+    ghost output = { λ fault. Some (certificate_fault_text fault) };
 
     fn fmt<W: fmt::Write>(&self, f: &mut fmt::Formatter<W>) -> fmt::Result {
         match *self {

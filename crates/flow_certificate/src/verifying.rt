@@ -1,5 +1,5 @@
 ghost use Rattle.std.specs.Prelude.{◌≡◌, None, IfSome};
-ghost use Rattle.flow_certificate.specs.Verdicts.{IsFirstFault, IsVerdict, IsVerified};
+ghost use Rattle.flow_certificate.specs.Verdicts.{IsFirstFlowFault, IsVerdict, IsVerified};
 
 use crate::across::first_across;
 use crate::balance::first_unbalanced;
@@ -10,7 +10,7 @@ use crate::verdicts::{CertFault, CertVerdict};
 
 /// The first thing that is wrong with a certificate, if any.
 fn first_fault(certificate: &Certificate) -> Option<CertFault>
-    ensures some { IfSome result (IsFirstFault certificate.now.graph certificate.now.solved) }
+    ensures some { IfSome result (IsFirstFlowFault certificate.now.graph certificate.now.solved) }
     ensures none { result ≡ None → IsVerified certificate.now.graph certificate.now.solved
         certificate.now.solved.value }
 {

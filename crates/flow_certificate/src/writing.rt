@@ -3,7 +3,7 @@ ghost use Rattle.std.specs.List.{list_all};
 ghost use Rattle.flow_certificate.specs.declared.lines.Line.TheVariants as forms;
 ghost use Rattle.flow_certificate.specs.Certificates.{CertText, lines_text};
 ghost use Rattle.flow_certificate.specs.Keeping.{is_node};
-ghost use Rattle.flow_certificate.specs.Pictures.{link_lines, picture_of, point_lines, relay_lines};
+ghost use Rattle.flow_certificate.specs.Pictures.{link_lines, certificate_picture, point_lines, relay_lines};
 
 use crate::certificates::Certificate;
 use crate::line_texts::put_line;
@@ -117,7 +117,7 @@ fn put_links(
 /// Puts the lines of a certificate into an empty text.
 fn put_lines(alloc: Global, text: &mut Vec<u8>, certificate: &Certificate) -> Result<(), NoMemory>
     requires { text.old.items ≡ [] }
-    ensures { OnOk result (CertText text.new.items (picture_of certificate.now.graph certificate.now.solved)) }
+    ensures { OnOk result (CertText text.new.items (certificate_picture certificate.now.graph certificate.now.solved)) }
 {
     let Certificate { graph, solved } = certificate;
     put_line(alloc, text, &Line::Version)?;
@@ -148,7 +148,7 @@ fn put_lines(alloc: Global, text: &mut Vec<u8>, certificate: &Certificate) -> Re
 /// The one text of a certificate, as [`read_certificate`](crate::read_certificate) reads it. Its error is want of
 /// memory.
 pub fn write_certificate(alloc: Global, certificate: &Certificate) -> Result<Bytes, NoMemory>
-    ensures { IfOk result (λ text. CertText text (picture_of certificate.now.graph certificate.now.solved)) }
+    ensures { IfOk result (λ text. CertText text (certificate_picture certificate.now.graph certificate.now.solved)) }
 {
     let mut text = Vec::new(alloc);
     put_lines(alloc, &mut text, certificate)?;

@@ -21,11 +21,12 @@ use Rattle.flow_graph.specs.contracts.named_links.NamedEndOrd.TheImpl as named_e
 use Rattle.flow_graph.specs.contracts.named_links.NamedLinkOrd.TheImpl.Laws.{total-law}
 use Rattle.flow_graph.specs.Graphs.{arc_cmp, ascend, is_relay, is_origin, is_target, is_link, are_links}
 use Rattle.flow_graph.specs.Graphs.{leads_on}
-use Rattle.flow_graph.specs.EventGraphs.{no_point, link_cmp, is_among, named_end, named, is_relay_of}
+use Rattle.flow_graph.specs.EventGraphs.{link_cmp, is_among, named_end, named, is_relay_of}
 use Rattle.flow_graph.specs.EventGraphs.{names_relay}
 use Rattle.flow_graph.specs.Builders.{index_in, end_at, arc_at}
 use Rattle.flow_graph.specs.Keeping.{is_there, may_lead, is_sound}
 use Rattle.flow_graph.proofs.Indices.{is_in, index-order, index_inside, same_at_index, nat_cmp-itself}
+use Rattle.flow_base.specs.Points.{nowhere}
 
 abbrev end_cmp : End → End → Ordering
 end_cmp = (end_ord.ghosts).cmp
@@ -149,7 +150,7 @@ links_there names relays (j ∷ js) sound known =
 end_same : (nodes : List Node) (s : NamedEnd) → is_there (is_in (map (λ n. n.point) nodes)) s ≡ true →
     named_end_cmp (named_end nodes (end_at (map (λ n. n.point) nodes) s)) s ≡ Equal
 end_same nodes Source there = refl
-end_same nodes (At p) there = same_at_index (map (λ n. n.point) nodes) p no_point there
+end_same nodes (At p) there = same_at_index (map (λ n. n.point) nodes) p nowhere there
 end_same nodes (Relay r) there = nat_cmp-itself r
 end_same nodes Sink there = refl
 

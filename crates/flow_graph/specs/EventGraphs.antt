@@ -6,7 +6,6 @@ use Rattle.std.specs.List.Sorted.{IsStrictlySortedBy}
 use Rattle.std.specs.Ordering.{eq_by_cmp}
 use Rattle.std.specs.declared.cmp.Ordering.{Ordering}
 use Rattle.flow_base.specs.declared.points.Point.{Point}
-use Rattle.flow_base.specs.declared.points.Slot.TheVariants.{First}
 use Rattle.flow_base.specs.PointOrders.{is_same, point_cmp}
 use Rattle.flow_base.specs.Words.{bit_count}
 use Rattle.flow_graph.specs.declared.ends.Arc.{Arc}
@@ -20,6 +19,7 @@ use Rattle.flow_graph.specs.declared.nodes.Node.{Node}
 use Rattle.flow_graph.specs.declared.named_links.NamedLink.{NamedLink}
 use Rattle.flow_graph.specs.declared.named_links.NamedEnd.{NamedEnd}
 use Rattle.flow_graph.specs.declared.named_links.NamedEnd.TheVariants.{Source, At, Relay, Sink}
+use Rattle.flow_base.specs.Points.{nowhere}
 use Rattle.flow_graph.specs.contracts.named_links.NamedLinkOrd.TheImpl as link_ord
 
 -- the bits that an event passes at a point
@@ -82,14 +82,10 @@ abbrev pub capacity_at : List Node → Point → ℕ
 capacity_at [] q = 0
 capacity_at (node ∷ nodes) q = cond (is_same q node.point) node.capacity (capacity_at nodes q)
 
--- a point that stands for none
-abbrev pub no_point : Point
-no_point = record { region = 0; address = 0; slot = First }
-
 -- an end and a link of a graph by their names
 abbrev pub named_end : List Node → End → NamedEnd
 named_end points SourceEnd = Source
-named_end points (PointEnd index) = At (slice_index_or (map (λ node. node.point) points) index no_point)
+named_end points (PointEnd index) = At (slice_index_or (map (λ node. node.point) points) index nowhere)
 named_end points (RelayEnd region) = Relay region
 named_end points SinkEnd = Sink
 

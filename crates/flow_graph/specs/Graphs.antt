@@ -53,14 +53,14 @@ is_target count relays (Relay region) = is_relay relays region
 is_target count relays Sink = true
 
 -- from the source only a point is reached
-abbrev pub is_point : End → Bool
-is_point (PointEnd index) = true
-is_point Source = false
-is_point (Relay region) = false
-is_point Sink = false
+abbrev pub is_point_end : End → Bool
+is_point_end (PointEnd index) = true
+is_point_end Source = false
+is_point_end (Relay region) = false
+is_point_end Sink = false
 
 abbrev pub leads_on : End → End → Bool
-leads_on Source target = is_point target
+leads_on Source target = is_point_end target
 leads_on (PointEnd index) target = true
 leads_on (Relay region) target = true
 leads_on Sink target = true

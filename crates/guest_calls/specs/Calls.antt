@@ -7,8 +7,8 @@ use Rattle.guest_calls.specs.declared.writing.WriteCheck.{WriteCheck}
 use Rattle.guest_calls.specs.declared.writing.WriteCheck.TheVariants.{Append, BadAddress, OverLimit}
 
 -- read is 63, write 64, exit 93, exit_group 94 and brk 214
-abbrev pub kind_of : ℕ → CallKind
-kind_of number =
+abbrev pub call_kind : ℕ → CallKind
+call_kind number =
     if number == 63 then Read
     else (if number == 64 then Write
     else (if (number == 93) || (number == 94) then Exit

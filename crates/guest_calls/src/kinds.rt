@@ -1,5 +1,5 @@
 ghost use Rattle.std.specs.Prelude.{◌≡◌};
-ghost use Rattle.guest_calls.specs.Calls.{kind_of};
+ghost use Rattle.guest_calls.specs.Calls.{call_kind};
 
 /// The answer for a descriptor that the call does not know: -9 (EBADF of Linux for RISC-V).
 pub const BAD_DESCRIPTOR: u32 = 0xffff_fff7;
@@ -27,7 +27,7 @@ pub enum CallKind {
 
 /// The call of a number, by Linux for RISC-V: read 63, write 64, exit 93, exit_group 94, brk 214.
 pub fn call_kind(number: u32) -> CallKind
-    ensures { result ≡ kind_of number }
+    ensures { result ≡ call_kind number }
 {
     match number {
         63 => CallKind::Read,

@@ -3,14 +3,14 @@ use Rattle.std.specs.Prelude.{ℕ, ◌==◌, ◌&&◌, Bool, Option, Some, None,
 use Rattle.rv32im_decode.specs.declared.instructions.Instr.{Instr}
 use Rattle.transfer_rules.specs.declared.classes.Class.{Class}
 use Rattle.transfer_rules.specs.declared.operands.Operands.{Operands}
-use Rattle.transfer_rules.specs.Classes.{instruction_class, has_address}
+use Rattle.transfer_rules.specs.Classes.{instruction_class, takes_address}
 use Rattle.transfer_rules.specs.Tables.{Table, mask_of_address}
 
 -- of a class, or of no class
 abbrev pub class_mask : Option Class → Instr → Operands → Table → Option ℕ
 class_mask (Some class) instr operands table = Some (table class operands)
 class_mask None instr operands table =
-    if has_address instr then Some (mask_of_address instr operands.v1 operands.m1 table) else None
+    if takes_address instr then Some (mask_of_address instr operands.v1 operands.m1 table) else None
 
 -- the mask that a table gives for what an instruction computes from its operands
 abbrev pub table_mask : Instr → Operands → Table → Option ℕ

@@ -21,7 +21,7 @@ use Rattle.flow_graph.specs.EventGraphs.{bits_at, passed, has_passed, named_link
 use Rattle.flow_graph.specs.Keeping.{Keeps, count_in, is_known}
 use Rattle.flow_graph.proofs.KeptAfterEvent.{known-same, passed-push, among-push}
 use Rattle.location_collapse.specs.Limits.{ExceedsLimit, HasMorePoints, HasMoreLinks, HasCapacity}
-use Rattle.location_collapse.specs.Limits.{HasAllLinks, LacksRoom, is_same_link, is_small}
+use Rattle.location_collapse.specs.Limits.{HasAllLinks, LacksRoom, is_same_link, is_kept_capacity}
 use Rattle.flow_base.proofs.PointEquality.{points_alike, same_tests}
 use Rattle.location_collapse.proofs.EqualityByOrder.{links_alike, any_flipped}
 use Rattle.location_collapse.proofs.CapacityMaps.{found_small}
@@ -74,7 +74,7 @@ links_within capacities links events keeps more differ occur =
         and_from (is_among links j) (list_all (is_among links) js) (keeps.linked j ∙ parts.0) (all_kept js parts.1)
 
 pub not_exceeding : (capacities : List (Point × ℕ)) (links : List NamedLink) (events : List Event) →
-    Keeps capacities links events → list_all is_small capacities ≡ true → length capacities ≤ 65536 →
+    Keeps capacities links events → list_all is_kept_capacity capacities ≡ true → length capacities ≤ 65536 →
     length links ≤ 1048576 → ExceedsLimit events → ⊥
 not_exceeding capacities links events keeps small few few_links (inl more) =
     let within : length more.points ≤ length capacities =

@@ -13,12 +13,12 @@ use Rattle.flow_graph.specs.EventGraphs.{is_among, links_by, one_if, outlet_of}
 use Rattle.flow_graph.specs.Keeping.{Keeps, TakesLinks, is_known, is_there}
 use Rattle.flow_graph.proofs.Again.{again-in-turn}
 use Rattle.flow_graph.proofs.KeptAfterEvent.{keeps_links}
-use Rattle.location_collapse.specs.Collapses.{Makes, has_ends}
+use Rattle.location_collapse.specs.Collapses.{MakesLink, has_ends}
 use Rattle.location_collapse.specs.LatestLinks.{has_flow, has_output}
 use Rattle.location_collapse.proofs.LinkMarks.{known_takes, no_link}
 
 pub known_link : (capacities : List (Point × ℕ)) (links : List NamedLink) (e : Event) (link : NamedLink)
-    (events : List Event) → Makes (is_known capacities) e link → is_among links link ≡ true →
+    (events : List Event) → MakesLink (is_known capacities) e link → is_among links link ≡ true →
     Keeps capacities links events → Keeps capacities links (events ++ e ∷ [])
 known_link capacities links e link events makes known keeps =
     keeps_links capacities links links e events keeps
@@ -26,7 +26,7 @@ known_link capacities links e link events makes known keeps =
     makes.no_bits
 
 pub missing_end : (capacities : List (Point × ℕ)) (links : List NamedLink) (e : Event) (link : NamedLink)
-    (events : List Event) → Makes (is_known capacities) e link → has_ends (is_known capacities) link ≡ false →
+    (events : List Event) → MakesLink (is_known capacities) e link → has_ends (is_known capacities) link ≡ false →
     Keeps capacities links events → Keeps capacities links (events ++ e ∷ [])
 missing_end capacities links e link events makes missing keeps =
     keeps_links capacities links links e events keeps
@@ -34,14 +34,14 @@ missing_end capacities links e link events makes missing keeps =
     makes.no_bits
 
 pub new_link : (capacities : List (Point × ℕ)) (old new : List NamedLink) (e : Event) (link : NamedLink)
-    (events : List Event) → Makes (is_known capacities) e link → has_ends (is_known capacities) link ≡ true →
+    (events : List Event) → MakesLink (is_known capacities) e link → has_ends (is_known capacities) link ≡ true →
     TakesLinks old new (link ∷ []) → Keeps capacities old events → Keeps capacities new (events ++ e ∷ [])
 new_link capacities old new e link events makes there takes keeps =
     keeps_links capacities old new e events keeps
     (subst (TakesLinks old new) (sym (makes.made ∙ ap (λ b. cond b (link ∷ []) []) there)) takes)
     makes.no_bits
 
-pub made_alone : (has : Point → Bool) (e : Event) (link : NamedLink) → Makes has e link → has_ends has link ≡ true →
+pub made_alone : (has : Point → Bool) (e : Event) (link : NamedLink) → MakesLink has e link → has_ends has link ≡ true →
     links_by has e ≡ link ∷ []
 made_alone has e link makes there = makes.made ∙ ap (λ b. cond b (link ∷ []) []) there
 
@@ -61,10 +61,10 @@ and_true : (b : Bool) → (b && true) ≡ b
 and_true true = refl
 and_true false = refl
 
-pub makes_link : (has : Point → Bool) (s t : Point) → Makes has (Link s t) (record { source = At s; target = At t })
+pub makes_link : (has : Point → Bool) (s t : Point) → MakesLink has (Link s t) (record { source = At s; target = At t })
 makes_link has s t = record { made = refl; no_bits = λ q. refl }
 
-pub makes_secret : (has : Point → Bool) (p : Point) → Makes has (FromSecret p) (record {
+pub makes_secret : (has : Point → Bool) (p : Point) → MakesLink has (FromSecret p) (record {
   source = Source;
   target =
       At p;
@@ -79,9 +79,9 @@ outlet_there has r = by (r == 0)
     by false = refl
 
 pub makes_implicit : (has : Point → Bool) (p : Point) (r : ℕ) (end : NamedEnd) → end ≡ outlet_of r →
-    Makes has (Implicit p r) (record { source = At p; target = end })
+    MakesLink has (Implicit p r) (record { source = At p; target = end })
 makes_implicit has p r end is =
-    subst (λ x. Makes has (Implicit p r) (record { source = At p; target = x })) (sym is)
+    subst (λ x. MakesLink has (Implicit p r) (record { source = At p; target = x })) (sym is)
     (record {
       made = ap (λ b. one_if b (At p) (outlet_of r)) (sym (and_true (has p)) ∙ ap (λ b. has p && b)
           (sym (outlet_there has r)));
@@ -89,7 +89,7 @@ makes_implicit has p r end is =
     })
 
 pub makes_output : (has : Point → Bool) (r : ℕ) (p : Point) → (r == 0) ≡ false →
-    Makes has (Out r p) (record { source = Relay r; target = At p })
+    MakesLink has (Out r p) (record { source = Relay r; target = At p })
 makes_output has r p some = record {
   made = ap (λ b. one_if (has p && not b) (Relay r) (At p)) some ∙ ap (λ b. one_if b (Relay r) (At p)) (and_true (has p));
   no_bits = λ q. refl;

@@ -16,7 +16,7 @@ use Rattle.flow_graph.specs.EventGraphs.{bits_at, passed, has_passed, named_link
 use Rattle.flow_graph.specs.EventGraphs.{named, IsGraphOf}
 use Rattle.flow_graph.proofs.KeptAfterEvent.{passed-push, among-push}
 use Rattle.location_collapse.specs.Limits.{ExceedsLimit, is_same_link}
-use Rattle.location_collapse.specs.LimitLaws.{IsWithin, is_below}
+use Rattle.location_collapse.specs.LimitLaws.{IsWithinLimits, has_small_capacity}
 use Rattle.flow_base.proofs.PointEquality.{points_alike}
 use Rattle.location_collapse.proofs.EqualityByOrder.{links_alike, any_flipped}
 use Rattle.location_collapse.proofs.CollapseLimits.{all_more, of_members, still_passed}
@@ -40,10 +40,10 @@ below_chosen : (b : Bool) (n m : ℕ) → n < 2 ^ 48 → m < 2 ^ 48 → cond b n
 below_chosen true n m a b = a
 below_chosen false n m a b = b
 
-capacity_below : (nodes : List Node) (q : Point) → list_all is_below nodes ≡ true → capacity_at nodes q < 2 ^ 48
+capacity_below : (nodes : List Node) (q : Point) → list_all has_small_capacity nodes ≡ true → capacity_at nodes q < 2 ^ 48
 capacity_below [] q all = omega arith
 capacity_below (node ∷ nodes) q all =
-    let parts = and_parts (is_below node) (list_all is_below nodes) all in
+    let parts = and_parts (has_small_capacity node) (list_all has_small_capacity nodes) all in
     below_chosen (is_same q node.point) node.capacity (capacity_at nodes q) (ltb-true node.capacity (2 ^ 48) parts.0)
     (capacity_below nodes q parts.1)
 
@@ -54,7 +54,7 @@ alike_link (k ∷ ks) x p e =
     ∙ ap (λ b. is_same_link k p || b) (alike_link ks x p e)
 
 pub graph_exceeds : (events : List Event) (graph : Graph) → IsGraphOf events graph → ExceedsLimit events →
-    IsWithin graph → ⊥
+    IsWithinLimits graph → ⊥
 graph_exceeds events graph of (inl many) within =
     let names : List Point = map (λ node. node.point) graph.points in
     let has : (q : Point) → has_passed events q ≡ true → list_any (is_same q) names ≡ true =

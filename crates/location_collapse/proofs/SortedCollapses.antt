@@ -13,7 +13,7 @@ use Rattle.flow_graph.specs.declared.named_links.NamedLink.{NamedLink}
 use Rattle.flow_base.specs.PointOrders.{is_same}
 use Rattle.flow_graph.specs.EventGraphs.{is_among}
 use Rattle.flow_graph.specs.Keeping.{Keeps, TakesLinks, capacity_in, is_known, is_positive, is_sound}
-use Rattle.location_collapse.specs.Limits.{is_same_link, is_small}
+use Rattle.location_collapse.specs.Limits.{is_same_link, is_kept_capacity}
 use Rattle.location_collapse.specs.Private.Sorting.{HasSame}
 use Rattle.location_collapse.proofs.CapacityMaps.{found_positive}
 use Rattle.flow_base.proofs.PointEquality.{points_alike}
@@ -69,7 +69,7 @@ links_more old new entries left link none some had at takes =
 known_same : (sorted entries : List (Point × ℕ)) → HasSame sorted entries → is_known entries ≡ is_known sorted
 known_same sorted entries has = λ i p. is_some (sym (has.same p) i)
 
-pub sorted_positive : (sorted entries : List (Point × ℕ)) → HasSame sorted entries → list_all is_small entries ≡ true →
+pub sorted_positive : (sorted entries : List (Point × ℕ)) → HasSame sorted entries → list_all is_kept_capacity entries ≡ true →
     (q : Point) → is_positive (capacity_in sorted q) ≡ true
 sorted_positive sorted entries has small q = ap is_positive (has.same q) ∙ found_positive (is_same q) entries small
 

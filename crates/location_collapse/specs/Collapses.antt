@@ -28,7 +28,7 @@ abbrev pub has_ends : (Point → Bool) → NamedLink → Bool
 has_ends has link = is_there has link.source && is_there has link.target
 
 -- where these points have passed a mask, an event passes no bits and makes this link, if its ends are there
-pub record Makes (has : Point → Bool) (event : Event) (link : NamedLink) : Type 0 where
+pub record MakesLink (has : Point → Bool) (event : Event) (link : NamedLink) : Type 0 where
   pub made : links_by has event ≡ cond (has_ends has link) (link ∷ []) []
   pub no_bits : (q : Point) → bits_at q event ≡ 0
 

@@ -38,8 +38,8 @@ abbrev pub ExceedsLimit : List Event → Type 0
 ExceedsLimit events = HasMorePoints events 65536 ⊎ (HasMoreLinks events 1048576 ⊎ HasCapacity events (2 ^ 48))
 
 -- a point with its capacity, as it is kept
-abbrev pub is_small : Point × ℕ → Bool
-is_small entry = nat_lt 0 entry.1 && nat_lt entry.1 (2 ^ 48)
+abbrev pub is_kept_capacity : Point × ℕ → Bool
+is_kept_capacity entry = nat_lt 0 entry.1 && nat_lt entry.1 (2 ^ 48)
 
 -- as many different points are kept as a graph may have
 pub record HasAllPoints (capacities : List (Point × ℕ)) : Type 0 where

@@ -6,7 +6,7 @@ ghost use Rattle.flow_graph.specs.declared.events.Event.TheVariants.{Pass as Pas
 ghost use Rattle.flow_graph.specs.Again.{again_events};
 ghost use Rattle.flow_graph.specs.Keeping.{is_there, may_lead};
 ghost use Rattle.location_collapse.specs.Limits.{ExceedsLimit};
-ghost use Rattle.location_collapse.specs.Collapses.{HasAgainLinks, KeepsAll, Makes, StandsFor};
+ghost use Rattle.location_collapse.specs.Collapses.{HasAgainLinks, KeepsAll, MakesLink, StandsFor};
 ghost use Rattle.location_collapse.specs.Collapses.{has_ends, is_limit, knows};
 
 use crate::collapses::Collapse;
@@ -65,10 +65,10 @@ impl Collapse {
     #[inline(never)]
     fn put(&mut self, link: NamedLink) -> Result<(), CollapseFault>
         requires leads { may_lead link.source link.target ≡ true }
-        ensures ok { OnOk result ((event : AnEvent) (events : Seq AnEvent) → Makes (knows self.old) event link →
+        ensures ok { OnOk result ((event : AnEvent) (events : Seq AnEvent) → MakesLink (knows self.old) event link →
             StandsFor self.old events → StandsFor self.new (events ++ event ∷ [])) }
         ensures err { OnErr result (KeepsAll self.old self.new) }
-        ensures limit { result ≡ Err CollapseFault.Limit → (event : AnEvent) (events : Seq AnEvent) → Makes
+        ensures limit { result ≡ Err CollapseFault.Limit → (event : AnEvent) (events : Seq AnEvent) → MakesLink
             (knows self.old) event link → StandsFor self.old events → ExceedsLimit (events ++ event ∷ []) }
         ensures full { self.new.is_full ≡ self.old.is_full }
     {

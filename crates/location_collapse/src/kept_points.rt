@@ -6,7 +6,7 @@ ghost use Rattle.flow_base.specs.Words.{bit_count};
 ghost use Rattle.flow_base.specs.PointOrders.{is_same};
 ghost use Rattle.flow_graph.specs.Keeping.{capacity_in, count_in, is_known};
 ghost use Rattle.hinted_map.specs.Places.{StandsAt};
-ghost use Rattle.location_collapse.specs.Limits.{HasAllPoints, LacksRoom, is_small};
+ghost use Rattle.location_collapse.specs.Limits.{HasAllPoints, LacksRoom, is_kept_capacity};
 
 use crate::faults::CollapseFault;
 use flow_base::{NoMemory, Point};
@@ -24,7 +24,7 @@ const CAPACITY_LIMIT: u64 = 1 << 48;
 #[derive(Drop)]
 pub struct KeptPoints {
     pub capacities: HintedMap<Point, u64>,
-    ghost small: { IsTrue (list_all is_small capacities.map.entries) },
+    ghost small: { IsTrue (list_all is_kept_capacity capacities.map.entries) },
     ghost few: { length capacities.map.entries ≤ 65536 },
 }
 

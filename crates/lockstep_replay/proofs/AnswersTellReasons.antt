@@ -24,13 +24,14 @@ use Rattle.replay_machine.specs.Runs.{ReplayPlace, Masks}
 use Rattle.lockstep_replay.specs.declared.differences.Difference.{Difference}
 use Rattle.lockstep_replay.specs.declared.verdicts.ReplayStop.TheVariants.{Guest, RangeOutside, Short as TooShort}
 use Rattle.lockstep_replay.specs.declared.verdicts.Why.TheVariants.{ReplayFault}
-use Rattle.lockstep_replay.specs.Differences.{byte_difference, status_difference, first_of, difference_of}
+use Rattle.lockstep_replay.specs.Differences.{byte_difference, status_difference, difference_of}
 use Rattle.lockstep_replay.specs.Private.Standings.{why_answered}
 use Rattle.lockstep_replay.specs.Private.Turning.{why_compared, Joins, InStep}
 use Rattle.lockstep_replay.specs.Verdicts.{why_output, why_marks, why_stopped, why_copy, why_replay}
 use Rattle.lockstep_replay.proofs.Conditions.{NotStopped, SameMarks, marks_same, first_none, none_output, none_marks}
 use Rattle.lockstep_replay.proofs.Conditions.{none_copy, no_byte, feed_rest}
 use Rattle.replay_machine.proofs.MasksAhead.{ahead-self}
+use Rattle.std.specs.Option.{option_or}
 
 one_turn : (first second : Stepped) → mode_answer first ≡ mode_answer second → first ≡ second
 one_turn Ran Ran e = refl
@@ -133,11 +134,11 @@ beside-runs real needed masks after stream mode answer (Fed' place rest) h is ru
     ≡ byte_difference 0 real.control.output after.state.control.output =
     ap (λ (s : State). byte_difference 0 real.control.output s.control.output) state in
     let difference : difference_of real place.state
-    ≡ first_of (byte_difference 0 real.control.output after.state.control.output)
+    ≡ option_or (byte_difference 0 real.control.output after.state.control.output)
     (status_difference (length real.control.output) real.control.mode mode) =
-    ap (λ first. first_of first (status_difference (length real.control.output) real.control.mode
+    ap (λ first. option_or first (status_difference (length real.control.output) real.control.mode
     place.state.control.mode)) bytes
-    ∙ ap (λ m. first_of (byte_difference 0 real.control.output after.state.control.output)
+    ∙ ap (λ m. option_or (byte_difference 0 real.control.output after.state.control.output)
     (status_difference (length real.control.output) real.control.mode m)) ends in
     let goes : NotStopped place.state.control.mode = λ fault stopped. running fault (sym ends ∙ stopped) in
     sym (ap (λ o. why_copy o place.state.control.mode (mark_of real needed) (mark_of place.state (needed - length rest))
@@ -212,7 +213,7 @@ pub in_step-of :
     why_compared real needed after mode ≡ None → InStep real after stream needed
 in_step-of real needed after stream mode missing used inside none =
     let parts : (is_same_mark (mark_of real needed) (mark_of after.state after.taken) ≡ true)
-    × (why_output (first_of (byte_difference 0 real.control.output after.state.control.output)
+    × (why_output (option_or (byte_difference 0 real.control.output after.state.control.output)
     (status_difference (length real.control.output) real.control.mode mode)) ≡ None) =
     none_marks (is_same_mark (mark_of real needed) (mark_of after.state after.taken)) (mark_of real needed)
     (mark_of after.state after.taken) _ none in

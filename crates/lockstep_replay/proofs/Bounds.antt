@@ -10,7 +10,7 @@ use Rattle.crossing_bits.proofs.Outputs.{outputs_few, reached_through, strings_f
 use Rattle.crossing_bits.proofs.Weighing.{kraft}
 use Rattle.rv32im_machine.specs.declared.stepping.Stepped.{Stepped}
 use Rattle.rv32im_machine.specs.declared.stepping.Stepped.TheVariants.{Ran, Exited, Stopped}
-use Rattle.region_machine.specs.Runs.{Place, real_after}
+use Rattle.region_machine.specs.Runs.{Place, Real}
 use Rattle.replay_machine.specs.Runs.{ReplayPlace}
 use Rattle.lockstep_replay.specs.Tasks.{Task, Limits, real_start, real_of, enclosed_of, common_of, Cross}
 use Rattle.lockstep_replay.specs.Tasks.{replay_start, replay_of}
@@ -28,7 +28,7 @@ follows_last :
     (task : Task) (turns : ℕ) (secret : List ℕ) (output : Output) → (real_of task secret turns).broken ≡ None →
     HasExited (real_of task secret turns).state output → ((turn : ℕ) → suc turn ≤ turns →
     enclosed_of task secret turn ≡ false → Follows task secret (suc turn)) → Follows task secret turns
-unfolding real_after
+unfolding Real
 follows_last task zero secret output unbroken exits follows =
     let never : Ran ≡ Exited output.status = exits.status in absurd (cc)
 follows_last task (suc turns) secret output unbroken exits follows =

@@ -7,7 +7,7 @@ use Rattle.crossing_bits.proofs.Feeding.{le_or_lt}
 use Rattle.rv32im_machine.specs.declared.stepping.Stepped.{Stepped}
 use Rattle.rv32im_machine.specs.declared.stepping.Stepped.TheVariants.{Ran, Exited, Stopped}
 use Rattle.replay_machine.specs.Runs.{ReplayPlace}
-use Rattle.region_machine.specs.Runs.{real_after}
+use Rattle.region_machine.specs.Runs.{Real}
 use Rattle.lockstep_replay.specs.Tasks.{Task, Limits, real_start, real_of, enclosed_of, common_of, Cross, replay_of}
 use Rattle.lockstep_replay.specs.declared.verdicts.Why.{Why}
 use Rattle.lockstep_replay.specs.declared.verdicts.Why.TheVariants.{RealFault, RegionBreak, BudgetOverrun, ReplayFault}
@@ -132,7 +132,7 @@ caused (suc left) task limits secret j why s agree ran e =
     (agrees_next task limits secret j agree none) mode later) refl e
 
 pub start_runs : (task : Task) (secret : List ℕ) → (real_of task secret zero).state.control.mode ≡ Ran
-unfolding real_after
+unfolding Real
 start_runs task secret = refl
 
 rejects_if :

@@ -27,10 +27,11 @@ use Rattle.lockstep_replay.specs.declared.verdicts.Why.TheVariants.{OutputDiffer
 use Rattle.lockstep_replay.specs.Acceptance.{EndAlike}
 use Rattle.region_machine.specs.Runs.{has_exited}
 use Rattle.lockstep_replay.specs.Marks.{mark_of, is_same_mark}
-use Rattle.lockstep_replay.specs.Differences.{byte_difference, status_difference, first_of, difference_of}
+use Rattle.lockstep_replay.specs.Differences.{byte_difference, status_difference, difference_of}
 use Rattle.lockstep_replay.specs.Verdicts.{counted_bits, why_output, why_stopped, why_copy, why_replay}
 use Rattle.lockstep_replay.specs.Verdicts.{why_common, why_budget, why_mode, why_broken, why_of}
-use Rattle.lockstep_replay.specs.VerdictLaws.{Holds}
+use Rattle.lockstep_replay.specs.VerdictLaws.{ReasonHolds}
+use Rattle.std.specs.Option.{option_or}
 
 and_parts : (a b : Bool) → (a && b) ≡ true → (a ≡ true) × (b ≡ true)
 and_parts true true e = (refl, refl)
@@ -133,7 +134,7 @@ no_status (Exited status) (Exited other) index e = (rw e refl, refl)
 no_status (Exited status) (Stopped fault) index e = absurd (cc)
 no_status (Stopped fault) copy index e = absurd (cc)
 
-pub first_none : (first second : Option Difference) → first_of first second ≡ None → (first ≡ None) × (second ≡ None)
+pub first_none : (first second : Option Difference) → option_or first second ≡ None → (first ≡ None) × (second ≡ None)
 first_none None second e = (refl, e)
 first_none (Some difference) second e = absurd (cc)
 
@@ -341,7 +342,7 @@ alike_none real cross fed alike =
     let bytes : byte_difference 0 real.control.output alike.place.state.control.output ≡ None =
     subst (λ o. byte_difference 0 real.control.output o ≡ None) alike.output (no_byte_self 0 real.control.output) in
     let same : difference_of real alike.place.state ≡ None =
-    ap (λ first. first_of first
+    ap (λ first. option_or first
     (status_difference (length real.control.output) real.control.mode alike.place.state.control.mode)) bytes ∙ ends.0 in
     ap (λ f. why_replay real (length cross) f) alike.uses
     ∙ (ap (λ o. why_copy o alike.place.state.control.mode (mark_of real (length cross))
@@ -363,11 +364,11 @@ output_holds :
     (budget : ℕ) (enclosed : Bool) (real : Place) (cross rest : List Bool) (place : ReplayPlace) (why : Why)
     (difference : Option Difference) → enclosed ≡ false →
     rest ≡ [] → difference_of real.state place.state ≡ difference → why_output difference ≡ Some why →
-    Holds budget enclosed real cross (Fed' place rest) why
+    ReasonHolds budget enclosed real cross (Fed' place rest) why
 output_holds budget enclosed real cross rest place why None exposed empty d e = absurd (cc)
 output_holds budget enclosed real cross rest place why (Some difference) exposed empty d e =
     let same : OutputDiffers difference.index difference.real difference.replay ≡ why = cc in
-    subst (λ w. Holds budget enclosed real cross (Fed' place rest) w) same
+    subst (λ w. ReasonHolds budget enclosed real cross (Fed' place rest) w) same
     (exposed, (place, (ap (λ r. Fed' place r) empty, d)))
 
 marks_hold :
@@ -377,7 +378,7 @@ marks_hold :
     (if test then why_output (difference_of real.state place.state)
     else Some (Parted (mark_of real.state (length cross)) (mark_of place.state (length cross - length rest)))) ≡ Some
     why →
-    Holds budget enclosed real cross (Fed' place rest) why
+    ReasonHolds budget enclosed real cross (Fed' place rest) why
 marks_hold budget enclosed real cross rest place why true exposed shorter t e =
     let marks : SameMarks (mark_of real.state (length cross)) (mark_of place.state (length cross - length rest)) =
     marks_same _ _ t in
@@ -387,7 +388,7 @@ marks_hold budget enclosed real cross rest place why true exposed shorter t e =
 marks_hold budget enclosed real cross rest place why false exposed shorter t e =
     let same : Parted (mark_of real.state (length cross)) (mark_of place.state (length cross - length rest)) ≡ why =
     cc in
-    subst (λ w. Holds budget enclosed real cross (Fed' place rest) w) same
+    subst (λ w. ReasonHolds budget enclosed real cross (Fed' place rest) w) same
     (exposed, (place, (rest, (refl, refl, refl, other_marks _ _ t))))
 
 stopped_holds :
@@ -395,35 +396,35 @@ stopped_holds :
     (mode : Stepped) → enclosed ≡ false → length rest ≤ length cross → place.state.control.mode ≡ mode →
     why_stopped mode (mark_of real.state (length cross)) (mark_of place.state (length cross - length rest))
     (difference_of real.state place.state) ≡ Some why →
-    Holds budget enclosed real cross (Fed' place rest) why
+    ReasonHolds budget enclosed real cross (Fed' place rest) why
 stopped_holds budget enclosed real cross rest place why Ran exposed shorter m e =
     marks_hold budget enclosed real cross rest place why _ exposed shorter refl e
 stopped_holds budget enclosed real cross rest place why (Exited status) exposed shorter m e =
     marks_hold budget enclosed real cross rest place why _ exposed shorter refl e
 stopped_holds budget enclosed real cross rest place why (Stopped fault) exposed shorter m e =
     let same : ReplayFault (Guest fault) ≡ why = cc in
-    subst (λ w. Holds budget enclosed real cross (Fed' place rest) w) same (exposed, (place, (rest, (refl, m))))
+    subst (λ w. ReasonHolds budget enclosed real cross (Fed' place rest) w) same (exposed, (place, (rest, (refl, m))))
 
 copy_holds :
     (budget : ℕ) (enclosed : Bool) (real : Place) (cross rest : List Bool) (place : ReplayPlace) (why : Why)
     (outside : Option Outside) → enclosed ≡ false → length rest ≤ length cross → place.outside ≡ outside →
     why_copy outside place.state.control.mode (mark_of real.state (length cross))
     (mark_of place.state (length cross - length rest)) (difference_of real.state place.state) ≡ Some why →
-    Holds budget enclosed real cross (Fed' place rest) why
+    ReasonHolds budget enclosed real cross (Fed' place rest) why
 copy_holds budget enclosed real cross rest place why None exposed shorter o e =
     stopped_holds budget enclosed real cross rest place why place.state.control.mode exposed shorter refl e
 copy_holds budget enclosed real cross rest place why (Some outside) exposed shorter o e =
     let same : ReplayFault (RangeOutside outside.region outside.range) ≡ why = cc in
-    subst (λ w. Holds budget enclosed real cross (Fed' place rest) w) same (exposed, (place, (rest, (refl, o))))
+    subst (λ w. ReasonHolds budget enclosed real cross (Fed' place rest) w) same (exposed, (place, (rest, (refl, o))))
 
 replay_holds :
     (budget : ℕ) (enclosed : Bool) (real : Place) (cross : List Bool) (fed : Fed ReplayPlace) (why : Why) →
     enclosed ≡ false →
     ((place : ReplayPlace) (rest : List Bool) → fed ≡ Fed' place rest → length rest ≤ length cross) →
-    why_replay real.state (length cross) fed ≡ Some why → Holds budget enclosed real cross fed why
+    why_replay real.state (length cross) fed ≡ Some why → ReasonHolds budget enclosed real cross fed why
 replay_holds budget enclosed real cross (Short missing) why exposed shorter e =
     let same : ReplayFault (TooShort missing) ≡ why = cc in
-    subst (λ w. Holds budget enclosed real cross (Short missing) w) same (exposed, refl)
+    subst (λ w. ReasonHolds budget enclosed real cross (Short missing) w) same (exposed, refl)
 replay_holds budget enclosed real cross (Fed' place rest) why exposed shorter e =
     copy_holds budget enclosed real cross rest place why place.outside exposed (shorter place rest refl) refl e
 
@@ -432,46 +433,46 @@ common_holds :
     (why : Why) →
     ((place : ReplayPlace) (rest : List Bool) → fed ≡ Fed' place rest → length rest ≤ length cross) →
     enclosed ≡ test → why_common test (why_replay real.state (length cross) fed) ≡ Some why →
-    Holds budget enclosed real cross fed why
+    ReasonHolds budget enclosed real cross fed why
 common_holds true budget enclosed real cross fed why shorter t e = absurd (cc)
 common_holds false budget enclosed real cross fed why shorter t e =
     replay_holds budget enclosed real cross fed why t shorter e
 
 budget_holds :
     (test : Bool) (budget : ℕ) (enclosed : Bool) (real : Place) (cross : List Bool) (fed : Fed ReplayPlace) (why : Why)
-    (later : Option Why) → (later ≡ Some why → Holds budget enclosed real cross fed why) →
+    (later : Option Why) → (later ≡ Some why → ReasonHolds budget enclosed real cross fed why) →
     nat_lt budget (length cross) ≡ test → why_budget test budget (length cross) later ≡ Some why →
-    Holds budget enclosed real cross fed why
+    ReasonHolds budget enclosed real cross fed why
 budget_holds true budget enclosed real cross fed why later go t e =
     let same : BudgetOverrun budget (counted_bits (length cross)) ≡ why = cc in
-    subst (λ w. Holds budget enclosed real cross fed w) same (refl, (ltb-true budget (length cross) t, refl))
+    subst (λ w. ReasonHolds budget enclosed real cross fed w) same (refl, (ltb-true budget (length cross) t, refl))
 budget_holds false budget enclosed real cross fed why later go t e = go e
 
 mode_holds :
     (mode : Stepped) (budget : ℕ) (enclosed : Bool) (real : Place) (cross : List Bool) (fed : Fed ReplayPlace)
-    (why : Why) (later : Option Why) → (later ≡ Some why → Holds budget enclosed real cross fed why) →
+    (why : Why) (later : Option Why) → (later ≡ Some why → ReasonHolds budget enclosed real cross fed why) →
     real.broken ≡ None → real.state.control.mode ≡ mode →
-    why_mode mode budget (length cross) later ≡ Some why → Holds budget enclosed real cross fed why
+    why_mode mode budget (length cross) later ≡ Some why → ReasonHolds budget enclosed real cross fed why
 mode_holds Ran budget enclosed real cross fed why later go none m e =
     budget_holds _ budget enclosed real cross fed why later go refl e
 mode_holds (Exited status) budget enclosed real cross fed why later go none m e =
     budget_holds _ budget enclosed real cross fed why later go refl e
 mode_holds (Stopped fault) budget enclosed real cross fed why later go none m e =
-    let same : RealFault fault ≡ why = cc in subst (λ w. Holds budget enclosed real cross fed w) same (none, m)
+    let same : RealFault fault ≡ why = cc in subst (λ w. ReasonHolds budget enclosed real cross fed w) same (none, m)
 
 broken_holds :
     (broken : Option Break) (budget : ℕ) (enclosed : Bool) (real : Place) (cross : List Bool) (fed : Fed ReplayPlace)
     (why : Why) (later : Option Why) →
-    (real.broken ≡ None → later ≡ Some why → Holds budget enclosed real cross fed why) →
-    real.broken ≡ broken → why_broken broken later ≡ Some why → Holds budget enclosed real cross fed why
+    (real.broken ≡ None → later ≡ Some why → ReasonHolds budget enclosed real cross fed why) →
+    real.broken ≡ broken → why_broken broken later ≡ Some why → ReasonHolds budget enclosed real cross fed why
 broken_holds None budget enclosed real cross fed why later go b e = go b e
 broken_holds (Some broken) budget enclosed real cross fed why later go b e =
-    let same : RegionBreak broken ≡ why = cc in subst (λ w. Holds budget enclosed real cross fed w) same b
+    let same : RegionBreak broken ≡ why = cc in subst (λ w. ReasonHolds budget enclosed real cross fed w) same b
 
 pub holds_of :
     (budget : ℕ) (enclosed : Bool) (real : Place) (cross : List Bool) (asker : Asker ReplayPlace) (why : Why) →
     why_of budget enclosed real cross (feed asker cross) ≡ Some why →
-    Holds budget enclosed real cross (feed asker cross) why
+    ReasonHolds budget enclosed real cross (feed asker cross) why
 holds_of budget enclosed real cross asker why e =
     broken_holds real.broken budget enclosed real cross (feed asker cross) why
     (why_mode real.state.control.mode budget (length cross)

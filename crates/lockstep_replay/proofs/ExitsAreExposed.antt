@@ -7,7 +7,7 @@ use Rattle.rv32im_machine.specs.declared.stepping.Stepped.TheVariants.{Ran, Exit
 use Rattle.enclosure_regions.specs.declared.break_kinds.Break.{Break}
 use Rattle.region_machine.specs.Enclosures.{Enclosures, is_enclosed}
 use Rattle.region_machine.specs.Guests.{guest_walk}
-use Rattle.region_machine.specs.Runs.{Place, turn_unless, real_turn, real_after}
+use Rattle.region_machine.specs.Runs.{Place, turn_unless, real_turn, Real}
 use Rattle.region_machine.specs.Runs.{has_exited}
 use Rattle.region_machine.proofs.NoExitInside.{enclosed_runs_on}
 use Rattle.lockstep_replay.proofs.RunsGrow.{real_next}
@@ -35,12 +35,12 @@ exposed_or false h = refl
 -- the turn in which a run exits is not enclosed
 pub exposed_exit :
     (enclosures : Enclosures) (place : Place) (turns status : ℕ) →
-    (real_after enclosures (suc turns) place).broken ≡ None →
-    (real_after enclosures (suc turns) place).state.control.mode ≡ Exited status →
-    is_enclosed enclosures (real_after enclosures turns place).state.control ≡ false
+    (Real enclosures (suc turns) place).broken ≡ None →
+    (Real enclosures (suc turns) place).state.control.mode ≡ Exited status →
+    is_enclosed enclosures (Real enclosures turns place).state.control ≡ false
 exposed_exit enclosures place turns status none exits =
-    exposed_or (is_enclosed enclosures (real_after enclosures turns place).state.control)
-    (λ enclosed. stays_inside enclosures (real_after enclosures turns place) status enclosed
+    exposed_or (is_enclosed enclosures (Real enclosures turns place).state.control)
+    (λ enclosed. stays_inside enclosures (Real enclosures turns place) status enclosed
     (ap (λ (p : Place). p.broken) (sym (real_next enclosures turns place)) ∙ none)
     (ap (λ (p : Place). p.state.control.mode) (sym (real_next enclosures turns place)) ∙ exits))
 
@@ -54,11 +54,11 @@ ran_of (Stopped fault) running inside = absurd (running fault refl)
 -- after an enclosed turn that is not broken, a run that is not stopped goes on
 pub ran_enclosed :
     (enclosures : Enclosures) (place : Place) (turns : ℕ) →
-    is_enclosed enclosures (real_after enclosures turns place).state.control ≡ true →
-    (real_after enclosures (suc turns) place).broken ≡ None →
-    ((fault : Fault) → (real_after enclosures (suc turns) place).state.control.mode ≡ Stopped fault → ⊥) →
-    (real_after enclosures (suc turns) place).state.control.mode ≡ Ran
+    is_enclosed enclosures (Real enclosures turns place).state.control ≡ true →
+    (Real enclosures (suc turns) place).broken ≡ None →
+    ((fault : Fault) → (Real enclosures (suc turns) place).state.control.mode ≡ Stopped fault → ⊥) →
+    (Real enclosures (suc turns) place).state.control.mode ≡ Ran
 ran_enclosed enclosures place turns enclosed none running =
-    ran_of (real_after enclosures (suc turns) place).state.control.mode running
-    (λ status exits. let exposed : is_enclosed enclosures (real_after enclosures turns place).state.control ≡ false =
+    ran_of (Real enclosures (suc turns) place).state.control.mode running
+    (λ status exits. let exposed : is_enclosed enclosures (Real enclosures turns place).state.control ≡ false =
     exposed_exit enclosures place turns status none exits in cc)

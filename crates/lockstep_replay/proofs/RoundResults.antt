@@ -28,7 +28,7 @@ use Rattle.lockstep_replay.specs.declared.verdicts.Why.{Why}
 use Rattle.lockstep_replay.specs.Crossing.{crossing_unless}
 use Rattle.lockstep_replay.specs.Sides.{tally_of}
 use Rattle.lockstep_replay.specs.Private.Standings.{why_beside, why_standing}
-use Rattle.lockstep_replay.specs.Private.Turning.{Makes, Keeps, Rounds, InStep, Joins, Joined, crossed, fed_turn}
+use Rattle.lockstep_replay.specs.Private.Turning.{MakesReal, Keeps, Rounds, InStep, Joins, Joined, crossed, fed_turn}
 use Rattle.lockstep_replay.specs.Verdicts.{counted_bits, why_budget, why_mode, why_broken, why_common, why_replay}
 use Rattle.lockstep_replay.proofs.Turns.{Within, within-of, why-within}
 use Rattle.lockstep_replay.proofs.Conditions.{NotStopped, none_broken, none_mode}
@@ -90,7 +90,7 @@ later-passes broken mode budget total count later p =
 pub record Played (before : State) (tally : Tallying) (standing : Standing) (reached : State) (after : Tallying)
     (turn : RealTurn) : Type 0 where
   pub makes :
-      Makes standing.enclosures (kind_of standing.enclosures.regions before.control) before tally reached after turn
+      MakesReal standing.enclosures (kind_of standing.enclosures.regions before.control) before tally reached after turn
   pub keeps : Keeps before standing tally.bits tally.needed tally.budget
   pub small : tally.budget < 4294967295
   pub rules : are_regions standing.enclosures.regions ≡ true

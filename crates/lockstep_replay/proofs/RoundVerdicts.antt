@@ -13,7 +13,7 @@ use Rattle.region_machine.specs.Guests.{guest_walk}
 use Rattle.region_machine.specs.Breaking.{Breaks}
 use Rattle.region_machine.specs.Runs.{Place, visited, unbroken_turn}
 use Rattle.replay_machine.specs.Runs.{ReplayPlace, Masks}
-use Rattle.region_machine.specs.Runs.{turn_unless, real_after, common_turns}
+use Rattle.region_machine.specs.Runs.{turn_unless, Real, common_turns}
 use Rattle.replay_machine.specs.Runs.{Replay}
 use Rattle.replay_machine.specs.Standing.{Standing, Stands}
 use Rattle.replay_machine.specs.Visits.{IsAhead}
@@ -48,7 +48,7 @@ pub record StandsAt (task : Task) (limits : Limits) (secret : List ℕ) (turns :
 pub stands-start : (task : Task) (limits : Limits) (secret : List ℕ) (runs : TwoRuns) → Begins runs task limits secret →
     runs.tally.bits.bits ≡ [] →
     StandsAt task limits secret zero runs.real runs.tally runs.replay
-unfolding real_after common_turns cross_after Replay
+unfolding Real common_turns cross_after Replay
 stands-start task limits secret runs begins empty = record {
   real_is = begins.real;
   unbroken = refl;

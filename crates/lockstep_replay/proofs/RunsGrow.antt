@@ -8,7 +8,7 @@ use Rattle.enclosure_regions.specs.declared.break_kinds.Break.{Break}
 use Rattle.region_machine.specs.Enclosures.{Enclosures, is_enclosed}
 use Rattle.region_machine.specs.Guests.{guest_walk}
 use Rattle.replay_machine.specs.ReplayTurns.{Outside, range_outside}
-use Rattle.region_machine.specs.Runs.{Place, turn_unless, real_turn, real_after, common_turns}
+use Rattle.region_machine.specs.Runs.{Place, turn_unless, real_turn, Real, common_turns}
 use Rattle.replay_machine.specs.Runs.{ReplayPlace, Masks}
 use Rattle.replay_machine.specs.Runs.{replay_inside, replay_unless, replay_turn, Replay}
 use Rattle.replay_machine.proofs.FedAskersSplit.{Between, between}
@@ -33,10 +33,10 @@ cross_begins enclosures masks place j (suc n) h = elim (le_or_lt j n) [
       let before : (more : List Bool) × (cross_after enclosures masks n place ≡ cross_after enclosures masks j place
       ++ more) =
       cross_begins enclosures masks place j n k in (
-        before.0 ++ crossing_of enclosures masks (real_after enclosures n place),
-        ap (λ s. s ++ crossing_of enclosures masks (real_after enclosures n place)) before.1
+        before.0 ++ crossing_of enclosures masks (Real enclosures n place),
+        ap (λ s. s ++ crossing_of enclosures masks (Real enclosures n place)) before.1
             ∙ append_assoc (cross_after enclosures masks j place) before.0
-            (crossing_of enclosures masks (real_after enclosures n place)),
+            (crossing_of enclosures masks (Real enclosures n place)),
       )
   | inr k ↦
       let same : suc n ≡ j = omega (arith, h, k) in (
@@ -57,14 +57,14 @@ cross_grows enclosures masks place j n h =
 -- ---- common turns
 
 pub common_enclosed : (enclosures : Enclosures) (turns : ℕ) (place : Place) →
-    is_enclosed enclosures (real_after enclosures turns place).state.control ≡ true →
+    is_enclosed enclosures (Real enclosures turns place).state.control ≡ true →
     common_turns enclosures (suc turns) place ≡ common_turns enclosures turns place
 unfolding common_turns
 common_enclosed enclosures turns place e =
     ap (λ b. if b then common_turns enclosures turns place else suc (common_turns enclosures turns place)) e
 
 pub common_exposed : (enclosures : Enclosures) (turns : ℕ) (place : Place) →
-    is_enclosed enclosures (real_after enclosures turns place).state.control ≡ false →
+    is_enclosed enclosures (Real enclosures turns place).state.control ≡ false →
     common_turns enclosures (suc turns) place ≡ suc (common_turns enclosures turns place)
 unfolding common_turns
 common_exposed enclosures turns place e =
@@ -83,7 +83,7 @@ pub common_most : (enclosures : Enclosures) (turns : ℕ) (place : Place) → co
 unfolding common_turns
 common_most enclosures zero place = omega arith
 common_most enclosures (suc turns) place =
-    no_more (is_enclosed enclosures (real_after enclosures turns place).state.control)
+    no_more (is_enclosed enclosures (Real enclosures turns place).state.control)
     (common_turns enclosures turns place) turns (common_most enclosures turns place)
 
 pub common_grows : (enclosures : Enclosures) (place : Place) (j n : ℕ) → j ≤ n →
@@ -96,7 +96,7 @@ common_grows enclosures place j zero h =
     omega (arith, equal)
 common_grows enclosures place j (suc n) h = elim (le_or_lt j n) [
   | inl k ↦
-      no_less (is_enclosed enclosures (real_after enclosures n place).state.control) (common_turns enclosures n place)
+      no_less (is_enclosed enclosures (Real enclosures n place).state.control) (common_turns enclosures n place)
       (common_turns enclosures j place) (common_grows enclosures place j n k)
   | inr k ↦
       let same : j ≡ suc n = omega (arith, h, k) in
@@ -108,14 +108,14 @@ common_grows enclosures place j (suc n) h = elim (le_or_lt j n) [
 -- ---- one more turn
 
 pub real_next : (enclosures : Enclosures) (turns : ℕ) (place : Place) →
-    real_after enclosures (suc turns) place ≡ real_turn enclosures (real_after enclosures turns place)
-unfolding real_after
+    Real enclosures (suc turns) place ≡ real_turn enclosures (Real enclosures turns place)
+unfolding Real
 real_next enclosures turns place = refl
 
 pub cross_next :
     (enclosures : Enclosures) (masks : Masks) (turns : ℕ) (place : Place) →
     cross_after enclosures masks (suc turns) place ≡ cross_after enclosures masks turns place ++ crossing_of enclosures
-    masks (real_after enclosures turns place)
+    masks (Real enclosures turns place)
 unfolding cross_after
 cross_next enclosures masks turns place = refl
 
@@ -128,16 +128,16 @@ IsAt enclosures masks real copy turns place =
 -- where the replay has used up the bits so far, one more turn of it takes the bits of one more turn
 pub fed_next :
     (enclosures : Enclosures) (masks : Masks) (turns : ℕ) (real : Place) (copy place : ReplayPlace) →
-    is_enclosed enclosures (real_after enclosures turns real).state.control ≡ false →
+    is_enclosed enclosures (Real enclosures turns real).state.control ≡ false →
     IsAt enclosures masks real copy turns place → feed (Replay enclosures masks
     (common_turns enclosures (suc turns) real) copy) (cross_after enclosures masks (suc turns) real) ≡ feed
-    (replay_turn enclosures masks place) (crossing_of enclosures masks (real_after enclosures turns real))
+    (replay_turn enclosures masks place) (crossing_of enclosures masks (Real enclosures turns real))
 unfolding Replay cross_after
 fed_next enclosures masks turns real copy place exposed h =
     ap (λ n. feed (Replay enclosures masks n copy) (cross_after enclosures masks (suc turns) real))
     (common_exposed enclosures turns real exposed)
     ∙ feed_after (Replay enclosures masks (common_turns enclosures turns real) copy) (replay_turn enclosures masks)
-    (cross_after enclosures masks turns real) (crossing_of enclosures masks (real_after enclosures turns real)) place h
+    (cross_after enclosures masks turns real) (crossing_of enclosures masks (Real enclosures turns real)) place h
 
 quiet_unless : (broken : Option Break) (enclosures : Enclosures) (masks : Masks) (place : Place) →
     is_enclosed enclosures place.state.control ≡ true → crossing_unbroken broken enclosures masks place ≡ []
@@ -152,18 +152,18 @@ quiet_enclosed enclosures masks place e = quiet_unless place.broken enclosures m
 
 pub cross_enclosed :
     (enclosures : Enclosures) (masks : Masks) (turns : ℕ) (place : Place) →
-    is_enclosed enclosures (real_after enclosures turns place).state.control ≡ true →
+    is_enclosed enclosures (Real enclosures turns place).state.control ≡ true →
     cross_after enclosures masks (suc turns) place ≡ cross_after enclosures masks turns place
 cross_enclosed enclosures masks turns place e =
     cross_next enclosures masks turns place
     ∙ (ap (λ bits. cross_after enclosures masks turns place ++ bits)
-    (quiet_enclosed enclosures masks (real_after enclosures turns place) e)
+    (quiet_enclosed enclosures masks (Real enclosures turns place) e)
     ∙ append-nil (cross_after enclosures masks turns place))
 
 -- and the replay stays where it is
 pub at_enclosed :
     (enclosures : Enclosures) (masks : Masks) (real : Place) (copy : ReplayPlace) (turns : ℕ) (place : ReplayPlace) →
-    is_enclosed enclosures (real_after enclosures turns real).state.control ≡ true →
+    is_enclosed enclosures (Real enclosures turns real).state.control ≡ true →
     IsAt enclosures masks real copy turns place → IsAt enclosures masks real copy (suc turns) place
 at_enclosed enclosures masks real copy turns place e h =
     ap (λ n. feed (Replay enclosures masks n copy) (cross_after enclosures masks (suc turns) real))
@@ -180,10 +180,10 @@ abbrev pub rewritten : ReplayPlace → List ℕ
 rewritten place = place.state.control.output
 
 real_same : (enclosures : Enclosures) (place : Place) (j n : ℕ) → j ≡ n →
-    Longer (written (real_after enclosures j place)) (written (real_after enclosures n place))
+    Longer (written (Real enclosures j place)) (written (Real enclosures n place))
 real_same enclosures place j n e =
-    subst (λ i. Longer (written (real_after enclosures j place)) (written (real_after enclosures i place))) e
-    (longer_self (written (real_after enclosures j place)))
+    subst (λ i. Longer (written (Real enclosures j place)) (written (Real enclosures i place))) e
+    (longer_self (written (Real enclosures j place)))
 
 unless_grows : (broken : Option Break) (enclosures : Enclosures) (place : Place) →
     Longer (written place) (written (turn_unless broken enclosures place))
@@ -229,15 +229,15 @@ replay_turn_grows enclosures masks place bits last rest e =
 
 -- the output of the real run begins with what it was
 pub real_run_grows : (enclosures : Enclosures) (place : Place) (j n : ℕ) → j ≤ n →
-    Longer (written (real_after enclosures j place)) (written (real_after enclosures n place))
-unfolding real_after
+    Longer (written (Real enclosures j place)) (written (Real enclosures n place))
+unfolding Real
 real_run_grows enclosures place j zero h =
     let same : j ≡ zero = omega (arith, h) in real_same enclosures place j zero same
 real_run_grows enclosures place j (suc n) h = elim (le_or_lt j n) [
   | inl k ↦
-      longer_more (written (real_after enclosures j place)) (written (real_after enclosures n place))
-      (written (real_after enclosures (suc n) place)) (real_run_grows enclosures place j n k)
-      (turn_grows enclosures (real_after enclosures n place))
+      longer_more (written (Real enclosures j place)) (written (Real enclosures n place))
+      (written (Real enclosures (suc n) place)) (real_run_grows enclosures place j n k)
+      (turn_grows enclosures (Real enclosures n place))
   | inr k ↦ let same : j ≡ suc n = omega (arith, h, k) in real_same enclosures place j (suc n) same
 ]
 

@@ -11,7 +11,7 @@ use Rattle.enclosure_regions.specs.declared.break_kinds.Break.{Break}
 use Rattle.region_machine.specs.Enclosures.{Enclosures, is_enclosed}
 use Rattle.region_machine.specs.Guests.{guest_walk}
 use Rattle.region_machine.specs.Breaking.{Breaks, kind_break}
-use Rattle.region_machine.specs.Runs.{Place, passed, visited, turn_unless, real_turn, real_after}
+use Rattle.region_machine.specs.Runs.{Place, passed, visited, turn_unless, real_turn, Real}
 use Rattle.replay_machine.specs.Runs.{ReplayPlace, Masks}
 use Rattle.replay_machine.specs.Runs.{replay_turn, Replay}
 use Rattle.region_machine.proofs.Stillness.{IsOver, still_kind, still_guest}
@@ -88,23 +88,23 @@ still_crossing enclosures masks place h = quiet_unbroken place.broken enclosures
 -- from a turn on after which a run stands still
 pub real_stays :
     (enclosures : Enclosures) (place : Place) (turns more : ℕ) → turns ≤ more →
-    real_turn enclosures (real_after enclosures turns place) ≡ real_after enclosures turns place →
-    real_after enclosures more place ≡ real_after enclosures turns place
-unfolding real_after
+    real_turn enclosures (Real enclosures turns place) ≡ Real enclosures turns place →
+    Real enclosures more place ≡ Real enclosures turns place
+unfolding Real
 real_stays enclosures place turns zero h still =
-    let same : zero ≡ turns = omega arith in ap (λ n. real_after enclosures n place) same
+    let same : zero ≡ turns = omega arith in ap (λ n. Real enclosures n place) same
 real_stays enclosures place turns (suc more) h still = elim (le_or_lt turns more) [
   | inl k ↦ ap (λ p. real_turn enclosures p) (real_stays enclosures place turns more k still) ∙ still
-  | inr k ↦ let same : suc more ≡ turns = omega arith in ap (λ n. real_after enclosures n place) same
+  | inr k ↦ let same : suc more ≡ turns = omega arith in ap (λ n. Real enclosures n place) same
 ]
 
 -- from the turn on after which it is over
 pub real_later :
     (enclosures : Enclosures) (place : Place) (turns more : ℕ) → turns ≤ more →
-    IsOver (real_after enclosures turns place).state.control.mode →
-    real_after enclosures more place ≡ real_after enclosures turns place
+    IsOver (Real enclosures turns place).state.control.mode →
+    Real enclosures more place ≡ Real enclosures turns place
 real_later enclosures place turns more h over =
-    real_stays enclosures place turns more h (still_real enclosures (real_after enclosures turns place) over)
+    real_stays enclosures place turns more h (still_real enclosures (Real enclosures turns place) over)
 
 none_or_some : (broken : Option Break) → ((b : Break) → broken ≡ Some b → ⊥) → broken ≡ None
 none_or_some None h = refl
@@ -113,25 +113,25 @@ none_or_some (Some b) h = absurd (h b refl)
 -- a run that no break has ended was not ended by one before
 pub unbroken_before :
     (enclosures : Enclosures) (place : Place) (turns more : ℕ) → turns ≤ more →
-    (real_after enclosures more place).broken ≡ None → (real_after enclosures turns place).broken ≡ None
+    (Real enclosures more place).broken ≡ None → (Real enclosures turns place).broken ≡ None
 unbroken_before enclosures place turns more h none =
-    none_or_some (real_after enclosures turns place).broken (λ b e.
-    let same : real_after enclosures more place ≡ real_after enclosures turns place =
-    real_stays enclosures place turns more h (broken_real enclosures (real_after enclosures turns place) b e) in
+    none_or_some (Real enclosures turns place).broken (λ b e.
+    let same : Real enclosures more place ≡ Real enclosures turns place =
+    real_stays enclosures place turns more h (broken_real enclosures (Real enclosures turns place) b e) in
     let both : None ≡ Some b = sym none ∙ (ap (λ (p : Place). p.broken) same ∙ e) in cc)
 
 pub cross_later :
     (enclosures : Enclosures) (masks : Masks) (place : Place) (turns more : ℕ) → turns ≤ more →
-    IsOver (real_after enclosures turns place).state.control.mode →
+    IsOver (Real enclosures turns place).state.control.mode →
     cross_after enclosures masks more place ≡ cross_after enclosures masks turns place
 unfolding cross_after
 cross_later enclosures masks place turns zero h over =
     let same : zero ≡ turns = omega arith in ap (λ n. cross_after enclosures masks n place) same
 cross_later enclosures masks place turns (suc more) h over = elim (le_or_lt turns more) [
   | inl k ↦
-      let quiet : crossing_of enclosures masks (real_after enclosures more place) ≡ [] =
+      let quiet : crossing_of enclosures masks (Real enclosures more place) ≡ [] =
       ap (λ p. crossing_of enclosures masks p) (real_later enclosures place turns more k over)
-      ∙ still_crossing enclosures masks (real_after enclosures turns place) over in
+      ∙ still_crossing enclosures masks (Real enclosures turns place) over in
       ap (λ bits. cross_after enclosures masks more place ++ bits) quiet
       ∙ (append-nil (cross_after enclosures masks more place)
       ∙ cross_later enclosures masks place turns more k over)

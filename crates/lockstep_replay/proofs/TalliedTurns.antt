@@ -20,7 +20,7 @@ use Rattle.lockstep_replay.specs.Crossing.{crossing, crossing_unless}
 use Rattle.lockstep_replay.specs.Ends.{tallies-none}
 use Rattle.lockstep_replay.specs.Sides.{tally_of}
 use Rattle.lockstep_replay.specs.Tapes.{Tally, Tallies, Crosses}
-use Rattle.lockstep_replay.specs.Private.Turning.{Makes}
+use Rattle.lockstep_replay.specs.Private.Turning.{MakesReal}
 
 -- what the tally says of a turn that is told to it
 abbrev pub Told : {Stop : Type 0} → Tallying → Walk → Played Stop Tally → Type 0
@@ -64,7 +64,7 @@ pub makes-turn : (Stop : Type 0) (enclosures : Enclosures) (before : State) (tal
     (is_enclosed enclosures before.control ≡ true → after ≡ tally) →
     (is_enclosed enclosures before.control ≡ false →
     Told {Stop = Stop} tally (guest_walk enclosures.regions before) (Finished reached (tally_of after))) →
-    Makes enclosures (kind_of enclosures.regions before.control) before tally reached after turn
+    MakesReal enclosures (kind_of enclosures.regions before.control) before tally reached after turn
 makes-turn Stop enclosures before tally reached after turn state enclosed broken untold told =
     let leaves : Leaves (is_enclosed enclosures before.control) (guest_walk enclosures.regions before) tally after =
     leaves-of Stop (is_enclosed enclosures before.control) (guest_walk enclosures.regions before) tally after reached untold
@@ -82,7 +82,7 @@ pub makes-step : (Stop : Type 0) (enclosures : Enclosures) (before : State) (tal
     (after : Tallying) →
     Told {Stop = Stop} tally (walk_of before) (Finished reached (tally_of after)) →
     kind_of enclosures.regions before.control ≡ Steps None →
-    Makes enclosures (kind_of enclosures.regions before.control) before tally reached after
+    MakesReal enclosures (kind_of enclosures.regions before.control) before tally reached after
     (record { enclosed = false; broken = None })
 makes-step Stop enclosures before tally reached after told outside =
     let walk : guest_walk enclosures.regions before ≡ walk_of before = ap (λ kind. kind_walk kind before) outside in

@@ -6,7 +6,7 @@ use Rattle.rv32im_machine.specs.Language.{Walk, Looked, Passed, Moved, Saved, Re
 use Rattle.enclosure_regions.specs.declared.break_kinds.Break.{Break}
 use Rattle.region_machine.specs.Enclosures.{Enclosures, is_enclosed}
 use Rattle.region_machine.specs.Guests.{guest_walk}
-use Rattle.region_machine.specs.Runs.{Place, real_after}
+use Rattle.region_machine.specs.Runs.{Place, Real}
 use Rattle.replay_machine.specs.Runs.{Masks, mask_at}
 
 -- the bits of the values of a turn under the masks, visit by visit, lowest bit first
@@ -38,4 +38,4 @@ crossing_of enclosures masks place = crossing_unbroken place.broken enclosures m
 unfoldable pub cross_after : Enclosures → Masks → ℕ → Place → List Bool
 cross_after enclosures masks zero place = []
 cross_after enclosures masks (suc turns) place =
-    cross_after enclosures masks turns place ++ crossing_of enclosures masks (real_after enclosures turns place)
+    cross_after enclosures masks turns place ++ crossing_of enclosures masks (Real enclosures turns place)

@@ -4,6 +4,7 @@ use Rattle.rv32im_machine.specs.declared.stepping.Stepped.{Stepped}
 use Rattle.rv32im_machine.specs.declared.stepping.Stepped.TheVariants.{Ran, Exited, Stopped}
 use Rattle.rv32im_machine.specs.State.{State}
 use Rattle.lockstep_replay.specs.declared.differences.Difference.{Difference}
+use Rattle.std.specs.Option.{option_or}
 
 -- of two lists of bytes, whose first bytes have this index
 abbrev pub byte_difference : ℕ → List ℕ → List ℕ → Option Difference
@@ -22,12 +23,8 @@ status_difference index (Exited status) (Stopped fault) = None
 status_difference index (Exited status) (Exited other) =
     if status == other then None else Some (record { index = index; real = status; replay = other })
 
-abbrev pub first_of : Option Difference → Option Difference → Option Difference
-first_of None second = second
-first_of (Some difference) second = Some difference
-
 -- of the outputs of two runs with equal marks: the first byte that differs, or else the statuses
 abbrev pub difference_of : State → State → Option Difference
 difference_of real replay =
-    first_of (byte_difference 0 real.control.output replay.control.output)
+    option_or (byte_difference 0 real.control.output replay.control.output)
     (status_difference (length real.control.output) real.control.mode replay.control.mode)

@@ -6,7 +6,7 @@ use Rattle.cut_file.specs.Cuts.{CutPicture}
 use Rattle.cut_file.specs.Masks.{MaskAt}
 use Rattle.enclosure_regions.specs.declared.region_parts.Region.{Region}
 use Rattle.region_machine.specs.Enclosures.{Enclosures, is_enclosed}
-use Rattle.region_machine.specs.Runs.{Place, real_after, common_turns}
+use Rattle.region_machine.specs.Runs.{Place, Real, common_turns}
 use Rattle.replay_machine.specs.Runs.{ReplayPlace, Masks, Replay}
 use Rattle.region_machine.specs.Starts.{guest}
 use Rattle.replay_machine.specs.Starts.{replay_guest}
@@ -43,7 +43,7 @@ real_start task secret = guest task.program task.public_input secret
 
 -- after so many turns
 abbrev pub real_of : Task → List ℕ → ℕ → Place
-real_of task secret turns = real_after task.enclosures turns (real_start task secret)
+real_of task secret turns = Real task.enclosures turns (real_start task secret)
 
 -- the turn after so many turns is a skipped region's entry or inside it
 abbrev pub enclosed_of : Task → List ℕ → ℕ → Bool

@@ -65,19 +65,19 @@ DiffersBy real fed difference =
 
 -- what a reason says of its turn: whether it is a skipped region's entry or inside it, where the real run has come to,
 -- the crossing bits so far, and the replay of these
-abbrev pub Holds : ℕ → Bool → Place → List Bool → Fed ReplayPlace → Why → Type 0
-Holds budget enclosed real cross fed (RealFault fault) =
+abbrev pub ReasonHolds : ℕ → Bool → Place → List Bool → Fed ReplayPlace → Why → Type 0
+ReasonHolds budget enclosed real cross fed (RealFault fault) =
     (real.broken ≡ None) × (real.state.control.mode ≡ Stopped fault)
-Holds budget enclosed real cross fed (RegionBreak broken) = real.broken ≡ Some broken
-Holds budget enclosed real cross fed (BudgetOverrun limit needed) =
+ReasonHolds budget enclosed real cross fed (RegionBreak broken) = real.broken ≡ Some broken
+ReasonHolds budget enclosed real cross fed (BudgetOverrun limit needed) =
     (limit ≡ budget) × ((budget < length cross) × (needed ≡ counted_bits (length cross)))
-Holds budget enclosed real cross fed (ReplayFault stop) = (enclosed ≡ false) × StopsBy fed stop
-Holds budget enclosed real cross fed (Parted mark other) =
+ReasonHolds budget enclosed real cross fed (ReplayFault stop) = (enclosed ≡ false) × StopsBy fed stop
+ReasonHolds budget enclosed real cross fed (Parted mark other) =
     (enclosed ≡ false) × PartsBy real.state (length cross) fed mark other
-Holds budget enclosed real cross fed (OutputDiffers index byte other) =
+ReasonHolds budget enclosed real cross fed (OutputDiffers index byte other) =
     (enclosed ≡ false) × DiffersBy real.state fed (record { index = index; real = byte; replay = other })
-Holds budget enclosed real cross fed (TurnLimit limit) = ⊥
-Holds budget enclosed real cross fed (SecretLength wanted got) = ⊥
+ReasonHolds budget enclosed real cross fed (TurnLimit limit) = ⊥
+ReasonHolds budget enclosed real cross fed (SecretLength wanted got) = ⊥
 
 -- after so many turns of the real run the replay follows, with the same output
 pub record Beside (task : Task) (secret : List ℕ) (turns : ℕ) : Type 0 where
@@ -97,7 +97,7 @@ pub record Arises (task : Task) (limits : Limits) (secret : List ℕ) (why : Why
   pub within : turn < limits.turns
   pub earlier : (i : ℕ) → i < turn → Agrees task limits secret i
   pub holds :
-      Holds limits.budget (enclosed_of task secret turn) (real_of task secret (suc turn))
+      ReasonHolds limits.budget (enclosed_of task secret turn) (real_of task secret (suc turn))
       (Cross task secret (suc turn)) (fed_of task secret (suc turn)) why
 
 -- the limit of turns is this, no condition fails in any turn, and the real run goes on

@@ -1,6 +1,6 @@
 ghost use Rattle.std.specs.Prelude.{◌≡◌, ℕ, ◌<◌, ◌^◌, List, [], length, false, IfOk, IsTrue};
-ghost use Rattle.elf32_loader.specs.Images.{picture_of};
-ghost use Rattle.cut_file.specs.Pictures.{picture_of as cut_picture};
+ghost use Rattle.elf32_loader.specs.Images.{image_picture};
+ghost use Rattle.cut_file.specs.Pictures.{cut_picture};
 ghost use Rattle.rv32im_machine.specs.declared.stepping.Stepped.TheVariants.{Exited};
 ghost use Rattle.lockstep_replay.specs.Judgements.{judgement_of};
 ghost use Rattle.lockstep_replay.specs.Beginnings.{Begins};
@@ -46,7 +46,7 @@ pub struct Lockstep {
 }
 
 impl Lockstep {
-    ghost use Rattle.lockstep_replay.specs.Checks.{IsCheck};
+    ghost use Rattle.lockstep_replay.specs.Checks.{IsLockstepOf};
 
     /// A check of one secret of fewer than 2^32 bytes against a cut, for one program with its regions and one public
     /// input, within a budget of fewer than 4,294,967,295 bits and a limit of turns.
@@ -63,8 +63,8 @@ impl Lockstep {
     ) -> Result<Lockstep, NoMemory>
         requires secret { length secret.now < 2 ^ 32 }
         requires budget { budget < 4294967295 }
-        ensures { IfOk result (λ lockstep. IsCheck lockstep
-            (task_of (picture_of image.now) public.now regions.now.items (cut_picture cut.now))
+        ensures { IfOk result (λ lockstep. IsLockstepOf lockstep
+            (task_of (image_picture image.now) public.now regions.now.items (cut_picture cut.now))
             (record { budget = budget; turns = turns }) secret.now) }
     {
         let memories = Memories::new(alloc)?;
@@ -89,8 +89,8 @@ impl Lockstep {
     ) -> Result<Lockstep, NoMemory>
         requires secret { length secret.now < 2 ^ 32 }
         requires budget { budget < 4294967295 }
-        ensures { IfOk result (λ lockstep. IsCheck lockstep
-            (task_of (picture_of image.now) public.now regions.now.items (cut_picture cut.now))
+        ensures { IfOk result (λ lockstep. IsLockstepOf lockstep
+            (task_of (image_picture image.now) public.now regions.now.items (cut_picture cut.now))
             (record { budget = budget; turns = turns }) secret.now) }
     {
         let real = Machine::new_in(memories.real, alloc, image, public, secret, OUTPUT_LIMIT)?;
@@ -111,7 +111,7 @@ impl Lockstep {
 
     /// The verdict on the secret: accepted, or the first condition that fails. It takes no memory.
     pub fn run(self) -> Verdict
-        ensures { (task : Task) (limits : Limits) (secret : List ℕ) → IsCheck self task limits secret →
+        ensures { (task : Task) (limits : Limits) (secret : List ℕ) → IsLockstepOf self task limits secret →
             judgement_of result ≡ First task limits secret }
     {
         let (verdict, _memories) = self.run_keeping();
@@ -120,7 +120,7 @@ impl Lockstep {
 
     /// The verdict on the secret, with the guest memories for the next check. It takes no memory.
     pub fn run_keeping(self) -> (Verdict, Memories)
-        ensures { (task : Task) (limits : Limits) (secret : List ℕ) → IsCheck self task limits secret →
+        ensures { (task : Task) (limits : Limits) (secret : List ℕ) → IsLockstepOf self task limits secret →
             judgement_of result.0 ≡ First task limits secret }
     {
         let Lockstep {

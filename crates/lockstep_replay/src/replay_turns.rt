@@ -3,11 +3,12 @@ ghost use Rattle.crossing_bits.specs.Streams.{left_of};
 ghost use Rattle.replay_machine.specs.declared.turns.ReplayTurn.TheVariants.{Ran as ReplayRan};
 ghost use Rattle.replay_machine.specs.Standing.{Stands};
 ghost use Rattle.replay_machine.specs.Runs.{Masks, ReplayPlace as APlace};
-ghost use Rattle.lockstep_replay.specs.Differences.{byte_difference, status_difference as difference_of_ends, first_of};
+ghost use Rattle.lockstep_replay.specs.Differences.{byte_difference, status_difference as difference_of_ends};
 ghost use Rattle.rv32im_machine.specs.declared.stepping.Stepped.TheVariants.{Ran};
 ghost use Rattle.lockstep_replay.specs.Private.Standings.{why_answered, why_beside};
 ghost use Rattle.lockstep_replay.specs.Private.Turning.{fed_turn, why_compared, Joins, InStep};
 ghost use Rattle.lockstep_replay.specs.Verdicts.{why_output, why_replay};
+ghost use Rattle.std.specs.Option.{option_or};
 
 use crate::differences::{Difference, output_difference, status_difference};
 use crate::marks::{is_same, mark_at};
@@ -17,12 +18,9 @@ use replay_machine::{Replay, ReplayTurn};
 use rv32im_machine::{Machine, Stepped};
 
 fn first_difference(first: Option<Difference>, second: Option<Difference>) -> Option<Difference>
-    ensures { result ≡ first_of first second }
+    ensures { result ≡ option_or first second }
 {
-    match first {
-        None => second,
-        Some(difference) => Some(difference),
-    }
+    first.or(second)
 }
 
 fn output_reason(difference: Option<Difference>) -> Option<Why>
@@ -40,7 +38,7 @@ fn output_reason(difference: Option<Difference>) -> Option<Why>
 
 /// How the output and the end of a replay differ from those of the real run.
 fn compared_output(real: &Machine, output: &[u8], mode: Stepped) -> Option<Why>
-    ensures { result ≡ why_output (first_of (byte_difference 0 real.now.control.output output.now)
+    ensures { result ≡ why_output (option_or (byte_difference 0 real.now.control.output output.now)
         (difference_of_ends (length real.now.control.output) real.now.control.mode mode)) }
 {
     let index = real.written();

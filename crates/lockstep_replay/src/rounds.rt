@@ -2,7 +2,7 @@ ghost use Rattle.std.specs.Prelude.{◌≡◌, ℕ, List as Seq, None, IsTrue, n
 ghost use Rattle.region_machine.specs.Enclosures.{Steps, kind_of};
 ghost use Rattle.region_machine.specs.Within.{may_leave};
 ghost use Rattle.lockstep_replay.specs.Private.Standings.{why_standing};
-ghost use Rattle.lockstep_replay.specs.Private.Turning.{Keeps, Makes, Rounds};
+ghost use Rattle.lockstep_replay.specs.Private.Turning.{Keeps, MakesReal, Rounds};
 ghost use Rattle.lockstep_replay.specs.Verdicts.{why_broken, why_budget, why_mode};
 
 use crate::replay_turns::{keeps_up, replay_reason};
@@ -65,7 +65,7 @@ fn real_turn(
     skip: &[u16],
 ) -> RealTurn
     requires { IsTrue (may_leave marked.now.regions.items real.old) }
-    ensures { Makes (record { regions = marked.now.regions.items; skip = skip.now })
+    ensures { MakesReal (record { regions = marked.now.regions.items; skip = skip.now })
         (kind_of marked.now.regions.items real.old.control) real.old tally.old real.new tally.new result }
 {
     match real_turn_by(real, tally, marked, skip) {
@@ -125,7 +125,7 @@ fn put_region_round(
 #[inline(always)]
 fn real_step(real: &mut Machine, tally: &mut Tallying, _marked: &MarkedRegions)
     requires { kind_of _marked.now.regions.items real.old.control ≡ Steps None }
-    ensures { (skip : Seq ℕ) → Makes (record { regions = _marked.now.regions.items; skip = skip })
+    ensures { (skip : Seq ℕ) → MakesReal (record { regions = _marked.now.regions.items; skip = skip })
         (kind_of _marked.now.regions.items real.old.control) real.old tally.old real.new tally.new
         (record { enclosed = false; broken = None }) }
 {

@@ -15,7 +15,7 @@ use Rattle.flow_graph.specs.declared.events.Event.{Event}
 use Rattle.flow_graph.specs.declared.events.Event.TheVariants.{Pass, Link, FromSecret, Implicit, Out}
 use Rattle.flow_graph.specs.EventGraphs.{bits_at, has_passed, passed}
 use Rattle.acceptance_law.specs.RunCuts.{mask_at_event, visit_masks}
-use Rattle.many_runs.specs.Uniting.{joined, joined_masks}
+use Rattle.many_runs.specs.Uniting.{united_masks, joined_masks}
 
 -- ---- the bits of a union
 
@@ -73,26 +73,26 @@ or-second a b =
     let turned : bit_count (bit_or b a) ≡ bit_count (bit_or a b) = ap (λ m. bit_count m) (or_comm b a) in
     let first = or-first b a in omega (arith, turned, first)
 
-pub joined-first : (masks others : List ℕ) → sum_by bit_count masks ≤ sum_by bit_count (joined masks others)
-unfolding joined
+pub joined-first : (masks others : List ℕ) → sum_by bit_count masks ≤ sum_by bit_count (united_masks masks others)
+unfolding united_masks
 joined-first [] others = omega arith
 joined-first (mask ∷ masks) [] = omega arith
 joined-first (mask ∷ masks) (other ∷ others) =
     let here = or-first mask other in
     let rest = joined-first masks others in
     let one = sum_by-cons bit_count mask masks in
-    let all = sum_by-cons bit_count (bit_or mask other) (joined masks others) in
+    let all = sum_by-cons bit_count (bit_or mask other) (united_masks masks others) in
     omega (arith, here, rest, one, all)
 
-pub joined-second : (masks others : List ℕ) → sum_by bit_count others ≤ sum_by bit_count (joined masks others)
-unfolding joined
+pub joined-second : (masks others : List ℕ) → sum_by bit_count others ≤ sum_by bit_count (united_masks masks others)
+unfolding united_masks
 joined-second [] others = omega arith
 joined-second (mask ∷ masks) [] = omega arith
 joined-second (mask ∷ masks) (other ∷ others) =
     let here = or-second mask other in
     let rest = joined-second masks others in
     let one = sum_by-cons bit_count other others in
-    let all = sum_by-cons bit_count (bit_or mask other) (joined masks others) in
+    let all = sum_by-cons bit_count (bit_or mask other) (united_masks masks others) in
     omega (arith, here, rest, one, all)
 
 -- ---- what passes a point

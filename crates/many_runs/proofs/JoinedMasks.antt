@@ -5,33 +5,33 @@ use Rattle.std.proofs.lemmas.List.{replicate-append-replicate}
 use Rattle.measuring.proofs.CutRuns.{or_assoc}
 use Rattle.measuring.specs.declared.point_visits.VisitRun.{VisitRun}
 use Rattle.measuring.specs.VisitRuns.{run_masks}
-use Rattle.many_runs.specs.Uniting.{joined}
+use Rattle.many_runs.specs.Uniting.{united_masks}
 
 -- where the second run has no visit
-pub joined-none : (masks : List ℕ) → joined masks [] ≡ masks
-unfolding joined
+pub joined-none : (masks : List ℕ) → united_masks masks [] ≡ masks
+unfolding united_masks
 joined-none [] = refl
 joined-none (mask ∷ masks) = refl
 
-pub none-joined : (masks : List ℕ) → joined [] masks ≡ masks
-unfolding joined
+pub none-joined : (masks : List ℕ) → united_masks [] masks ≡ masks
+unfolding united_masks
 none-joined masks = refl
 
 -- so many visits of both, each with one mask
 pub joined-replicate : (n x y : ℕ) (xs ys : List ℕ) →
-    joined (replicate n x ++ xs) (replicate n y ++ ys) ≡ replicate n (bit_or x y) ++ joined xs ys
-unfolding joined
+    united_masks (replicate n x ++ xs) (replicate n y ++ ys) ≡ replicate n (bit_or x y) ++ united_masks xs ys
+unfolding united_masks
 joined-replicate zero x y xs ys = refl
 joined-replicate (suc n) x y xs ys = ap (λ masks. bit_or x y ∷ masks) (joined-replicate n x y xs ys)
 
--- which of three are joined first is all the same
-pub joined-chain : (a b c : List ℕ) → joined (joined a b) c ≡ joined a (joined b c)
-unfolding joined
+-- which of three are united_masks first is all the same
+pub joined-chain : (a b c : List ℕ) → united_masks (united_masks a b) c ≡ united_masks a (united_masks b c)
+unfolding united_masks
 joined-chain [] b c = refl
 joined-chain (x ∷ a) [] c = refl
 joined-chain (x ∷ a) (y ∷ b) [] = refl
 joined-chain (x ∷ a) (y ∷ b) (z ∷ c) =
-    ap (λ m. m ∷ joined (joined a b) c) (or_assoc x y z) ∙ ap (λ masks. bit_or x (bit_or y z) ∷ masks) (joined-chain a b c)
+    ap (λ m. m ∷ united_masks (united_masks a b) c) (or_assoc x y z) ∙ ap (λ masks. bit_or x (bit_or y z) ∷ masks) (joined-chain a b c)
 
 -- ---- runs
 
@@ -58,10 +58,10 @@ masks-parted run left n runs count mask =
 -- so many visits of both runs
 pub joined-parted : (one left other right : VisitRun) (n : ℕ) (ones others : List VisitRun) →
     one.count ≡ n + left.count → left.mask ≡ one.mask → other.count ≡ n + right.count → right.mask ≡ other.mask →
-    joined (run_masks (one ∷ ones)) (run_masks (other ∷ others))
-    ≡ replicate n (bit_or one.mask other.mask) ++ joined (run_masks (left ∷ ones)) (run_masks (right ∷ others))
+    united_masks (run_masks (one ∷ ones)) (run_masks (other ∷ others))
+    ≡ replicate n (bit_or one.mask other.mask) ++ united_masks (run_masks (left ∷ ones)) (run_masks (right ∷ others))
 joined-parted one left other right n ones others count mask count_too mask_too =
-    ap (λ masks. joined masks (run_masks (other ∷ others))) (masks-parted one left n ones count mask)
-    ∙ (ap (λ masks. joined (replicate n one.mask ++ run_masks (left ∷ ones)) masks)
+    ap (λ masks. united_masks masks (run_masks (other ∷ others))) (masks-parted one left n ones count mask)
+    ∙ (ap (λ masks. united_masks (replicate n one.mask ++ run_masks (left ∷ ones)) masks)
     (masks-parted other right n others count_too mask_too)
     ∙ joined-replicate n one.mask other.mask (run_masks (left ∷ ones)) (run_masks (right ∷ others)))

@@ -6,7 +6,7 @@ use Rattle.cut_file.proofs.Periods.{fold-mask}
 use Rattle.cut_file.specs.declared.points.CutPoint.{CutPoint}
 use Rattle.cut_file.specs.Cuts.{CutPicture, has_slot}
 use Rattle.cut_file.specs.Folds.{AreFolded, IsFold, IsFolded}
-use Rattle.cut_file.specs.Pictures.{picture_of}
+use Rattle.cut_file.specs.Pictures.{cut_picture}
 use Rattle.flow_base.specs.declared.points.Point.{Point}
 use Rattle.flow_base.specs.PointOrders.{is_same}
 use Rattle.flow_base.specs.Points.{is_slot}
@@ -85,18 +85,18 @@ all-proper setup (secret ∷ secrets) (events ∷ runs) inputs are = (
 module _ (setup : Setup) (all_secrets : List (List ℕ)) (many : Many) (m : MeasuresAll setup all_secrets many)
     (inputs : AllByRecursion (AreInputs setup.program setup.public_input setup.regions) all_secrets) where
   cuts-all : CutsAll m.runs m.events many.graph many.side.points many.side.relays (first_length all_secrets)
-      (picture_of many.cut)
+      (cut_picture many.cut)
   cuts-all = record {
     united = m.united;
     graph_of = m.measure.graph;
     side_of = m.measure.side.side;
     cut_of = subst (λ bits. IsCutOf (first_length all_secrets) m.events (named_side many.graph many.side.points
-        many.side.relays) bits (picture_of many.cut)) (sym m.measure.capacity) m.measure.cut;
-    slots = valid-slots (picture_of many.cut) (cut-valid many.cut);
+        many.side.relays) bits (cut_picture many.cut)) (sym m.measure.capacity) m.measure.cut;
+    slots = valid-slots (cut_picture many.cut) (cut-valid many.cut);
     proper = all-proper setup all_secrets m.runs inputs m.are_runs;
   }
 
-  each-accepted : (used : CutPicture) → IsUsed (picture_of many.cut) used → (secrets : List (List ℕ))
+  each-accepted : (used : CutPicture) → IsUsed (cut_picture many.cut) used → (secrets : List (List ℕ))
       (runs : List (List Event)) →
       AllByRecursion (AreInputs setup.program setup.public_input setup.regions) secrets →
       HaveLength (first_length all_secrets) secrets → AreRunsOn setup secrets runs →
@@ -117,7 +117,7 @@ module _ (setup : Setup) (all_secrets : List (List ℕ)) (many : Many) (m : Meas
         exits = record { bytes = run.exits.written; status = run.exits.exited };
       } in
       let here = run-accepted m.runs m.events many.graph many.side.points many.side.relays (first_length all_secrets)
-      (picture_of many.cut) cuts-all used is_used setup.program setup.public_input setup.regions secret
+      (cut_picture many.cut) cuts-all used is_used setup.program setup.public_input setup.regions secret
       (run.exits.last ∷ run.exits.earlier) run.output setup.limit known.0 whole
       (omega (arith, run.exits.is_run.counted, run.exits.within)) alike.0
       (subst (IsPartOf m.runs) run.all parts.0) in (
@@ -131,16 +131,16 @@ module _ (setup : Setup) (all_secrets : List (List ℕ)) (many : Many) (m : Meas
 
   pub accepted : AreAcceptedByTheCut setup.program setup.public_input setup.regions all_secrets setup.limit many
   accepted =
-      each-accepted (picture_of many.cut)
+      each-accepted (cut_picture many.cut)
       (record {
         skip = refl;
         length_is = refl;
-        like = like-itself many.cut.points (valid-slots (picture_of many.cut) (cut-valid many.cut));
+        like = like-itself many.cut.points (valid-slots (cut_picture many.cut) (cut-valid many.cut));
       })
       all_secrets m.runs inputs m.alike m.are_runs (parts-of m.runs)
 
   pub folds : AreAcceptedByFolds setup.program setup.public_input setup.regions all_secrets setup.limit many
   folds folded fold =
       each-accepted folded
-      (fold-used (picture_of many.cut) folded fold (valid-slots (picture_of many.cut) (cut-valid many.cut)))
+      (fold-used (cut_picture many.cut) folded fold (valid-slots (cut_picture many.cut) (cut-valid many.cut)))
       all_secrets m.runs inputs m.alike m.are_runs (parts-of m.runs)

@@ -8,7 +8,6 @@ use Rattle.cut_file.specs.Cuts.{CutPicture, has_slot}
 use Rattle.cut_file.specs.Masks.{MaskAt}
 use Rattle.elf32_loader.specs.Pictures.{Picture}
 use Rattle.enclosure_regions.specs.declared.region_parts.Region.{Region}
-use Rattle.enclosure_regions.specs.Regions.{stands_in}
 use Rattle.flow_base.specs.declared.outputs.Output.{Output}
 use Rattle.flow_base.specs.declared.points.Point.{Point}
 use Rattle.flow_graph.specs.declared.events.Event.{Event}
@@ -22,15 +21,15 @@ use Rattle.lockstep_replay.proofs.Stillness.{cross_later}
 use Rattle.max_flow.specs.declared.answers.Half.{Half}
 use Rattle.max_flow.specs.Flows.{IsSideOf, side_capacity}
 use Rattle.region_machine.specs.Enclosures.{Enclosures}
-use Rattle.region_machine.specs.Runs.{real_after}
+use Rattle.region_machine.specs.Runs.{Real}
 use Rattle.region_machine.specs.Starts.{guest}
 use Rattle.region_machine.proofs.Stillness.{IsOver}
 use Rattle.replay_machine.specs.Runs.{Masks}
 use Rattle.rv32im_machine.specs.declared.stepping.Stepped.{Stepped}
 use Rattle.rv32im_machine.specs.declared.stepping.Stepped.TheVariants.{Ran, Exited, Stopped}
 use Rattle.acceptance_law.specs.ClosedEvents.{AreProperEvents, IsClosedFor, IsClosedLink, IsProperEvent}
-use Rattle.acceptance_law.specs.Covers.{AreContained, IsContained, IsWithin, past_after}
-use Rattle.acceptance_law.specs.Laws.{IsMeasured}
+use Rattle.acceptance_law.specs.Covers.{AreContained, IsContained, IsMaskWithin, past_after}
+use Rattle.acceptance_law.specs.Laws.{IsMeasuredRun}
 use Rattle.acceptance_law.specs.MeasuredLaws.{AreInputs, IsWholeRun, labelled_run}
 use Rattle.acceptance_law.specs.RunCuts.{IsCutOf, is_inner, visit_masks}
 use Rattle.acceptance_law.specs.Sides.{NamedSide, is_split, named_side}
@@ -46,6 +45,7 @@ use Rattle.many_runs.proofs.PastBits.{cross-bits}
 use Rattle.many_runs.proofs.RunPasts.{runs-beside}
 use Rattle.many_runs.proofs.SameLinks.{each-among, of-among}
 use Rattle.many_runs.proofs.UnitedCuts.{Cuts, bits-within, exact-at}
+use Rattle.flow_base.specs.Listed.{is_listed}
 
 -- ---- one run
 
@@ -66,7 +66,7 @@ module _ (runs : List (List Event)) (united_events : List Event) (united : IsUni
   -- the mask of the run at a visit of a split point
   visit-within : (point : Point) (n : ℕ) → is_split (named_side graph halves relays) point ≡ true →
       is_inner cut.skip point ≡ false → n < length (visit_masks point events) →
-      IsWithin (get_or (visit_masks point events) n 0) (masks point (suc n))
+      IsMaskWithin (get_or (visit_masks point events) n 0) (masks point (suc n))
   visit-within point n split inner below i none =
       let same = united.masks point in
       let count : length (visit_masks point united_events) ≡ length (joined_masks point runs) = ap length same in
@@ -184,7 +184,7 @@ module _ (runs : List (List Event)) (united_events : List Event) (graph : Graph)
       let start = guest_start_law program public_input secret inputs.program_valid inputs.program_bytes
       inputs.public_bytes inputs.secret_bytes in
       let proper = proper_events_law regions answers place inputs.regions_valid start run.sound in
-      let measured : IsMeasured regions answers place output =
+      let measured : IsMeasuredRun regions answers place output =
       record { guest = start; sound = run.sound; unrefused = run.unrefused; exits = run.exits } in
       let enclosures : Enclosures = record { regions = regions; skip = cut.skip } in
       let beside = runs-beside regions cut.skip answers place refl refl run.unrefused proper in
@@ -195,7 +195,7 @@ module _ (runs : List (List Event)) (united_events : List Event) (graph : Graph)
       let count = ap length same in
       let bits = cross-bits enclosures (MaskAt used.points) (length answers) place refl in
       let within = bits-within united_events graph halves relays secret_len (side_capacity graph halves relays) cut
-      (MaskAt used.points) cuts (real_after enclosures (length answers) place).past beside.within.slots
+      (MaskAt used.points) cuts (Real enclosures (length answers) place).past beside.within.slots
       (λ point named.
       let masks : length (visit_masks point united_events) ≡ length (joined_masks point runs) =
       ap length (all.united.masks point) in
@@ -208,7 +208,7 @@ module _ (runs : List (List Event)) (united_events : List Event) (graph : Graph)
         closed = run-closed runs united_events all.united graph halves relays secret_len
             (side_capacity graph halves relays) cut (MaskAt used.points) cuts events part;
         outside = side-outside united_events graph halves relays all.graph_of;
-        skips = λ region. ap (λ skip. stands_in skip region) is_used.skip ∙ all.cut_of.skip region;
+        skips = λ region. ap (λ skip. is_listed skip region) is_used.skip ∙ all.cut_of.skip region;
         contains = subst (λ (skip : List ℕ). AreContained side skip (MaskAt used.points) [] events) (sym is_used.skip)
             (contained runs united_events all.united graph halves relays secret_len (side_capacity graph halves relays)
             cut (MaskAt used.points) cuts events part proper);

@@ -1,12 +1,12 @@
 -- Runs that are measured together have no cause not to be.
 use Rattle.std.proofs.Common.{ℕ, ◌≤◌, List, refl, arith}
-use Rattle.measuring.specs.Deciding.{IsDeciding}
 use Rattle.many_runs.specs.declared.faults.ManyFault.TheVariants.{Length, Run, UnitedLimit, BudgetLimit, Memory}
 use Rattle.many_runs.specs.declared.many.Many.{Many}
 use Rattle.many_runs.specs.Causes.{HasMaximum, HaveUnion, IsTooLarge, IsTooMuch}
 use Rattle.many_runs.specs.Deciding.{MeasuredTogetherHaveNoCause}
 use Rattle.many_runs.specs.Measures.{MeasuresAll, Setup}
 use Rattle.many_runs.proofs.OneMany.{none-refused, same-length, value-most, within-too}
+use Rattle.transfer_rules.specs.Tables.{IsDeciding}
 
 -- ---- what is measured together
 

@@ -22,17 +22,17 @@ use Rattle.flow_graph.specs.declared.events.Event.TheVariants.{Pass, Link, FromS
 use Rattle.flow_graph.specs.declared.named_links.NamedLink.{NamedLink}
 use Rattle.flow_graph.specs.EventGraphs.{is_among, named_links}
 use Rattle.acceptance_law.specs.ClosedEvents.{AreProperEvents}
-use Rattle.acceptance_law.specs.Covers.{IsWithin}
+use Rattle.acceptance_law.specs.Covers.{IsMaskWithin}
 use Rattle.acceptance_law.specs.RunCuts.{visit_masks}
 use Rattle.acceptance_law.proofs.GraphEvents.{all-append, all_more}
-use Rattle.many_runs.specs.Uniting.{all_links, joined, joined_masks}
+use Rattle.many_runs.specs.Uniting.{all_links, united_masks, joined_masks}
 
 -- ---- at each visit
 
 -- the others are as many, and have at each place the bits that the mask there has
 pub record IsBelow (masks others : List ℕ) : Type 0 where
   pub few : length masks ≤ length others
-  pub within : (n : ℕ) → n < length masks → IsWithin (get_or masks n 0) (get_or others n 0)
+  pub within : (n : ℕ) → n < length masks → IsMaskWithin (get_or masks n 0) (get_or others n 0)
 
 below-itself : (masks : List ℕ) → IsBelow masks masks
 below-itself masks = record { few = omega arith; within = λ n below i none. none }
@@ -45,13 +45,13 @@ below-chain a b c first second = record {
       (second.within n (let few = first.few in omega (arith, few, below)) i none);
 }
 
-below-cons : (m o : ℕ) (masks others : List ℕ) → IsWithin m o → IsBelow masks others → IsBelow (m ∷ masks) (o ∷ others)
+below-cons : (m o : ℕ) (masks others : List ℕ) → IsMaskWithin m o → IsBelow masks others → IsBelow (m ∷ masks) (o ∷ others)
 below-cons m o masks others here rest = record {
   few = let few = rest.few in omega (arith, few);
   within = at;
 }
   where
-    at : (n : ℕ) → n < length (m ∷ masks) → IsWithin (get_or (m ∷ masks) n 0) (get_or (o ∷ others) n 0)
+    at : (n : ℕ) → n < length (m ∷ masks) → IsMaskWithin (get_or (m ∷ masks) n 0) (get_or (o ∷ others) n 0)
     at zero below = here
     at (suc n) below = rest.within n (omega (arith, below))
 
@@ -63,19 +63,19 @@ or-none a b i none =
 below-none : (masks : List ℕ) → IsBelow [] masks
 below-none masks = record { few = omega arith; within = λ n below. absurd (omega arith) }
 
-below-first : (masks others : List ℕ) → IsBelow masks (joined masks others)
-unfolding joined
+below-first : (masks others : List ℕ) → IsBelow masks (united_masks masks others)
+unfolding united_masks
 below-first [] others = below-none others
 below-first (m ∷ masks) [] = below-itself (m ∷ masks)
 below-first (m ∷ masks) (o ∷ others) =
-    below-cons m (bit_or m o) masks (joined masks others) (λ i none. (or-none m o i none).0) (below-first masks others)
+    below-cons m (bit_or m o) masks (united_masks masks others) (λ i none. (or-none m o i none).0) (below-first masks others)
 
-below-second : (masks others : List ℕ) → IsBelow others (joined masks others)
-unfolding joined
+below-second : (masks others : List ℕ) → IsBelow others (united_masks masks others)
+unfolding united_masks
 below-second [] others = below-itself others
 below-second (m ∷ masks) [] = below-none (m ∷ masks)
 below-second (m ∷ masks) (o ∷ others) =
-    below-cons o (bit_or m o) others (joined masks others) (λ i none. (or-none m o i none).1)
+    below-cons o (bit_or m o) others (united_masks masks others) (λ i none. (or-none m o i none).1)
     (below-second masks others)
 
 -- ---- a run is a part of all runs
@@ -97,7 +97,7 @@ part-later : (events : List Event) (runs : List (List Event)) (other : List Even
 unfolding joined_masks all_links
 part-later events runs other part = record {
   masks = λ point. below-chain (visit_masks point other) (joined_masks point runs)
-      (joined (visit_masks point events) (joined_masks point runs)) (part.masks point)
+      (united_masks (visit_masks point events) (joined_masks point runs)) (part.masks point)
       (below-second (visit_masks point events) (joined_masks point runs));
   links = λ link among. list_any-append _ (named_links events) (all_links runs)
       ∙ or_right (is_among (named_links events) link) (is_among (all_links runs) link) (part.links link among);
@@ -142,8 +142,8 @@ fits-or (OutReg register) a b first second = fits-word a b first second
 fits-or (OutRange range) a b first second = fits-byte a b first second
 
 fits-joined : (slot : Slot) (masks others : List ℕ) → FitSlot slot masks → FitSlot slot others →
-    FitSlot slot (joined masks others)
-unfolding joined FitSlot
+    FitSlot slot (united_masks masks others)
+unfolding united_masks FitSlot
 fits-joined slot [] others first second = second
 fits-joined slot (m ∷ masks) [] first second = first
 fits-joined slot (m ∷ masks) (o ∷ others) first second =

@@ -3,7 +3,7 @@ use Rattle.std.proofs.Common.{◌≡◌, ◌≢◌, ℕ, ◌+◌, ◌≤◌, ◌
 use Rattle.std.specs.List.{AllByRecursion}
 use Rattle.acceptance_law.specs.Sides.{named_side}
 use Rattle.acceptance_law.proofs.GraphEvents.{all-parts}
-use Rattle.cut_file.specs.Pictures.{picture_of}
+use Rattle.cut_file.specs.Pictures.{cut_picture}
 use Rattle.flow_graph.specs.declared.events.Event.{Event}
 use Rattle.flow_graph.specs.declared.graphs.Graph.{Graph}
 use Rattle.flow_graph.specs.EventGraphs.{IsGraphOf}
@@ -11,7 +11,6 @@ use Rattle.location_collapse.specs.Limits.{ExceedsLimit}
 use Rattle.max_flow.specs.Flows.{HasNoGreater, flow_value}
 use Rattle.run_labels.specs.declared.faults.MeasureFault.{MeasureFault}
 use Rattle.measuring.specs.declared.measured.Measured.{Measured}
-use Rattle.measuring.specs.Deciding.{IsDeciding}
 use Rattle.measuring.specs.Measures.{HasCause, IsMeasureOf}
 use Rattle.measuring.proofs.OneCause.{one-cause}
 use Rattle.measuring.proofs.OneGraph.{one-graph}
@@ -25,6 +24,7 @@ use Rattle.many_runs.specs.Measures.{HaveLength, IsMeasureOfAll, MeasuresAll, Se
 use Rattle.many_runs.specs.Uniting.{IsUnited}
 use Rattle.many_runs.proofs.FirstPlaces.{AreSamePlaces, one-first}
 use Rattle.many_runs.proofs.OneUnion.{HasRun, cut-too, exceeds-too, graph-too, have-runs, no-cause, same-runs}
+use Rattle.transfer_rules.specs.Tables.{IsDeciding}
 
 -- ---- the measure of united events
 
@@ -74,7 +74,7 @@ measure-too runs events others one also secret_len many is = record {
   side = is.side;
   capacity = is.capacity;
   cut = cut-too runs events others one also secret_len (named_side many.graph many.side.points many.side.relays)
-      many.value (picture_of many.cut) is.cut;
+      many.value (cut_picture many.cut) is.cut;
 }
 
 -- ---- the measure of several runs
@@ -83,7 +83,7 @@ pub record AreSameMany (one other : Many) : Type 0 where
   pub value : one.value ≡ other.value
   pub graph : one.graph ≡ other.graph
   pub side : one.side ≡ other.side
-  pub cut : picture_of one.cut ≡ picture_of other.cut
+  pub cut : cut_picture one.cut ≡ cut_picture other.cut
 
 pub one_many_measure : (setup : Setup) (secrets : List (List ℕ)) (one other : Many) → IsDeciding setup.table →
     MeasuresAll setup secrets one → MeasuresAll setup secrets other → AreSameMany one other
@@ -100,7 +100,7 @@ one_many_measure setup secrets one other deciding is also =
     record { value = parts.value; graph = parts.graph; side = parts.side; cut = parts.cut }
 
 pub one_many : (setup : Setup) (secrets : List (List ℕ)) (one other : Many) → IsDeciding setup.table →
-    MeasuresAll setup secrets one → MeasuresAll setup secrets other → picture_of one.cut ≡ picture_of other.cut
+    MeasuresAll setup secrets one → MeasuresAll setup secrets other → cut_picture one.cut ≡ cut_picture other.cut
 one_many setup secrets one other deciding is also = (one_many_measure setup secrets one other deciding is also).cut
 
 -- ---- the cause in the secrets

@@ -20,13 +20,13 @@ use Rattle.run_labels.specs.Runs.{LabelledRun, run_after}
 use Rattle.run_labels.specs.declared.faults.MeasureFault.{MeasureFault}
 use Rattle.run_labels.specs.declared.faults.MeasureFault.TheVariants.{TurnLimit, Guest, Region as RegionFault}
 use Rattle.run_labels.specs.declared.faults.MeasureFault.TheVariants.{SecretCode, BaseSecret, GraphLimit, Memory}
-use Rattle.measuring.specs.Deciding.{IsDeciding}
 use Rattle.measuring.specs.Measures.{HasCause}
 use Rattle.measuring.specs.RunCauses.{GoesOn, IsRefused, mode_of}
 use Rattle.measuring.proofs.MeasuredWithoutCause.{exited_mode, exits_not_running, exits_unrefused, same_exits}
 use Rattle.many_runs.specs.Measures.{AreRunsOn, IsRunOn, Setup, start_on}
 use Rattle.many_runs.specs.Uniting.{IsUnited}
 use Rattle.many_runs.proofs.BitsOfUnions.{visit-bits}
+use Rattle.transfer_rules.specs.Tables.{IsDeciding}
 
 -- ---- a run
 

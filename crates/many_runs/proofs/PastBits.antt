@@ -8,7 +8,7 @@ use Rattle.enclosure_regions.specs.declared.break_kinds.Break.{Break}
 use Rattle.lockstep_replay.specs.Crossing.{cross_after, crossing, crossing_of, crossing_unbroken, crossing_unless}
 use Rattle.region_machine.specs.Enclosures.{Enclosures, is_enclosed}
 use Rattle.region_machine.specs.Guests.{guest_walk}
-use Rattle.region_machine.specs.Runs.{Place, passed, real_after, turn_unless, visited}
+use Rattle.region_machine.specs.Runs.{Place, passed, Real, turn_unless, visited}
 use Rattle.replay_machine.specs.Runs.{Masks, mask_at}
 use Rattle.rv32im_machine.specs.Language.{Walk, Looked, Passed, Moved, Saved, Restored, Ended}
 
@@ -66,11 +66,11 @@ turn-bits (Some broken) enclosures masks place = omega arith
 -- ---- so many turns
 
 pub cross-bits : (enclosures : Enclosures) (masks : Masks) (turns : ℕ) (start : Place) → start.past ≡ [] →
-    length (cross_after enclosures masks turns start) ≡ past_bits masks (real_after enclosures turns start).past
-unfolding cross_after real_after
+    length (cross_after enclosures masks turns start) ≡ past_bits masks (Real enclosures turns start).past
+unfolding cross_after Real
 cross-bits enclosures masks zero start none = sym (ap (λ past. past_bits masks past) none ∙ past-none masks)
 cross-bits enclosures masks (suc turns) start none =
-    let place = real_after enclosures turns start in
+    let place = Real enclosures turns start in
     let before = cross-bits enclosures masks turns start none in
     let turn = turn-bits place.broken enclosures masks place in
     let both : length (cross_after enclosures masks turns start ++ crossing_of enclosures masks place)

@@ -20,7 +20,7 @@ use Rattle.measuring.specs.KeptMasks.{masks_if_any}
 use Rattle.measuring.specs.Visits.{all_masks}
 use Rattle.many_runs.specs.Private.Joining.{recorded_masks}
 use Rattle.many_runs.specs.Private.Places.{point_at}
-use Rattle.many_runs.specs.Uniting.{joined}
+use Rattle.many_runs.specs.Uniting.{united_masks}
 use Rattle.many_runs.proofs.Fronts.{is-none, opens}
 use Rattle.many_runs.proofs.JoinedMasks.{none-joined}
 
@@ -135,7 +135,7 @@ unfolding recorded_masks
 recorded-more rest recording q some own none later =
     ap (λ list. recorded_masks q list)
     (opens rest recording some ∙ ap (λ r. r ∷ take (length rest - 1) (drop 1 rest)) (sym own))
-    ∙ (ap (λ masks. joined masks (recorded_masks q (take (length rest - 1) (drop 1 rest)))) none
+    ∙ (ap (λ masks. united_masks masks (recorded_masks q (take (length rest - 1) (drop 1 rest)))) none
     ∙ (none-joined (recorded_masks q (take (length rest - 1) (drop 1 rest))) ∙ later))
 
 pub recorded-end : (rest : List Recording) (q : Point) → length rest < 1 → recorded_masks q rest ≡ []

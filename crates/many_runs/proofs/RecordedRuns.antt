@@ -21,7 +21,7 @@ use Rattle.many_runs.specs.Causes.{IsFirstRefused}
 use Rattle.many_runs.specs.Following.{AreFollowed, IsFollowed, IsRunFault, many_fault_of}
 use Rattle.many_runs.specs.Measures.{AreRunsOn, IsRunOn, Setup, setup_of, start_on}
 use Rattle.many_runs.specs.Private.Recordings.{AllKeep, AreSameTogether, Keeps, RecordsUnion}
-use Rattle.many_runs.specs.Uniting.{IsUnited, all_links, joined, joined_masks}
+use Rattle.many_runs.specs.Uniting.{IsUnited, all_links, united_masks, joined_masks}
 use Rattle.many_runs.proofs.JoinedMasks.{joined-chain, joined-none, none-joined}
 use Rattle.std.proofs.Common.{◌||◌, Bool, append-nil}
 use Rattle.std.proofs.lemmas.List.Folds.{list_any-append}
@@ -82,11 +82,11 @@ keep-more (first ∷ recordings) (other ∷ runs) recording events keep also =
 -- ---- a few recordings of many runs
 
 joined-append : (point : Point) (first second : List (List Event)) →
-    joined_masks point (first ++ second) ≡ joined (joined_masks point first) (joined_masks point second)
+    joined_masks point (first ++ second) ≡ united_masks (joined_masks point first) (joined_masks point second)
 unfolding joined_masks
 joined-append point [] second = sym (none-joined (joined_masks point second))
 joined-append point (events ∷ first) second =
-    ap (λ masks. joined (visit_masks point events) masks) (joined-append point first second)
+    ap (λ masks. united_masks (visit_masks point events) masks) (joined-append point first second)
     ∙ sym (joined-chain (visit_masks point events) (joined_masks point first) (joined_masks point second))
 
 links-append : (first second : List (List Event)) (link : NamedLink) →
@@ -109,7 +109,7 @@ same-more : (runs others : List (List Event)) (events : List Event) → AreSameT
     AreSameTogether (runs ++ events ∷ []) (others ++ events ∷ [])
 same-more runs others events same = record {
   masks = λ point. joined-append point others (events ∷ [])
-      ∙ (ap (λ masks. joined masks (joined_masks point (events ∷ []))) (same.masks point)
+      ∙ (ap (λ masks. united_masks masks (joined_masks point (events ∷ []))) (same.masks point)
       ∙ sym (joined-append point runs (events ∷ [])));
   links = λ link. links-append others (events ∷ []) link
       ∙ (ap (λ b. b || is_among (all_links (events ∷ [])) link) (same.links link)

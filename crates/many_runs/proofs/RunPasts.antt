@@ -13,7 +13,7 @@ use Rattle.flow_graph.specs.declared.events.Event.TheVariants.{Pass, Link, FromS
 use Rattle.region_machine.specs.Breaking.{Breaks}
 use Rattle.region_machine.specs.Enclosures.{Enclosures, is_enclosed}
 use Rattle.region_machine.specs.Guests.{guest_walk}
-use Rattle.region_machine.specs.Runs.{Place, passed, real_after, real_turn, turn_unless, unbroken_turn, visited}
+use Rattle.region_machine.specs.Runs.{Place, passed, Real, real_turn, turn_unless, unbroken_turn, visited}
 use Rattle.replay_machine.specs.Runs.{times_passed}
 use Rattle.run_labels.specs.Flowing.{events_in}
 use Rattle.run_labels.specs.Runs.{IsUnrefused, broken_fault, enclosing, next_walk, run_after, turn_events, unlabelled}
@@ -103,11 +103,11 @@ turn-within false past events labels answers walk within proper = record {
 
 -- the real run where these regions are skipped beside the run with labels
 pub record Beside (regions : List Region) (skip : List ℕ) (answers : List (List ℕ)) (start : Place) : Type 0 where
-  pub state : (real_after (record { regions = regions; skip = skip }) (length answers) start).state
+  pub state : (Real (record { regions = regions; skip = skip }) (length answers) start).state
       ≡ (run_after regions answers (unlabelled start)).place.state
-  pub unbroken : (real_after (record { regions = regions; skip = skip }) (length answers) start).broken ≡ None
+  pub unbroken : (Real (record { regions = regions; skip = skip }) (length answers) start).broken ≡ None
   pub run_unbroken : (run_after regions answers (unlabelled start)).place.broken ≡ None
-  pub within : Within (real_after (record { regions = regions; skip = skip }) (length answers) start).past
+  pub within : Within (Real (record { regions = regions; skip = skip }) (length answers) start).past
       (run_after regions answers (unlabelled start)).events
 
 fault-none : (broken : Option Break) → broken_fault broken ≡ None → broken ≡ None
@@ -117,7 +117,7 @@ fault-none (Some broken) e = absurd (cc)
 pub runs-beside : (regions : List Region) (skip : List ℕ) (answers : List (List ℕ)) (start : Place) →
     start.past ≡ [] → start.broken ≡ None → IsUnrefused regions answers (unlabelled start) →
     AreProperEvents (run_after regions answers (unlabelled start)).events → Beside regions skip answers start
-unfolding run_after real_after IsUnrefused
+unfolding run_after Real IsUnrefused
 runs-beside regions skip [] start none unbroken unrefused proper = record {
   state = refl;
   unbroken = unbroken;
@@ -127,7 +127,7 @@ runs-beside regions skip [] start none unbroken unrefused proper = record {
 runs-beside regions skip (last ∷ earlier) start none unbroken unrefused proper =
     let enclosures : Enclosures = record { regions = regions; skip = skip } in
     let run = run_after regions earlier (unlabelled start) in
-    let place = real_after enclosures (length earlier) start in
+    let place = Real enclosures (length earlier) start in
     let walk = next_walk regions run in
     let turn = turn_events regions last run in
     let parts = all-parts IsProperEvent run.events turn proper in

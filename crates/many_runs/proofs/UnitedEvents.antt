@@ -26,7 +26,7 @@ use Rattle.acceptance_law.proofs.GraphEvents.{all-append}
 use Rattle.measuring.specs.declared.recordings.Recording.{Recording}
 use Rattle.many_runs.specs.Private.Joining.{event_between, link_events, passes, passes_at, recorded_links, recorded_masks}
 use Rattle.many_runs.specs.Private.Recordings.{AllKeep, Keeps}
-use Rattle.many_runs.specs.Uniting.{IsUnited, all_links, joined, joined_masks}
+use Rattle.many_runs.specs.Uniting.{IsUnited, all_links, united_masks, joined_masks}
 use Rattle.many_runs.proofs.BitsOfUnions.{has-united, is_passed}
 use Rattle.many_runs.proofs.FedEvents.{links-append}
 use Rattle.many_runs.proofs.SameLinks.{each-among, of-among}
@@ -46,8 +46,8 @@ masks-kept [] [] point keep = refl
 masks-kept [] (events ∷ runs) point keep = absurd keep
 masks-kept (recording ∷ recordings) [] point keep = absurd keep
 masks-kept (recording ∷ recordings) (events ∷ runs) point keep =
-    ap (λ masks. joined masks (recorded_masks point recordings)) (keep.0.records.visits keep.0.within point)
-    ∙ ap (λ masks. joined (visit_masks point events) masks) (masks-kept recordings runs point keep.1)
+    ap (λ masks. united_masks masks (recorded_masks point recordings)) (keep.0.records.visits keep.0.within point)
+    ∙ ap (λ masks. united_masks (visit_masks point events) masks) (masks-kept recordings runs point keep.1)
 
 -- ---- the visits of the points
 

@@ -1,11 +1,11 @@
 -- What table 1 and table 2 decide of several runs.
 use Rattle.std.specs.Prelude.{◌≡◌, ℕ, List}
-use Rattle.measuring.specs.Deciding.{IsDeciding}
 use Rattle.many_runs.specs.declared.faults.ManyFault.{ManyFault}
 use Rattle.many_runs.specs.declared.faults.ManyFault.TheVariants.{Memory}
 use Rattle.many_runs.specs.declared.many.Many.{Many}
 use Rattle.many_runs.specs.Causes.{HasManyCause}
 use Rattle.many_runs.specs.Measures.{MeasuresAll, Setup}
+use Rattle.transfer_rules.specs.Tables.{IsDeciding}
 
 -- runs that are measured together have no cause not to be
 abbrev pub MeasuredTogetherHaveNoCause : Type 0

@@ -13,8 +13,8 @@ use Rattle.many_runs.specs.Measures.{AreRunsOn, IsRunOn, Setup}
 use Rattle.many_runs.specs.Private.Recordings.{AllKeep, AreSameTogether, Keeps}
 
 -- at most 65,536 bytes
-abbrev pub is_short : List ℕ → Bool
-is_short secret = nat_le (length secret) 65536
+abbrev pub is_short_secret : List ℕ → Bool
+is_short_secret secret = nat_le (length secret) 65536
 
 -- the run on this secret is measured, and this is its recording
 pub record IsFollowed (setup : Setup) (secret : List ℕ) (recording : Recording) : Type 0 where

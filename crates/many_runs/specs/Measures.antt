@@ -3,7 +3,7 @@ use Rattle.std.specs.Prelude.{◌≡◌, ◌≤◌, ℕ, List, [], ◌∷◌, le
 use Rattle.std.specs.List.{AllByRecursion}
 use Rattle.acceptance_law.specs.RunCuts.{IsCutOf}
 use Rattle.acceptance_law.specs.Sides.{named_side}
-use Rattle.cut_file.specs.Pictures.{picture_of}
+use Rattle.cut_file.specs.Pictures.{cut_picture}
 use Rattle.elf32_loader.specs.Pictures.{Picture}
 use Rattle.enclosure_regions.specs.declared.region_parts.Region.{Region}
 use Rattle.flow_base.specs.declared.outputs.Output.{Output}
@@ -76,7 +76,7 @@ pub record IsMeasureOfAll (secret_len : ℕ) (events : List Event) (many : Many)
   pub side : Least many.graph many.side.points many.side.relays
   pub capacity : side_capacity many.graph many.side.points many.side.relays ≡ many.value
   pub cut : IsCutOf secret_len events (named_side many.graph many.side.points many.side.relays) many.value
-      (picture_of many.cut)
+      (cut_picture many.cut)
 
 -- the runs on all secrets, which have one length, exit within the limit, and this is the measure of them all, whose value
 -- is within the limit of a budget

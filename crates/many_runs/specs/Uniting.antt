@@ -8,15 +8,15 @@ use Rattle.acceptance_law.specs.RunCuts.{visit_masks}
 
 -- the masks of a point in two runs, visit by visit: the bits that either has, and where the one has no visit any more,
 -- those of the other
-unfoldable pub joined : List ℕ → List ℕ → List ℕ
-joined [] others = others
-joined (mask ∷ masks) [] = mask ∷ masks
-joined (mask ∷ masks) (other ∷ others) = bit_or mask other ∷ joined masks others
+unfoldable pub united_masks : List ℕ → List ℕ → List ℕ
+united_masks [] others = others
+united_masks (mask ∷ masks) [] = mask ∷ masks
+united_masks (mask ∷ masks) (other ∷ others) = bit_or mask other ∷ united_masks masks others
 
 -- the masks of a point in all runs, visit by visit
 unfoldable pub joined_masks : Point → List (List Event) → List ℕ
 joined_masks point [] = []
-joined_masks point (events ∷ runs) = joined (visit_masks point events) (joined_masks point runs)
+joined_masks point (events ∷ runs) = united_masks (visit_masks point events) (joined_masks point runs)
 
 -- the links of the graphs of all runs
 unfoldable pub all_links : List (List Event) → List NamedLink

@@ -1,8 +1,8 @@
 ghost use Rattle.std.specs.Prelude.{◌≡◌, ◌≤◌, ℕ, IfErr, IfOk, List as Seq, length, true};
 ghost use Rattle.std.specs.List.{list_all};
-ghost use Rattle.elf32_loader.specs.Images.{picture_of};
+ghost use Rattle.elf32_loader.specs.Images.{image_picture};
 ghost use Rattle.measuring.specs.Measures.{HasCause};
-ghost use Rattle.many_runs.specs.Following.{AreFollowed, IsFollowed, IsLengthFault, IsRunFault, is_short, many_fault_of};
+ghost use Rattle.many_runs.specs.Following.{AreFollowed, IsFollowed, IsLengthFault, IsRunFault, is_short_secret, many_fault_of};
 ghost use Rattle.many_runs.specs.Measures.{HaveLength, Setup as TheSetup, first_length, setup_of, start_on};
 
 use crate::faults::ManyFault;
@@ -22,7 +22,7 @@ const MOST_KEPT: usize = 8;
 /// `Length` where they have more than one.
 pub(crate) fn common_length(secrets: &[Bytes]) -> Result<u32, ManyFault>
     requires few { length secrets.now ≤ 64 }
-    requires short { list_all is_short secrets.now ≡ true }
+    requires short { list_all is_short_secret secrets.now ≡ true }
     ensures ok { IfOk result (λ secret_len. secret_len ≡ first_length secrets.now) }
     ensures alike { IfOk result (λ secret_len. HaveLength (first_length secrets.now) secrets.now) }
     ensures err { IfErr result (λ fault. IsLengthFault secrets.now fault) }
@@ -56,9 +56,9 @@ fn record_run(
 ) -> Result<Recording, MeasureFault>
     requires { length secret.now ≤ 65536 }
     ensures ok { IfOk result (λ recording. IsFollowed
-        (setup_of book.now.table (picture_of image.now) public.now regions.now.items turns) secret.now recording) }
+        (setup_of book.now.table (image_picture image.now) public.now regions.now.items turns) secret.now recording) }
     ensures err { IfErr result (λ fault. HasCause book.now.table regions.now.items (start_on
-        (setup_of book.now.table (picture_of image.now) public.now regions.now.items turns) secret.now) turns fault) }
+        (setup_of book.now.table (image_picture image.now) public.now regions.now.items turns) secret.now) turns fault) }
 {
     match follow(alloc, image, public, secret, regions, book, turns) {
         Ok(RunEnd::Exited(exit)) => {
@@ -113,11 +113,11 @@ pub(crate) fn record_runs(
     turns: u32,
 ) -> Result<List<Recording>, ManyFault>
     requires few { length secrets.now ≤ 64 }
-    requires short { list_all is_short secrets.now ≡ true }
+    requires short { list_all is_short_secret secrets.now ≡ true }
     ensures ok { IfOk result (λ recordings. AreFollowed
-        (setup_of book.now.table (picture_of image.now) public.now regions.now.items turns) secrets.now recordings) }
+        (setup_of book.now.table (image_picture image.now) public.now regions.now.items turns) secrets.now recordings) }
     ensures err { IfErr result (λ fault. IsRunFault
-        (setup_of book.now.table (picture_of image.now) public.now regions.now.items turns) secrets.now fault) }
+        (setup_of book.now.table (image_picture image.now) public.now regions.now.items turns) secrets.now fault) }
 {
     let mut recordings = List::new(alloc);
     for index in 0..secrets.len() {

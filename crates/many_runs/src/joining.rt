@@ -3,7 +3,7 @@ ghost use Rattle.measuring.specs.KeptMasks.{masks_if_any};
 ghost use Rattle.measuring.specs.VisitRuns.{run_masks};
 ghost use Rattle.measuring.specs.Visits.{all_masks};
 ghost use Rattle.many_runs.specs.Private.Joining.{recorded_masks};
-ghost use Rattle.many_runs.specs.Uniting.{joined};
+ghost use Rattle.many_runs.specs.Uniting.{united_masks};
 
 use flow_base::{List, NoMemory, Point};
 use measuring::{KeptVisits, PointVisits, Recording, VisitRun};
@@ -48,7 +48,7 @@ fn runs_at(alloc: Global, visits: &KeptVisits, point: &Point) -> Result<List<Vis
 
 /// The masks of a point in two runs, visit by visit.
 fn join(alloc: Global, first: &[VisitRun], second: &[VisitRun]) -> Result<List<VisitRun>, NoMemory>
-    ensures { IfOk result (λ runs. run_masks runs ≡ joined (run_masks first.now) (run_masks second.now)) }
+    ensures { IfOk result (λ runs. run_masks runs ≡ united_masks (run_masks first.now) (run_masks second.now)) }
 {
     let mut runs = List::new(alloc);
     let mut one = VisitRun { count: 0, mask: 0 };

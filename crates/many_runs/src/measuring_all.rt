@@ -1,10 +1,10 @@
 ghost use Rattle.std.specs.Prelude.{◌≡◌, ◌<◌, ◌≤◌, IfErr, IfOk, length, true};
 ghost use Rattle.std.specs.List.{AllByRecursion, list_all};
 ghost use Rattle.acceptance_law.specs.MeasuredLaws.{AreInputs};
-ghost use Rattle.elf32_loader.specs.Images.{picture_of};
+ghost use Rattle.elf32_loader.specs.Images.{image_picture};
 ghost use Rattle.many_runs.specs.Accepting.{AreAcceptedByFolds, AreAcceptedByTheCut, HasShortText};
 ghost use Rattle.many_runs.specs.Causes.{HasManyCause};
-ghost use Rattle.many_runs.specs.Following.{is_short};
+ghost use Rattle.many_runs.specs.Following.{is_short_secret};
 ghost use Rattle.many_runs.specs.Measures.{MeasuresAll, setup_of};
 
 use crate::faults::ManyFault;
@@ -21,7 +21,7 @@ use transfer_rules::RuleBook;
 
 /// Tells that a program, its public input, secrets and regions are as files have them. It does nothing.
 fn tell_all_inputs(image: &Image, public: &Bytes, secrets: &[Bytes], regions: &Regions)
-    ensures { AllByRecursion (AreInputs (picture_of image.now) public.now regions.now.items) secrets.now }
+    ensures { AllByRecursion (AreInputs (image_picture image.now) public.now regions.now.items) secrets.now }
 {
     let mut rest = secrets;
     while let [secret, more @ ..] = rest {
@@ -41,11 +41,11 @@ fn measure_runs(
     turns: u32,
 ) -> Result<Many, ManyFault>
     requires few { length secrets.now ≤ 64 }
-    requires short { list_all is_short secrets.now ≡ true }
+    requires short { list_all is_short_secret secrets.now ≡ true }
     ensures ok { IfOk result (λ many. MeasuresAll
-        (setup_of book.now.table (picture_of image.now) public.now regions.now.items turns) secrets.now many) }
+        (setup_of book.now.table (image_picture image.now) public.now regions.now.items turns) secrets.now many) }
     ensures err { IfErr result (λ fault. HasManyCause
-        (setup_of book.now.table (picture_of image.now) public.now regions.now.items turns) secrets.now fault) }
+        (setup_of book.now.table (image_picture image.now) public.now regions.now.items turns) secrets.now fault) }
 {
     let secret_len = common_length(secrets)?;
     let recordings = record_runs(alloc, image, public, secrets, regions, book, turns)?;
@@ -75,15 +75,15 @@ pub fn measure_all(
 ) -> Result<Many, ManyFault>
     requires some { 0 < length secrets.now }
     requires few { length secrets.now ≤ 64 }
-    requires short { list_all is_short secrets.now ≡ true }
+    requires short { list_all is_short_secret secrets.now ≡ true }
     ensures ok { IfOk result (λ many. MeasuresAll
-        (setup_of book.now.table (picture_of image.now) public.now regions.now.items turns) secrets.now many) }
+        (setup_of book.now.table (image_picture image.now) public.now regions.now.items turns) secrets.now many) }
     ensures err { IfErr result (λ fault. HasManyCause
-        (setup_of book.now.table (picture_of image.now) public.now regions.now.items turns) secrets.now fault) }
+        (setup_of book.now.table (image_picture image.now) public.now regions.now.items turns) secrets.now fault) }
     ensures accepted { IfOk result (λ many.
-        AreAcceptedByTheCut (picture_of image.now) public.now regions.now.items secrets.now turns many) }
+        AreAcceptedByTheCut (image_picture image.now) public.now regions.now.items secrets.now turns many) }
     ensures folds { IfOk result (λ many.
-        AreAcceptedByFolds (picture_of image.now) public.now regions.now.items secrets.now turns many) }
+        AreAcceptedByFolds (image_picture image.now) public.now regions.now.items secrets.now turns many) }
     ensures short { IfOk result (λ many. HasShortText many) }
 {
     tell_all_inputs(image, public, secrets, regions);

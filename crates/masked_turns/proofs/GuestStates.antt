@@ -5,13 +5,13 @@ use Rattle.rv32im_machine.specs.declared.language.Place.{Place}
 use Rattle.rv32im_machine.specs.declared.language.Place.TheVariants.{Byte, Register}
 use Rattle.rv32im_machine.specs.Language.{at_place, none_held}
 use Rattle.rv32im_machine.specs.State.{Control, Setting, Store}
-use Rattle.acceptance_law.specs.Proper.{AreBytes, IsGuest, place_limit}
+use Rattle.acceptance_law.specs.Proper.{AreBytes, IsProperGuest, place_limit}
 use Rattle.acceptance_law.proofs.StepsKeepStanding.{state_of}
 
 pub guest_within : (setting : Setting) (secret : List ℕ) (control : Control) (store : Store) → AreBytes secret →
     AreBytes setting.public_input → setting.start_break < 2 ^ 32 → control.current_break < 2 ^ 32 →
     ((place : Place) → at_place setting.base store none_held place ≤ place_limit place) →
-    ((register : ℕ) → slice_index store.kept register ≤ 4294967295) → IsGuest (state_of setting secret control store)
+    ((register : ℕ) → slice_index store.kept register ≤ 4294967295) → IsProperGuest (state_of setting secret control store)
 guest_within setting secret control store bytes public_bytes small_start small_break limits kept_words = record {
   store = record {
     registers = λ r. let limit = limits (Register r) in omega (arith, limit);

@@ -7,11 +7,11 @@ use Rattle.flow_base.specs.Words.{Agree}
 use Rattle.rv32im_machine.specs.declared.language.Aim.TheVariants.{Decide}
 use Rattle.replay_machine.specs.Runs.{Masks}
 use Rattle.shadow_masks.specs.Pages.{label_of}
-use Rattle.shadow_masks.specs.Points.{nowhere}
 use Rattle.acceptance_law.specs.Sides.{NamedSide}
 use Rattle.acceptance_law.proofs.WritesKeepRelation.{Close, close_label_of}
 use Rattle.masked_turns.specs.declared.uses.LeftBits.{LeftBits}
 use Rattle.masked_turns.specs.Deciding.{left_at}
+use Rattle.flow_base.specs.Points.{nowhere}
 
 -- every label is inside: values are only known to agree outside its mask
 abbrev pub everything : NamedSide

@@ -4,7 +4,6 @@ use Rattle.std.specs.Prelude.{slice_index}
 use Rattle.flow_base.specs.declared.points.Point.{Point}
 use Rattle.enclosure_regions.specs.declared.region_parts.Region.{Region}
 use Rattle.enclosure_regions.specs.Breaks.{outside_range}
-use Rattle.enclosure_regions.specs.Regions.{stands_in}
 use Rattle.rv32im_machine.specs.declared.language.Place.TheVariants.{Register}
 use Rattle.rv32im_machine.specs.Language.{none_held}
 use Rattle.rv32im_machine.specs.State.{Control, Store, entered, saved}
@@ -18,20 +17,21 @@ use Rattle.acceptance_law.proofs.SkippedTurns.{entered_break}
 use Rattle.acceptance_law.proofs.StepsKeepStanding.{InsideBeside, Stands}
 use Rattle.acceptance_law.proofs.WritesKeepRelation.{Beside}
 use Rattle.masked_turns.proofs.OutsideMasks.{everything}
+use Rattle.flow_base.specs.Listed.{is_listed}
 
 module _ (skip : List ℕ) (regions : List Region) (base : ℕ) where
   abbrev Standing : Control → LabelMap → Store → Store → List Point → Type 0
   Standing control labels real copy past = Stands everything skip regions base control labels real copy past past
 
   pub stands_entered : (control : Control) (labels : LabelMap) (real copy : Store) (past : List Point) (region : Region) →
-      stands_in skip region.id ≡ false → region_numbered regions region.id ≡ Some region →
+      is_listed skip region.id ≡ false → region_numbered regions region.id ≡ Some region →
       SameStarts region.ranges real.registers copy.registers → outside_range region real.registers base ≡ None →
       Standing control labels real copy past →
       Standing (entered region.id control) (after Save labels) (saved real) (saved copy) past
   stands_entered control labels real copy past region unskipped numbered starts none at = record {
     beside = saved_beside everything base labels real copy at.beside;
     counts = λ point never. refl;
-    runs = subst (λ r. stands_in skip r ≡ false) (sym (entered_region region.id control)) unskipped;
+    runs = subst (λ r. is_listed skip r ≡ false) (sym (entered_region region.id control)) unskipped;
     nowhere = λ lost.
         let found : region_numbered regions region.id ≡ None =
         subst (λ r. region_numbered regions r ≡ None) (entered_region region.id control) lost in
@@ -49,13 +49,13 @@ module _ (skip : List ℕ) (regions : List Region) (base : ℕ) where
   }
 
   pub stands_left : (control : Control) (labels : LabelMap) (real copy : Store) (past : List Point) →
-      Beside everything base (at_start labels) real none_held copy none_held → stands_in skip 0 ≡ false →
+      Beside everything base (at_start labels) real none_held copy none_held → is_listed skip 0 ≡ false →
       control.region ≡ 0 → control.current_break < 2 ^ 32 →
       ((register : ℕ) → slice_index real.kept register ≤ 4294967295) → Standing control labels real copy past
   stands_left control labels real copy past beside outside region_is small_break kept_words = record {
     beside = beside;
     counts = λ point never. refl;
-    runs = subst (λ r. stands_in skip r ≡ false) (sym region_is) outside;
+    runs = subst (λ r. is_listed skip r ≡ false) (sym region_is) outside;
     nowhere = λ none. region_is;
     inside = λ found is_in.
         let here : None ≡ Some found = subst (λ r. region_numbered regions r ≡ Some found) region_is is_in in

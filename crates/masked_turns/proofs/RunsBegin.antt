@@ -1,7 +1,6 @@
 -- At its start a run stands beside itself, with no masks.
 use Rattle.std.proofs.Common.{◌≡◌, ℕ, ◌-◌, ◌≤◌, false, List, [], Some, None, refl, sym, subst, arith}
 use Rattle.enclosure_regions.specs.declared.region_parts.Region.{Region}
-use Rattle.enclosure_regions.specs.Regions.{stands_in}
 use Rattle.rv32im_machine.specs.declared.language.Place.{Place}
 use Rattle.rv32im_machine.specs.declared.language.Place.TheVariants.{Register, Byte, First, Second}
 use Rattle.rv32im_machine.specs.Language.{none_held, at_place}
@@ -9,14 +8,15 @@ use Rattle.rv32im_machine.specs.State.{State}
 use Rattle.region_machine.specs.Enclosures.{region_numbered}
 use Rattle.shadow_masks.specs.Writes.{default_map}
 use Rattle.run_labels.specs.TurnLabels.{at_start, label_at}
-use Rattle.acceptance_law.specs.Proper.{IsGuest, IsPlace, place_limit}
+use Rattle.acceptance_law.specs.Proper.{IsProperGuest, IsProperPlace, place_limit}
 use Rattle.acceptance_law.proofs.StepsKeepStanding.{Stands}
 use Rattle.acceptance_law.proofs.WritesKeepRelation.{Close, close_refl}
 use Rattle.masked_turns.proofs.OutsideMasks.{everything}
+use Rattle.flow_base.specs.Listed.{is_listed}
 
-module _ (skip : List ℕ) (regions : List Region) (state : State) (is : IsGuest state)
-    (outside : state.control.region ≡ 0) (nowhere : stands_in skip 0 ≡ false) where
-  places : (place : Place) → IsPlace state.setting.base place →
+module _ (skip : List ℕ) (regions : List Region) (state : State) (is : IsProperGuest state)
+    (outside : state.control.region ≡ 0) (nowhere : is_listed skip 0 ≡ false) where
+  places : (place : Place) → IsProperPlace state.setting.base place →
       Close everything (label_at (at_start default_map) place) (at_place state.setting.base state.store none_held place)
       (at_place state.setting.base state.store none_held place)
   places place ip =
@@ -47,7 +47,7 @@ module _ (skip : List ℕ) (regions : List Region) (state : State) (is : IsGuest
       label_limits = label_limits;
     };
     counts = λ point never. refl;
-    runs = subst (λ r. stands_in skip r ≡ false) (sym outside) nowhere;
+    runs = subst (λ r. is_listed skip r ≡ false) (sym outside) nowhere;
     nowhere = λ none. outside;
     inside = λ region found.
         let here : None ≡ Some region = subst (λ r. region_numbered regions r ≡ Some region) outside found in

@@ -11,18 +11,19 @@ use Rattle.rv32im_machine.specs.Language.{Turn, Looks, Passes, Decides, Gives, M
 use Rattle.rv32im_machine.specs.Language.{walked, none_held, at_place, put, hold, value_of, values_of, made, work_of}
 use Rattle.rv32im_machine.specs.Language.{shaped, seen_value}
 use Rattle.flow_base.specs.declared.points.Point.{Point}
-use Rattle.region_machine.specs.Breaking.{place_break, first_break, walk_break}
+use Rattle.region_machine.specs.Breaking.{place_break, walk_break}
 use Rattle.shadow_masks.specs.Labels.{clean}
 use Rattle.shadow_masks.specs.Writes.{default_map}
 use Rattle.run_labels.specs.Masks.{answers_after, moved_label}
 use Rattle.run_labels.specs.TurnLabels.{TurnLabels, at_start, put_label}
-use Rattle.acceptance_law.specs.Proper.{AreBytes, IsPlace, place_limit, IsProper}
+use Rattle.acceptance_law.specs.Proper.{AreBytes, IsProperPlace, place_limit, IsProper}
 use Rattle.acceptance_law.proofs.WritesKeepRelation.{put_limits, put_registers, put_memory, put_kept, put_label_kept, not_alike}
 use Rattle.acceptance_law.proofs.Passings.{slot_word, made_fits}
 use Rattle.acceptance_law.proofs.Turns.{seen_word}
 use Rattle.acceptance_law.proofs.Unchanged.{EndsProper, declared, first-unbroken, may_write, put_other}
 use Rattle.acceptance_law.proofs.Unchanged.{start_limits, move_limit, move_place}
 use Rattle.masked_turns.specs.Clearing.{Cutting, cleared_in}
+use Rattle.std.specs.Option.{option_or}
 
 pub record StepEnds (setting : Setting) (secret : List ℕ) (number : ℕ) (store : Store) (held : Held) (walk : Walk) :
     Type 0 where
@@ -31,15 +32,15 @@ pub record StepEnds (setting : Setting) (secret : List ℕ) (number : ℕ) (stor
   pub registers : length (real_end walk).store.registers ≡ length store.registers
   pub memory : length (real_end walk).store.memory ≡ length store.memory
   pub same : (region : Region) (registers : List ℕ) (pc : ℕ) → walk_break region registers pc walk ≡ None →
-      (q : Place) → IsPlace setting.base q → declared region registers q ≡ false →
+      (q : Place) → IsProperPlace setting.base q → declared region registers q ≡ false →
       at_place setting.base (real_end walk).store none_held q ≡ at_place setting.base store held q
 
 module _ (setting : Setting) (secret : List ℕ) (bytes : AreBytes secret) (number : ℕ) where
   -- what holds at the end of the rest of the turn holds at the end of the turn, where a place is written first
-  put_ends : (p : Place) (value : ℕ) (store : Store) (held : Held) (walk whole : Walk) → IsPlace setting.base p →
+  put_ends : (p : Place) (value : ℕ) (store : Store) (held : Held) (walk whole : Walk) → IsProperPlace setting.base p →
       real_end whole ≡ real_end walk →
       ((region : Region) (registers : List ℕ) (pc : ℕ) → walk_break region registers pc whole
-      ≡ first_break (place_break region registers pc p) (walk_break region registers pc walk)) →
+      ≡ option_or (place_break region registers pc p) (walk_break region registers pc walk)) →
       StepEnds setting secret number (put setting.base p value store) (hold p value held) walk →
       StepEnds setting secret number store held whole
   put_ends p value store held walk whole ip end breaks rest = record {

@@ -4,7 +4,7 @@ use Rattle.flow_base.specs.declared.points.Point.{Point}
 use Rattle.rv32im_machine.specs.declared.language.Operation.{Operation}
 use Rattle.rv32im_machine.specs.Language.{Walk, Looked, Passed, Moved, Saved, Restored, Ended, first_of}
 use Rattle.transfer_rules.specs.declared.operands.Operands.{Operands}
-use Rattle.run_labels.specs.Answers.{Holds, IsSoundAnswer, IsTableAnswer}
+use Rattle.run_labels.specs.Answers.{HoldsOfAnswer, IsSoundAnswer, IsTableAnswer}
 use Rattle.run_labels.specs.Masks.{masks_of, answers_after, moved_label}
 use Rattle.run_labels.specs.TurnLabels.{TurnLabels, put_label, save_labels, restore_labels}
 use Rattle.masked_turns.specs.Clearing.{Cutting, labels_passed}
@@ -14,7 +14,7 @@ unfoldable pub EachCleared : (Operation → Operands → ℕ → Type 0) → Cut
     Type 0
 EachCleared Fact cutting past labels answers (Looked seen value walk) = EachCleared Fact cutting past labels answers walk
 EachCleared Fact cutting past labels answers (Passed passing go) =
-    Holds Fact passing.work (masks_of labels passing.sources) (first_of answers)
+    HoldsOfAnswer Fact passing.work (masks_of labels passing.sources) (first_of answers)
     × EachCleared Fact cutting (passing.point ∷ past) (labels_passed cutting past labels (first_of answers) passing)
     (answers_after passing.work answers) (go passing.value)
 EachCleared Fact cutting past labels answers (Moved place shape source value walk) =
@@ -25,7 +25,7 @@ EachCleared Fact cutting past labels answers (Restored registers walk replayed) 
 EachCleared Fact cutting past labels answers (Ended state) = Unit {0}
 
 -- each answer is sound, and one of the table
-pub record AreAnswers (table : ℕ) (cutting : Cutting) (past : List Point) (labels : TurnLabels) (answers : List ℕ)
+pub record AreWalkAnswers (table : ℕ) (cutting : Cutting) (past : List Point) (labels : TurnLabels) (answers : List ℕ)
     (walk : Walk) : Type 0 where
   pub sound : EachCleared IsSoundAnswer cutting past labels answers walk
   pub by_table : EachCleared (IsTableAnswer table) cutting past labels answers walk

@@ -3,7 +3,7 @@ use Rattle.std.proofs.Common.{◌≡◌, ◌≢◌, ℕ, ◌+◌, ◌-◌, ◌^�
 use Rattle.std.proofs.Common.{length, set, slice_index, sym, ap, ◌∙◌, ⊎_elim, arith}
 use Rattle.std.proofs.lemmas.Bool.{cases_eq, cases_Bool, eq-eqb, ne_eqb, cond-true, cond-false, ltb-true}
 use Rattle.std.proofs.lemmas.List.{length-set, get_or-set_same, get_or-set_other}
-use Rattle.max_flow.specs.Networks.{Net, IsNet, IsFlow, AreAtMost, at_node, value_of}
+use Rattle.max_flow.specs.Networks.{Net, IsNet, IsFlow, AreAtMost, at_node, source_flow}
 use Rattle.max_flow.specs.Private.Rooms.{bound}
 use Rattle.max_flow.specs.Private.Balances.{AreBalanced, AreSums, IsFlowOfValue, sum_at}
 use Rattle.max_flow.proofs.Sums.{sum-none, sum-suc}
@@ -90,7 +90,7 @@ looked_top limits flow i within fits =
     (cases_Bool (ltb i (length limits)))
 
 looked-value : (net : Net) (flow into out : List ℕ) (value : ℕ) → IsNet net →
-    IsLookedOver net flow into out value → value_of net flow ≡ value
+    IsLookedOver net flow into out value → source_flow net flow ≡ value
 looked-value net flow into out value is looked =
     let out_count : length out ≡ net.nodes = looked.out_count in
     let some : 2 ≤ net.nodes = is.some in

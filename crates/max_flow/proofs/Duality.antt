@@ -3,7 +3,7 @@ use Rattle.std.proofs.Common.{◌≡◌, ◌≢◌, ◌⊎◌, ℕ, zero, suc, �
 use Rattle.std.proofs.Common.{true, false, List, length, slice_index, refl, sym, ap, ◌∙◌, ⊎_elim, arith}
 use Rattle.std.proofs.lemmas.Bool.{cases_eq, cases_Bool, cases_order, lt-ltb, le-ltb, eq-eqb, ne_eqb}
 use Rattle.std.proofs.lemmas.Bool.{and_right, cond-false}
-use Rattle.max_flow.specs.Networks.{Net, sum_below, at_node, IsNet, IsFlow, value_of}
+use Rattle.max_flow.specs.Networks.{Net, sum_below, at_node, IsNet, IsFlow, source_flow}
 use Rattle.max_flow.proofs.Sums.{sum_same, sum_add, sum_zero}
 
 -- the flow at the nodes of a set
@@ -111,7 +111,7 @@ source_entered net flow is =
 
 -- of the nodes below k in a set with the source and without the sink: what flows in and the value are what flows out
 grows : (net : Net) (flow : List ℕ) → IsNet net → IsFlow net flow → (s : ℕ → Bool) → s 0 ≡ true → s 1 ≡ false →
-    (k : ℕ) → k < net.nodes → at_set net.heads flow (part s (k + 1)) + value_of net flow ≡ at_set net.tails flow
+    (k : ℕ) → k < net.nodes → at_set net.heads flow (part s (k + 1)) + source_flow net flow ≡ at_set net.tails flow
     (part s (k + 1))
 grows net flow is flows s source sink zero below =
     let into : at_set net.heads flow (part s (0 + 1)) ≡ at_set net.heads flow (part s 0) + at_node net.heads flow 0 =
@@ -123,7 +123,7 @@ grows net flow is flows s source sink zero below =
     let c : at_node net.heads flow 0 ≡ 0 = source_entered net flow is in
     omega arith
 grows net flow is flows s source sink (suc k) below =
-    let earlier : at_set net.heads flow (part s (k + 1)) + value_of net flow ≡ at_set net.tails flow (part s (k + 1)) =
+    let earlier : at_set net.heads flow (part s (k + 1)) + source_flow net flow ≡ at_set net.tails flow (part s (k + 1)) =
     grows net flow is flows s source sink k (omega arith) in
     let e : suc k ≡ k + 1 = omega arith in
     ⊎_elim
@@ -156,11 +156,11 @@ grows net flow is flows s source sink (suc k) below =
 
 -- what flows into a set with the source and without the sink, and the value, are what flows out
 pub conserved : (net : Net) (flow : List ℕ) → IsNet net → IsFlow net flow → (s : ℕ → Bool) → s 0 ≡ true → s 1 ≡ false →
-    at_set net.heads flow s + value_of net flow ≡ at_set net.tails flow s
+    at_set net.heads flow s + source_flow net flow ≡ at_set net.tails flow s
 conserved net flow is flows s source sink =
     let some : 2 ≤ net.nodes = is.some in
     let e : net.nodes - 1 + 1 ≡ net.nodes = omega arith in
-    let all : at_set net.heads flow (part s (net.nodes - 1 + 1)) + value_of net flow ≡ at_set net.tails flow
+    let all : at_set net.heads flow (part s (net.nodes - 1 + 1)) + source_flow net flow ≡ at_set net.tails flow
     (part s (net.nodes - 1 + 1)) =
     grows net flow is flows s source sink (net.nodes - 1) (omega arith) in
     let into : at_set net.heads flow (part s (net.nodes - 1 + 1)) ≡ at_set net.heads flow s =

@@ -2,7 +2,7 @@
 use Rattle.std.proofs.Common.{◌≡◌, ℕ, ◌-◌, ◌^◌, ◌≤◌, ◌<◌, cond, eqb, true, false, List}
 use Rattle.std.proofs.Common.{length, slice_index, refl, sym, ◌∙◌, ⊎_elim, arith}
 use Rattle.std.proofs.lemmas.Bool.{cases_Bool, ltb-true, lt-ltb, le-ltb}
-use Rattle.max_flow.specs.Networks.{Net, at_node, IsNet, IsFlow, IsSide, AreAtMost, value_of, capacity_of}
+use Rattle.max_flow.specs.Networks.{Net, at_node, IsNet, IsFlow, IsSide, AreAtMost, source_flow, capacity_of}
 use Rattle.max_flow.specs.Private.Balances.{IsFlowOfValue}
 use Rattle.max_flow.specs.Private.Rooms.{IsBounded, IsClosed, HasSmallSide, IsLeast}
 use Rattle.max_flow.specs.Private.Searching.{IsFound, is_found}
@@ -34,16 +34,16 @@ none_bounded net flow zeros = record {
   top = λ i below. let e : slice_index flow i ≡ 0 = zeros.each i in omega arith;
 }
 
-none-value : (net : Net) (flow : List ℕ) → AreZeros (length net.tails) flow → value_of net flow ≡ 0
+none-value : (net : Net) (flow : List ℕ) → AreZeros (length net.tails) flow → source_flow net flow ≡ 0
 none-value net flow zeros = none_at net.tails flow 0 (length net.tails) zeros
 
 none_most : (n : ℕ) (flow : List ℕ) → AreZeros n flow → AreAtMost 0 flow
 none_most n flow zeros = λ i. let e : slice_index flow i ≡ 0 = zeros.each i in omega (arith, e)
 
-pub value_small : (net : Net) (flow : List ℕ) → IsNet net → HasSmallSide net → IsFlow net flow → value_of net flow < 2
+pub value_small : (net : Net) (flow : List ℕ) → IsNet net → HasSmallSide net → IsFlow net flow → source_flow net flow < 2
     ^ 64 - 1
 value_small net flow is small flows =
-    let below : value_of net flow ≤ capacity_of net small.first = weak net flow small.first is flows small.is_side in
+    let below : source_flow net flow ≤ capacity_of net small.first = weak net flow small.first is flows small.is_side in
     let few : capacity_of net small.first < 2 ^ 64 - 1 = small.small in
     omega (arith, below, few)
 
@@ -64,7 +64,7 @@ last_side net flow value places arrivals rooms queue is small flows found none s
 
 pub last-capacity : (net : Net) (flow : List ℕ) (value : ℕ) (places arrivals rooms queue : List ℕ) → IsNet net →
     HasSmallSide net → IsFlow net flow →
-    value_of net flow ≡ value → IsFound net flow places arrivals rooms queue → slice_index places 1 ≡ 0 →
+    source_flow net flow ≡ value → IsFound net flow places arrivals rooms queue → slice_index places 1 ≡ 0 →
     IsClosed net flow (is_found places) →
     capacity_of net (is_found places) ≡ value
 last-capacity net flow value places arrivals rooms queue is small flows value_is found none shut =
@@ -74,7 +74,7 @@ last-capacity net flow value places arrivals rooms queue is small flows value_is
 
 pub last_least : (net : Net) (flow : List ℕ) (value : ℕ) (places arrivals rooms queue : List ℕ) → IsNet net →
     IsFlow net flow →
-    value_of net flow ≡ value → IsFound net flow places arrivals rooms queue → IsLeast net value (is_found places)
+    source_flow net flow ≡ value → IsFound net flow places arrivals rooms queue → IsLeast net value (is_found places)
 last_least net flow value places arrivals rooms queue is flows value_is found = record {
   contained = λ other side few v below in_set.
       found.least other side.source (closed net flow other is flows side (omega (arith, few, value_is))) v below

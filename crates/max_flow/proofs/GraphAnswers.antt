@@ -7,7 +7,7 @@ use Rattle.std.proofs.lemmas.List.{get_or-take, get_or-drop}
 use Rattle.std.proofs.Math.Nat.{min-le_left}
 use Rattle.flow_graph.specs.declared.graphs.Graph.{Graph}
 use Rattle.max_flow.specs.declared.answers.Half.{Half}
-use Rattle.max_flow.specs.Networks.{IsFlow, IsSide, AreAtMost, value_of, capacity_of}
+use Rattle.max_flow.specs.Networks.{IsFlow, IsSide, AreAtMost, source_flow, capacity_of}
 use Rattle.max_flow.specs.Private.Rooms.{IsLeast}
 use Rattle.max_flow.specs.Flows.{halves_from, tail_of, network_of, member, IsFlowOf, Least, HasNoGreater}
 use Rattle.max_flow.specs.Flows.{IsWithinLimits, is_small, flow_value, side_capacity}
@@ -86,7 +86,7 @@ greatest_from graph value places side capacity points links flow =
 
 pub least_from : (graph : Graph) (value : ℕ) (flows places : List ℕ) (halves : List Half) (answers : List Bool) →
     IsFlow (network_of graph) flows →
-    value_of (network_of graph) flows ≡ value → IsMade graph places halves answers → length halves ≡ length
+    source_flow (network_of graph) flows ≡ value → IsMade graph places halves answers → length halves ≡ length
     graph.points → length answers ≡ length graph.relays →
     IsSide (network_of graph) (is_found places) → capacity_of (network_of graph) (is_found places) ≡ value →
     IsLeast (network_of graph) value (is_found places) →
@@ -101,7 +101,7 @@ least_from graph value flows places halves answers flow value_is made points_cou
             answers made side;
       };
       smallest = λ others passed other.
-          let below : value_of (network_of graph) flows ≤ side_capacity graph others passed =
+          let below : source_flow (network_of graph) flows ≤ side_capacity graph others passed =
           weak (network_of graph) flows (member graph others passed) (graph_net graph) flow other.side in
           omega (arith, below, mine, value_is);
       contained = λ others passed other same node inside in_set.

@@ -4,7 +4,7 @@ use Rattle.std.proofs.Common.{◌≡◌, ◌≢◌, ℕ, ◌+◌, ◌-◌, ◌^�
 use Rattle.std.proofs.Common.{true, false, List, length, slice_index, refl, sym, ap, ◌∙◌, ⊎_elim, arith}
 use Rattle.std.proofs.lemmas.Bool.{cases_eq, cases_lt, cases_Bool, lt-ltb, le-ltb, eq-eqb, ne_eqb, cond-true}
 use Rattle.std.proofs.lemmas.Bool.{cond-false}
-use Rattle.max_flow.specs.Networks.{Net, sum_below, IsNet, IsFlow, IsSide, value_of, leaves, capacity_of}
+use Rattle.max_flow.specs.Networks.{Net, sum_below, IsNet, IsFlow, IsSide, source_flow, leaves, capacity_of}
 use Rattle.max_flow.specs.Private.Rooms.{bound, IsClosed}
 use Rattle.max_flow.proofs.Sums.{sum_same, sum_add, sum_le, sum_tight, sum_item, sum_front}
 use Rattle.max_flow.proofs.Duality.{at_set, conserved}
@@ -92,10 +92,10 @@ edge_within net flow is flows s side i below from to =
     to in cc))
     (cases_lt i (length net.limits))
 
-pub weak : (net : Net) (flow : List ℕ) (s : ℕ → Bool) → IsNet net → IsFlow net flow → IsSide net s → value_of net flow
+pub weak : (net : Net) (flow : List ℕ) (s : ℕ → Bool) → IsNet net → IsFlow net flow → IsSide net s → source_flow net flow
     ≤ capacity_of net s
 weak net flow s is flows side =
-    let all : at_set net.heads flow s + value_of net flow ≡ at_set net.tails flow s = conserved net flow is flows s
+    let all : at_set net.heads flow s + source_flow net flow ≡ at_set net.tails flow s = conserved net flow is flows s
     side.source side.sink in
     let each : sum_below (length net.tails) (flow_out net flow s) ≤ sum_below (length net.tails)
     (λ i. flow_in net flow s i + limit_out net s i) =
@@ -111,10 +111,10 @@ weak net flow s is flows side =
 
 -- where the capacity is no more than the value, each edge brings out what it brings in and its limit
 edges_tight : (net : Net) (flow : List ℕ) (s : ℕ → Bool) → IsNet net → IsFlow net flow → IsSide net s →
-    capacity_of net s ≤ value_of net flow →
+    capacity_of net s ≤ source_flow net flow →
     (i : ℕ) → i < length net.tails → flow_out net flow s i ≡ flow_in net flow s i + limit_out net s i
 edges_tight net flow s is flows side full =
-    let all : at_set net.heads flow s + value_of net flow ≡ at_set net.tails flow s = conserved net flow is flows s
+    let all : at_set net.heads flow s + source_flow net flow ≡ at_set net.tails flow s = conserved net flow is flows s
     side.source side.sink in
     let parts : sum_below (length net.tails) (λ i. flow_in net flow s i + limit_out net s i)
     ≡ sum_below (length net.tails) (flow_in net flow s) + sum_below (length net.tails) (limit_out net s) =
@@ -127,7 +127,7 @@ edges_tight net flow s is flows side full =
     (omega (arith, a, b, c, all, parts, full))
 
 pub closed : (net : Net) (flow : List ℕ) (s : ℕ → Bool) → IsNet net → IsFlow net flow → IsSide net s → capacity_of net
-    s ≤ value_of net flow → IsClosed net flow s
+    s ≤ source_flow net flow → IsClosed net flow s
 unfolding bound
 closed net flow s is flows side full = record {
   forward = λ i below room from.
@@ -152,9 +152,9 @@ closed net flow s is flows side full = record {
 leaving_le : (net : Net) (flow : List ℕ) (s : ℕ → Bool) → IsNet net → IsFlow net flow → s 0 ≡ true → s 1 ≡ false →
     IsClosed net flow s →
     (e : ℕ) → e < length net.tails → s (slice_index net.tails e) ≡ true → s (slice_index net.heads e) ≡ false →
-    slice_index flow e ≤ value_of net flow
+    slice_index flow e ≤ source_flow net flow
 leaving_le net flow s is flows source sink shut e below from to =
-    let all : at_set net.heads flow s + value_of net flow ≡ at_set net.tails flow s = conserved net flow is flows s
+    let all : at_set net.heads flow s + source_flow net flow ≡ at_set net.tails flow s = conserved net flow is flows s
     source sink in
     let f : ℕ → ℕ = λ i. cond (eqb i e) (slice_index flow e) 0 in
     let each : sum_below (length net.tails) (λ i. flow_in net flow s i + cond (eqb i e) (slice_index flow e) 0) ≤
@@ -188,7 +188,7 @@ leaving_le net flow s is flows source sink shut e below from to =
 -- an edge that leaves such a set is limited and full
 leaving_full : (net : Net) (flow : List ℕ) (s : ℕ → Bool) → IsNet net → IsFlow net flow → s 0 ≡ true → s 1 ≡ false →
     IsClosed net flow s →
-    value_of net flow < 2 ^ 64 - 1 → (i : ℕ) → i < length net.tails → s (slice_index net.tails i) ≡ true →
+    source_flow net flow < 2 ^ 64 - 1 → (i : ℕ) → i < length net.tails → s (slice_index net.tails i) ≡ true →
     s (slice_index net.heads i) ≡ false →
     (ltb i (length net.limits) ≡ true) × (slice_index flow i ≡ slice_index net.limits i)
 unfolding bound
@@ -207,7 +207,7 @@ leaving_full net flow s is flows source sink shut small i below from to =
     (λ (open_edge : length net.limits ≤ i).
     let top : bound net.limits i ≡ 2 ^ 64 - 1 = cond-false (ltb i (length net.limits)) _ _
     (le-ltb i (length net.limits) open_edge) in
-    let less : slice_index flow i ≤ value_of net flow = leaving_le net flow s is flows source sink shut i below from
+    let less : slice_index flow i ≤ source_flow net flow = leaving_le net flow s is flows source sink shut i below from
     to in
     let room : slice_index flow i < bound net.limits i = omega (arith, top, less, small) in
     absurd (let no : true ≡ false = sym (shut.forward i below room from) ∙ to in cc))
@@ -215,7 +215,7 @@ leaving_full net flow s is flows source sink shut small i below from to =
 
 pub side_of_closed : (net : Net) (flow : List ℕ) (s : ℕ → Bool) → IsNet net → IsFlow net flow → s 0 ≡ true →
     s 1 ≡ false → IsClosed net flow s →
-    value_of net flow < 2 ^ 64 - 1 → IsSide net s
+    source_flow net flow < 2 ^ 64 - 1 → IsSide net s
 side_of_closed net flow s is flows source sink shut small = record {
   source = source;
   sink = sink;
@@ -230,9 +230,9 @@ side_of_closed net flow s is flows source sink shut small = record {
 
 pub capacity_of_closed : (net : Net) (flow : List ℕ) (s : ℕ → Bool) → IsNet net → IsFlow net flow → s 0 ≡ true →
     s 1 ≡ false → IsClosed net flow s →
-    value_of net flow < 2 ^ 64 - 1 → capacity_of net s ≡ value_of net flow
+    source_flow net flow < 2 ^ 64 - 1 → capacity_of net s ≡ source_flow net flow
 capacity_of_closed net flow s is flows source sink shut small =
-    let all : at_set net.heads flow s + value_of net flow ≡ at_set net.tails flow s = conserved net flow is flows s
+    let all : at_set net.heads flow s + source_flow net flow ≡ at_set net.tails flow s = conserved net flow is flows s
     source sink in
     let each : sum_below (length net.tails) (flow_out net flow s) ≡ sum_below (length net.tails)
     (λ i. flow_in net flow s i + limit_out net s i) =

@@ -4,7 +4,7 @@ use Rattle.std.proofs.Common.{length, set, slice_index, refl, sym, ap, ◌∙◌
 use Rattle.std.proofs.lemmas.Bool.{cases_eq, cases_lt, eq-eqb, ne_eqb, lt-ltb, le-ltb, cond-true, cond-false}
 use Rattle.std.proofs.lemmas.Bool.{cases_Bool}
 use Rattle.std.proofs.lemmas.List.{length-set, get_or-set_same, get_or-set_other}
-use Rattle.max_flow.specs.Networks.{Net, sum_below, at_node, IsNet, IsFlow, value_of}
+use Rattle.max_flow.specs.Networks.{Net, sum_below, at_node, IsNet, IsFlow, source_flow}
 use Rattle.max_flow.specs.Private.Rooms.{bound, IsBounded, room_into, other_end, pushed}
 use Rattle.max_flow.specs.Private.Searching.{Arrives, Carries, IsWalking, IsFound}
 use Rattle.max_flow.proofs.Sums.{sum_changed}
@@ -255,7 +255,7 @@ walking_on net flow places arrivals rooms value at d is walking ne =
 pub walking_first : (net : Net) (flow places arrivals rooms queue : List ℕ) → IsNet net → IsFlow net flow →
     IsBounded net flow →
     IsFound net flow places arrivals rooms queue → 0 < slice_index places 1 →
-    IsWalking net flow places arrivals rooms (value_of net flow) 1 (slice_index rooms 1)
+    IsWalking net flow places arrivals rooms (source_flow net flow) 1 (slice_index rooms 1)
 walking_first net flow places arrivals rooms queue is flows bounded found placed =
     let two : 2 ≤ net.nodes = is.some in
     record {
@@ -270,7 +270,7 @@ walking_first net flow places arrivals rooms queue is flows bounded found placed
             let into : at_node net.heads flow 0 ≡ 0 = source_entered net flow is in
             rw e (omega (arith, into)))
             (λ (ne : x ≢ 0).
-            let a : cond (eqb 0 x) (value_of net flow) 0 ≡ 0 = cond-false (eqb 0 x) _ 0 (ne_eqb 0 x (λ z. ne (sym z)))
+            let a : cond (eqb 0 x) (source_flow net flow) 0 ≡ 0 = cond-false (eqb 0 x) _ 0 (ne_eqb 0 x (λ z. ne (sym z)))
             in
             let b : cond (eqb 1 x) (slice_index rooms 1) 0 ≡ 0 = cond-false (eqb 1 x) _ 0
             (ne_eqb 1 x (λ z. not_sink (sym z))) in
@@ -306,7 +306,7 @@ walked_whole net flow places arrivals rooms value d is walking = record {
 }
 
 walked-sum : (net : Net) (flow places arrivals rooms : List ℕ) (value d : ℕ) → IsNet net → IsWalking net flow places
-    arrivals rooms value 0 d → value_of net flow ≡ value + d
+    arrivals rooms value 0 d → source_flow net flow ≡ value + d
 walked-sum net flow places arrivals rooms value d is walking =
     let two : 2 ≤ net.nodes = is.some in
     let into : at_node net.heads flow 0 ≡ 0 = source_entered net flow is in
@@ -321,7 +321,7 @@ walked_flow net flow places arrivals rooms value at d is end walking =
     (subst (λ v. IsWalking net flow places arrivals rooms value v d) end walking)
 
 pub walked-value : (net : Net) (flow places arrivals rooms : List ℕ) (value at d : ℕ) → IsNet net → at ≡ 0 →
-    IsWalking net flow places arrivals rooms value at d → value_of net flow ≡ value + d
+    IsWalking net flow places arrivals rooms value at d → source_flow net flow ≡ value + d
 walked-value net flow places arrivals rooms value at d is end walking =
     walked-sum net flow places arrivals rooms value d is
     (subst (λ v. IsWalking net flow places arrivals rooms value v d) end walking)

@@ -12,7 +12,7 @@ use Rattle.flow_graph.specs.declared.graphs.Graph.{Graph}
 use Rattle.flow_graph.specs.declared.nodes.Node.{Node}
 use Rattle.max_flow.specs.declared.answers.Half.{Half}
 use Rattle.max_flow.specs.declared.answers.Half.TheVariants.{Both, FirstOnly, SecondOnly, Neither}
-use Rattle.max_flow.specs.Networks.{Net, IsFlow, IsSide, value_of, capacity_of}
+use Rattle.max_flow.specs.Networks.{Net, IsFlow, IsSide, source_flow, capacity_of}
 
 -- the number of the node that a link leaves, where there are so many points
 abbrev pub tail_of : ℕ → End → ℕ
@@ -50,7 +50,7 @@ pub record IsFlowOf (graph : Graph) (points links : List ℕ) : Type 0 where
 
 -- the sum over the links from the source
 abbrev pub flow_value : Graph → List ℕ → List ℕ → ℕ
-flow_value graph points links = value_of (network_of graph) (points ++ links)
+flow_value graph points links = source_flow (network_of graph) (points ++ links)
 
 abbrev pub has_first : Half → Bool
 has_first Both = true

@@ -40,8 +40,8 @@ abbrev pub AreAtMost : ℕ → List ℕ → Type 0
 AreAtMost most numbers = (i : ℕ) → slice_index numbers i ≤ most
 
 -- what flows out of the source
-abbrev pub value_of : Net → List ℕ → ℕ
-value_of net flow = at_node net.tails flow 0
+abbrev pub source_flow : Net → List ℕ → ℕ
+source_flow net flow = at_node net.tails flow 0
 
 -- a set of nodes with the source and without the sink that no open edge leaves
 pub record IsSide (net : Net) (side : ℕ → Bool) : Type 0 where

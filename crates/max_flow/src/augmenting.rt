@@ -1,5 +1,5 @@
 ghost use Rattle.std.specs.Prelude.{◌≡◌, ◌+◌, ◌<◌, ◌≤◌, length, slice_index, slice_set};
-ghost use Rattle.max_flow.specs.Networks.{AreAtMost, IsFlow, value_of};
+ghost use Rattle.max_flow.specs.Networks.{AreAtMost, IsFlow, source_flow};
 ghost use Rattle.max_flow.specs.Private.Rooms.{IsBounded, bound, other_end, pushed, room_into};
 ghost use Rattle.max_flow.specs.Private.Solving.{net_of, IsNetwork, IsTree};
 
@@ -31,12 +31,12 @@ pub fn augment(network: &Network, flows: &mut [u64], tree: &Tree) -> u64
     requires bounded { IsBounded (net_of network.now) flows.old }
     requires tree { IsTree (net_of network.now) flows.old tree.now }
     requires found { 0 < slice_index tree.now.places.items 1 }
-    requires most { AreAtMost (value_of (net_of network.now) flows.old) flows.old }
+    requires most { AreAtMost (source_flow (net_of network.now) flows.old) flows.old }
     ensures flow { IsFlow (net_of network.now) flows.new }
     ensures bounded { IsBounded (net_of network.now) flows.new }
-    ensures value { value_of (net_of network.now) flows.new ≡ value_of (net_of network.now) flows.old + result }
+    ensures value { source_flow (net_of network.now) flows.new ≡ source_flow (net_of network.now) flows.old + result }
     ensures some { 0 < result }
-    ensures most { AreAtMost (value_of (net_of network.now) flows.new) flows.new }
+    ensures most { AreAtMost (source_flow (net_of network.now) flows.new) flows.new }
 {
     let amount = tree.room(1);
     let mut at = 1;

@@ -1,5 +1,5 @@
 ghost use Rattle.std.specs.Prelude.{◌≡◌, ◌+◌, ◌-◌, ◌<◌, ◌≤◌, length, slice_index, false, IfOk, OnOk};
-ghost use Rattle.max_flow.specs.Networks.{AreAtMost, IsFlow, value_of};
+ghost use Rattle.max_flow.specs.Networks.{AreAtMost, IsFlow, source_flow};
 ghost use Rattle.max_flow.specs.Private.Rooms.{HasSmallSide, IsBounded};
 ghost use Rattle.max_flow.specs.Private.Searching.{IsStart};
 ghost use Rattle.max_flow.specs.Private.Solving.{net_of, IsNetwork, IsTree};
@@ -206,12 +206,12 @@ fn add_walks(
     requires root { slice_index tree.old.places.items 0 ≡ 1 }
     requires leaving { AreCursors network.now.tails.items network.now.nodes leaving.old }
     requires entering { AreCursors network.now.heads.items network.now.nodes entering.old }
-    requires most { AreAtMost (value_of (net_of network.now) flows.old) flows.old }
+    requires most { AreAtMost (source_flow (net_of network.now) flows.old) flows.old }
     ensures flow { OnOk result (IsFlow (net_of network.now) flows.new) }
     ensures bounded { OnOk result (IsBounded (net_of network.now) flows.new) }
-    ensures value { IfOk result (λ total. value_of (net_of network.now) flows.new ≡ value_of (net_of network.now)
+    ensures value { IfOk result (λ total. source_flow (net_of network.now) flows.new ≡ source_flow (net_of network.now)
         flows.old + total) }
-    ensures most { OnOk result (AreAtMost (value_of (net_of network.now) flows.new) flows.new) }
+    ensures most { OnOk result (AreAtMost (source_flow (net_of network.now) flows.new) flows.new) }
 {
     let mut total = 0;
     for _ in 0..steps {
@@ -250,13 +250,13 @@ pub fn deepen(
     requires bounded { IsBounded (net_of network.now) flows.old }
     requires tree { IsTree (net_of network.now) flows.old found.now }
     requires found { 0 < slice_index found.now.places.items 1 }
-    requires most { AreAtMost (value_of (net_of network.now) flows.old) flows.old }
+    requires most { AreAtMost (source_flow (net_of network.now) flows.old) flows.old }
     ensures flow { OnOk result (IsFlow (net_of network.now) flows.new) }
     ensures bounded { OnOk result (IsBounded (net_of network.now) flows.new) }
-    ensures value { IfOk result (λ total. value_of (net_of network.now) flows.new ≡ value_of (net_of network.now)
+    ensures value { IfOk result (λ total. source_flow (net_of network.now) flows.new ≡ source_flow (net_of network.now)
         flows.old + total) }
     ensures some { IfOk result (λ total. 0 < total) }
-    ensures most { OnOk result (AreAtMost (value_of (net_of network.now) flows.new) flows.new) }
+    ensures most { OnOk result (AreAtMost (source_flow (net_of network.now) flows.new) flows.new) }
 {
     let first = augment(network, flows, found);
     let mut leaving = network.leaving.first.as_slice().to_vec(alloc)?;

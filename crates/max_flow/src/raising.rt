@@ -1,5 +1,5 @@
 ghost use Rattle.std.specs.Prelude.{◌≡◌, ◌+◌, ◌<◌, ◌≤◌, length, slice_index, IfOk};
-ghost use Rattle.max_flow.specs.Networks.{AreAtMost, IsFlow, IsSide, value_of, capacity_of};
+ghost use Rattle.max_flow.specs.Networks.{AreAtMost, IsFlow, IsSide, source_flow, capacity_of};
 ghost use Rattle.max_flow.specs.Private.Rooms.{IsBounded, IsClosed, HasSmallSide, IsLeast};
 ghost use Rattle.max_flow.specs.Private.Searching.{is_found};
 ghost use Rattle.max_flow.specs.Private.Solving.{net_of, IsNetwork, IsTree, IsSearched, IsRaised};
@@ -55,7 +55,7 @@ pub fn solve_network(alloc: Global, network: &Network) -> Result<Answer, NoMemor
     requires small { HasSmallSide (net_of network.now) }
     ensures count { IfOk result (λ answer. length answer.places.items ≡ network.now.nodes) }
     ensures flow { IfOk result (λ answer. IsFlow (net_of network.now) answer.flows.items) }
-    ensures value { IfOk result (λ answer. value_of (net_of network.now) answer.flows.items ≡ answer.value) }
+    ensures value { IfOk result (λ answer. source_flow (net_of network.now) answer.flows.items ≡ answer.value) }
     ensures most { IfOk result (λ answer. AreAtMost answer.value answer.flows.items) }
     ensures side { IfOk result (λ answer. IsSide (net_of network.now) (is_found answer.places.items)) }
     ensures capacity { IfOk result (λ answer. capacity_of (net_of network.now) (is_found answer.places.items) ≡

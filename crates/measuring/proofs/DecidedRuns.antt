@@ -17,15 +17,17 @@ use Rattle.rv32im_machine.specs.Language.{Walk, Looked, Passed, Moved, Saved, Re
 use Rattle.shadow_masks.specs.Pages.{label_of}
 use Rattle.shadow_masks.specs.Writes.{LabelMap}
 use Rattle.transfer_rules.specs.declared.operands.Operands.{Operands}
-use Rattle.run_labels.specs.Answers.{EachAnswer, Holds, IsTableAnswer, operands_of}
+use Rattle.run_labels.specs.Answers.{EachAnswer, HoldsOfAnswer, IsTableAnswer, operands_of}
 use Rattle.run_labels.specs.Flowing.{labels_in, events_in, flow_events}
-use Rattle.run_labels.specs.Looking.{first_fault, look_fault, secret_look}
+use Rattle.run_labels.specs.Looking.{look_fault, secret_look}
 use Rattle.run_labels.specs.Masks.{aimed_mask, answered_mask, answers_after, mask_of, masks_of, moved_label}
 use Rattle.run_labels.specs.Masks.{work_mask}
 use Rattle.run_labels.specs.Runs.{LabelledRun, EachRunAnswer, broken_fault, enclosing, entered_number, next_run}
 use Rattle.run_labels.specs.Runs.{next_walk, run_after, stopped_fault}
 use Rattle.run_labels.specs.TurnLabels.{TurnLabels, aim_label, at_start, put_label, save_labels, restore_labels}
-use Rattle.measuring.specs.Deciding.{IsDeciding, RunsAreDecided, RefusalsAreDecided}
+use Rattle.measuring.specs.Deciding.{RunsAreDecided, RefusalsAreDecided}
+use Rattle.std.specs.Option.{option_or}
+use Rattle.transfer_rules.specs.Tables.{IsDeciding}
 
 -- ---- one passing
 
@@ -36,7 +38,7 @@ same_answer table deciding operation operands first second by also =
     deciding
 
 same_work : (table : ℕ) → IsDeciding table → (work : Work) (masks : List ℕ) (first second : ℕ) →
-    Holds (IsTableAnswer table) work masks first → Holds (IsTableAnswer table) work masks second →
+    HoldsOfAnswer (IsTableAnswer table) work masks first → HoldsOfAnswer (IsTableAnswer table) work masks second →
     work_mask work masks first ≡ work_mask work masks second
 same_work table deciding (Shaped shape) masks first second by also = refl
 same_work table deciding (Computed operation a b) masks first second by also =
@@ -44,8 +46,8 @@ same_work table deciding (Computed operation a b) masks first second by also =
     (same_answer table deciding operation (operands_of a b masks) first second by also)
 
 same_mask : (table : ℕ) → IsDeciding table → (labels : TurnLabels) (passing : Passing) (first second : ℕ) →
-    Holds (IsTableAnswer table) passing.work (masks_of labels passing.sources) first →
-    Holds (IsTableAnswer table) passing.work (masks_of labels passing.sources) second →
+    HoldsOfAnswer (IsTableAnswer table) passing.work (masks_of labels passing.sources) first →
+    HoldsOfAnswer (IsTableAnswer table) passing.work (masks_of labels passing.sources) second →
     mask_of labels first passing ≡ mask_of labels second passing
 same_mask table deciding labels passing first second by also =
     ap (aimed_mask passing.aim passing.point.slot)
@@ -89,7 +91,7 @@ same_turn table deciding labels first second (Looked seen value walk) by also =
     record {
       labels_are = go.labels_are;
       events_are = go.events_are;
-      looks_are = λ region. ap (first_fault (look_fault region labels seen)) (go.looks_are region);
+      looks_are = λ region. ap (option_or (look_fault region labels seen)) (go.looks_are region);
     }
 same_turn table deciding labels first second (Passed passing next) by also =
     let m = mask_of labels (first_of first) passing in
@@ -146,6 +148,6 @@ runs_are_decided table regions start (a ∷ first) (b ∷ second) deciding as_lo
 pub refusals_are_decided : RefusalsAreDecided
 refusals_are_decided table regions run first second deciding by also =
     let same = same_turn table deciding (at_start run.labels) first second (next_walk regions run) by also in
-    ap (λ look. first_fault look (first_fault (broken_fault (Breaks regions run.place.state))
+    ap (λ look. option_or look (option_or (broken_fault (Breaks regions run.place.state))
     (stopped_fault (real_end (next_walk regions run)).control.mode)))
     (same.looks_are (entered_number (kind_of regions run.place.state.control)))

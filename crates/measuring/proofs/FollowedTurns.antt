@@ -16,7 +16,7 @@ use Rattle.rv32im_machine.specs.declared.language.Seen.TheVariants.{Word, Base}
 use Rattle.rv32im_machine.specs.Language.{Walk, Looked, Passed, Moved, Saved, Restored, Ended, first_of}
 use Rattle.rv32im_machine.specs.State.{State}
 use Rattle.shadow_masks.specs.Shades.{Shades}
-use Rattle.run_labels.specs.Looking.{first_fault, look_fault, secret_look}
+use Rattle.run_labels.specs.Looking.{look_fault, secret_look}
 use Rattle.run_labels.specs.Masks.{byte_mask, answers_after, labels_after, moved_label}
 use Rattle.run_labels.specs.TurnLabels.{TurnLabels, at_start, put_label, save_labels, restore_labels}
 use Rattle.run_labels.specs.Runs.{LabelledRun, entered_number, next_walk, run_after, turn_fault, broken_fault}
@@ -24,21 +24,22 @@ use Rattle.run_labels.specs.Runs.{stopped_fault, EachRunAnswer, IsUnrefused}
 use Rattle.run_labels.specs.declared.faults.MeasureFault.{MeasureFault}
 use Rattle.run_labels.specs.declared.faults.MeasureFault.TheVariants.{TurnLimit, Guest, Region as RegionFault}
 use Rattle.run_labels.specs.declared.faults.MeasureFault.TheVariants.{SecretCode, BaseSecret, GraphLimit, Memory}
-use Rattle.tracked_run.specs.Runs.{Stands, AreAnswers, Makes, Refuses, Turns}
+use Rattle.tracked_run.specs.Runs.{Stands, AreAnswers, MakesTurn, RefusesTurn, Turns}
 use Rattle.tracked_run.specs.declared.outcomes.TrackedTurn.{TrackedTurn}
 use Rattle.measuring.specs.declared.recordings.Recording.{Recording}
 use Rattle.measuring.specs.Recordings.{Records}
-use Rattle.measuring.specs.RunCauses.{IsRun, GoesOn, IsRefused}
-use Rattle.measuring.specs.Following.{Follows, HasEnded, HasRunCause}
+use Rattle.measuring.specs.RunCauses.{IsUnrefusedRun, GoesOn, IsRefused}
+use Rattle.measuring.specs.Following.{StandsAfter, HasEnded, HasRunCause}
+use Rattle.std.specs.Option.{option_or}
 
 -- no turns are a run
-pub no_turns : (table : ℕ) (regions : List Region) (start : LabelledRun) → IsRun table regions start [] 0
+pub no_turns : (table : ℕ) (regions : List Region) (start : LabelledRun) → IsUnrefusedRun table regions start [] 0
 unfolding EachRunAnswer IsUnrefused
 no_turns table regions start = record { sound = tt; by_table = tt; unrefused = tt; counted = refl }
 
 pub starts : (table : ℕ) (regions : List Region) (start : LabelledRun) (machine : State) (shadow : Shades)
     (recording : Recording) → Stands machine shadow start → has_exited machine.control.mode ≡ false →
-    Records recording start.events → Follows table regions start 0 machine shadow recording
+    Records recording start.events → StandsAfter table regions start 0 machine shadow recording
 unfolding run_after
 starts table regions start machine shadow recording stands running records = record {
   answers = [];
@@ -50,9 +51,9 @@ starts table regions start machine shadow recording stands running records = rec
 
 -- a turn that is made makes a run longer
 longer : (table : ℕ) (regions : List Region) (start : LabelledRun) (answers : List (List ℕ)) (turns : ℕ) (last : List
-    ℕ) → IsRun table regions start answers turns → AreAnswers table regions (run_after regions answers start) last →
+    ℕ) → IsUnrefusedRun table regions start answers turns → AreAnswers table regions (run_after regions answers start) last →
     turn_fault regions last (run_after regions answers start) ≡ None →
-    IsRun table regions start (last ∷ answers) (turns + 1)
+    IsUnrefusedRun table regions start (last ∷ answers) (turns + 1)
 unfolding EachRunAnswer IsUnrefused
 longer table regions start answers turns last is_run are unrefused = record {
   sound = (is_run.sound, are.sound);
@@ -62,9 +63,9 @@ longer table regions start answers turns last is_run are unrefused = record {
 }
 
 pub ran : (table : ℕ) (regions : List Region) (start : LabelledRun) (turns : ℕ) (before after : State) (shadow left :
-    Shades) (recording recorded : Recording) → (follows : Follows table regions start turns before shadow recording) →
-    Makes table regions (run_after regions follows.answers start) (Records recording) (Records recorded) after left
-    mode.Ran → Follows table regions start (turns + 1) after left recorded
+    Shades) (recording recorded : Recording) → (follows : StandsAfter table regions start turns before shadow recording) →
+    MakesTurn table regions (run_after regions follows.answers start) (Records recording) (Records recorded) after left
+    mode.Ran → StandsAfter table regions start (turns + 1) after left recorded
 unfolding run_after
 ran table regions start turns before after shadow left recording recorded follows makes = record {
   answers = makes.answers ∷ follows.answers;
@@ -77,7 +78,7 @@ ran table regions start turns before after shadow left recording recorded follow
 
 -- a run that is followed and has not exited
 pub goes_on : (table : ℕ) (regions : List Region) (start : LabelledRun) (turns : ℕ) (machine : State) (shadow : Shades)
-    (recording : Recording) → Follows table regions start turns machine shadow recording → GoesOn table regions start
+    (recording : Recording) → StandsAfter table regions start turns machine shadow recording → GoesOn table regions start
     turns
 goes_on table regions start turns machine shadow recording follows = record {
   answers = follows.answers;
@@ -89,8 +90,8 @@ goes_on table regions start turns machine shadow recording follows = record {
 
 pub exits : (table : ℕ) (regions : List Region) (start : LabelledRun) (limit turns : ℕ) (before after : State) (shadow
     left : Shades) (recording recorded : Recording) (output : List ℕ) (status : ℕ) → turns < limit →
-    (follows : Follows table regions start turns before shadow recording) →
-    Makes table regions (run_after regions follows.answers start) (Records recording) (Records recorded) after left
+    (follows : StandsAfter table regions start turns before shadow recording) →
+    MakesTurn table regions (run_after regions follows.answers start) (Records recording) (Records recorded) after left
     (mode.Exited status) → output ≡ after.control.output →
     HasEnded table regions start limit (record {
       turns = turns + 1;
@@ -127,7 +128,7 @@ is_of_turn (Some GraphLimit) = false
 is_of_turn (Some Memory) = false
 
 first_of_turn : (first later : Option MeasureFault) → is_of_turn first ≡ true → is_of_turn later ≡ true →
-    is_of_turn (first_fault first later) ≡ true
+    is_of_turn (option_or first later) ≡ true
 first_of_turn None later a b = b
 first_of_turn (Some fault) later a b = a
 
@@ -174,7 +175,7 @@ faults_of_turn : (regions : List Region) (answers : List ℕ) (run : LabelledRun
     is_of_turn (turn_fault regions answers run) ≡ true
 faults_of_turn regions answers run =
     first_of_turn (secret_look (entered_number (kind_of regions run.place.state.control)) (at_start run.labels) answers
-    (next_walk regions run)) (first_fault (broken_fault (Breaks regions run.place.state))
+    (next_walk regions run)) (option_or (broken_fault (Breaks regions run.place.state))
     (stopped_fault (real_end (next_walk regions run)).control.mode))
     (looks_of_turn (entered_number (kind_of regions run.place.state.control)) (at_start run.labels) answers
     (next_walk regions run))
@@ -196,8 +197,8 @@ cause_of table regions start limit Memory of refused = absurd (false≢true of)
 pub is_refused : (table : ℕ) (regions : List Region) (start : LabelledRun) (limit turns : ℕ) (before : State)
     (shadow : Shades) (recording : Recording) (stands : List Event → Type 0) (after : State) (left : Shades)
     (fault : MeasureFault) → turns < limit →
-    (follows : Follows table regions start turns before shadow recording) →
-    Refuses table regions (run_after regions follows.answers start) (Records recording) stands after left fault →
+    (follows : StandsAfter table regions start turns before shadow recording) →
+    RefusesTurn table regions (run_after regions follows.answers start) (Records recording) stands after left fault →
     HasRunCause table regions start limit fault
 unfolding goes_on
 is_refused table regions start limit turns before shadow recording stands after left fault within follows refuses =
@@ -217,7 +218,7 @@ is_refused table regions start limit turns before shadow recording stands after 
 
 pub turn_is : (table named : ℕ) (regions called : List Region) (start : LabelledRun) (turns : ℕ) (before after : State)
     (shadow left : Shades) (recording recorded : Recording) (answer is : TrackedTurn) → named ≡ table → called ≡
-    regions → (follows : Follows table regions start turns before shadow recording) →
+    regions → (follows : StandsAfter table regions start turns before shadow recording) →
     ((run : LabelledRun) → Stands before shadow run →
     Turns named called run (Records recording) (Records recorded) after left (Ok answer)) → answer ≡ is →
     Turns table regions (run_after regions follows.answers start) (Records recording) (Records recorded) after left

@@ -28,12 +28,12 @@ use Rattle.flow_graph.specs.declared.named_links.NamedEnd.{NamedEnd}
 use Rattle.flow_graph.specs.declared.nodes.Node.{Node}
 use Rattle.flow_graph.specs.EventGraphs.{is_among, link_cmp, named}
 use Rattle.flow_graph.specs.EventGraphs.{named_end}
-use Rattle.flow_graph.specs.EventGraphs.{no_point}
 use Rattle.flow_graph.specs.Graphs.{arc_cmp, ascend, is_link, is_origin}
 use Rattle.flow_graph.specs.Graphs.{is_target, leads_on, node_cmp}
 use Rattle.location_collapse.specs.Limits.{is_same_link}
 use Rattle.location_collapse.proofs.EqualityByOrder.{links_alike}
 use Rattle.measuring.proofs.Splits.{above, nodes_chain}
+use Rattle.flow_base.specs.Points.{nowhere}
 
 behind : {A : Type 0} (cmp : A → A → Ordering) (x : A) (xs : List A) → ascend cmp (x ∷ xs) ≡ true → ascend cmp xs ≡ true
 behind cmp x [] up = refl
@@ -85,17 +85,17 @@ target_in count relays (Relay region) valid = refl
 target_in count relays Sink valid = refl
 
 indices : (names : List Point) → IsStrictlySortedBy point_cmp names → (i j : ℕ) → i < length names → j < length names →
-    nat_cmp i j ≡ point_cmp (slice_index_or names i no_point) (slice_index_or names j no_point)
+    nat_cmp i j ≡ point_cmp (slice_index_or names i nowhere) (slice_index_or names j nowhere)
 indices names sorted i j a b =
     ⊎_elim
-    (λ (less : i < j). nat_cmp-less i j less ∙ sym (Less-from_sorted point_cmp names i j no_point sorted less b))
+    (λ (less : i < j). nat_cmp-less i j less ∙ sym (Less-from_sorted point_cmp names i j nowhere sorted less b))
     (λ (rest : j ≤ i). ⊎_elim
     (λ (more : j < i). nat_cmp-more i j more
-    ∙ (ap ordering_reverse (sym (Less-from_sorted point_cmp names j i no_point sorted more a))
-    ∙ sym (point_total.antisymm (slice_index_or names i no_point) (slice_index_or names j no_point))))
+    ∙ (ap ordering_reverse (sym (Less-from_sorted point_cmp names j i nowhere sorted more a))
+    ∙ sym (point_total.antisymm (slice_index_or names i nowhere) (slice_index_or names j nowhere))))
     (λ (same : i ≤ j). let e : i ≡ j = omega (arith, rest, same) in
-    ap (λ k. nat_cmp k j) e ∙ (nat_cmp-itself j ∙ (sym (tied_itself point_total (slice_index_or names j no_point))
-    ∙ ap (λ k. point_cmp (slice_index_or names k no_point) (slice_index_or names j no_point)) (sym e))))
+    ap (λ k. nat_cmp k j) e ∙ (nat_cmp-itself j ∙ (sym (tied_itself point_total (slice_index_or names j nowhere))
+    ∙ ap (λ k. point_cmp (slice_index_or names k nowhere) (slice_index_or names j nowhere)) (sym e))))
     (cases_lt j i))
     (cases_lt i j)
   where

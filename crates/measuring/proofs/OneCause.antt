@@ -10,11 +10,11 @@ use Rattle.run_labels.specs.TurnLabels.{at_start}
 use Rattle.run_labels.specs.declared.faults.MeasureFault.{MeasureFault}
 use Rattle.run_labels.specs.declared.faults.MeasureFault.TheVariants.{TurnLimit, Guest, Region as RegionFault}
 use Rattle.run_labels.specs.declared.faults.MeasureFault.TheVariants.{SecretCode, BaseSecret, GraphLimit, Memory}
-use Rattle.measuring.specs.Deciding.{IsDeciding}
 use Rattle.measuring.specs.Measures.{HasCause, IsTooLarge}
 use Rattle.measuring.specs.RunCauses.{Exits, GoesOn, IsRefused, mode_of}
 use Rattle.measuring.proofs.DecidedRuns.{runs_are_decided, refusals_are_decided}
 use Rattle.measuring.proofs.MeasuredWithoutCause.{exited_mode, exits_not_running, exits_unrefused, turn_unrefused}
+use Rattle.transfer_rules.specs.Tables.{IsDeciding}
 
 -- ---- the three ways in which a run is not measured
 

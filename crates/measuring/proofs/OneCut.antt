@@ -8,38 +8,39 @@ use Rattle.acceptance_law.specs.RunCuts.{HasVisitMasks, IsCutOf, is_inner, names
 use Rattle.acceptance_law.specs.Sides.{NamedSide, is_split}
 use Rattle.cut_file.specs.declared.points.CutPoint.{CutPoint}
 use Rattle.cut_file.specs.declared.points.Run.{Run}
-use Rattle.cut_file.specs.Cuts.{CutPicture, are_regions, is_point_of, is_region, is_valid, neighbours_pass, stands_before}
+use Rattle.cut_file.specs.Cuts.{CutPicture, are_regions, is_point_of, is_cut_picture, neighbours_pass, stands_before}
 use Rattle.cut_file.proofs.OneFold.{cut_points-same, cuts-same, lists-of, point-runs}
 use Rattle.cut_file.proofs.OneRuns.{one-runs}
-use Rattle.enclosure_regions.specs.Regions.{stands_in}
 use Rattle.flow_base.specs.declared.points.Point.{Point}
 use Rattle.flow_base.specs.PointOrders.{is_same, point_cmp}
 use Rattle.flow_base.proofs.PointOrders.{point_total, same-one}
 use Rattle.flow_graph.specs.declared.events.Event.{Event}
 use Rattle.measuring.proofs.SortedLists.{Holds, IsOrder, all-holds, neighbours-ordered, numbers-order, one-list, order-on}
+use Rattle.flow_base.specs.Points.{is_region_number}
+use Rattle.flow_base.specs.Listed.{is_listed}
 
 -- ---- the regions to be skipped
 
-stands-held : (numbers : List ℕ) (number : ℕ) → stands_in numbers number ≡ true → Holds numbers number
+stands-held : (numbers : List ℕ) (number : ℕ) → is_listed numbers number ≡ true → Holds numbers number
 stands-held [] number stands = absurd (false≢true stands)
 stands-held (first ∷ numbers) number stands =
     ⊎_elim
     (λ (same : (first == number) ≡ true). inl (sym (eqb-true first number same)))
-    (λ (later : stands_in numbers number ≡ true). inr (stands-held numbers number later))
-    (or_cases (first == number) (stands_in numbers number) stands)
+    (λ (later : is_listed numbers number ≡ true). inr (stands-held numbers number later))
+    (or_cases (first == number) (is_listed numbers number) stands)
 
-held-stands : (numbers : List ℕ) (number : ℕ) → Holds numbers number → stands_in numbers number ≡ true
+held-stands : (numbers : List ℕ) (number : ℕ) → Holds numbers number → is_listed numbers number ≡ true
 held-stands [] number held = absurd held
 held-stands (first ∷ numbers) number (inl same) =
-    or_left (first == number) (stands_in numbers number) (eq-eqb first number (sym same))
+    or_left (first == number) (is_listed numbers number) (eq-eqb first number (sym same))
 held-stands (first ∷ numbers) number (inr later) =
-    or_right (first == number) (stands_in numbers number) (held-stands numbers number later)
+    or_right (first == number) (is_listed numbers number) (held-stands numbers number later)
 
 one-skip : (one other : List ℕ) → are_regions one ≡ true → are_regions other ≡ true →
-    ((region : ℕ) → stands_in one region ≡ stands_in other region) → one ≡ other
+    ((region : ℕ) → is_listed one region ≡ is_listed other region) → one ≡ other
 one-skip one other first second alike =
-    let a = and_parts (list_all is_region one) (neighbours_pass nat_lt one) first in
-    let b = and_parts (list_all is_region other) (neighbours_pass nat_lt other) second in
+    let a = and_parts (list_all is_region_number one) (neighbours_pass nat_lt one) first in
+    let b = and_parts (list_all is_region_number other) (neighbours_pass nat_lt other) second in
     one-list nat_lt numbers-order one other (neighbours-ordered nat_lt numbers-order one a.1)
     (neighbours-ordered nat_lt numbers-order other b.1)
     (λ region held. stands-held other region (sym (alike region) ∙ held-stands one region held))
@@ -115,7 +116,7 @@ points-hold events version second one other valid also masks passed alike cut_po
 -- ---- one cut
 
 pub one-cut_of : (secret_len : ℕ) (events : List Event) (side : NamedSide) (capacity : ℕ) (one other : CutPicture) →
-    is_valid one ≡ true → is_valid other ≡ true → IsCutOf secret_len events side capacity one →
+    is_cut_picture one ≡ true → is_cut_picture other ≡ true → IsCutOf secret_len events side capacity one →
     IsCutOf secret_len events side capacity other → one ≡ other
 one-cut_of secret_len events side capacity one other valid also is second =
     let own = lists-of one valid in

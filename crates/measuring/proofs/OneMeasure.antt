@@ -3,7 +3,7 @@ use Rattle.std.proofs.Common.{◌≡◌, ℕ, ◌<◌, ◌≤◌, List, ◌∷�
 use Rattle.acceptance_law.specs.RunCuts.{IsCutOf}
 use Rattle.acceptance_law.specs.Sides.{named_side}
 use Rattle.cut_file.specs.Cuts.{CutPicture}
-use Rattle.cut_file.specs.Pictures.{picture_of}
+use Rattle.cut_file.specs.Pictures.{cut_picture}
 use Rattle.cut_file.proofs.Following.{cut-valid}
 use Rattle.enclosure_regions.specs.declared.region_parts.Region.{Region}
 use Rattle.flow_base.specs.declared.outputs.Output.{Output}
@@ -15,13 +15,13 @@ use Rattle.max_flow.specs.Flows.{HasNoGreater, Least, flow_value}
 use Rattle.rv32im_machine.specs.declared.stepping.Stepped.TheVariants.{Exited}
 use Rattle.run_labels.specs.Runs.{LabelledRun, run_after}
 use Rattle.measuring.specs.declared.measured.Measured.{Measured}
-use Rattle.measuring.specs.Deciding.{IsDeciding}
 use Rattle.measuring.specs.Measures.{IsMeasureOf, Measures}
 use Rattle.measuring.specs.RunCauses.{Exits, mode_of}
 use Rattle.measuring.proofs.MeasuredWithoutCause.{not_longer, same_exits}
 use Rattle.measuring.proofs.OneCut.{one-cut_of}
 use Rattle.measuring.proofs.OneGraph.{one-graph}
 use Rattle.measuring.proofs.OneSide.{AreSameSides, one-least_side}
+use Rattle.transfer_rules.specs.Tables.{IsDeciding}
 
 -- ---- the exit
 
@@ -63,7 +63,7 @@ pub record AreSameGraphs (one other : Measured) : Type 0 where
   pub graph : one.graph ≡ other.graph
   pub value : one.value ≡ other.value
   pub side : one.side ≡ other.side
-  pub cut : picture_of one.cut ≡ picture_of other.cut
+  pub cut : cut_picture one.cut ≡ cut_picture other.cut
 
 side_of : List Half → List Bool → Side
 side_of points relays = record { points = points; relays = relays }
@@ -96,20 +96,20 @@ one-measure_of secret_len events one other is also =
     is.side there in
     let side : one.side ≡ other.side = sides-same one.side other.side sides.points_are sides.relays_are in
     let of_graph : IsCutOf secret_len events (named_side one.graph other.side.points other.side.relays) other.value
-    (picture_of other.cut) = subst (λ (g : Graph). IsCutOf secret_len events
-    (named_side g other.side.points other.side.relays) other.value (picture_of other.cut)) (sym graph) also.cut in
+    (cut_picture other.cut) = subst (λ (g : Graph). IsCutOf secret_len events
+    (named_side g other.side.points other.side.relays) other.value (cut_picture other.cut)) (sym graph) also.cut in
     let of_side : IsCutOf secret_len events (named_side one.graph one.side.points one.side.relays) other.value
-    (picture_of other.cut) = subst (λ (s : Side). IsCutOf secret_len events
-    (named_side one.graph s.points s.relays) other.value (picture_of other.cut)) (sym side) of_graph in
+    (cut_picture other.cut) = subst (λ (s : Side). IsCutOf secret_len events
+    (named_side one.graph s.points s.relays) other.value (cut_picture other.cut)) (sym side) of_graph in
     let of_value : IsCutOf secret_len events (named_side one.graph one.side.points one.side.relays) one.value
-    (picture_of other.cut) = subst (λ (v : ℕ). IsCutOf secret_len events
-    (named_side one.graph one.side.points one.side.relays) v (picture_of other.cut)) (sym value) of_side in
+    (cut_picture other.cut) = subst (λ (v : ℕ). IsCutOf secret_len events
+    (named_side one.graph one.side.points one.side.relays) v (cut_picture other.cut)) (sym value) of_side in
     record {
       graph = graph;
       value = value;
       side = side;
       cut = one-cut_of secret_len events (named_side one.graph one.side.points one.side.relays) one.value
-          (picture_of one.cut) (picture_of other.cut) (cut-valid one.cut) (cut-valid other.cut) is.cut of_value;
+          (cut_picture one.cut) (cut_picture other.cut) (cut-valid one.cut) (cut-valid other.cut) is.cut of_value;
     }
 
 -- ---- the measure of the run
@@ -120,7 +120,7 @@ pub record AreSameMeasures (one other : Measured) : Type 0 where
   pub output : one.output ≡ other.output
   pub graph : one.graph ≡ other.graph
   pub side : one.side ≡ other.side
-  pub cut : picture_of one.cut ≡ picture_of other.cut
+  pub cut : cut_picture one.cut ≡ cut_picture other.cut
 
 pub one-measure : (table : ℕ) (regions : List Region) (start : LabelledRun) (secret_len limit : ℕ)
     (one other : Measured) → IsDeciding table → Measures table regions start secret_len limit one →
@@ -146,12 +146,12 @@ one-measure table regions start secret_len limit one other deciding is also =
 -- so what is told of all but the flow is the same
 pub told-alike : {A : Type 0} (tell : ℕ → ℕ → Output → Graph → Side → CutPicture → A) (one other : Measured) →
     AreSameMeasures one other →
-    tell one.value one.turns one.output one.graph one.side (picture_of one.cut)
-    ≡ tell other.value other.turns other.output other.graph other.side (picture_of other.cut)
+    tell one.value one.turns one.output one.graph one.side (cut_picture one.cut)
+    ≡ tell other.value other.turns other.output other.graph other.side (cut_picture other.cut)
 told-alike tell one other same =
-    ap (λ v. tell v one.turns one.output one.graph one.side (picture_of one.cut)) same.value
-    ∙ (ap (λ v. tell other.value v one.output one.graph one.side (picture_of one.cut)) same.turns
-    ∙ (ap (λ v. tell other.value other.turns v one.graph one.side (picture_of one.cut)) same.output
-    ∙ (ap (λ v. tell other.value other.turns other.output v one.side (picture_of one.cut)) same.graph
-    ∙ (ap (λ v. tell other.value other.turns other.output other.graph v (picture_of one.cut)) same.side
+    ap (λ v. tell v one.turns one.output one.graph one.side (cut_picture one.cut)) same.value
+    ∙ (ap (λ v. tell other.value v one.output one.graph one.side (cut_picture one.cut)) same.turns
+    ∙ (ap (λ v. tell other.value other.turns v one.graph one.side (cut_picture one.cut)) same.output
+    ∙ (ap (λ v. tell other.value other.turns other.output v one.side (cut_picture one.cut)) same.graph
+    ∙ (ap (λ v. tell other.value other.turns other.output other.graph v (cut_picture one.cut)) same.side
     ∙ ap (λ v. tell other.value other.turns other.output other.graph other.side v) same.cut))))

@@ -2,7 +2,7 @@
 -- its secret; and that cut is small, and its text short.
 use Rattle.std.proofs.Common.{ℕ, ◌*◌, ◌≤◌, List, ◌∷◌, length, subst, sym, arith}
 use Rattle.cut_file.proofs.Following.{cut-valid}
-use Rattle.cut_file.specs.Pictures.{picture_of}
+use Rattle.cut_file.specs.Pictures.{cut_picture}
 use Rattle.elf32_loader.specs.Pictures.{Picture}
 use Rattle.enclosure_regions.specs.declared.region_parts.Region.{Region}
 use Rattle.lockstep_replay.specs.Acceptance.{Accept}
@@ -41,13 +41,13 @@ module _ (table : ℕ) (program : Picture) (public_input : List ℕ) (regions : 
         unrefused = m.exits.is_run.unrefused;
         exits = record { bytes = m.exits.written; status = m.exits.exited };
       } in
-      subst (λ budget. Accept (task_of program public_input regions (picture_of measured.cut))
+      subst (λ budget. Accept (task_of program public_input regions (cut_picture measured.cut))
       (record { budget = budget; turns = turns }) secret measured.output) m.measure.capacity
       (measured_law covered_law program public_input regions secret (m.exits.last ∷ m.exits.earlier) measured.graph
-      measured.side.points measured.side.relays (picture_of measured.cut) turns measured.output inputs whole
+      measured.side.points measured.side.relays (cut_picture measured.cut) turns measured.output inputs whole
       (omega (arith, m.exits.is_run.counted, m.exits.within)) m.measure.graph m.measure.side.side
       (subst (λ bits. IsCutOf (length secret) (run_after regions (m.exits.last ∷ m.exits.earlier) (unlabelled (guest program public_input secret))).events
-      (named_side measured.graph measured.side.points measured.side.relays) bits (picture_of measured.cut))
+      (named_side measured.graph measured.side.points measured.side.relays) bits (cut_picture measured.cut))
       (sym m.measure.capacity) m.measure.cut)
       (cut-valid measured.cut))
 
@@ -63,10 +63,10 @@ module _ (table : ℕ) (program : Picture) (public_input : List ℕ) (regions : 
       subst (λ budget. Accept (task_of program public_input regions folded)
       (record { budget = budget; turns = turns }) secret measured.output) m.measure.capacity
       (folded_law covered_law program public_input regions secret (m.exits.last ∷ m.exits.earlier) measured.graph
-      measured.side.points measured.side.relays (picture_of measured.cut) folded turns measured.output inputs whole
+      measured.side.points measured.side.relays (cut_picture measured.cut) folded turns measured.output inputs whole
       (omega (arith, m.exits.is_run.counted, m.exits.within)) m.measure.graph m.measure.side.side
       (subst (λ bits. IsCutOf (length secret) (run_after regions (m.exits.last ∷ m.exits.earlier) (unlabelled (guest program public_input secret))).events
-      (named_side measured.graph measured.side.points measured.side.relays) bits (picture_of measured.cut))
+      (named_side measured.graph measured.side.points measured.side.relays) bits (cut_picture measured.cut))
       (sym m.measure.capacity) m.measure.cut)
       (cut-valid measured.cut) fold)
 
@@ -84,19 +84,19 @@ module _ (table : ℕ) (program : Picture) (public_input : List ℕ) (regions : 
   small =
       let start = unlabelled (guest program public_input secret) in
       let events = (run_after regions (m.exits.last ∷ m.exits.earlier) start).events in
-      subst (λ bits. HasFewRuns bits (picture_of measured.cut)) m.measure.capacity
+      subst (λ bits. HasFewRuns bits (cut_picture measured.cut)) m.measure.capacity
       (few_runs_law (length secret) events measured.graph measured.side.points measured.side.relays
-      (picture_of measured.cut) m.measure.graph m.measure.side.side
+      (cut_picture measured.cut) m.measure.graph m.measure.side.side
       (subst (λ bits. IsCutOf (length secret) events (named_side measured.graph measured.side.points
-      measured.side.relays) bits (picture_of measured.cut)) (sym m.measure.capacity) m.measure.cut)
+      measured.side.relays) bits (cut_picture measured.cut)) (sym m.measure.capacity) m.measure.cut)
       (cut-valid measured.cut))
 
   pub short : length secret ≤ 65536 → HasShortText measured
   short within =
       let bits : measured.value ≤ 524288 = let most = few in omega (arith, most, within) in
       record {
-        text = own-text measured.value (picture_of measured.cut) (cut-valid measured.cut) m.measure.cut.version bits
+        text = own-text measured.value (cut_picture measured.cut) (cut-valid measured.cut) m.measure.cut.version bits
             small;
-        fold = λ folded own made. fold-text measured.value (picture_of measured.cut) folded (cut-valid measured.cut)
+        fold = λ folded own made. fold-text measured.value (cut_picture measured.cut) folded (cut-valid measured.cut)
             m.measure.cut.version bits small own made;
       }

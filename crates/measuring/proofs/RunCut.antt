@@ -8,8 +8,7 @@ use Rattle.std.proofs.lemmas.List.Folds.{list_any-append}
 use Rattle.cut_file.proofs.Following.{is_so}
 use Rattle.cut_file.specs.declared.cuts.Cut.{Cut}
 use Rattle.cut_file.specs.declared.points.CutPoint.{CutPoint}
-use Rattle.cut_file.specs.Pictures.{picture_of}
-use Rattle.enclosure_regions.specs.Regions.{stands_in}
+use Rattle.cut_file.specs.Pictures.{cut_picture}
 use Rattle.flow_base.specs.declared.points.Point.{Point}
 use Rattle.flow_graph.specs.declared.events.Event.{Event}
 use Rattle.flow_graph.specs.declared.events.Event.TheVariants.{Pass, Link, FromSecret, Implicit, Out}
@@ -24,10 +23,11 @@ use Rattle.acceptance_law.specs.RunCuts.{HasVisitMasks, IsCutOf, united}
 use Rattle.acceptance_law.specs.Sides.{named_side}
 use Rattle.measuring.specs.declared.kept_visits.KeptVisits.{KeptVisits}
 use Rattle.measuring.specs.CutRuns.{HasKeptMasks, once}
-use Rattle.measuring.specs.Cutting.{Makes}
+use Rattle.measuring.specs.Cutting.{CutsGraph}
 use Rattle.measuring.specs.Visits.{HasVisits}
 use Rattle.measuring.proofs.CutNames.{cut_names}
 use Rattle.measuring.proofs.Splits.{skipped_stand}
+use Rattle.flow_base.specs.Listed.{is_listed}
 
 -- ---- region 0 has no relay
 
@@ -97,14 +97,14 @@ all_had visits events has (point ∷ points) all =
 
 -- what is made of a run's graph, the visits of its points and a side is the cut of that run and that side
 pub cut_is : (visits : KeptVisits) (graph : Graph) (halves : List Half) (relays : List Bool) (length value : ℕ)
-    (cut : Cut) → Makes visits graph halves relays length value cut → (events : List Event) →
+    (cut : Cut) → CutsGraph visits graph halves relays length value cut → (events : List Event) →
     HasVisits visits events → IsGraphOf events graph →
-    IsCutOf length events (named_side graph halves relays) value (picture_of cut)
+    IsCutOf length events (named_side graph halves relays) value (cut_picture cut)
 cut_is visits graph halves relays length value cut makes events has is = record {
   version = makes.version;
   length = makes.length;
   bits = makes.bits;
-  skip = λ region. ap (λ skip. stands_in skip region) makes.skip ∙ skipped_stand graph.relays relays region
+  skip = λ region. ap (λ skip. is_listed skip region) makes.skip ∙ skipped_stand graph.relays relays region
       (relays_up graph) (no_relay_0 events graph is);
   points = λ point. cut_names cut.skip graph.points halves cut.points point (nodes_up graph) makes.points;
   masks = all_had visits events has cut.points makes.masks;

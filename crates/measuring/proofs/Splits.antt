@@ -17,9 +17,9 @@ use Rattle.max_flow.specs.Flows.{relay_in}
 use Rattle.cut_file.specs.Cuts.{neighbours_pass, is_point, is_point_of, is_cut_point, is_word, is_single}
 use Rattle.cut_file.specs.Cuts.{stands_before, are_runs, is_rest}
 use Rattle.cut_file.specs.declared.points.CutPoint.{CutPoint}
-use Rattle.enclosure_regions.specs.Regions.{stands_in}
 use Rattle.measuring.specs.CutRuns.{points_of}
 use Rattle.measuring.specs.Splits.{skipped, is_cut, split_points}
+use Rattle.flow_base.specs.Listed.{is_listed}
 
 -- ---- ascending lists
 
@@ -94,13 +94,13 @@ skipped_ascend (relay ∷ relays) (answer ∷ answers) up =
     (all_skipped (nat_lt relay) relays answers (above_numbers relay relays up))
     (skipped_ascend relays answers (behind nat_cmp relay relays up))
 
-none_stands : (region : ℕ) (regions : List ℕ) → list_all (nat_lt region) regions ≡ true → stands_in regions region ≡
+none_stands : (region : ℕ) (regions : List ℕ) → list_all (nat_lt region) regions ≡ true → is_listed regions region ≡
     false
 none_stands region [] all = refl
 none_stands region (other ∷ regions) all =
     let parts = and_parts (nat_lt region other) (list_all (nat_lt region) regions) all in
     let below : region < other = ltb-true region other parts.0 in
-    ap (λ b. b || stands_in regions region) (ne_eqb other region (λ e. omega (arith, e, below)))
+    ap (λ b. b || is_listed regions region) (ne_eqb other region (λ e. omega (arith, e, below)))
     ∙ none_stands region regions parts.1
 
 stands_chosen : (answer same zero : Bool) (rest relay_answer : Bool) → (same ≡ true → zero ≡ false) →
@@ -113,20 +113,20 @@ stands_chosen true false false rest relay_answer some none other = other refl
 stands_chosen false true zero rest relay_answer some none other = none refl
 stands_chosen false false zero rest relay_answer some none other = other refl
 
-any_chosen : (b : Bool) (relay region : ℕ) (more : List ℕ) → stands_in (cond b (relay ∷ []) [] ++ more) region ≡
-    ((cond b (relay == region) false) || stands_in more region)
+any_chosen : (b : Bool) (relay region : ℕ) (more : List ℕ) → is_listed (cond b (relay ∷ []) [] ++ more) region ≡
+    ((cond b (relay == region) false) || is_listed more region)
 any_chosen true relay region more = refl
 any_chosen false relay region more = refl
 
 -- a region is skipped where its relay is in the side
 pub skipped_stand : (relays : List ℕ) (answers : List Bool) (region : ℕ) → ascend nat_cmp relays ≡ true →
-    list_any (nat_eq 0) relays ≡ false → stands_in (skipped relays answers) region ≡ relay_in relays answers region
+    list_any (nat_eq 0) relays ≡ false → is_listed (skipped relays answers) region ≡ relay_in relays answers region
 skipped_stand [] answers region up some = refl
 skipped_stand (relay ∷ relays) [] region up some = refl
 skipped_stand (relay ∷ relays) (answer ∷ answers) region up some =
     let parts = or_parts (nat_eq 0 relay) (list_any (nat_eq 0) relays) some in
     any_chosen (answer && not (relay == 0)) relay region (skipped relays answers)
-    ∙ stands_chosen answer (relay == region) (relay == 0) (stands_in (skipped relays answers) region)
+    ∙ stands_chosen answer (relay == region) (relay == 0) (is_listed (skipped relays answers) region)
     (relay_in relays answers region)
     (λ same. ne_eqb relay 0 (λ e. eqb-false 0 relay parts.0 (sym e)))
     (λ same. none_stands region (skipped relays answers) (all_skipped (nat_lt region) relays answers

@@ -2,9 +2,9 @@
 -- small, and the texts of both are short.
 use Rattle.std.specs.Prelude.{◌≡◌, ℕ, ◌≤◌, true, length, List}
 use Rattle.acceptance_law.specs.RunLaws.{HasFewRuns}
-use Rattle.cut_file.specs.Cuts.{CutPicture, is_valid}
+use Rattle.cut_file.specs.Cuts.{CutPicture, is_cut_picture}
 use Rattle.cut_file.specs.Folds.{IsFold}
-use Rattle.cut_file.specs.Pictures.{picture_of}
+use Rattle.cut_file.specs.Pictures.{cut_picture}
 use Rattle.cut_file.specs.Texts.{cut_text}
 use Rattle.elf32_loader.specs.Pictures.{Picture}
 use Rattle.enclosure_regions.specs.declared.region_parts.Region.{Region}
@@ -16,23 +16,23 @@ use Rattle.measuring.specs.declared.measured.Measured.{Measured}
 -- measured output
 abbrev pub IsAcceptedByItsCut : Picture → List ℕ → List Region → List ℕ → ℕ → Measured → Type 0
 IsAcceptedByItsCut program public_input regions secret turns measured =
-    Accept (task_of program public_input regions (picture_of measured.cut))
+    Accept (task_of program public_input regions (cut_picture measured.cut))
     (record { budget = measured.value; turns = turns }) secret measured.output
 
 -- and so it is with the fold of that cut
 abbrev pub IsAcceptedByFolds : Picture → List ℕ → List Region → List ℕ → ℕ → Measured → Type 0
 IsAcceptedByFolds program public_input regions secret turns measured =
-    (folded : CutPicture) → IsFold (picture_of measured.cut) folded →
+    (folded : CutPicture) → IsFold (cut_picture measured.cut) folded →
     Accept (task_of program public_input regions folded)
     (record { budget = measured.value; turns = turns }) secret measured.output
 
 -- the measured cut has at most one point for each measured bit, and two runs of masks for each bit beside one for
 -- each point
 abbrev pub HasSmallCut : Measured → Type 0
-HasSmallCut measured = HasFewRuns measured.value (picture_of measured.cut)
+HasSmallCut measured = HasFewRuns measured.value (cut_picture measured.cut)
 
 -- the text of the measured cut has at most 64 MiB, and so has that of each valid cut that is a fold of it
 pub record HasShortText (measured : Measured) : Type 0 where
-  pub text : length (cut_text (picture_of measured.cut)) ≤ 67108864
-  pub fold : (folded : CutPicture) → is_valid folded ≡ true → IsFold (picture_of measured.cut) folded
+  pub text : length (cut_text (cut_picture measured.cut)) ≤ 67108864
+  pub fold : (folded : CutPicture) → is_cut_picture folded ≡ true → IsFold (cut_picture measured.cut) folded
       → length (cut_text folded) ≤ 67108864

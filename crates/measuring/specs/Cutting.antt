@@ -9,7 +9,7 @@ use Rattle.measuring.specs.CutRuns.{HasKeptMasks, points_of}
 use Rattle.measuring.specs.Splits.{skipped, split_points}
 
 -- a cut with the split points of the graph, each with the masks of its visits
-pub record Makes (visits : KeptVisits) (graph : Graph) (halves : List Half) (relays : List Bool)
+pub record CutsGraph (visits : KeptVisits) (graph : Graph) (halves : List Half) (relays : List Bool)
     (secret_len value : ℕ) (cut : Cut) : Type 0 where
   pub version : cut.version ≡ 1
   pub length : cut.secret_len ≡ secret_len

@@ -1,6 +1,6 @@
 -- What table 1 and table 2 decide: they say what each answer of a mask rule is, so that a run has one measure or one
 -- reason to be refused. Of the answers of other books nothing but their soundness is known.
-use Rattle.std.specs.Prelude.{◌≡◌, ◌⊎◌, ℕ, List, length}
+use Rattle.std.specs.Prelude.{◌≡◌, ℕ, List, length}
 use Rattle.enclosure_regions.specs.declared.region_parts.Region.{Region}
 use Rattle.run_labels.specs.Answers.{EachAnswer, IsTableAnswer}
 use Rattle.run_labels.specs.Runs.{LabelledRun, EachRunAnswer, next_walk, run_after, turn_fault}
@@ -9,9 +9,7 @@ use Rattle.run_labels.specs.declared.faults.MeasureFault.{MeasureFault}
 use Rattle.run_labels.specs.declared.faults.MeasureFault.TheVariants.{Memory}
 use Rattle.measuring.specs.declared.measured.Measured.{Measured}
 use Rattle.measuring.specs.Measures.{HasCause, Measures}
-
-abbrev pub IsDeciding : ℕ → Type 0
-IsDeciding table = (table ≡ 1) ⊎ (table ≡ 2)
+use Rattle.transfer_rules.specs.Tables.{IsDeciding}
 
 -- As many turns by answers of such a table come to the same place with the same labels and events, whatever the lists
 -- of answers.

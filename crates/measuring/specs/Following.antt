@@ -14,13 +14,13 @@ use Rattle.measuring.specs.declared.following.RunEnd.{RunEnd}
 use Rattle.measuring.specs.declared.following.RunEnd.TheVariants.{Exited, Refused}
 use Rattle.measuring.specs.declared.recordings.Recording.{Recording}
 use Rattle.measuring.specs.Recordings.{Records}
-use Rattle.measuring.specs.RunCauses.{IsRun, GoesOn, Exits, IsRefused}
+use Rattle.measuring.specs.RunCauses.{IsUnrefusedRun, GoesOn, Exits, IsRefused}
 
 -- machine, shadow and recording stand where the run does after so many turns
-pub record Follows (table : ℕ) (regions : List Region) (start : LabelledRun) (turns : ℕ) (machine : State)
+pub record StandsAfter (table : ℕ) (regions : List Region) (start : LabelledRun) (turns : ℕ) (machine : State)
     (shadow : Shades) (recording : Recording) : Type 0 where
   pub answers : List (List ℕ)
-  pub is_run : IsRun table regions start answers turns
+  pub is_run : IsUnrefusedRun table regions start answers turns
   pub stands : Stands machine shadow (run_after regions answers start)
   pub running : has_exited machine.control.mode ≡ false
   pub records : Records recording (run_after regions answers start).events

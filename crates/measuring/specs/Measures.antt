@@ -1,6 +1,6 @@
 -- What is measured of a run.
 use Rattle.std.specs.Prelude.{◌≡◌, ℕ, List, ◌∷◌}
-use Rattle.cut_file.specs.Pictures.{picture_of}
+use Rattle.cut_file.specs.Pictures.{cut_picture}
 use Rattle.acceptance_law.specs.RunCuts.{IsCutOf}
 use Rattle.acceptance_law.specs.Sides.{named_side}
 use Rattle.enclosure_regions.specs.declared.region_parts.Region.{Region}
@@ -31,7 +31,7 @@ pub record IsMeasureOf (secret_len : ℕ) (events : List Event) (measured : Meas
   pub side : Least measured.graph measured.side.points measured.side.relays
   pub capacity : side_capacity measured.graph measured.side.points measured.side.relays ≡ measured.value
   pub cut : IsCutOf secret_len events (named_side measured.graph measured.side.points measured.side.relays)
-      measured.value (picture_of measured.cut)
+      measured.value (cut_picture measured.cut)
 
 -- the run exits within the limit, and this is the measure of its events
 pub record Measures (table : ℕ) (regions : List Region) (start : LabelledRun) (secret_len limit : ℕ)

@@ -11,7 +11,7 @@ use Rattle.run_labels.specs.Runs.{LabelledRun, run_after, turn_fault, EachRunAns
 use Rattle.tracked_run.specs.Runs.{AreAnswers}
 
 -- so many turns that are not refused, by answers of the rules, the latest turn's first, that are sound and the table's
-pub record IsRun (table : ℕ) (regions : List Region) (start : LabelledRun) (answers : List (List ℕ)) (turns : ℕ) :
+pub record IsUnrefusedRun (table : ℕ) (regions : List Region) (start : LabelledRun) (answers : List (List ℕ)) (turns : ℕ) :
     Type 0 where
   pub sound : EachRunAnswer IsSoundAnswer regions answers start
   pub by_table : EachRunAnswer (IsTableAnswer table) regions answers start
@@ -24,7 +24,7 @@ mode_of run = run.place.state.control.mode
 -- in so many turns the run has not exited
 pub record GoesOn (table : ℕ) (regions : List Region) (start : LabelledRun) (turns : ℕ) : Type 0 where
   pub answers : List (List ℕ)
-  pub is_run : IsRun table regions start answers turns
+  pub is_run : IsUnrefusedRun table regions start answers turns
   pub running : has_exited (mode_of (run_after regions answers start)) ≡ false
 
 -- in the last of so many turns, which are no more than the limit, the run exits with this output
@@ -32,7 +32,7 @@ pub record Exits (table : ℕ) (regions : List Region) (start : LabelledRun) (li
     Type 0 where
   pub earlier : List (List ℕ)
   pub last : List ℕ
-  pub is_run : IsRun table regions start (last ∷ earlier) turns
+  pub is_run : IsUnrefusedRun table regions start (last ∷ earlier) turns
   pub within : turns ≤ limit
   pub running : has_exited (mode_of (run_after regions earlier start)) ≡ false
   pub exited : mode_of (run_after regions (last ∷ earlier) start) ≡ Exited output.status

@@ -1,5 +1,5 @@
 ghost use Rattle.std.specs.Prelude.{◌≤◌, ◌*◌, length, IfErr, IfOk};
-ghost use Rattle.elf32_loader.specs.Images.{picture_of};
+ghost use Rattle.elf32_loader.specs.Images.{image_picture};
 ghost use Rattle.region_machine.specs.Starts.{guest};
 ghost use Rattle.run_labels.specs.Runs.{unlabelled};
 ghost use Rattle.measuring.specs.Accepting.{HasShortText, HasSmallCut, IsAcceptedByFolds, IsAcceptedByItsCut};
@@ -39,13 +39,13 @@ pub fn measure(
 ) -> Result<Measured, MeasureFault>
     requires { length secret.now ≤ 65536 }
     ensures ok { IfOk result (λ measured. Measures book.now.table regions.now.items
-        (unlabelled (guest (picture_of image.now) public.now secret.now)) (length secret.now) turns measured) }
+        (unlabelled (guest (image_picture image.now) public.now secret.now)) (length secret.now) turns measured) }
     ensures err { IfErr result (λ fault. HasCause book.now.table regions.now.items
-        (unlabelled (guest (picture_of image.now) public.now secret.now)) turns fault) }
+        (unlabelled (guest (image_picture image.now) public.now secret.now)) turns fault) }
     ensures accepted { IfOk result (λ measured.
-        IsAcceptedByItsCut (picture_of image.now) public.now regions.now.items secret.now turns measured) }
+        IsAcceptedByItsCut (image_picture image.now) public.now regions.now.items secret.now turns measured) }
     ensures folds { IfOk result (λ measured.
-        IsAcceptedByFolds (picture_of image.now) public.now regions.now.items secret.now turns measured) }
+        IsAcceptedByFolds (image_picture image.now) public.now regions.now.items secret.now turns measured) }
     ensures few { IfOk result (λ measured. measured.value ≤ 8 * length secret.now) }
     ensures runs { IfOk result (λ measured. HasSmallCut measured) }
     ensures short { IfOk result (λ measured. HasShortText measured) }

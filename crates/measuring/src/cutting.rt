@@ -1,7 +1,7 @@
 ghost use Rattle.std.specs.Prelude.{◌≡◌, ◌≤◌, IfOk, IsTrue, true};
 ghost use Rattle.std.specs.List.{list_all};
-ghost use Rattle.cut_file.specs.Cuts.{are_regions, is_region};
-ghost use Rattle.measuring.specs.Cutting.{Makes};
+ghost use Rattle.cut_file.specs.Cuts.{are_regions};
+ghost use Rattle.measuring.specs.Cutting.{CutsGraph};
 
 use crate::cut_points::cut_points;
 use crate::kept_visits::KeptVisits;
@@ -25,7 +25,7 @@ pub fn cut_of(
     visits: &KeptVisits,
 ) -> Result<Cut, NoMemory>
     requires { secret_len ≤ 65536 }
-    ensures { IfOk result (λ cut. Makes visits.now graph.now side.now.points side.now.relays secret_len value cut) }
+    ensures { IfOk result (λ cut. CutsGraph visits.now graph.now side.now.points side.now.relays secret_len value cut) }
 {
     let Ok(bits) = u32::try_from(value) else {
         return Err(NoMemory);

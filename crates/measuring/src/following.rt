@@ -1,5 +1,5 @@
 ghost use Rattle.std.specs.Prelude.{◌≤◌, length, IfOk};
-ghost use Rattle.elf32_loader.specs.Images.{picture_of};
+ghost use Rattle.elf32_loader.specs.Images.{image_picture};
 ghost use Rattle.region_machine.specs.Starts.{guest};
 ghost use Rattle.run_labels.specs.Runs.{unlabelled};
 ghost use Rattle.measuring.specs.Following.{EndsAs};
@@ -46,7 +46,7 @@ pub fn follow(
 ) -> Result<RunEnd, NoMemory>
     requires { length secret.now ≤ 65536 }
     ensures { IfOk result (λ end. EndsAs book.now.table regions.now.items
-        (unlabelled (guest (picture_of image.now) public.now secret.now)) turns end) }
+        (unlabelled (guest (image_picture image.now) public.now secret.now)) turns end) }
 {
     let mut recording = Recording::new(alloc)?;
     let mut tracked = Tracked::new(alloc, image, public, secret, regions, book)?;

@@ -1,9 +1,9 @@
 ghost use Rattle.std.specs.Prelude.{◌≡◌, ◌&&◌, ◌++◌, not, true, IfOk, OnOk};
 ghost use Rattle.std.specs.List.{list_all};
-ghost use Rattle.cut_file.specs.Cuts.{is_region};
 ghost use Rattle.max_flow.specs.Flows.{has_first, has_second};
 ghost use Rattle.acceptance_law.specs.RunCuts.{is_inner};
 ghost use Rattle.measuring.specs.Splits.{is_cut, point_if, region_if, skipped, split_points};
+ghost use Rattle.flow_base.specs.Points.{is_region_number};
 
 use flow_base::{List, NoMemory, Point};
 use flow_graph::Node;
@@ -12,9 +12,9 @@ use std::alloc::Global;
 
 /// Puts a region at the end, if its relay is in the side.
 fn put_region(skip: &mut List<u16>, relay: u16, answer: bool) -> Result<(), NoMemory>
-    requires { list_all is_region skip.old ≡ true }
+    requires { list_all is_region_number skip.old ≡ true }
     ensures put { OnOk result (skip.new ≡ skip.old ++ region_if relay answer) }
-    ensures valid { OnOk result (list_all is_region skip.new ≡ true) }
+    ensures valid { OnOk result (list_all is_region_number skip.new ≡ true) }
 {
     if answer && relay != 0 {
         skip.push(relay)
@@ -30,7 +30,7 @@ pub(crate) fn skipped_regions(
     answers: &[bool],
 ) -> Result<List<u16>, NoMemory>
     ensures skip { IfOk result (λ skip. skip ≡ skipped relays.now answers.now) }
-    ensures valid { IfOk result (λ skip. list_all is_region skip ≡ true) }
+    ensures valid { IfOk result (λ skip. list_all is_region_number skip ≡ true) }
 {
     let mut skip = List::new(alloc);
     let mut rest = relays;

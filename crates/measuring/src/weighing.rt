@@ -1,5 +1,5 @@
 ghost use Rattle.std.specs.Prelude.{◌≡◌, ◌≤◌, false, length, IfErr, IfOk};
-ghost use Rattle.elf32_loader.specs.Images.{picture_of};
+ghost use Rattle.elf32_loader.specs.Images.{image_picture};
 ghost use Rattle.region_machine.specs.Starts.{guest};
 ghost use Rattle.run_labels.specs.Runs.{unlabelled};
 ghost use Rattle.measuring.specs.Measures.{HasCause, Measures};
@@ -76,9 +76,9 @@ pub(crate) fn measure_run(
 ) -> Result<Measured, MeasureFault>
     requires { length secret.now ≤ 65536 }
     ensures ok { IfOk result (λ measured. Measures book.now.table regions.now.items
-        (unlabelled (guest (picture_of image.now) public.now secret.now)) (length secret.now) turns measured) }
+        (unlabelled (guest (image_picture image.now) public.now secret.now)) (length secret.now) turns measured) }
     ensures err { IfErr result (λ fault. HasCause book.now.table regions.now.items
-        (unlabelled (guest (picture_of image.now) public.now secret.now)) turns fault) }
+        (unlabelled (guest (image_picture image.now) public.now secret.now)) turns fault) }
 {
     match follow(alloc, image, public, secret, regions, book, turns) {
         Ok(RunEnd::Exited(exit)) => conclude(alloc, secret.len() as u32, exit),

@@ -4,7 +4,7 @@ use Rattle.std.specs.Prelude.{nat_le}
 use Rattle.std.proofs.lemmas.Bool.{and_parts}
 use Rattle.std.proofs.lemmas.Grind.{common_steps}
 use Rattle.elf32_loader.specs.declared.segments.Segment.{Segment}
-use Rattle.elf32_loader.specs.Segments.{highest_base, is_base, rounded_down}
+use Rattle.elf32_loader.specs.Segments.{highest_base, is_base_of, rounded_down}
 use Rattle.enclosure_regions.specs.declared.region_parts.Region.{Region}
 use Rattle.region_learn.specs.Private.Books.{are_bare}
 use Rattle.region_learn.specs.Written.{bare}
@@ -21,7 +21,7 @@ le-of : (a b : ℕ) → nat_le a b ≡ true → a ≤ b
 le-of a b h = grind (arith, common_steps)
 
 -- guest memory ends before the last address
-pub base_room : (segments : List Segment) (base : ℕ) → is_base segments base ≡ true → base + 16777216 ≤ 4294967295
+pub base_room : (segments : List Segment) (base : ℕ) → is_base_of segments base ≡ true → base + 16777216 ≤ 4294967295
 base_room [] base h = absurd (cc)
 base_room (segment ∷ segments) base h =
     let low = le-of base highest_base (and_parts (base == rounded_down segment.address) (nat_le base highest_base) h).1 in

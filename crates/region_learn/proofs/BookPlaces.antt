@@ -2,9 +2,9 @@
 use Rattle.std.proofs.Common.{◌≡◌, ◌≢◌, ◌∙◌, ◌<◌, ◌==◌, ◌||◌, ℕ, zero, suc, Bool, true, false, List, [], ◌∷◌, length, get_or, not}
 use Rattle.std.proofs.Common.{refl, sym, ap, arith, inl, inr, subst}
 use Rattle.std.proofs.lemmas.Bool.{cases_Bool, eqb-true, eq-eqb, and_parts, not_from_true, or_left, or_right}
-use Rattle.enclosure_regions.specs.Regions.{stands_in}
 use Rattle.region_learn.specs.declared.notes.Notes.{Notes}
 use Rattle.region_learn.specs.Private.Books.{are_own, has_notes, numbers_of}
+use Rattle.flow_base.specs.Listed.{is_listed}
 
 true-false : ◌≡◌ {A = Bool} true false → ⊥
 true-false e = cc
@@ -26,12 +26,12 @@ pub some_place : (book : List Notes) (number : ℕ) → has_notes book number �
 some_place book number has h = let none = none-false book number h in true-false (sym has ∙ none)
 
 stands-at : (book : List Notes) (place : ℕ) (none : Notes) → place < length book →
-    stands_in (numbers_of book) (get_or book place none).region ≡ true
+    is_listed (numbers_of book) (get_or book place none).region ≡ true
 stands-at [] place none below = absurd (omega arith)
 stands-at (notes ∷ book) zero none below =
-    or_left (notes.region == notes.region) (stands_in (numbers_of book) notes.region) (eq-eqb notes.region notes.region refl)
+    or_left (notes.region == notes.region) (is_listed (numbers_of book) notes.region) (eq-eqb notes.region notes.region refl)
 stands-at (notes ∷ book) (suc place) none below =
-    or_right (notes.region == (get_or book place none).region) (stands_in (numbers_of book) (get_or book place none).region)
+    or_right (notes.region == (get_or book place none).region) (is_listed (numbers_of book) (get_or book place none).region)
     (stands-at book place none (omega arith))
 
 -- different places have different regions
@@ -40,15 +40,15 @@ pub one_place : (book : List Notes) (first second : ℕ) (none : Notes) → are_
 one_place [] first second none own below within same = absurd (omega arith)
 one_place (notes ∷ book) zero zero none own below within same = refl
 one_place (notes ∷ book) zero (suc second) none own below within same =
-    let parts = and_parts (not (stands_in (numbers_of book) notes.region)) (are_own book) own in
-    let stands : stands_in (numbers_of book) notes.region ≡ true =
-    subst (λ (n : ℕ). stands_in (numbers_of book) n ≡ true) (sym same) (stands-at book second none (omega arith)) in
-    absurd (true-false (sym parts.0 ∙ not_from_true (stands_in (numbers_of book) notes.region) stands))
+    let parts = and_parts (not (is_listed (numbers_of book) notes.region)) (are_own book) own in
+    let stands : is_listed (numbers_of book) notes.region ≡ true =
+    subst (λ (n : ℕ). is_listed (numbers_of book) n ≡ true) (sym same) (stands-at book second none (omega arith)) in
+    absurd (true-false (sym parts.0 ∙ not_from_true (is_listed (numbers_of book) notes.region) stands))
 one_place (notes ∷ book) (suc first) zero none own below within same =
-    let parts = and_parts (not (stands_in (numbers_of book) notes.region)) (are_own book) own in
-    let stands : stands_in (numbers_of book) notes.region ≡ true =
-    subst (λ (n : ℕ). stands_in (numbers_of book) n ≡ true) same (stands-at book first none (omega arith)) in
-    absurd (true-false (sym parts.0 ∙ not_from_true (stands_in (numbers_of book) notes.region) stands))
+    let parts = and_parts (not (is_listed (numbers_of book) notes.region)) (are_own book) own in
+    let stands : is_listed (numbers_of book) notes.region ≡ true =
+    subst (λ (n : ℕ). is_listed (numbers_of book) n ≡ true) same (stands-at book first none (omega arith)) in
+    absurd (true-false (sym parts.0 ∙ not_from_true (is_listed (numbers_of book) notes.region) stands))
 one_place (notes ∷ book) (suc first) (suc second) none own below within same =
-    let parts = and_parts (not (stands_in (numbers_of book) notes.region)) (are_own book) own in
+    let parts = and_parts (not (is_listed (numbers_of book) notes.region)) (are_own book) own in
     ap suc (one_place book first second none parts.1 (omega arith) (omega arith) same)

@@ -9,7 +9,7 @@ use Rattle.enclosure_regions.specs.declared.region_parts.Region.{Region}
 use Rattle.region_machine.specs.Breaking.{Breaks}
 use Rattle.region_machine.specs.Enclosures.{Enclosures}
 use Rattle.region_machine.specs.Guests.{guest_walk}
-use Rattle.region_machine.specs.Runs.{Place as RunPlace, fresh, real_after, turn_unless, unbroken_turn}
+use Rattle.region_machine.specs.Runs.{Place as RunPlace, fresh, Real, turn_unless, unbroken_turn}
 use Rattle.region_learn.specs.Minimal.{RunsBroken}
 use Rattle.region_learn.specs.Written.{Run, bare, state_after}
 use Rattle.region_learn.proofs.EdgesAlike.{edges_alike}
@@ -67,12 +67,12 @@ course-turn so run enclosures turns at below same fates sound before =
 
 course : (so : Break → Type 0) (run : Run) (enclosures : Enclosures) (turns : ℕ) → turns ≤ run.turns →
     map bare enclosures.regions ≡ run.regions → Fates so run enclosures.regions →
-    Course so run enclosures.regions turns (real_after enclosures turns (fresh run.start))
-unfolding real_after state_after
+    Course so run enclosures.regions turns (Real enclosures turns (fresh run.start))
+unfolding Real state_after
 course so run enclosures zero le same fates =
     inl (record { unbroken = refl; state = refl }, λ turn below. absurd (omega arith))
 course so run enclosures (suc turns) le same fates =
-    let at = real_after enclosures turns (fresh run.start) in
+    let at = Real enclosures turns (fresh run.start) in
     elim (course so run enclosures turns (omega arith) same fates) [
       | inl whole ↦
           subst (λ (b : Option Break). Course so run enclosures.regions (suc turns) (turn_unless b enclosures at))

@@ -12,7 +12,6 @@ use Rattle.enclosure_regions.specs.declared.break_kinds.Place.TheVariants.{Reg, 
 use Rattle.enclosure_regions.specs.declared.region_parts.Region.{Region}
 use Rattle.enclosure_regions.specs.Breaks.{has_changed, register_changed}
 use Rattle.enclosure_regions.specs.Orders.{all_registers}
-use Rattle.enclosure_regions.specs.Regions.{stands_in}
 use Rattle.region_machine.specs.Breaking.{kind_break}
 use Rattle.region_machine.specs.Enclosures.{Kind, Enters, Leaves, Steps, kind_of}
 use Rattle.region_machine.specs.Within.{are_inside}
@@ -35,35 +34,36 @@ use Rattle.region_learn.proofs.BrokenRuns.{broken_run}
 use Rattle.region_learn.proofs.UnbrokenRuns.{walk-unbroken}
 use Rattle.region_learn.proofs.WeakerRuns.{Fate, IsBroken}
 use Rattle.region_learn.proofs.WeakerRegions.{enter-none, kinds-same, written-at}
+use Rattle.flow_base.specs.Listed.{is_listed}
 
 -- ---- lists
 
-found-in : (test : ℕ → Bool) (xs : List ℕ) (x : ℕ) → find test xs ≡ Some x → (test x ≡ true) × (stands_in xs x ≡ true)
+found-in : (test : ℕ → Bool) (xs : List ℕ) (x : ℕ) → find test xs ≡ Some x → (test x ≡ true) × (is_listed xs x ≡ true)
 found-in test [] x h = absurd (cc)
 found-in test (y ∷ xs) x h = elim (cases_Bool (test y)) [
   | inl here ↦
       let e : Some y ≡ Some x = sym (cond-true (test y) (Some y) (find test xs) here) ∙ h in
       let same : y ≡ x = cc in
-      (ap test (sym same) ∙ here, or_left (y == x) (stands_in xs x) (eq-eqb y x same))
+      (ap test (sym same) ∙ here, or_left (y == x) (is_listed xs x) (eq-eqb y x same))
   | inr later ↦
       let rest = found-in test xs x (sym (cond-false (test y) (Some y) (find test xs) later) ∙ h) in
-      (rest.0, or_right (y == x) (stands_in xs x) rest.1)
+      (rest.0, or_right (y == x) (is_listed xs x) rest.1)
 ]
 
-none-in : (test : ℕ → Bool) (xs : List ℕ) (x : ℕ) → find test xs ≡ None → stands_in xs x ≡ true → test x ≡ false
+none-in : (test : ℕ → Bool) (xs : List ℕ) (x : ℕ) → find test xs ≡ None → is_listed xs x ≡ true → test x ≡ false
 none-in test [] x h stands = absurd (cc)
 none-in test (y ∷ xs) x h stands = elim (cases_Bool (test y)) [
   | inl here ↦
       let e : Some y ≡ None = sym (cond-true (test y) (Some y) (find test xs) here) ∙ h in absurd (cc)
   | inr later ↦
       let rest : find test xs ≡ None = sym (cond-false (test y) (Some y) (find test xs) later) ∙ h in
-      elim (or_cases (y == x) (stands_in xs x) stands) [
+      elim (or_cases (y == x) (is_listed xs x) stands) [
         | inl same ↦ ap test (sym (eqb-true y x same)) ∙ later
         | inr among ↦ none-in test xs x rest among
       ]
 ]
 
-some-broken : (make : ℕ → Break) (test : ℕ → Bool) (xs : List ℕ) (x : ℕ) → stands_in xs x ≡ true → test x ≡ true →
+some-broken : (make : ℕ → Break) (test : ℕ → Bool) (xs : List ℕ) (x : ℕ) → is_listed xs x ≡ true → test x ≡ true →
     IsBroken (option_map make (find test xs))
 some-broken make test [] x stands h = absurd (cc)
 some-broken make test (y ∷ xs) x stands h = elim (cases_Bool (test y)) [
@@ -71,7 +71,7 @@ some-broken make test (y ∷ xs) x stands h = elim (cases_Bool (test y)) [
       subst (λ (o : Option ℕ). IsBroken (option_map make o)) (sym (cond-true (test y) (Some y) (find test xs) here)) tt
   | inr later ↦
       subst (λ (o : Option ℕ). IsBroken (option_map make o)) (sym (cond-false (test y) (Some y) (find test xs) later))
-      (elim (or_cases (y == x) (stands_in xs x) stands) [
+      (elim (or_cases (y == x) (is_listed xs x) stands) [
         | inl same ↦ absurd (true-false (sym (ap test (eqb-true y x same) ∙ h) ∙ later))
         | inr among ↦ some-broken make test xs x among h
       ])
@@ -86,7 +86,7 @@ pub record IsMoved (run : Run) (number register : ℕ) (region weak : Region) : 
   pub others : (kept : List ℕ) (other : Place) → declares region kept other ≡ true → declares weak kept other ≡ true
   pub keep : (test : ℕ → Bool) → find test region.keep ≡ None → (found : ℕ) → find test weak.keep ≡ Some found →
       (weak.id ≡ number) × (found ≡ register)
-  pub has : weak.id ≡ number → stands_in weak.keep register ≡ true
+  pub has : weak.id ≡ number → is_listed weak.keep register ≡ true
 
 abbrev HasUnmoved : Run → ℕ → ℕ → Region → Type 0
 HasUnmoved run number register weak = (region : Region) × IsMoved run number register region weak
@@ -184,45 +184,45 @@ moved-breaks run number register weaker none same has changed =
 -- ---- an output that is to be kept
 
 among-all : (run : Run) (region : Region) (register : ℕ) → IsKnown run region →
-    (stands_in region.outs register || stands_in region.keep register) ≡ true → stands_in all_registers register ≡ true
+    (is_listed region.outs register || is_listed region.keep register) ≡ true → is_listed all_registers register ≡ true
 among-all run region register known h =
-    elim (or_cases (stands_in region.outs register) (stands_in region.keep register) h) [
+    elim (or_cases (is_listed region.outs register) (is_listed region.keep register) h) [
       | inl out ↦
           stands-among (is_out run region.id) register all_registers
-          (sym (ap (λ (l : List ℕ). stands_in l register) known.learnt.outs) ∙ out)
+          (sym (ap (λ (l : List ℕ). is_listed l register) known.learnt.outs) ∙ out)
       | inr kept ↦
           stands-among (is_kept run region.id) register all_registers
-          (sym (ap (λ (l : List ℕ). stands_in l register) known.learnt.keep) ∙ kept)
+          (sym (ap (λ (l : List ℕ). is_listed l register) known.learnt.keep) ∙ kept)
     ]
 
-in-new-keep : (register other : ℕ) (keep : List ℕ) → stands_in (register ∷ keep) other ≡ true →
-    stands_in all_registers other ≡ true → stands_in (in_order (register ∷ keep)) other ≡ true
-in-new-keep register other keep h all = pick-stands (stands_in (register ∷ keep)) other all_registers h all
+in-new-keep : (register other : ℕ) (keep : List ℕ) → is_listed (register ∷ keep) other ≡ true →
+    is_listed all_registers other ≡ true → is_listed (in_order (register ∷ keep)) other ≡ true
+in-new-keep register other keep h all = pick-stands (is_listed (register ∷ keep)) other all_registers h all
 
 others-moved : (run : Run) (register other : ℕ) (region : Region) → IsKnown run region →
     declares_register region other ≡ true → declares_register (moved_to_keep register region) other ≡ true
 others-moved run register other region known h =
     let outs = without register region.outs in
     let keep = in_order (register ∷ region.keep) in
-    elim (or_cases (other == 0) (stands_in region.outs other || stands_in region.keep other) h) [
-      | inl none ↦ or_left (other == 0) (stands_in outs other || stands_in keep other) none
+    elim (or_cases (other == 0) (is_listed region.outs other || is_listed region.keep other) h) [
+      | inl none ↦ or_left (other == 0) (is_listed outs other || is_listed keep other) none
       | inr some ↦
           let all = among-all run region other known some in
-          or_right (other == 0) (stands_in outs other || stands_in keep other)
-          (elim (or_cases (stands_in region.outs other) (stands_in region.keep other) some) [
+          or_right (other == 0) (is_listed outs other || is_listed keep other)
+          (elim (or_cases (is_listed region.outs other) (is_listed region.keep other) some) [
             | inl out ↦ elim (cases_Bool (other == register)) [
               | inl same ↦
-                  or_right (stands_in outs other) (stands_in keep other)
+                  or_right (is_listed outs other) (is_listed keep other)
                   (in-new-keep register other region.keep
-                  (or_left (register == other) (stands_in region.keep other)
+                  (or_left (register == other) (is_listed region.keep other)
                   (eq-eqb register other (sym (eqb-true other register same)))) all)
               | inr differs ↦
-                  or_left (stands_in outs other) (stands_in keep other) (stays register other region.outs differs out)
+                  or_left (is_listed outs other) (is_listed keep other) (stays register other region.outs differs out)
             ]
             | inr kept ↦
-                or_right (stands_in outs other) (stands_in keep other)
+                or_right (is_listed outs other) (is_listed keep other)
                 (in-new-keep register other region.keep
-                (or_right (register == other) (stands_in region.keep other) kept) all)
+                (or_right (register == other) (is_listed region.keep other) kept) all)
           ])
     ]
 
@@ -236,16 +236,16 @@ new-kept : (number register : ℕ) (region : Region) (test : ℕ → Bool) (foun
     (region.id ≡ number) × (found ≡ register)
 new-kept number register region test found same none h =
     let facts = found-in test (in_order (register ∷ region.keep)) found h in
-    let stands = stands-picked (stands_in (register ∷ region.keep)) found all_registers facts.1 in (
+    let stands = stands-picked (is_listed (register ∷ region.keep)) found all_registers facts.1 in (
       same,
-      elim (or_cases (register == found) (stands_in region.keep found) stands) [
+      elim (or_cases (register == found) (is_listed region.keep found) stands) [
         | inl is ↦ sym (eqb-true register found is)
         | inr among ↦ absurd (true-false (sym facts.0 ∙ none-in test region.keep found none among))
       ],
     )
 
 moved-of : (run : Run) (number register : ℕ) (region : Region) → IsKnown run region → region.id ≡ number →
-    stands_in all_registers register ≡ true → IsMoved run number register region (moved_to_keep register region)
+    is_listed all_registers register ≡ true → IsMoved run number register region (moved_to_keep register region)
 moved-of run number register region known same all = record {
   edges = refl;
   known = known;
@@ -253,7 +253,7 @@ moved-of run number register region known same all = record {
   others = λ kept other h. place-moved run register region kept other known h;
   keep = λ test none found h. new-kept number register region test found same none h;
   has = λ is. in-new-keep register register region.keep
-      (or_left (register == register) (stands_in region.keep register) (eq-eqb register register refl)) all;
+      (or_left (register == register) (is_listed region.keep register) (eq-eqb register register refl)) all;
 }
 
 none-some : (found : Option ℕ) (other : ℕ) → found ≡ None → found ≡ Some other → ⊥
@@ -271,7 +271,7 @@ unmoved run number register region known other = record {
 }
 
 moved-has : (run : Run) (number register : ℕ) (regions : List Region) → AllByRecursion (IsKnown run) regions →
-    stands_in all_registers register ≡ true →
+    is_listed all_registers register ≡ true →
     AllByRecursion (HasUnmoved run number register) (changed_at number (moved_to_keep register) regions)
 moved-has run number register [] known all = tt
 moved-has run number register (region ∷ regions) known all = (
@@ -300,15 +300,15 @@ moved-bare number register (region ∷ regions) =
     ∙ ap (λ (l : List Region). bare region ∷ l) (moved-bare number register regions)
 
 out-changed : (run : Run) (region : Region) (register : ℕ) → IsKnown run region →
-    stands_in region.outs register ≡ true → Changed run region.id register ≡ true
+    is_listed region.outs register ≡ true → Changed run region.id register ≡ true
 out-changed run region register known h =
     (and_parts (Written run region.id (Reg register)) (Changed run region.id register)
     (stands-picked (is_out run region.id) register all_registers
-    (sym (ap (λ (l : List ℕ). stands_in l register) known.learnt.outs) ∙ h))).1
+    (sym (ap (λ (l : List ℕ). is_listed l register) known.learnt.outs) ∙ h))).1
 
 each-output : (run : Run) (regions some : List Region) → first_call run.regions run.turns run.start ≡ None →
     map bare regions ≡ run.regions → AllByRecursion (IsKnown run) regions → AllByRecursion (IsKnown run) some →
-    AllByRecursion (λ region. (register : ℕ) → stands_in region.outs register ≡ true →
+    AllByRecursion (λ region. (register : ℕ) → is_listed region.outs register ≡ true →
     RunsBroken (IsKeepBroken region.id register) (changed_at region.id (moved_to_keep register) regions)
     run.turns run.start) some
 each-output run regions [] none same known h = tt
@@ -317,7 +317,7 @@ each-output run regions (region ∷ some) none same known h = (
       moved-breaks run region.id register (changed_at region.id (moved_to_keep register) regions) none
       (moved-bare region.id register regions ∙ same)
       (moved-has run region.id register regions known
-      (among-all run region register h.0 (or_left (stands_in region.outs register) (stands_in region.keep register) out)))
+      (among-all run region register h.0 (or_left (is_listed region.outs register) (is_listed region.keep register) out)))
       (out-changed run region register h.0 out),
   each-output run regions some none same known h.1,
 )

@@ -8,13 +8,14 @@ use Rattle.rv32im_machine.specs.declared.stepping.Stepped.TheVariants.{Ran, Exit
 use Rattle.rv32im_machine.specs.State.{Control, State}
 use Rattle.enclosure_regions.specs.declared.region_parts.Range.{Range}
 use Rattle.enclosure_regions.specs.declared.region_parts.Region.{Region}
-use Rattle.enclosure_regions.specs.Regions.{ids_of, stands_in}
+use Rattle.enclosure_regions.specs.Regions.{ids_of}
 use Rattle.region_machine.specs.Enclosures.{Leaves, Steps, kind_in, kind_of, kind_outside, kind_within}
 use Rattle.region_machine.specs.Enclosures.{region_entered_at, region_numbered}
 use Rattle.region_machine.specs.Within.{are_inside, may_leave, may_leave_of}
 use Rattle.region_learn.specs.declared.notes.Notes.{Notes}
 use Rattle.region_learn.specs.Private.Books.{are_bare, has_kind_notes, has_notes, kind_passes, numbers_of}
 use Rattle.region_learn.proofs.Counting.{nil_of}
+use Rattle.flow_base.specs.Listed.{is_listed}
 
 -- a region that may be there passes the test
 abbrev option_passes : (Region → Bool) → Option Region → Bool
@@ -90,18 +91,18 @@ bare_leave regions state h =
 
 -- ---- each region has notes
 
-any-number : (book : List Notes) (number : ℕ) → stands_in (numbers_of book) number ≡ has_notes book number
+any-number : (book : List Notes) (number : ℕ) → is_listed (numbers_of book) number ≡ has_notes book number
 any-number [] number = refl
 any-number (notes ∷ book) number = ap (λ (b : Bool). (notes.region == number) || b) (any-number book number)
 
 all-within : (numbers : List ℕ) (regions : List Region) →
-    ((number : ℕ) → stands_in (ids_of regions) number ≡ true → stands_in numbers number ≡ true) →
-    list_all (λ region. stands_in numbers region.id) regions ≡ true
+    ((number : ℕ) → is_listed (ids_of regions) number ≡ true → is_listed numbers number ≡ true) →
+    list_all (λ region. is_listed numbers region.id) regions ≡ true
 all-within numbers [] h = refl
 all-within numbers (region ∷ regions) h =
-    rw (h region.id (or_left (region.id == region.id) (stands_in (ids_of regions) region.id) (eq-eqb region.id region.id refl)))
+    rw (h region.id (or_left (region.id == region.id) (is_listed (ids_of regions) region.id) (eq-eqb region.id region.id refl)))
     (all-within numbers regions
-    (λ number stands. h number (or_right (region.id == number) (stands_in (ids_of regions) number) stands)))
+    (λ number stands. h number (or_right (region.id == number) (is_listed (ids_of regions) number) stands)))
 
 all-same : (passes other : Region → Bool) (regions : List Region) → ((region : Region) → passes region ≡ other region) →
     list_all passes regions ≡ list_all other regions
@@ -112,7 +113,7 @@ pub notes_of_turn : (regions : List Region) (book : List Notes) (control : Contr
     numbers_of book ≡ ids_of regions → has_kind_notes book (kind_of regions control) ≡ true
 notes_of_turn regions book control e =
     turn_passes (λ region. has_notes book region.id) regions control
-    (sym (all-same (λ region. stands_in (numbers_of book) region.id) (λ region. has_notes book region.id) regions
+    (sym (all-same (λ region. is_listed (numbers_of book) region.id) (λ region. has_notes book region.id) regions
     (λ region. any-number book region.id))
     ∙ all-within (numbers_of book) regions
-    (λ number stands. subst (λ (l : List ℕ). stands_in l number ≡ true) (sym e) stands))
+    (λ number stands. subst (λ (l : List ℕ). is_listed l number ≡ true) (sym e) stands))

@@ -9,7 +9,6 @@ use Rattle.enclosure_regions.specs.declared.break_kinds.Place.{Place}
 use Rattle.enclosure_regions.specs.declared.break_kinds.Place.TheVariants.{Reg, Byte}
 use Rattle.enclosure_regions.specs.declared.region_parts.Region.{Region}
 use Rattle.enclosure_regions.specs.Orders.{all_registers}
-use Rattle.enclosure_regions.specs.Regions.{stands_in}
 use Rattle.region_learn.specs.LearnAnswers.{Grants, first_call, no_exit}
 use Rattle.region_learn.specs.Learnt.{is_kept, is_out}
 use Rattle.region_learn.specs.Minimal.{IsUndeclared, NoRegisterCanGo, RunsBroken, changed_at, without, without_register}
@@ -21,6 +20,7 @@ use Rattle.region_learn.proofs.UnbrokenRuns.{pick-stands}
 use Rattle.enclosure_regions.specs.Breaks.{declares_register}
 use Rattle.region_learn.proofs.WeakerRuns.{DeclaresBut, LosesTo}
 use Rattle.region_learn.proofs.WeakerRegions.{HasStronger, IsWeaker, weaker_breaks}
+use Rattle.flow_base.specs.Listed.{is_listed}
 
 -- ---- a register left out
 
@@ -28,7 +28,7 @@ no-more : (test pick : ℕ → Bool) (xs : List ℕ) → find test xs ≡ None �
 no-more test pick [] h = refl
 no-more test pick (x ∷ xs) h = grind (arith, common_steps, no-more test pick xs)
 
-pub stands-among : (pick : ℕ → Bool) (r : ℕ) (xs : List ℕ) → stands_in (filter pick xs) r ≡ true → stands_in xs r ≡ true
+pub stands-among : (pick : ℕ → Bool) (r : ℕ) (xs : List ℕ) → is_listed (filter pick xs) r ≡ true → is_listed xs r ≡ true
 stands-among pick r [] h = h
 stands-among pick r (x ∷ xs) h = grind (arith, common_steps, stands-among pick r xs)
 
@@ -38,8 +38,8 @@ true-false e = cc
 not-same : (register : ℕ) → not (register == register) ≡ false
 not-same register = ap not (eq-eqb register register refl)
 
-gone : (register : ℕ) (xs : List ℕ) → stands_in (without register xs) register ≡ false
-gone register xs = elim (cases_Bool (stands_in (without register xs) register)) [
+gone : (register : ℕ) (xs : List ℕ) → is_listed (without register xs) register ≡ false
+gone register xs = elim (cases_Bool (is_listed (without register xs) register)) [
   | inl stands ↦
       let kept : not (register == register) ≡ true =
       stands-picked (λ other. not (other == register)) register xs stands in
@@ -47,8 +47,8 @@ gone register xs = elim (cases_Bool (stands_in (without register xs) register)) 
   | inr none ↦ none
 ]
 
-pub stays : (register other : ℕ) (xs : List ℕ) → (other == register) ≡ false → stands_in xs other ≡ true →
-    stands_in (without register xs) other ≡ true
+pub stays : (register other : ℕ) (xs : List ℕ) → (other == register) ≡ false → is_listed xs other ≡ true →
+    is_listed (without register xs) other ≡ true
 stays register other xs differs h = pick-stands (λ q. not (q == register)) other xs (ap not differs) h
 
 register-others : (register other : ℕ) (region : Region) → declares_register region other ≡ true →
@@ -56,20 +56,20 @@ register-others : (register other : ℕ) (region : Region) → declares_register
 register-others register other region h = elim (cases_Bool (other == register)) [
   | inl same ↦ inr (eqb-true other register same)
   | inr differs ↦ inl
-      (elim (or_cases (other == 0) (stands_in region.outs other || stands_in region.keep other) h) [
+      (elim (or_cases (other == 0) (is_listed region.outs other || is_listed region.keep other) h) [
         | inl none ↦
             or_left (other == 0)
-            (stands_in (without register region.outs) other || stands_in (without register region.keep) other) none
+            (is_listed (without register region.outs) other || is_listed (without register region.keep) other) none
         | inr some ↦
             or_right (other == 0)
-            (stands_in (without register region.outs) other || stands_in (without register region.keep) other)
-            (elim (or_cases (stands_in region.outs other) (stands_in region.keep other) some) [
+            (is_listed (without register region.outs) other || is_listed (without register region.keep) other)
+            (elim (or_cases (is_listed region.outs other) (is_listed region.keep other) some) [
               | inl out ↦
-                  or_left (stands_in (without register region.outs) other)
-                  (stands_in (without register region.keep) other) (stays register other region.outs differs out)
+                  or_left (is_listed (without register region.outs) other)
+                  (is_listed (without register region.keep) other) (stays register other region.outs differs out)
               | inr kept ↦
-                  or_right (stands_in (without register region.outs) other)
-                  (stands_in (without register region.keep) other) (stays register other region.keep differs kept)
+                  or_right (is_listed (without register region.outs) other)
+                  (is_listed (without register region.keep) other) (stays register other region.keep differs kept)
             ])
       ])
 ]
@@ -87,7 +87,7 @@ register-gone : (register : ℕ) (region : Region) → (register == 0) ≡ false
     declares_register (without_register register region) register ≡ false
 register-gone register region some =
     or_from (register == 0) _ some
-    (or_from (stands_in (without register region.outs) register) (stands_in (without register region.keep) register)
+    (or_from (is_listed (without register region.outs) register) (is_listed (without register region.keep) register)
     (gone register region.outs) (gone register region.keep))
 
 weaker-register : (run : Run) (number register : ℕ) (region : Region) → IsKnown run region → region.id ≡ number →
@@ -141,33 +141,33 @@ changed-bare number register (region ∷ regions) =
     ])
     ∙ ap (λ (l : List Region). bare region ∷ l) (changed-bare number register regions)
 
-no-zero : stands_in all_registers 0 ≡ false
+no-zero : is_listed all_registers 0 ≡ false
 unfolding all_registers
 no-zero = refl
 
-some-register : (register : ℕ) → stands_in all_registers register ≡ true → (register == 0) ≡ false
+some-register : (register : ℕ) → is_listed all_registers register ≡ true → (register == 0) ≡ false
 some-register register h = elim (cases_Bool (register == 0)) [
   | inl none ↦
-      absurd (true-false (sym h ∙ (ap (stands_in all_registers) (eqb-true register 0 none) ∙ no-zero)))
+      absurd (true-false (sym h ∙ (ap (is_listed all_registers) (eqb-true register 0 none) ∙ no-zero)))
   | inr some ↦ some
 ]
 
 -- a declared register is not x0, and is written
 declared-written : (run : Run) (region : Region) (register : ℕ) → IsKnown run region →
-    (stands_in region.outs register || stands_in region.keep register) ≡ true →
+    (is_listed region.outs register || is_listed region.keep register) ≡ true →
     ((register == 0) ≡ false) × (Written run region.id (Reg register) ≡ true)
 declared-written run region register known h =
-    elim (or_cases (stands_in region.outs register) (stands_in region.keep register) h) [
+    elim (or_cases (is_listed region.outs register) (is_listed region.keep register) h) [
       | inl out ↦
-          let stands : stands_in (filter (is_out run region.id) all_registers) register ≡ true =
-          sym (ap (λ (l : List ℕ). stands_in l register) known.learnt.outs) ∙ out in (
+          let stands : is_listed (filter (is_out run region.id) all_registers) register ≡ true =
+          sym (ap (λ (l : List ℕ). is_listed l register) known.learnt.outs) ∙ out in (
             some-register register (stands-among (is_out run region.id) register all_registers stands),
             (and_parts (Written run region.id (Reg register)) (Changed run region.id register)
                 (stands-picked (is_out run region.id) register all_registers stands)).0,
           )
       | inr kept ↦
-          let stands : stands_in (filter (is_kept run region.id) all_registers) register ≡ true =
-          sym (ap (λ (l : List ℕ). stands_in l register) known.learnt.keep) ∙ kept in (
+          let stands : is_listed (filter (is_kept run region.id) all_registers) register ≡ true =
+          sym (ap (λ (l : List ℕ). is_listed l register) known.learnt.keep) ∙ kept in (
             some-register register (stands-among (is_kept run region.id) register all_registers stands),
             (and_parts (Written run region.id (Reg register)) (not (Changed run region.id register))
                 (stands-picked (is_kept run region.id) register all_registers stands)).0,
@@ -184,7 +184,7 @@ one-lost number place regions turns start h = λ skip.
 each-register : (run : Run) (regions some : List Region) → first_call run.regions run.turns run.start ≡ None →
     map bare regions ≡ run.regions → AllByRecursion (IsKnown run) regions → AllByRecursion (IsKnown run) some →
     AllByRecursion (λ region. (register : ℕ) →
-    (stands_in region.outs register || stands_in region.keep register) ≡ true →
+    (is_listed region.outs register || is_listed region.keep register) ≡ true →
     RunsBroken (IsUndeclared region.id (Reg register)) (changed_at region.id (without_register register) regions)
     run.turns run.start) some
 each-register run regions [] none same known h = tt

@@ -14,7 +14,7 @@ use Rattle.enclosure_regions.specs.declared.break_kinds.Place.{Place}
 use Rattle.region_learn.specs.declared.notes.Halt.{Halt}
 use Rattle.region_learn.specs.declared.notes.Halt.TheVariants.{Call, Memory}
 use Rattle.region_learn.specs.Private.Noting.{Noted, NotesPlay}
-use Rattle.region_learn.specs.Written.{is_number, is_place, puts_into, walk_calls, walk_writes}
+use Rattle.region_learn.specs.Written.{is_number_slot, is_written_place, puts_into, walk_calls, walk_writes}
 
 -- what is written here is noted, and nothing else
 pub record NotesMore (before after : Noted) (writes : Place → Bool) : Type 0 where
@@ -71,13 +71,13 @@ more before middle after here later e h =
     h ∙ (ap (λ (b : Bool). b || later) e ∙ or_assoc before here later)
 
 pub moved : (before middle : Noted) (other : MachinePlace) (shape : Shape) (source : Source) (value : ℕ) (walk : Walk)
-    (out : Played Halt Noted) → NotesMore before middle (λ place. is_place place other) →
+    (out : Played Halt Noted) → NotesMore before middle (λ place. is_written_place place other) →
     NotesPlay middle walk out → NotesPlay before (Moved other shape source value walk) out
 unfolding real_end walk_calls walk_writes
 moved before middle other shape source value walk (Finished state after) e h = record {
   end = h.end;
   quiet = h.quiet;
-  places = λ place. more (before.has place) (middle.has place) (after.has place) (is_place place other)
+  places = λ place. more (before.has place) (middle.has place) (after.has place) (is_written_place place other)
       (walk_writes place walk) (e.places place) (h.places place);
   changed = h.changed ∙ e.changed;
   region = h.region ∙ e.region;
@@ -87,7 +87,7 @@ moved before middle other shape source value walk (Halted Call) e h = h
 moved before middle other shape source value walk (Halted Memory) e h = h
 
 pub passed : (before middle : Noted) (passing : Passing) (go : ℕ → Walk) (out : Played Halt Noted) →
-    is_number passing.point.slot ≡ false → NotesMore before middle (λ place. puts_into place passing.aim) →
+    is_number_slot passing.point.slot ≡ false → NotesMore before middle (λ place. puts_into place passing.aim) →
     NotesPlay middle (go passing.value) out → NotesPlay before (Passed passing go) out
 unfolding real_end walk_calls walk_writes
 passed before middle passing go (Finished state after) quiet e h = record {
@@ -103,7 +103,7 @@ passed before middle passing go (Halted Call) quiet e h =
     ap (λ (b : Bool). b || walk_calls (go passing.value)) quiet ∙ h
 passed before middle passing go (Halted Memory) quiet e h = h
 
-pub called : (passing : Passing) (go : ℕ → Walk) → is_number passing.point.slot ≡ true →
+pub called : (passing : Passing) (go : ℕ → Walk) → is_number_slot passing.point.slot ≡ true →
     walk_calls (Passed passing go) ≡ true
 unfolding walk_calls
 called passing go is = ap (λ (b : Bool). b || walk_calls (go passing.value)) is

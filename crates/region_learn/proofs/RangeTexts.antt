@@ -9,7 +9,7 @@ use Rattle.serde_json.proofs.OnLiterals.{serde_json_on_literals}
 use Rattle.enclosure_regions.specs.declared.region_parts.Range.{Range}
 use Rattle.enclosure_regions.specs.RangeItems.{few, range_at, ranges_at, ranges_onto, with_base, with_length}
 use Rattle.enclosure_regions.specs.RangeItems.{with_offset}
-use Rattle.enclosure_regions.specs.Regions.{are_ranges, is_base, is_range}
+use Rattle.enclosure_regions.specs.Regions.{are_ranges, is_base_register, is_range}
 use Rattle.enclosure_regions.specs.Shapes.{number_within, register_at, word_at}
 use Rattle.enclosure_regions.specs.Words.{word_of}
 use Rattle.region_learn.specs.RegionTexts.{range_data, ranges_data, register_data, whole}
@@ -41,7 +41,7 @@ based-range : (register offset count : ℕ) →
 unfolding serde_json_on_literals
 based-range register offset count = refl
 
-parts-own : (base : Option ℕ) (offset count : ℕ) → is_base base ≡ true → offset < 4294967296 →
+parts-own : (base : Option ℕ) (offset count : ℕ) → is_base_register base ≡ true → offset < 4294967296 →
     (nat_le 1 count && nat_le count 65536) ≡ true →
     range_at (range_data (record { base = base; offset = offset; length = count })) ≡
     Some (record { base = base; offset = offset; length = count })
@@ -58,7 +58,7 @@ parts-own (Some register) offset count known small fits =
 
 range-own : (range : Range) → is_range range ≡ true → range_at (range_data range) ≡ Some range
 range-own range known =
-    let first = and_parts (is_base range.base)
+    let first = and_parts (is_base_register range.base)
     (nat_lt range.offset (2 ^ 32) && (nat_le 1 range.length && nat_le range.length 65536)) known in
     let second = and_parts (nat_lt range.offset (2 ^ 32)) (nat_le 1 range.length && nat_le range.length 65536) first.1 in
     parts-own range.base range.offset range.length first.0 (ltb-true range.offset 4294967296 second.0) second.1

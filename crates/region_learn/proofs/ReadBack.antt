@@ -18,12 +18,14 @@ use Rattle.enclosure_regions.specs.RegionItems.{written_in, id_if, place_if}
 use Rattle.enclosure_regions.specs.RangeItems.{ranges_if}
 use Rattle.enclosure_regions.specs.Regions.{are_apart, are_distinct, are_ranges, are_regions, are_registers}
 use Rattle.enclosure_regions.specs.Regions.{ascends_above, enters_of, ids_of}
-use Rattle.enclosure_regions.specs.Regions.{is_place, is_region, is_region_number, is_register, stands_in}
+use Rattle.enclosure_regions.specs.Regions.{is_code_address, is_region, is_register}
 use Rattle.enclosure_regions.specs.Shapes.{registers_if}
 use Rattle.region_learn.specs.RegionTexts.{address_data, ranges_data, region_data, regions_data, registers_data, whole}
 use Rattle.region_learn.proofs.PlaceTexts.{place-own}
 use Rattle.region_learn.proofs.RangeTexts.{number-own, ranges-own}
 use Rattle.region_learn.proofs.RegisterLists.{in_order-own, lowest_twice-none, registers-own}
+use Rattle.flow_base.specs.Points.{is_region_number}
+use Rattle.flow_base.specs.Listed.{is_listed}
 
 -- ---- one region
 
@@ -51,8 +53,8 @@ gathered-all id enter leave outs keep ranges region a b c d e f = rw (a, b, c, d
 -- what is known of a region
 record IsKnown (region : Region) : Type 0 where
   pub id : is_region_number region.id ≡ true
-  pub enter : is_place region.enter ≡ true
-  pub leave : is_place region.leave ≡ true
+  pub enter : is_code_address region.enter ≡ true
+  pub leave : is_code_address region.leave ≡ true
   pub differ : (region.enter == region.leave) ≡ false
   pub outs : are_registers region.outs ≡ true
   pub keep : are_registers region.keep ≡ true
@@ -65,11 +67,11 @@ known-region region known =
     let last2 = are_registers region.keep && last in
     let last3 = are_registers region.outs && last2 in
     let last4 = not (region.enter == region.leave) && last3 in
-    let last5 = is_place region.leave && last4 in
-    let last6 = is_place region.enter && last5 in
+    let last5 = is_code_address region.leave && last4 in
+    let last6 = is_code_address region.enter && last5 in
     let a = and_parts (is_region_number region.id) last6 known in
-    let b = and_parts (is_place region.enter) last5 a.1 in
-    let c = and_parts (is_place region.leave) last4 b.1 in
+    let b = and_parts (is_code_address region.enter) last5 a.1 in
+    let c = and_parts (is_code_address region.leave) last4 b.1 in
     let d = and_parts (not (region.enter == region.leave)) last3 c.1 in
     let e = and_parts (are_registers region.outs) last2 d.1 in
     let f = and_parts (are_registers region.keep) last e.1 in
@@ -85,7 +87,7 @@ known-region region known =
       ranges = g.1;
     }
 
-place-read : (address : ℕ) → is_place address ≡ true → place_if (Some (address_data address)) ≡ Some address
+place-read : (address : ℕ) → is_code_address address ≡ true → place_if (Some (address_data address)) ≡ Some address
 place-read address known =
     let parts = and_parts (nat_lt address (2 ^ 32)) (address % 4 == 0) known in
     place-own address (ltb-true address 4294967296 parts.0) parts.1
@@ -106,23 +108,23 @@ ordered-own region known =
     ∙ ap (λ (l : List ℕ). record region { outs = region.outs; keep = l }) (in_order-own region.keep known.keep)
 
 region-placed : (found : List Region) (region : Region) → IsKnown region →
-    stands_in (ids_of found) region.id ≡ false → stands_in (enters_of found) region.enter ≡ false →
+    is_listed (ids_of found) region.id ≡ false → is_listed (enters_of found) region.enter ≡ false →
     placed_behind found region ≡ Ok region
 region-placed found region known new_id new_enter =
-    cond-false (stands_in (ids_of found) region.id) _ _ new_id
+    cond-false (is_listed (ids_of found) region.id) _ _ new_id
     ∙ cond-false (region.enter == region.leave) _ _ known.differ
     ∙ ap (without_twice found region) (lowest_twice-none region.outs region.keep known.outs known.keep known.apart)
-    ∙ cond-false (stands_in (enters_of found) region.enter) _ _ new_enter
+    ∙ cond-false (is_listed (enters_of found) region.enter) _ _ new_enter
     ∙ ap Ok (ordered-own region known)
 
 -- ---- numbers that are new
 
-stands-longer : (xs : List ℕ) (x y : ℕ) → stands_in xs x ≡ false → (y == x) ≡ false →
-    stands_in (xs ++ y ∷ []) x ≡ false
+stands-longer : (xs : List ℕ) (x y : ℕ) → is_listed xs x ≡ false → (y == x) ≡ false →
+    is_listed (xs ++ y ∷ []) x ≡ false
 stands-longer [] x y none other = grind (arith, common_steps)
 stands-longer (z ∷ xs) x y none other = grind (arith, common_steps, stands-longer xs x y)
 
-apart-longer : (xs ys : List ℕ) (y : ℕ) → are_apart xs ys ≡ true → stands_in xs y ≡ false →
+apart-longer : (xs ys : List ℕ) (y : ℕ) → are_apart xs ys ≡ true → is_listed xs y ≡ false →
     are_apart xs (ys ++ y ∷ []) ≡ true
 apart-longer [] ys y apart none = refl
 apart-longer (x ∷ xs) ys y apart none = grind (arith, common_steps, stands-longer ys x y, apart-longer xs ys y)
@@ -154,12 +156,12 @@ record AreNew (found regions : List Region) : Type 0 where
 one-more : (found : List Region) (region : Region) (regions : List Region) → AreNew found (region ∷ regions) →
     AreNew (found ++ region ∷ []) regions
 one-more found region regions new =
-    let ids = and_parts (not (stands_in (ids_of regions) region.id)) (are_distinct (ids_of regions)) new.ids in
-    let enters = and_parts (not (stands_in (enters_of regions) region.enter)) (are_distinct (enters_of regions))
+    let ids = and_parts (not (is_listed (ids_of regions) region.id)) (are_distinct (ids_of regions)) new.ids in
+    let enters = and_parts (not (is_listed (enters_of regions) region.enter)) (are_distinct (enters_of regions))
     new.enters in
-    let new_ids = and_parts (not (stands_in (ids_of found) region.id)) (are_apart (ids_of regions) (ids_of found))
+    let new_ids = and_parts (not (is_listed (ids_of found) region.id)) (are_apart (ids_of regions) (ids_of found))
     new.new_ids in
-    let new_enters = and_parts (not (stands_in (enters_of found) region.enter))
+    let new_enters = and_parts (not (is_listed (enters_of found) region.enter))
     (are_apart (enters_of regions) (enters_of found)) new.new_enters in
     record {
       each = (and_parts (is_region region) (list_all is_region regions) new.each).1;
@@ -167,10 +169,10 @@ one-more found region regions new =
       enters = enters.1;
       new_ids = ap (are_apart (ids_of regions)) (ids-longer found region)
           ∙ apart-longer (ids_of regions) (ids_of found) region.id new_ids.1
-          (not-true (stands_in (ids_of regions) region.id) ids.0);
+          (not-true (is_listed (ids_of regions) region.id) ids.0);
       new_enters = ap (are_apart (enters_of regions)) (enters-longer found region)
           ∙ apart-longer (enters_of regions) (enters_of found) region.enter new_enters.1
-          (not-true (stands_in (enters_of regions) region.enter) enters.0);
+          (not-true (is_listed (enters_of regions) region.enter) enters.0);
     }
 
 onto : (regions found : List Region) → AreNew found regions →
@@ -178,14 +180,14 @@ onto : (regions found : List Region) → AreNew found regions →
 onto [] found new = ap (λ (l : List Region). Ok l) (sym (append-nil found))
 onto (region ∷ regions) found new =
     let known = known-region region (and_parts (is_region region) (list_all is_region regions) new.each).0 in
-    let new_id = and_parts (not (stands_in (ids_of found) region.id)) (are_apart (ids_of regions) (ids_of found))
+    let new_id = and_parts (not (is_listed (ids_of found) region.id)) (are_apart (ids_of regions) (ids_of found))
     new.new_ids in
-    let new_enter = and_parts (not (stands_in (enters_of found) region.enter))
+    let new_enter = and_parts (not (is_listed (enters_of found) region.enter))
     (are_apart (enters_of regions) (enters_of found)) new.new_enters in
     let placed : written_behind found (written_in (region_data region)) ≡ Ok region =
     ap (written_behind found) (region-written region known)
-    ∙ region-placed found region known (not-true (stands_in (ids_of found) region.id) new_id.0)
-    (not-true (stands_in (enters_of found) region.enter) new_enter.0) in
+    ∙ region-placed found region known (not-true (is_listed (ids_of found) region.id) new_id.0)
+    (not-true (is_listed (enters_of found) region.enter) new_enter.0) in
     ap (λ (r : Result Region RegionFault).
     r >> λ (next : Region). regions_onto (found ++ next ∷ []) (items_of (map region_data regions))) placed
     ∙ onto regions (found ++ region ∷ []) (one-more found region regions new)

@@ -10,23 +10,26 @@ use Rattle.enclosure_regions.specs.declared.region_parts.Range.{Range}
 use Rattle.enclosure_regions.specs.declared.region_parts.Region.{Region}
 use Rattle.enclosure_regions.specs.Orders.{all_registers}
 use Rattle.enclosure_regions.specs.Regions.{are_apart, are_distinct, are_ranges, are_regions, are_registers, ascends_above}
-use Rattle.enclosure_regions.specs.Regions.{enters_of, ids_of, is_place, is_range, is_region, is_region_number}
-use Rattle.enclosure_regions.specs.Regions.{is_register, stands_in}
+use Rattle.enclosure_regions.specs.Regions.{enters_of, ids_of, is_code_address, is_range, is_region}
+use Rattle.enclosure_regions.specs.Regions.{is_register}
 use Rattle.region_learn.specs.Private.Declarations.{IsDraft, kept_bit, out_bit}
-use Rattle.enclosure_regions.specs.Regions.{is_base}
+use Rattle.enclosure_regions.specs.Regions.{is_base_register}
 use Rattle.region_learn.specs.declared.faults.LearnFault.{LearnFault}
 use Rattle.region_learn.specs.declared.faults.LearnFault.TheVariants.{Bytes, Ranges}
-use Rattle.region_learn.specs.LearnAnswers.{byte_count, counted, first_fault, region_fault, regions_fault}
+use Rattle.region_learn.specs.LearnAnswers.{byte_count, counted, region_fault, regions_fault}
 use Rattle.region_learn.specs.Learnt.{AreSpread}
 use Rattle.region_learn.specs.Private.Marks.{has_bit}
 use Rattle.region_learn.specs.Private.Spans.{End}
 use Rattle.region_learn.specs.Written.{bare}
+use Rattle.flow_base.specs.Points.{is_region_number}
+use Rattle.flow_base.specs.Listed.{is_listed}
+use Rattle.std.specs.Option.{option_or}
 
 -- ---- numbers and addresses
 
 abbrev Edges : Region → Type 0
 Edges region =
-    (is_region_number region.id ≡ true) × (is_place region.enter ≡ true) × (is_place region.leave ≡ true)
+    (is_region_number region.id ≡ true) × (is_code_address region.enter ≡ true) × (is_code_address region.leave ≡ true)
     × (not (region.enter == region.leave) ≡ true)
 
 edges_of : (region : Region) → is_region region ≡ true → Edges region
@@ -102,7 +105,7 @@ pub picked : (pick : ℕ → Bool) → IsTrue (are_registers (filter pick all_re
 picked pick =
     grind (arith, common_steps, all-are, filter-all is_register pick all_registers, ascends pick 0 all_registers)
 
-pub stands-picked : (pick : ℕ → Bool) (r : ℕ) (xs : List ℕ) → IsTrue (stands_in (filter pick xs) r) → IsTrue (pick r)
+pub stands-picked : (pick : ℕ → Bool) (r : ℕ) (xs : List ℕ) → IsTrue (is_listed (filter pick xs) r) → IsTrue (pick r)
 stands-picked pick r [] h = grind arith
 stands-picked pick r (x ∷ xs) h = grind (arith, common_steps, stands-picked pick r xs)
 
@@ -141,7 +144,7 @@ range_rules lowest (range ∷ ranges) h end few =
     let high : range.offset + range.length ≤ 4294967295 = end.0 in
     let total : range.length + sum_by (λ (r : Range). r.length) ranges ≤ 65536 =
     subst (λ (n : ℕ). n ≤ 65536) (sum_by-cons (λ (r : Range). r.length) range ranges) few in
-    and_from _ _ (and_from _ _ (ap is_base h.0)
+    and_from _ _ (and_from _ _ (ap is_base_register h.0)
     (and_from _ _ (lt-true range.offset (2 ^ 32) (omega (arith, one, high)))
     (and_from _ _ (le-true 1 range.length one) (le-true range.length 65536 (omega (arith, total))))))
     (range_rules (range.offset + range.length + 1) ranges h.3 end.1 (omega (arith, total)))
@@ -170,7 +173,7 @@ draft_region region edges draft h =
     (and_from _ _ (range_rules 0 region.ranges draft.spans.spread draft.spans.end
     (le-of (byte_count region) 65536 few.1)) (and_from _ _ few.0 few.1))
 
-first-none : (first later : Option LearnFault) → first_fault first later ≡ None → (first ≡ None) × (later ≡ None)
+first-none : (first later : Option LearnFault) → option_or first later ≡ None → (first ≡ None) × (later ≡ None)
 first-none None later h = (refl, h)
 first-none (Some fault) later h = absurd (cc)
 

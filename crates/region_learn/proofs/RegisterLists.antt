@@ -8,10 +8,11 @@ use Rattle.std.proofs.lemmas.Bool.{agree_below_at, and_parts, leb-true, cases_Bo
 use Rattle.std.proofs.lemmas.Bool.{cases_order, or_left, eq-eqb, both_ways, and_from, lt-ltb}
 use Rattle.serde_json.specs.View.{items_of}
 use Rattle.enclosure_regions.specs.Orders.{all_registers, in_order, lowest_twice, stands_twice, times}
-use Rattle.enclosure_regions.specs.Regions.{are_apart, are_registers, ascends_above, is_register, stands_in}
+use Rattle.enclosure_regions.specs.Regions.{are_apart, are_registers, ascends_above, is_register}
 use Rattle.enclosure_regions.specs.Shapes.{registers_onto, registers_at}
 use Rattle.region_learn.specs.RegionTexts.{register_data, registers_data}
 use Rattle.region_learn.proofs.RegisterTexts.{register-own}
+use Rattle.flow_base.specs.Listed.{is_listed}
 
 -- ---- they are read
 
@@ -35,71 +36,71 @@ all-ascend : ascends_above 0 all_registers ≡ true
 unfolding all_registers
 all-ascend = refl
 
-listed : (register : ℕ) → is_register register ≡ true → stands_in all_registers register ≡ true
+listed : (register : ℕ) → is_register register ≡ true → is_listed all_registers register ≡ true
 unfolding all_registers
 listed register known =
     let small : register < 32 =
     omega (arith, leb-true register 31 (and_parts (nat_le 1 register) (nat_le register 31) known).1) in
-    agree_below_at (λ (r : ℕ). stands_in all_registers r) is_register 32 register refl small ∙ known
+    agree_below_at (λ (r : ℕ). is_listed all_registers r) is_register 32 register refl small ∙ known
 
 all-listed : (registers : List ℕ) → list_all is_register registers ≡ true →
-    list_all (λ r. stands_in all_registers r) registers ≡ true
+    list_all (λ r. is_listed all_registers r) registers ≡ true
 all-listed [] known = refl
 all-listed (register ∷ registers) known = grind (arith, common_steps, listed register, all-listed registers)
 
 none-below : (lowest : ℕ) (numbers : List ℕ) (number : ℕ) → ascends_above lowest numbers ≡ true → number ≤ lowest →
-    stands_in numbers number ≡ false
+    is_listed numbers number ≡ false
 none-below lowest [] number known le = refl
 none-below lowest (first ∷ numbers) number known le =
     grind (arith, common_steps, none-below first numbers number)
 
-none-picked : (all : List ℕ) → filter (λ (r : ℕ). stands_in [] r) all ≡ []
+none-picked : (all : List ℕ) → filter (λ (r : ℕ). is_listed [] r) all ≡ []
 none-picked [] = refl
 none-picked (first ∷ all) = none-picked all
 
 -- the first number is picked from none that is above it
 first-aside : (first : ℕ) (numbers : List ℕ) (lowest : ℕ) (all : List ℕ) → ascends_above lowest all ≡ true →
     first ≤ lowest →
-    filter (λ (r : ℕ). stands_in (first ∷ numbers) r) all ≡ filter (λ (r : ℕ). stands_in numbers r) all
+    filter (λ (r : ℕ). is_listed (first ∷ numbers) r) all ≡ filter (λ (r : ℕ). is_listed numbers r) all
 first-aside first numbers lowest [] known le = refl
 first-aside first numbers lowest (other ∷ all) known le =
     grind (arith, common_steps, first-aside first numbers other all)
 
 others-stand : (first : ℕ) (all numbers : List ℕ) (lowest : ℕ) → first ≤ lowest →
-    ascends_above lowest numbers ≡ true → list_all (λ r. stands_in (first ∷ all) r) numbers ≡ true →
-    list_all (λ r. stands_in all r) numbers ≡ true
+    ascends_above lowest numbers ≡ true → list_all (λ r. is_listed (first ∷ all) r) numbers ≡ true →
+    list_all (λ r. is_listed all r) numbers ≡ true
 others-stand first all [] lowest le known stand = refl
 others-stand first all (number ∷ numbers) lowest le known stand =
     grind (arith, common_steps, others-stand first all numbers number)
 
-stands-behind : (first number : ℕ) (all : List ℕ) → number < first → stands_in (first ∷ all) number ≡ true →
-    stands_in all number ≡ true
+stands-behind : (first number : ℕ) (all : List ℕ) → number < first → is_listed (first ∷ all) number ≡ true →
+    is_listed all number ≡ true
 stands-behind first number all below stands = grind (arith, common_steps)
 
 picked : (all numbers : List ℕ) (low lowest : ℕ) → ascends_above low all ≡ true →
-    ascends_above lowest numbers ≡ true → list_all (λ r. stands_in all r) numbers ≡ true →
-    filter (λ (r : ℕ). stands_in numbers r) all ≡ numbers
+    ascends_above lowest numbers ≡ true → list_all (λ r. is_listed all r) numbers ≡ true →
+    filter (λ (r : ℕ). is_listed numbers r) all ≡ numbers
 picked all [] low lowest ascend known stand = none-picked all
 picked [] (number ∷ numbers) low lowest ascend known stand = absurd cc
 picked (first ∷ all) (number ∷ numbers) low lowest ascend known stand =
     let above = and_parts (nat_lt low first) (ascends_above first all) ascend in
     let more = and_parts (nat_lt lowest number) (ascends_above number numbers) known in
-    let stands = and_parts (stands_in (first ∷ all) number) (list_all (λ r. stands_in (first ∷ all) r) numbers) stand in
+    let stands = and_parts (is_listed (first ∷ all) number) (list_all (λ r. is_listed (first ∷ all) r) numbers) stand in
     elim (cases_order number first) [
       | inl same ↦
-          cond-true (number == first || stands_in numbers first) _ _
-          (or_left (number == first) (stands_in numbers first) (eq-eqb number first same))
+          cond-true (number == first || is_listed numbers first) _ _
+          (or_left (number == first) (is_listed numbers first) (eq-eqb number first same))
           ∙ ap (λ (l : List ℕ). first ∷ l) (first-aside number numbers first all above.1 (omega (arith, same))
           ∙ picked all numbers first number above.1 more.1
           (others-stand first all numbers number (omega (arith, same)) more.1 stands.1))
           ∙ ap (λ (n : ℕ). n ∷ numbers) (sym same)
-      | inr (inl below) ↦ absurd (both_ways (stands_in all number)
+      | inr (inl below) ↦ absurd (both_ways (is_listed all number)
           (none-below first all number above.1 (omega (arith, below)))
           (stands-behind first number all (omega (arith, below)) stands.0))
       | inr (inr greater) ↦
           let ascends : ascends_above first (number ∷ numbers) ≡ true =
           and_from (nat_lt first number) (ascends_above number numbers) (lt-ltb first number greater) more.1 in
-          cond-false (number == first || stands_in numbers first) _ _
+          cond-false (number == first || is_listed numbers first) _ _
           (none-below first (number ∷ numbers) first ascends (omega arith))
           ∙ picked all (number ∷ numbers) first lowest above.1 known
           (others-stand first all (number ∷ numbers) first (omega arith) ascends stand)
@@ -112,7 +113,7 @@ in_order-own registers known =
 
 -- ---- none stands twice
 
-never : (numbers : List ℕ) (number : ℕ) → stands_in numbers number ≡ false → times numbers number ≡ 0
+never : (numbers : List ℕ) (number : ℕ) → is_listed numbers number ≡ false → times numbers number ≡ 0
 never [] number none = refl
 never (first ∷ numbers) number none = grind (arith, common_steps, never numbers number)
 
@@ -121,8 +122,8 @@ once lowest [] number known = omega arith
 once lowest (first ∷ numbers) number known =
     grind (arith, common_steps, once first numbers number, never numbers number, none-below first numbers number)
 
-apart-at : (outs keep : List ℕ) (number : ℕ) → are_apart outs keep ≡ true → stands_in outs number ≡ true →
-    stands_in keep number ≡ false
+apart-at : (outs keep : List ℕ) (number : ℕ) → are_apart outs keep ≡ true → is_listed outs number ≡ true →
+    is_listed keep number ≡ false
 apart-at [] keep number apart stands = absurd cc
 apart-at (first ∷ outs) keep number apart stands = grind (arith, common_steps, apart-at outs keep number)
 
@@ -131,7 +132,7 @@ not-twice : (outs keep : List ℕ) (number : ℕ) → ascends_above 0 outs ≡ t
 not-twice outs keep number first second apart =
     let one = once 0 outs number first in
     let other = once 0 keep number second in
-    elim (cases_Bool (stands_in outs number)) [
+    elim (cases_Bool (is_listed outs number)) [
       | inl stands ↦ let none = never keep number (apart-at outs keep number apart stands) in grind (arith, common_steps)
       | inr none ↦ let none2 = never outs number none in grind (arith, common_steps)
     ]

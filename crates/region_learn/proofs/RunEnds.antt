@@ -11,11 +11,12 @@ use Rattle.region_machine.proofs.Stillness.{IsOver, still_guest, still_kind}
 use Rattle.region_learn.specs.declared.faults.LearnFault.{LearnFault}
 use Rattle.region_learn.specs.declared.notes.Notes.{Notes}
 use Rattle.region_learn.specs.Private.Books.{BookAfter, BookOf, NotesAfter, NotesOf, have_base, numbers_of}
-use Rattle.region_learn.specs.LearnAnswers.{call_in, first_call, first_fault}
+use Rattle.region_learn.specs.LearnAnswers.{call_in, first_call}
 use Rattle.region_learn.specs.Written.{is_leave_of, is_step_in, leaves_changed, some_turn, state_after, walk_writes}
 use Rattle.region_learn.specs.Written.{writes_in}
 use Rattle.rv32im_machine.specs.Rows.{walk_of}
 use Rattle.enclosure_regions.specs.Breaks.{has_changed}
+use Rattle.std.specs.Option.{option_or}
 
 -- ---- a run that has ended stands still
 
@@ -57,7 +58,7 @@ still_some test regions start first (suc turns) le over fails = elim (cases_lt f
       let e : suc turns ≡ first = omega arith in ap (λ (n : ℕ). some_turn test regions n start) e
 ]
 
-fault-none : (fault : Option LearnFault) → first_fault fault None ≡ fault
+fault-none : (fault : Option LearnFault) → option_or fault None ≡ fault
 fault-none None = refl
 fault-none (Some fault) = refl
 
@@ -76,7 +77,7 @@ still_first regions start first (suc turns) le over = elim (cases_lt first (suc 
       let later : call_in (kind_of regions state.control) state ≡ None =
       ap (λ (s : State). call_in (kind_of regions s.control) s) (still_state regions start first turns (omega arith) over)
       ∙ no-call regions (state_after regions first start) over in
-      ap (λ (f : Option LearnFault). first_fault (first_call regions turns start) f) later
+      ap (λ (f : Option LearnFault). option_or (first_call regions turns start) f) later
       ∙ (fault-none (first_call regions turns start) ∙ still_first regions start first turns (omega arith) over)
   | inr last ↦
       let e : suc turns ≡ first = omega arith in ap (λ (n : ℕ). first_call regions n start) e
@@ -91,7 +92,7 @@ call_stays regions start fault first zero le is =
 call_stays regions start fault first (suc turns) le is = elim (cases_lt first (suc turns)) [
   | inl below ↦
       let state = state_after regions turns start in
-      ap (λ (f : Option LearnFault). first_fault f (call_in (kind_of regions state.control) state))
+      ap (λ (f : Option LearnFault). option_or f (call_in (kind_of regions state.control) state))
       (call_stays regions start fault first turns (omega arith) is)
   | inr last ↦
       let e : suc turns ≡ first = omega arith in ap (λ (n : ℕ). first_call regions n start) e ∙ is
@@ -103,7 +104,7 @@ pub first_more : (regions : List Region) (start state : State) (turns : ℕ) (fa
     call_in (kind_of regions state.control) state ≡ fault → first_call regions (suc turns) start ≡ fault
 unfolding first_call
 first_more regions start state turns fault is none call =
-    ap (λ (f : Option LearnFault). first_fault f
+    ap (λ (f : Option LearnFault). option_or f
     (call_in (kind_of regions (state_after regions turns start).control) (state_after regions turns start))) none
     ∙ (ap (λ (s : State). call_in (kind_of regions s.control) s) (sym is) ∙ call)
 

@@ -29,20 +29,21 @@ use Rattle.enclosure_regions.specs.declared.region_parts.Region.{Region}
 use Rattle.enclosure_regions.specs.Breaks.{declares_byte, declares_register, has_changed}
 use Rattle.enclosure_regions.specs.Breaks.{register_changed}
 use Rattle.enclosure_regions.specs.Orders.{all_registers}
-use Rattle.enclosure_regions.specs.Regions.{stands_in}
 use Rattle.enclosure_regions.specs.Turns.{start_of}
-use Rattle.region_machine.specs.Breaking.{Breaks, aim_break, first_break, kind_break, place_break, slot_break, walk_break}
+use Rattle.region_machine.specs.Breaking.{Breaks, aim_break, kind_break, place_break, slot_break, walk_break}
 use Rattle.region_machine.specs.Enclosures.{Enclosures, Kind, Enters, Leaves, Steps, kind_in, kind_of, kind_outside}
 use Rattle.region_machine.specs.Enclosures.{kind_within, region_entered_at, region_numbered}
 use Rattle.region_machine.specs.Guests.{guest_walk, kind_walk}
-use Rattle.region_machine.specs.Runs.{Place as RunPlace, fresh, real_after, turn_unless, unbroken_turn}
+use Rattle.region_machine.specs.Runs.{Place as RunPlace, fresh, Real, turn_unless, unbroken_turn}
 use Rattle.region_learn.specs.declared.faults.LearnFault.{LearnFault}
-use Rattle.region_learn.specs.LearnAnswers.{Grants, call_in, first_call, first_fault, no_exit}
+use Rattle.region_learn.specs.LearnAnswers.{Grants, call_in, first_call, no_exit}
 use Rattle.region_learn.specs.Learnt.{IsLearnt, is_kept, is_out}
 use Rattle.region_learn.specs.Unbroken.{IsTight, RunsUnbroken}
-use Rattle.region_learn.specs.Written.{Changed, Run, Written, bare, is_leave_of, is_number, is_place, is_step_in, leaves_changed}
+use Rattle.region_learn.specs.Written.{Changed, Run, Written, bare, is_leave_of, is_number_slot, is_written_place, is_step_in, leaves_changed}
 use Rattle.region_learn.specs.Written.{puts_into, some_turn, state_after, walk_calls, walk_writes, writes_in}
 use Rattle.region_learn.proofs.EdgesAlike.{bare_kind, edges_alike, kind_bare}
+use Rattle.flow_base.specs.Listed.{is_listed}
+use Rattle.std.specs.Option.{option_or}
 
 -- ---- a step inside a region
 
@@ -51,7 +52,7 @@ declares region kept (Reg register) = declares_register region register
 declares region kept (Byte address) = declares_byte region kept address
 
 place-unbroken : (region : Region) (kept : List ℕ) (pc : ℕ) (place : MachinePlace) →
-    ((other : Place) → is_place other place ≡ true → declares region kept other ≡ true) →
+    ((other : Place) → is_written_place other place ≡ true → declares region kept other ≡ true) →
     place_break region kept pc place ≡ None
 place-unbroken region kept pc (Register register) h =
     cond-true (declares_register region register) None
@@ -64,7 +65,7 @@ place-unbroken region kept pc (MachineByte address) h =
 place-unbroken region kept pc First h = refl
 place-unbroken region kept pc Second h = refl
 
-pub slot-unbroken : (region : Region) (pc : ℕ) (slot : Slot) → is_number slot ≡ false → slot_break region pc slot ≡ None
+pub slot-unbroken : (region : Region) (pc : ℕ) (slot : Slot) → is_number_slot slot ≡ false → slot_break region pc slot ≡ None
 slot-unbroken region pc Number h = absurd (cc)
 slot-unbroken region pc FirstSlot h = refl
 slot-unbroken region pc SecondSlot h = refl
@@ -80,15 +81,15 @@ slot-unbroken region pc Status h = refl
 slot-unbroken region pc (OutReg register) h = refl
 slot-unbroken region pc (OutRange range) h = refl
 
-aim-unbroken : (region : Region) (kept : List ℕ) (pc : ℕ) (slot : Slot) (aim : Aim) → is_number slot ≡ false →
+aim-unbroken : (region : Region) (kept : List ℕ) (pc : ℕ) (slot : Slot) (aim : Aim) → is_number_slot slot ≡ false →
     ((other : Place) → puts_into other aim ≡ true → declares region kept other ≡ true) →
     aim_break region kept pc slot aim ≡ None
 aim-unbroken region kept pc slot (Put place) quiet h = place-unbroken region kept pc place h
 aim-unbroken region kept pc slot Decide quiet h = slot-unbroken region pc slot quiet
 aim-unbroken region kept pc slot (Give place) quiet h = refl
 
-first-none : (first later : Option Break) → first ≡ None → later ≡ None → first_break first later ≡ None
-first-none first later e h = ap (λ (b : Option Break). first_break b later) e ∙ h
+first-none : (first later : Option Break) → first ≡ None → later ≡ None → option_or first later ≡ None
+first-none first later e h = ap (λ (b : Option Break). option_or b later) e ∙ h
 
 pub walk-unbroken : (region : Region) (kept : List ℕ) (pc : ℕ) (walk : Walk) → walk_calls walk ≡ false →
     ((place : Place) → walk_writes place walk ≡ true → declares region kept place ≡ true) →
@@ -96,7 +97,7 @@ pub walk-unbroken : (region : Region) (kept : List ℕ) (pc : ℕ) (walk : Walk)
 unfolding walk_break walk_calls walk_writes
 walk-unbroken region kept pc (Looked seen value walk) quiet h = walk-unbroken region kept pc walk quiet h
 walk-unbroken region kept pc (Passed passing go) quiet h =
-    let parts = or_parts (is_number passing.point.slot) (walk_calls (go passing.value)) quiet in
+    let parts = or_parts (is_number_slot passing.point.slot) (walk_calls (go passing.value)) quiet in
     first-none (aim_break region kept pc passing.point.slot passing.aim) (walk_break region kept pc (go passing.value))
     (aim-unbroken region kept pc passing.point.slot passing.aim parts.0
     (λ other puts. h other (or_left (puts_into other passing.aim) (walk_writes other (go passing.value)) puts)))
@@ -104,9 +105,9 @@ walk-unbroken region kept pc (Passed passing go) quiet h =
     (λ place writes. h place (or_right (puts_into place passing.aim) (walk_writes place (go passing.value)) writes)))
 walk-unbroken region kept pc (Moved other shape source value walk) quiet h =
     first-none (place_break region kept pc other) (walk_break region kept pc walk)
-    (place-unbroken region kept pc other (λ place puts. h place (or_left (is_place place other) (walk_writes place walk) puts)))
+    (place-unbroken region kept pc other (λ place puts. h place (or_left (is_written_place place other) (walk_writes place walk) puts)))
     (walk-unbroken region kept pc walk quiet
-    (λ place writes. h place (or_right (is_place place other) (walk_writes place walk) writes)))
+    (λ place writes. h place (or_right (is_written_place place other) (walk_writes place walk) writes)))
 walk-unbroken region kept pc (Saved walk) quiet h = walk-unbroken region kept pc walk quiet h
 walk-unbroken region kept pc (Restored registers walk back) quiet h = walk-unbroken region kept pc walk quiet h
 walk-unbroken region kept pc (Ended state) quiet h = refl
@@ -137,7 +138,7 @@ none_true test regions start turn turns below h = elim (cases_Bool (test (state_
   | inr fails ↦ fails
 ]
 
-pub fault-none : (first later : Option LearnFault) → first_fault first later ≡ None → (first ≡ None) × (later ≡ None)
+pub fault-none : (first later : Option LearnFault) → option_or first later ≡ None → (first ≡ None) × (later ≡ None)
 fault-none None later h = (refl, h)
 fault-none (Some fault) later h = absurd (cc)
 
@@ -199,42 +200,42 @@ setting_after regions (suc turns) start =
 not-one : 1 ≤ 0 → ⊥
 not-one low = omega arith
 
-listed : (register : ℕ) → register < 32 → 1 ≤ register → stands_in all_registers register ≡ true
+listed : (register : ℕ) → register < 32 → 1 ≤ register → is_listed all_registers register ≡ true
 unfolding all_registers
 listed =
-    (below_more (λ k. 1 ≤ k → stands_in all_registers k ≡ true) 31
-    (below_more (λ k. 1 ≤ k → stands_in all_registers k ≡ true) 30
-    (below_more (λ k. 1 ≤ k → stands_in all_registers k ≡ true) 29
-    (below_more (λ k. 1 ≤ k → stands_in all_registers k ≡ true) 28
-    (below_more (λ k. 1 ≤ k → stands_in all_registers k ≡ true) 27
-    (below_more (λ k. 1 ≤ k → stands_in all_registers k ≡ true) 26
-    (below_more (λ k. 1 ≤ k → stands_in all_registers k ≡ true) 25
-    (below_more (λ k. 1 ≤ k → stands_in all_registers k ≡ true) 24
-    (below_more (λ k. 1 ≤ k → stands_in all_registers k ≡ true) 23
-    (below_more (λ k. 1 ≤ k → stands_in all_registers k ≡ true) 22
-    (below_more (λ k. 1 ≤ k → stands_in all_registers k ≡ true) 21
-    (below_more (λ k. 1 ≤ k → stands_in all_registers k ≡ true) 20
-    (below_more (λ k. 1 ≤ k → stands_in all_registers k ≡ true) 19
-    (below_more (λ k. 1 ≤ k → stands_in all_registers k ≡ true) 18
-    (below_more (λ k. 1 ≤ k → stands_in all_registers k ≡ true) 17
-    (below_more (λ k. 1 ≤ k → stands_in all_registers k ≡ true) 16
-    (below_more (λ k. 1 ≤ k → stands_in all_registers k ≡ true) 15
-    (below_more (λ k. 1 ≤ k → stands_in all_registers k ≡ true) 14
-    (below_more (λ k. 1 ≤ k → stands_in all_registers k ≡ true) 13
-    (below_more (λ k. 1 ≤ k → stands_in all_registers k ≡ true) 12
-    (below_more (λ k. 1 ≤ k → stands_in all_registers k ≡ true) 11
-    (below_more (λ k. 1 ≤ k → stands_in all_registers k ≡ true) 10
-    (below_more (λ k. 1 ≤ k → stands_in all_registers k ≡ true) 9
-    (below_more (λ k. 1 ≤ k → stands_in all_registers k ≡ true) 8
-    (below_more (λ k. 1 ≤ k → stands_in all_registers k ≡ true) 7
-    (below_more (λ k. 1 ≤ k → stands_in all_registers k ≡ true) 6
-    (below_more (λ k. 1 ≤ k → stands_in all_registers k ≡ true) 5
-    (below_more (λ k. 1 ≤ k → stands_in all_registers k ≡ true) 4
-    (below_more (λ k. 1 ≤ k → stands_in all_registers k ≡ true) 3
-    (below_more (λ k. 1 ≤ k → stands_in all_registers k ≡ true) 2
-    (below_more (λ k. 1 ≤ k → stands_in all_registers k ≡ true) 1
-    (below_more (λ k. 1 ≤ k → stands_in all_registers k ≡ true) 0
-    (below_none (λ k. 1 ≤ k → stands_in all_registers k ≡ true))
+    (below_more (λ k. 1 ≤ k → is_listed all_registers k ≡ true) 31
+    (below_more (λ k. 1 ≤ k → is_listed all_registers k ≡ true) 30
+    (below_more (λ k. 1 ≤ k → is_listed all_registers k ≡ true) 29
+    (below_more (λ k. 1 ≤ k → is_listed all_registers k ≡ true) 28
+    (below_more (λ k. 1 ≤ k → is_listed all_registers k ≡ true) 27
+    (below_more (λ k. 1 ≤ k → is_listed all_registers k ≡ true) 26
+    (below_more (λ k. 1 ≤ k → is_listed all_registers k ≡ true) 25
+    (below_more (λ k. 1 ≤ k → is_listed all_registers k ≡ true) 24
+    (below_more (λ k. 1 ≤ k → is_listed all_registers k ≡ true) 23
+    (below_more (λ k. 1 ≤ k → is_listed all_registers k ≡ true) 22
+    (below_more (λ k. 1 ≤ k → is_listed all_registers k ≡ true) 21
+    (below_more (λ k. 1 ≤ k → is_listed all_registers k ≡ true) 20
+    (below_more (λ k. 1 ≤ k → is_listed all_registers k ≡ true) 19
+    (below_more (λ k. 1 ≤ k → is_listed all_registers k ≡ true) 18
+    (below_more (λ k. 1 ≤ k → is_listed all_registers k ≡ true) 17
+    (below_more (λ k. 1 ≤ k → is_listed all_registers k ≡ true) 16
+    (below_more (λ k. 1 ≤ k → is_listed all_registers k ≡ true) 15
+    (below_more (λ k. 1 ≤ k → is_listed all_registers k ≡ true) 14
+    (below_more (λ k. 1 ≤ k → is_listed all_registers k ≡ true) 13
+    (below_more (λ k. 1 ≤ k → is_listed all_registers k ≡ true) 12
+    (below_more (λ k. 1 ≤ k → is_listed all_registers k ≡ true) 11
+    (below_more (λ k. 1 ≤ k → is_listed all_registers k ≡ true) 10
+    (below_more (λ k. 1 ≤ k → is_listed all_registers k ≡ true) 9
+    (below_more (λ k. 1 ≤ k → is_listed all_registers k ≡ true) 8
+    (below_more (λ k. 1 ≤ k → is_listed all_registers k ≡ true) 7
+    (below_more (λ k. 1 ≤ k → is_listed all_registers k ≡ true) 6
+    (below_more (λ k. 1 ≤ k → is_listed all_registers k ≡ true) 5
+    (below_more (λ k. 1 ≤ k → is_listed all_registers k ≡ true) 4
+    (below_more (λ k. 1 ≤ k → is_listed all_registers k ≡ true) 3
+    (below_more (λ k. 1 ≤ k → is_listed all_registers k ≡ true) 2
+    (below_more (λ k. 1 ≤ k → is_listed all_registers k ≡ true) 1
+    (below_more (λ k. 1 ≤ k → is_listed all_registers k ≡ true) 0
+    (below_none (λ k. 1 ≤ k → is_listed all_registers k ≡ true))
     (λ low. absurd (not-one low)))
     (λ low. refl))
     (λ low. refl))
@@ -268,8 +269,8 @@ listed =
     (λ low. refl))
     (λ low. refl))
 
-pub pick-stands : (pick : ℕ → Bool) (register : ℕ) (xs : List ℕ) → pick register ≡ true → stands_in xs register ≡ true →
-    stands_in (filter pick xs) register ≡ true
+pub pick-stands : (pick : ℕ → Bool) (register : ℕ) (xs : List ℕ) → pick register ≡ true → is_listed xs register ≡ true →
+    is_listed (filter pick xs) register ≡ true
 pick-stands pick register [] p h = h
 pick-stands pick register (x ∷ xs) p h = grind (arith, common_steps, pick-stands pick register xs p)
 
@@ -350,19 +351,19 @@ register-declared run region register known written = elim (cases_lt register 32
   | inl below ↦ elim (cases_lt register 1) [
     | inl none ↦
         let e : register ≡ 0 = omega (arith, none) in
-        or_left (register == 0) (stands_in region.outs register || stands_in region.keep register)
+        or_left (register == 0) (is_listed region.outs register || is_listed region.keep register)
         (eq-eqb register 0 e)
     | inr some ↦
         let all = listed register below some in
-        or_right (register == 0) (stands_in region.outs register || stands_in region.keep register)
+        or_right (register == 0) (is_listed region.outs register || is_listed region.keep register)
         (elim (out-or-kept (Written run region.id (Reg register)) (Changed run region.id register) written) [
           | inl out ↦
-              or_left (stands_in region.outs register) (stands_in region.keep register)
-              (ap (λ (l : List ℕ). stands_in l register) known.learnt.outs
+              or_left (is_listed region.outs register) (is_listed region.keep register)
+              (ap (λ (l : List ℕ). is_listed l register) known.learnt.outs
               ∙ pick-stands (is_out run region.id) register all_registers out all)
           | inr kept ↦
-              or_right (stands_in region.outs register) (stands_in region.keep register)
-              (ap (λ (l : List ℕ). stands_in l register) known.learnt.keep
+              or_right (is_listed region.outs register) (is_listed region.keep register)
+              (ap (λ (l : List ℕ). is_listed l register) known.learnt.keep
               ∙ pick-stands (is_kept run region.id) register all_registers kept all)
         ])
   ]
@@ -490,11 +491,11 @@ sound-turn run enclosures turns place below none same known sound =
 sound-after : (run : Run) (enclosures : Enclosures) (turns : ℕ) → turns ≤ run.turns →
     first_call run.regions run.turns run.start ≡ None → map bare enclosures.regions ≡ run.regions →
     AllByRecursion (IsKnown run) enclosures.regions →
-    IsSound run turns (real_after enclosures turns (fresh run.start))
-unfolding real_after state_after
+    IsSound run turns (Real enclosures turns (fresh run.start))
+unfolding Real state_after
 sound-after run enclosures zero le none same known = record { unbroken = refl; state = refl }
 sound-after run enclosures (suc turns) le none same known =
-    let place = real_after enclosures turns (fresh run.start) in
+    let place = Real enclosures turns (fresh run.start) in
     let sound = sound-after run enclosures turns (omega arith) none same known in
     subst (λ (b : Option Break). IsSound run (suc turns) (turn_unless b enclosures place)) (sym sound.unbroken)
     (sound-turn run enclosures turns place (omega arith) none same known sound)

@@ -14,10 +14,11 @@ use Rattle.enclosure_regions.specs.declared.break_kinds.Place.{Place}
 use Rattle.enclosure_regions.specs.declared.break_kinds.Place.TheVariants.{Reg, Byte}
 use Rattle.enclosure_regions.specs.declared.region_parts.Region.{Region}
 use Rattle.enclosure_regions.specs.Breaks.{declares_byte, declares_register}
-use Rattle.region_machine.specs.Breaking.{aim_break, first_break, place_break, walk_break}
+use Rattle.region_machine.specs.Breaking.{aim_break, place_break, walk_break}
 use Rattle.region_learn.specs.Minimal.{IsUndeclared}
-use Rattle.region_learn.specs.Written.{is_number, is_place, puts_into, walk_calls, walk_writes}
+use Rattle.region_learn.specs.Written.{is_number_slot, is_written_place, puts_into, walk_calls, walk_writes}
 use Rattle.region_learn.proofs.UnbrokenRuns.{declares, slot-unbroken}
+use Rattle.std.specs.Option.{option_or}
 
 -- ---- what a walk breaks
 
@@ -49,7 +50,7 @@ undeclared number lost other region kept pc (inr h) =
     inr (other, h.1, (pc, ap (λ (n : ℕ). Break.UndeclaredWrite n pc other) h.0))
 
 place-fate : (number : ℕ) (lost : Place → Type 0) (region : Region) (kept : List ℕ) (pc : ℕ) (other : MachinePlace) →
-    ((q : Place) → is_place q other ≡ true → DeclaresBut number lost region kept q) →
+    ((q : Place) → is_written_place q other ≡ true → DeclaresBut number lost region kept q) →
     Fate (LosesTo number lost) (place_break region kept pc other)
 place-fate number lost region kept pc (Register register) h =
     either (declares_register region register) (LosesTo number lost) (Break.UndeclaredWrite region.id pc (Reg register))
@@ -61,7 +62,7 @@ place-fate number lost region kept pc First h = tt
 place-fate number lost region kept pc Second h = tt
 
 aim-fate : (number : ℕ) (lost : Place → Type 0) (region : Region) (kept : List ℕ) (pc : ℕ) (slot : Slot) (aim : Aim) →
-    is_number slot ≡ false → ((q : Place) → puts_into q aim ≡ true → DeclaresBut number lost region kept q) →
+    is_number_slot slot ≡ false → ((q : Place) → puts_into q aim ≡ true → DeclaresBut number lost region kept q) →
     Fate (LosesTo number lost) (aim_break region kept pc slot aim)
 aim-fate number lost region kept pc slot (Put other) quiet h = place-fate number lost region kept pc other h
 aim-fate number lost region kept pc slot Decide quiet h =
@@ -69,7 +70,7 @@ aim-fate number lost region kept pc slot Decide quiet h =
 aim-fate number lost region kept pc slot (Give other) quiet h = tt
 
 first-fate : (so : Break → Type 0) (first later : Option Break) → Fate so first → Fate so later →
-    Fate so (first_break first later)
+    Fate so (option_or first later)
 first-fate so None later h k = k
 first-fate so (Some broken) later h k = h
 
@@ -81,7 +82,7 @@ unfolding walk_break walk_calls walk_writes
 walk_fate number lost region kept pc (Looked seen value walk) quiet h =
     walk_fate number lost region kept pc walk quiet h
 walk_fate number lost region kept pc (Passed passing go) quiet h =
-    let parts = or_parts (is_number passing.point.slot) (walk_calls (go passing.value)) quiet in
+    let parts = or_parts (is_number_slot passing.point.slot) (walk_calls (go passing.value)) quiet in
     first-fate (LosesTo number lost) (aim_break region kept pc passing.point.slot passing.aim)
     (walk_break region kept pc (go passing.value))
     (aim-fate number lost region kept pc passing.point.slot passing.aim parts.0
@@ -91,9 +92,9 @@ walk_fate number lost region kept pc (Passed passing go) quiet h =
 walk_fate number lost region kept pc (Moved other shape source value walk) quiet h =
     first-fate (LosesTo number lost) (place_break region kept pc other) (walk_break region kept pc walk)
     (place-fate number lost region kept pc other
-    (λ q puts. h q (or_left (is_place q other) (walk_writes q walk) puts)))
+    (λ q puts. h q (or_left (is_written_place q other) (walk_writes q walk) puts)))
     (walk_fate number lost region kept pc walk quiet
-    (λ q writes. h q (or_right (is_place q other) (walk_writes q walk) writes)))
+    (λ q writes. h q (or_right (is_written_place q other) (walk_writes q walk) writes)))
 walk_fate number lost region kept pc (Saved walk) quiet h = walk_fate number lost region kept pc walk quiet h
 walk_fate number lost region kept pc (Restored registers walk back) quiet h =
     walk_fate number lost region kept pc walk quiet h
@@ -105,11 +106,11 @@ abbrev pub IsBroken : Option Break → Type 0
 IsBroken None = ⊥
 IsBroken (Some broken) = Unit {0}
 
-first-breaks : (first later : Option Break) → IsBroken first → IsBroken (first_break first later)
+first-breaks : (first later : Option Break) → IsBroken first → IsBroken (option_or first later)
 first-breaks None later h = absurd h
 first-breaks (Some broken) later h = tt
 
-later-breaks : (first later : Option Break) → IsBroken later → IsBroken (first_break first later)
+later-breaks : (first later : Option Break) → IsBroken later → IsBroken (option_or first later)
 later-breaks None later h = h
 later-breaks (Some broken) later h = tt
 
@@ -118,7 +119,7 @@ unless-declared true broken h = absurd (cc)
 unless-declared false broken h = tt
 
 place-breaks : (region : Region) (kept : List ℕ) (pc : ℕ) (place : Place) (other : MachinePlace) →
-    declares region kept place ≡ false → is_place place other ≡ true → IsBroken (place_break region kept pc other)
+    declares region kept place ≡ false → is_written_place place other ≡ true → IsBroken (place_break region kept pc other)
 place-breaks region kept pc (Reg register) (Register other) lacks is =
     unless-declared (declares_register region other) (Break.UndeclaredWrite region.id pc (Reg other))
     (ap (declares_register region) (eqb-true other register is) ∙ lacks)
@@ -155,7 +156,7 @@ walk_breaks region kept pc place (Passed passing go) lacks writes =
           (walk_breaks region kept pc place (go passing.value) lacks later)
     ]
 walk_breaks region kept pc place (Moved other shape source value walk) lacks writes =
-    elim (or_cases (is_place place other) (walk_writes place walk) writes) [
+    elim (or_cases (is_written_place place other) (walk_writes place walk) writes) [
       | inl here ↦
           first-breaks (place_break region kept pc other) (walk_break region kept pc walk)
           (place-breaks region kept pc place other lacks here)

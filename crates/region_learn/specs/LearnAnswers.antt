@@ -12,10 +12,7 @@ use Rattle.region_learn.specs.declared.faults.LearnFault.TheVariants.{Guest, Cal
 use Rattle.region_learn.specs.Written.{Run, state_after, walk_calls}
 use Rattle.region_learn.specs.Learnt.{Learnt}
 use Rattle.region_learn.specs.RegionTexts.{regions_text}
-
-abbrev pub first_fault : Option LearnFault → Option LearnFault → Option LearnFault
-first_fault None later = later
-first_fault (Some fault) later = Some fault
+use Rattle.std.specs.Option.{option_or}
 
 -- ---- the run
 
@@ -32,7 +29,7 @@ unfoldable pub first_call : List Region → ℕ → State → Option LearnFault
 first_call regions zero start = None
 first_call regions (suc turns) start =
     let state = state_after regions turns start in
-    first_fault (first_call regions turns start) (call_in (kind_of regions state.control) state)
+    option_or (first_call regions turns start) (call_in (kind_of regions state.control) state)
 
 -- a run that has no call inside a region does not exit within so many turns
 abbrev pub no_exit : ℕ → Stepped → Option LearnFault
@@ -43,7 +40,7 @@ no_exit turns (Stopped fault) = Some (Guest fault)
 -- why the run has no least declaration
 abbrev pub run_fault : Run → Option LearnFault
 run_fault run =
-    first_fault (first_call run.regions run.turns run.start)
+    option_or (first_call run.regions run.turns run.start)
     (no_exit run.turns (state_after run.regions run.turns run.start).control.mode)
 
 -- ---- the declaration
@@ -65,14 +62,14 @@ region_fault region =
 -- the first region with too many
 abbrev pub regions_fault : List Region → Option LearnFault
 regions_fault [] = None
-regions_fault (region ∷ regions) = first_fault (region_fault region) (regions_fault regions)
+regions_fault (region ∷ regions) = option_or (region_fault region) (regions_fault regions)
 
 -- the text of the regions has at most 65,536 bytes
 abbrev pub text_fault : List ℕ → Option LearnFault
 text_fault text = if nat_le (length text) 65536 then None else Some (TextSize (counted (length text)))
 
 abbrev pub declaration_fault : List Region → Option LearnFault
-declaration_fault regions = first_fault (regions_fault regions) (text_fault (regions_text regions))
+declaration_fault regions = option_or (regions_fault regions) (text_fault (regions_text regions))
 
 -- ---- the answer
 
@@ -83,7 +80,7 @@ pub record Grants (run : Run) (regions : List Region) : Type 0 where
   pub fits : declaration_fault regions ≡ None
 
 -- the run has none for this reason, or its least declaration is refused for this reason
-abbrev pub Refuses : Run → LearnFault → Type 0
-Refuses run fault =
+abbrev pub RefusesToLearn : Run → LearnFault → Type 0
+RefusesToLearn run fault =
     (run_fault run ≡ Some fault)
     ⊎ ((regions : List Region) × (run_fault run ≡ None) × Learnt run regions × (declaration_fault regions ≡ Some fault))

@@ -10,15 +10,15 @@ use Rattle.flow_base.specs.Guests.{is_inside}
 use Rattle.enclosure_regions.specs.declared.region_parts.Range.{Range}
 use Rattle.enclosure_regions.specs.declared.region_parts.Region.{Region}
 use Rattle.enclosure_regions.specs.Orders.{in_order}
-use Rattle.enclosure_regions.specs.Regions.{stands_in}
 use Rattle.region_learn.specs.Learnt.{have_byte}
-use Rattle.region_machine.specs.Runs.{fresh, real_after}
+use Rattle.region_machine.specs.Runs.{fresh, Real}
+use Rattle.flow_base.specs.Listed.{is_listed}
 
 -- the real run with these regions, whichever of them are skipped, breaks one of them so within so many turns
 abbrev pub RunsBroken : (Break → Type 0) → List Region → ℕ → State → Type 0
 RunsBroken so regions turns start =
     (skip : List ℕ) → (broken : Break)
-    × ((real_after (record { regions = regions; skip = skip }) turns (fresh start)).broken ≡ Some broken) × so broken
+    × ((Real (record { regions = regions; skip = skip }) turns (fresh start)).broken ≡ Some broken) × so broken
 
 -- an instruction inside the region with a number has written to a place that is not declared
 abbrev pub IsUndeclared : ℕ → Place → Break → Type 0
@@ -40,7 +40,7 @@ without_register register region =
 abbrev pub NoRegisterCanGo : List Region → ℕ → State → Type 0
 NoRegisterCanGo regions turns start =
     AllByRecursion (λ region. (register : ℕ) →
-    (stands_in region.outs register || stands_in region.keep register) ≡ true →
+    (is_listed region.outs register || is_listed region.keep register) ≡ true →
     RunsBroken (IsUndeclared region.id (Reg register)) (changed_at region.id (without_register register) regions)
     turns start) regions
 
@@ -84,6 +84,6 @@ IsKeepBroken number register broken =
 -- with any one output moved to the kept registers, the run breaks at a leave
 abbrev pub NoOutputIsKept : List Region → ℕ → State → Type 0
 NoOutputIsKept regions turns start =
-    AllByRecursion (λ region. (register : ℕ) → stands_in region.outs register ≡ true →
+    AllByRecursion (λ region. (register : ℕ) → is_listed region.outs register ≡ true →
     RunsBroken (IsKeepBroken region.id register) (changed_at region.id (moved_to_keep register) regions) turns start)
     regions

@@ -5,7 +5,7 @@ use Rattle.rv32im_machine.specs.State.{State}
 use Rattle.enclosure_regions.specs.declared.region_parts.Region.{Region}
 use Rattle.enclosure_regions.specs.declared.break_kinds.Place.TheVariants.{Reg}
 use Rattle.enclosure_regions.specs.Breaks.{declares_byte}
-use Rattle.region_machine.specs.Runs.{Place, fresh, real_after}
+use Rattle.region_machine.specs.Runs.{Place, fresh, Real}
 use Rattle.region_machine.specs.Within.{are_inside}
 use Rattle.region_learn.specs.Learnt.{have_byte}
 use Rattle.region_learn.specs.Written.{Run, Written}
@@ -26,4 +26,4 @@ pub record HasExitedUnbroken (place : Place) : Type 0 where
 -- the real run with these regions, whichever of them are skipped, exits within so many turns and breaks none
 abbrev pub RunsUnbroken : List Region → ℕ → State → Type 0
 RunsUnbroken regions turns start =
-    (skip : List ℕ) → HasExitedUnbroken (real_after (record { regions = regions; skip = skip }) turns (fresh start))
+    (skip : List ℕ) → HasExitedUnbroken (Real (record { regions = regions; skip = skip }) turns (fresh start))

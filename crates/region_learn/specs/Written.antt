@@ -43,18 +43,18 @@ some_turn test regions (suc turns) start = some_turn test regions turns start ||
 
 -- ---- writes
 
-abbrev pub is_place : Place → MachinePlace → Bool
-is_place (Reg register) (Register other) = other == register
-is_place (Reg register) (MachineByte other) = false
-is_place (Reg register) First = false
-is_place (Reg register) Second = false
-is_place (Byte address) (Register other) = false
-is_place (Byte address) (MachineByte other) = other == address
-is_place (Byte address) First = false
-is_place (Byte address) Second = false
+abbrev pub is_written_place : Place → MachinePlace → Bool
+is_written_place (Reg register) (Register other) = other == register
+is_written_place (Reg register) (MachineByte other) = false
+is_written_place (Reg register) First = false
+is_written_place (Reg register) Second = false
+is_written_place (Byte address) (Register other) = false
+is_written_place (Byte address) (MachineByte other) = other == address
+is_written_place (Byte address) First = false
+is_written_place (Byte address) Second = false
 
 abbrev pub puts_into : Place → Aim → Bool
-puts_into place (Put other) = is_place place other
+puts_into place (Put other) = is_written_place place other
 puts_into place Decide = false
 puts_into place (Give other) = false
 
@@ -62,7 +62,7 @@ puts_into place (Give other) = false
 unfoldable pub walk_writes : Place → Walk → Bool
 walk_writes place (Looked seen value walk) = walk_writes place walk
 walk_writes place (Passed passing go) = puts_into place passing.aim || walk_writes place (go passing.value)
-walk_writes place (Moved other shape source value walk) = is_place place other || walk_writes place walk
+walk_writes place (Moved other shape source value walk) = is_written_place place other || walk_writes place walk
 walk_writes place (Saved walk) = walk_writes place walk
 walk_writes place (Restored registers walk back) = walk_writes place walk
 walk_writes place (Ended state) = false
@@ -103,26 +103,26 @@ Changed run number register = some_turn (leaves_changed run.regions number regis
 -- ---- calls
 
 -- a call passes its number first
-abbrev pub is_number : Slot → Bool
-is_number Number = true
-is_number FirstSlot = false
-is_number SecondSlot = false
-is_number Address = false
-is_number Result = false
-is_number Decision = false
-is_number Arg0 = false
-is_number Arg1 = false
-is_number Arg2 = false
-is_number SecretIn = false
-is_number ByteOut = false
-is_number Status = false
-is_number (OutReg register) = false
-is_number (OutRange range) = false
+abbrev pub is_number_slot : Slot → Bool
+is_number_slot Number = true
+is_number_slot FirstSlot = false
+is_number_slot SecondSlot = false
+is_number_slot Address = false
+is_number_slot Result = false
+is_number_slot Decision = false
+is_number_slot Arg0 = false
+is_number_slot Arg1 = false
+is_number_slot Arg2 = false
+is_number_slot SecretIn = false
+is_number_slot ByteOut = false
+is_number_slot Status = false
+is_number_slot (OutReg register) = false
+is_number_slot (OutRange range) = false
 
 -- a turn in which every value goes on as it is is a call
 unfoldable pub walk_calls : Walk → Bool
 walk_calls (Looked seen value walk) = walk_calls walk
-walk_calls (Passed passing go) = is_number passing.point.slot || walk_calls (go passing.value)
+walk_calls (Passed passing go) = is_number_slot passing.point.slot || walk_calls (go passing.value)
 walk_calls (Moved other shape source value walk) = walk_calls walk
 walk_calls (Saved walk) = walk_calls walk
 walk_calls (Restored registers walk back) = walk_calls walk

@@ -1,11 +1,11 @@
 ghost use Rattle.std.specs.Prelude.{◌≡◌, ◌≢◌, ◌<◌, ◌^◌, IfErr, IfOk, IsTrue, length, map, None, Some, ◌+◌, ◌≤◌};
-ghost use Rattle.elf32_loader.specs.Images.{picture_of};
+ghost use Rattle.elf32_loader.specs.Images.{image_picture};
 ghost use Rattle.enclosure_regions.specs.Regions.{ids_of};
 ghost use Rattle.std.specs.List.{AllByRecursion};
 ghost use Rattle.flow_base.specs.Guests.{memory_size};
 ghost use Rattle.region_learn.specs.Private.Books.{BookOf, are_bare, IsFresh, IsNew, have_base, numbers_of};
 ghost use Rattle.region_learn.specs.Private.Declarations.{IsDraft};
-ghost use Rattle.region_learn.specs.LearnAnswers.{Grants, Refuses, declaration_fault, run_fault};
+ghost use Rattle.region_learn.specs.LearnAnswers.{Grants, RefusesToLearn, declaration_fault, run_fault};
 ghost use Rattle.region_machine.specs.Starts.{guest};
 ghost use Rattle.region_learn.specs.Minimal.{NoByteCanGo, NoOutputIsKept, NoRegisterCanGo};
 ghost use Rattle.region_learn.specs.Unbroken.{IsTight, RunsUnbroken};
@@ -125,7 +125,7 @@ fn declaration(
         run.start.setting.base ≡ base → BookOf run.regions run.turns run.start book.now →
         AllByRecursion (IsTight run) regions.items) }
     ensures err { IfErr result (λ fault. fault ≢ LearnFault.Memory → (run : Run) → run.regions ≡ bare.now.items →
-        BookOf run.regions run.turns run.start book.now → run_fault run ≡ None → Refuses run fault) }
+        BookOf run.regions run.turns run.start book.now → run_fault run ≡ None → RefusesToLearn run fault) }
 {
     let declared = declare_all(alloc, bare.items.as_slice(), book, base)?;
     match checked(alloc, bare, declared) {
@@ -154,7 +154,7 @@ fn learn_from(
     ensures bytes { IfOk result (λ learnt. NoByteCanGo learnt.items turns machine.old) }
     ensures outputs { IfOk result (λ learnt. NoOutputIsKept learnt.items turns machine.old) }
     ensures err { IfErr result (λ fault. fault ≢ LearnFault.Memory →
-        Refuses (record { regions = marked.now.regions.items; start = machine.old; turns = turns }) fault) }
+        RefusesToLearn (record { regions = marked.now.regions.items; start = machine.old; turns = turns }) fault) }
 {
     let base = machine.base();
     match run(machine, marked, book, turns) {
@@ -190,17 +190,17 @@ pub fn learn(
 ) -> Result<Regions, LearnFault>
     requires { length secret.now < 2 ^ 32 }
     ensures ok { IfOk result (λ learnt.
-        Grants (run_of (picture_of image.now) public.now secret.now regions.now.items turns) learnt.items) }
+        Grants (run_of (image_picture image.now) public.now secret.now regions.now.items turns) learnt.items) }
     ensures unbroken { IfOk result (λ learnt.
-        RunsUnbroken learnt.items turns (guest (picture_of image.now) public.now secret.now).state) }
+        RunsUnbroken learnt.items turns (guest (image_picture image.now) public.now secret.now).state) }
     ensures registers { IfOk result (λ learnt.
-        NoRegisterCanGo learnt.items turns (guest (picture_of image.now) public.now secret.now).state) }
+        NoRegisterCanGo learnt.items turns (guest (image_picture image.now) public.now secret.now).state) }
     ensures bytes { IfOk result (λ learnt.
-        NoByteCanGo learnt.items turns (guest (picture_of image.now) public.now secret.now).state) }
+        NoByteCanGo learnt.items turns (guest (image_picture image.now) public.now secret.now).state) }
     ensures outputs { IfOk result (λ learnt.
-        NoOutputIsKept learnt.items turns (guest (picture_of image.now) public.now secret.now).state) }
+        NoOutputIsKept learnt.items turns (guest (image_picture image.now) public.now secret.now).state) }
     ensures err { IfErr result (λ fault. fault ≢ LearnFault.Memory →
-        Refuses (run_of (picture_of image.now) public.now secret.now regions.now.items turns) fault) }
+        RefusesToLearn (run_of (image_picture image.now) public.now secret.now regions.now.items turns) fault) }
 {
     let bare = bare_regions(alloc, regions)?;
     let mut book = new_book(alloc, bare.items.as_slice(), image.base)?.into_vec();

@@ -4,7 +4,7 @@ ghost use Rattle.enclosure_regions.specs.declared.break_kinds.Place.{Place as Th
 ghost use Rattle.enclosure_regions.specs.Breaks.{has_changed};
 ghost use Rattle.region_learn.specs.Private.Marks.{has_bit as has_bit_of};
 ghost use Rattle.region_learn.specs.Private.Noting.{Noted, has_place};
-ghost use Rattle.region_learn.specs.Written.{is_number as is_number_of, is_place};
+ghost use Rattle.region_learn.specs.Written.{is_number_slot, is_written_place};
 
 use crate::bits::with_bit;
 use crate::byte_marks::ByteMarks;
@@ -37,7 +37,7 @@ pub(crate) struct Notes {
 
 /// Whether a slot is that of the number of a call.
 fn is_number(slot: Slot) -> bool
-    ensures { result ≡ is_number_of slot }
+    ensures { result ≡ is_number_slot slot }
 {
     match slot {
         Slot::Number => true,
@@ -75,7 +75,7 @@ impl Notes {
     pub(crate) fn note(&mut self, place: Place) -> Result<(), Halt>
         requires { IsPlace (Some self.old.base) place }
         ensures places { OnOk result ((other : ThePlace) →
-            has_place self.new other ≡ (has_place self.old other || is_place other place)) }
+            has_place self.new other ≡ (has_place self.old other || is_written_place other place)) }
         ensures err { IfErr result (λ halt. halt ≡ Halt.Memory) }
         ensures changed { self.new.changed ≡ self.old.changed }
         ensures region { self.new.region ≡ self.old.region }

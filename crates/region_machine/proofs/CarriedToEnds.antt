@@ -16,7 +16,7 @@ use Rattle.guest_calls.specs.declared.kinds.CallKind.{CallKind}
 use Rattle.guest_calls.specs.declared.kinds.CallKind.TheVariants.{Read, Write as WriteCall, Exit as ExitCall}
 use Rattle.guest_calls.specs.declared.kinds.CallKind.TheVariants.{Brk as BrkCall, Unknown}
 use Rattle.flow_base.specs.Guests.{is_inside}
-use Rattle.guest_calls.specs.Calls.{kind_of, unknown_call}
+use Rattle.guest_calls.specs.Calls.{call_kind, unknown_call}
 use Rattle.rv32im_machine.specs.declared.stepping.Fault.{Fault}
 use Rattle.rv32im_machine.specs.declared.stepping.Fault.TheVariants.{Illegal, FetchOutside, FetchUnaligned}
 use Rattle.rv32im_machine.specs.declared.stepping.Fault.TheVariants.{LoadOutside, StoreOutside, Breakpoint}
@@ -236,7 +236,7 @@ always_kind Q Unknown setting control k j h = always_planned Q (Answer unknown_c
 
 pub call_has : (Q : Control → Type 0) (instr : Instr) (setting : Setting) (control : Control) → Carries Q →
     CarriesCalls Q → Q control → CallHas Q instr setting control
-call_has Q Ecall setting control k j h = λ number. always_kind Q (kind_of number) setting control k j h
+call_has Q Ecall setting control k j h = λ number. always_kind Q (call_kind number) setting control k j h
 call_has Q (Lui rd imm) setting control k j h = tt
 call_has Q (Auipc rd imm) setting control k j h = tt
 call_has Q (Jal rd offset) setting control k j h = tt

@@ -12,12 +12,13 @@ use Rattle.rv32im_machine.specs.Folds.{real_end}
 use Rattle.rv32im_machine.specs.Playing.{Played, Finished, Halted, Goes, restored_or}
 use Rattle.enclosure_regions.specs.declared.region_parts.Region.{Region}
 use Rattle.enclosure_regions.specs.declared.break_kinds.Break.{Break}
-use Rattle.region_machine.specs.Breaking.{place_break, passing_break, first_break, walk_break}
+use Rattle.region_machine.specs.Breaking.{place_break, passing_break, walk_break}
 use Rattle.region_machine.specs.Guards.{Guard, Guards}
 use Rattle.region_machine.proofs.ObserverAnswers.{same-value, nothing-back}
+use Rattle.std.specs.Option.{option_or}
 
 first-assoc : (first second third : Option Break) →
-    first_break (first_break first second) third ≡ first_break first (first_break second third)
+    option_or (option_or first second) third ≡ option_or first (option_or second third)
 first-assoc None second third = refl
 first-assoc (Some broken) second third = refl
 
@@ -26,11 +27,11 @@ first-assoc (Some broken) second third = refl
 -- what breaks here, and then what breaks later
 guards-more : {Stop Tape : Type 0} (before after : Played Stop Tape → Type 0) (a b here later : Option Break)
     (lent : GName) (out : Played Stop (Guard Tape)) → ((end : Played Stop Tape) → after end → before end) →
-    b ≡ first_break a here → Guards after (first_break b later) lent out →
-    Guards before (first_break a (first_break here later)) lent out
+    b ≡ option_or a here → Guards after (option_or b later) lent out →
+    Guards before (option_or a (option_or here later)) lent out
 guards-more before after a b here later lent (Finished reached c) goes e h = (
   goes (Finished reached c.tape) h.0,
-  (h.1.0 ∙ (ap (λ x. first_break x later) e ∙ first-assoc a here later), h.1.1),
+  (h.1.0 ∙ (ap (λ x. option_or x later) e ∙ first-assoc a here later), h.1.1),
 )
 guards-more before after a b here later lent (Halted stop) goes e h = goes (Halted stop) h
 
@@ -44,31 +45,31 @@ guards-on before after broken lent (Halted stop) goes h = goes (Halted stop) h
 pub guards-looked : {Stop Tape : Type 0} (before after : Walk → Played Stop Tape → Type 0) (region : Region)
     (kept : List ℕ) (pc : ℕ) (a : Option Break) (lent : GName) (seen : Seen) (value : ℕ) (r : Result (Unit {0}) Stop)
     (walk : Walk) → Goes r (λ done. after walk) (before (Looked seen value walk)) →
-    Goes r (λ done. Guards (after walk) (first_break a (walk_break region kept pc walk)) lent)
-    (Guards (before (Looked seen value walk)) (first_break a (walk_break region kept pc (Looked seen value walk))) lent)
+    Goes r (λ done. Guards (after walk) (option_or a (walk_break region kept pc walk)) lent)
+    (Guards (before (Looked seen value walk)) (option_or a (walk_break region kept pc (Looked seen value walk))) lent)
 unfolding walk_break
 guards-looked before after region kept pc a lent seen value (Ok done) walk goes = λ out h.
-    guards-on (before (Looked seen value walk)) (after walk) (first_break a (walk_break region kept pc walk)) lent out
+    guards-on (before (Looked seen value walk)) (after walk) (option_or a (walk_break region kept pc walk)) lent out
     goes h
 guards-looked before after region kept pc a lent seen value (Err stop) walk goes = goes
 
 pub guards-saved : {Stop Tape : Type 0} (before after : Walk → Played Stop Tape → Type 0) (region : Region)
     (kept : List ℕ) (pc : ℕ) (a : Option Break) (lent : GName) (r : Result (Unit {0}) Stop)
     (walk : Walk) → Goes r (λ done. after walk) (before (Saved walk)) →
-    Goes r (λ done. Guards (after walk) (first_break a (walk_break region kept pc walk)) lent)
-    (Guards (before (Saved walk)) (first_break a (walk_break region kept pc (Saved walk))) lent)
+    Goes r (λ done. Guards (after walk) (option_or a (walk_break region kept pc walk)) lent)
+    (Guards (before (Saved walk)) (option_or a (walk_break region kept pc (Saved walk))) lent)
 unfolding walk_break
 guards-saved before after region kept pc a lent (Ok done) walk goes = λ out h.
-    guards-on (before (Saved walk)) (after walk) (first_break a (walk_break region kept pc walk)) lent out goes h
+    guards-on (before (Saved walk)) (after walk) (option_or a (walk_break region kept pc walk)) lent out goes h
 guards-saved before after region kept pc a lent (Err stop) walk goes = goes
 
 pub guards-moved : {Stop Tape : Type 0} (before after : Walk → Played Stop Tape → Type 0) (region : Region)
     (kept : List ℕ) (pc : ℕ) (a b : Option Break) (lent : GName) (place : Place) (shape : Shape) (source : Source)
-    (value : ℕ) (r : Result (Unit {0}) Stop) (walk : Walk) → b ≡ first_break a (place_break region kept pc place) →
+    (value : ℕ) (r : Result (Unit {0}) Stop) (walk : Walk) → b ≡ option_or a (place_break region kept pc place) →
     Goes r (λ done. after walk) (before (Moved place shape source value walk)) →
-    Goes r (λ done. Guards (after walk) (first_break b (walk_break region kept pc walk)) lent)
+    Goes r (λ done. Guards (after walk) (option_or b (walk_break region kept pc walk)) lent)
     (Guards (before (Moved place shape source value walk))
-    (first_break a (walk_break region kept pc (Moved place shape source value walk))) lent)
+    (option_or a (walk_break region kept pc (Moved place shape source value walk))) lent)
 unfolding walk_break
 guards-moved before after region kept pc a b lent place shape source value (Ok done) walk e goes = λ out h.
     guards-more (before (Moved place shape source value walk)) (after walk) a b (place_break region kept pc place)
@@ -77,17 +78,17 @@ guards-moved before after region kept pc a b lent place shape source value (Err 
 
 pub guards-passed : {Stop Tape : Type 0} (before after : Walk → Played Stop Tape → Type 0) (tape : Tape)
     (region : Region) (kept : List ℕ) (pc : ℕ) (a b : Option Break) (lent : GName) (passing : Passing)
-    (r : Result ℕ Stop) (go : ℕ → Walk) → b ≡ first_break a (passing_break region kept pc passing) →
+    (r : Result ℕ Stop) (go : ℕ → Walk) → b ≡ option_or a (passing_break region kept pc passing) →
     ((go : ℕ → Walk) → Goes r (λ other. after (go other)) (before (Passed passing go))) →
     ((state : State) → after (Ended state) (Finished state tape)) →
     ((walk : Walk) (state : State) (tape : Tape) → before walk (Finished state tape) → state ≡ real_end walk) →
-    Goes r (λ other. Guards (after (go other)) (first_break b (walk_break region kept pc (go other))) lent)
-    (Guards (before (Passed passing go)) (first_break a (walk_break region kept pc (Passed passing go))) lent)
+    Goes r (λ other. Guards (after (go other)) (option_or b (walk_break region kept pc (go other))) lent)
+    (Guards (before (Passed passing go)) (option_or a (walk_break region kept pc (Passed passing go))) lent)
 unfolding walk_break
 guards-passed before after tape region kept pc a b lent passing (Ok other) go e goes ends real = λ out h.
     guards-more (before (Passed passing go)) (after (go other)) a b (passing_break region kept pc passing)
     (walk_break region kept pc (go passing.value)) lent out (goes go) e
-    (subst (λ v. Guards (after (go other)) (first_break b (walk_break region kept pc (go v))) lent out)
+    (subst (λ v. Guards (after (go other)) (option_or b (walk_break region kept pc (go v))) lent out)
     (same-value before after tape passing other goes ends real) h)
 guards-passed before after tape region kept pc a b lent passing (Err stop) go e goes ends real = goes go
 
@@ -98,14 +99,14 @@ pub guards-restored : {Stop Tape : Type 0} (before after : Walk → Played Stop 
     ((state : State) → after (Ended state) (Finished state tape)) →
     ((walk : Walk) (state : State) (tape : Tape) → before walk (Finished state tape) → state ≡ real_end walk) →
     Goes r (λ other. Guards (after (restored_or other walk back))
-    (first_break a (walk_break region kept pc (restored_or other walk back))) lent)
+    (option_or a (walk_break region kept pc (restored_or other walk back))) lent)
     (Guards (before (Restored registers walk back))
-    (first_break a (walk_break region kept pc (Restored registers walk back))) lent)
+    (option_or a (walk_break region kept pc (Restored registers walk back))) lent)
 unfolding walk_break
 guards-restored before after tape region kept pc a lent registers (Ok other) walk back goes ends real = λ out h.
     guards-on (before (Restored registers walk back)) (after (restored_or other walk back))
-    (first_break a (walk_break region kept pc walk)) lent out (goes walk back)
+    (option_or a (walk_break region kept pc walk)) lent out (goes walk back)
     (subst (λ v. Guards (after (restored_or other walk back))
-    (first_break a (walk_break region kept pc (restored_or v walk back))) lent out)
+    (option_or a (walk_break region kept pc (restored_or v walk back))) lent out)
     (nothing-back before after tape registers other goes ends real) h)
 guards-restored before after tape region kept pc a lent registers (Err stop) walk back goes ends real = goes walk back

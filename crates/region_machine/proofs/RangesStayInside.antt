@@ -20,7 +20,6 @@ use Rattle.enclosure_regions.specs.declared.region_parts.Range.{Range}
 use Rattle.enclosure_regions.specs.declared.region_parts.Region.{Region}
 use Rattle.enclosure_regions.specs.Breaks.{outside_range}
 use Rattle.enclosure_regions.specs.Regions.{are_distinct, are_regions, ids_of, is_region}
-use Rattle.enclosure_regions.specs.Regions.{is_region_number, stands_in}
 use Rattle.enclosure_regions.specs.Turns.{start_of}
 use Rattle.region_machine.specs.Enclosures.{Kind, Enters, Leaves, Steps, kind_of, kind_in}
 use Rattle.region_machine.specs.Enclosures.{kind_outside, kind_within, region_entered_at, region_numbered}
@@ -30,6 +29,8 @@ use Rattle.region_machine.specs.Breaking.{Breaks, kind_break}
 use Rattle.region_machine.specs.Within.{are_inside, can_skip, may_leave, may_leave_of}
 use Rattle.region_machine.proofs.CarriedToEnds.{AtEnds, Carries, CarriesCalls, Follows, step_ends, real_at_end}
 use Rattle.region_machine.proofs.OutputGrows.{after_entry, entry_ends, leave_ends, skip_ends}
+use Rattle.flow_base.specs.Points.{is_region_number}
+use Rattle.flow_base.specs.Listed.{is_listed}
 
 -- ---- the ranges
 
@@ -71,18 +72,18 @@ kind_unbroken (Steps region) state e = refl
 -- ---- the region that is entered at an address has its number alone
 
 found-stands : (test : Region → Bool) (regions : List Region) (region : Region) → find test regions ≡ Some region →
-    stands_in (ids_of regions) region.id ≡ true
+    is_listed (ids_of regions) region.id ≡ true
 found-stands test [] region e = absurd (cc)
 found-stands test (first ∷ regions) region e = elim (cases_Bool (test first)) [
   | inl passes ↦
       let here : Some first ≡ Some region = sym (cond-true (test first) (Some first) (find test regions) passes) ∙ e in
       let same : first ≡ region = cc in
-      or_left (first.id == region.id) (stands_in (ids_of regions) region.id)
+      or_left (first.id == region.id) (is_listed (ids_of regions) region.id)
       (eq-eqb first.id region.id (ap (λ (r : Region). r.id) same))
   | inr fails ↦
       let later : find test regions ≡ Some region =
       sym (cond-false (test first) (Some first) (find test regions) fails) ∙ e in
-      or_right (first.id == region.id) (stands_in (ids_of regions) region.id) (found-stands test regions region later)
+      or_right (first.id == region.id) (is_listed (ids_of regions) region.id) (found-stands test regions region later)
 ]
 
 found-rules : (test : Region → Bool) (regions : List Region) (region : Region) → list_all is_region regions ≡ true →
@@ -106,7 +107,7 @@ found-numbered : (test : Region → Bool) (regions : List Region) (region : Regi
     find (λ other. other.id == region.id) regions ≡ Some region
 found-numbered test [] region apart e = absurd (cc)
 found-numbered test (first ∷ regions) region apart e =
-    let both = and_parts (not (stands_in (ids_of regions) first.id)) (are_distinct (ids_of regions)) apart in
+    let both = and_parts (not (is_listed (ids_of regions) first.id)) (are_distinct (ids_of regions)) apart in
     elim (cases_Bool (test first)) [
       | inl passes ↦
           let here : Some first ≡ Some region =
@@ -122,9 +123,9 @@ found-numbered test (first ∷ regions) region apart e =
           let other : (first.id == region.id) ≡ false = elim (cases_Bool (first.id == region.id)) [
             | inl alike ↦
                 let same : first.id ≡ region.id = eqb-true first.id region.id alike in
-                let again : stands_in (ids_of regions) first.id ≡ true =
-                subst (λ (id : ℕ). stands_in (ids_of regions) id ≡ true) (sym same) stands in
-                let never : not (stands_in (ids_of regions) first.id) ≡ false = not_from_true _ again in
+                let again : is_listed (ids_of regions) first.id ≡ true =
+                subst (λ (id : ℕ). is_listed (ids_of regions) id ≡ true) (sym same) stands in
+                let never : not (is_listed (ids_of regions) first.id) ≡ false = not_from_true _ again in
                 absurd (cc)
             | inr different ↦ different
           ] in

@@ -14,12 +14,13 @@ use Rattle.rv32im_machine.specs.Language.{Turn, Gives, Moves}
 use Rattle.rv32im_machine.specs.Playing.{Played, Halted, Goes}
 use Rattle.enclosure_regions.specs.declared.region_parts.Range.{Range}
 use Rattle.enclosure_regions.specs.declared.region_parts.Region.{Region}
-use Rattle.enclosure_regions.specs.Regions.{are_apart, are_ranges, are_registers, is_place, is_range, is_region}
-use Rattle.enclosure_regions.specs.Regions.{is_region_number, is_register}
+use Rattle.enclosure_regions.specs.Regions.{are_apart, are_ranges, are_registers, is_code_address, is_range, is_region}
+use Rattle.enclosure_regions.specs.Regions.{is_register}
 use Rattle.enclosure_regions.specs.Turns.{start_of}
 use Rattle.region_machine.specs.Guests.{clears_bytes, clears_ranges, clears_registers, gives, gives_bytes}
 use Rattle.region_machine.specs.Guests.{gives_ranges, gives_registers, looks, looks_at, output_point}
 use Rattle.region_machine.specs.Within.{are_inside}
+use Rattle.flow_base.specs.Points.{is_region_number}
 
 -- the items after the first
 abbrev pub rest_of : {X : Type 0} → List X → List X
@@ -152,8 +153,8 @@ parts_of : (region : Region) → is_region region ≡ true →
     && are_ranges region.ranges))) ≡ true
 parts_of region rules =
     let number = and_parts (is_region_number region.id) _ rules in
-    let enter = and_parts (is_place region.enter) _ number.1 in
-    let leave = and_parts (is_place region.leave) _ enter.1 in
+    let enter = and_parts (is_code_address region.enter) _ number.1 in
+    let leave = and_parts (is_code_address region.leave) _ enter.1 in
     (and_parts (not (region.enter == region.leave)) _ leave.1).1
 
 pub outs-registers : (region : Region) → is_region region ≡ true → list_all is_register region.outs ≡ true

@@ -16,6 +16,7 @@ use Rattle.enclosure_regions.specs.declared.region_parts.Region.{Region}
 use Rattle.enclosure_regions.specs.declared.break_kinds.Break.{Break}
 use Rattle.enclosure_regions.specs.Breaks.{register_break, byte_break, call_break, keep_break, range_break}
 use Rattle.region_machine.specs.Enclosures.{Kind, Enters, Leaves, Steps, kind_of}
+use Rattle.std.specs.Option.{option_or}
 
 -- a write to a place by the instruction at pc; the ranges start where the registers at the entry say
 abbrev pub place_break : Region → List ℕ → ℕ → Place → Option Break
@@ -50,17 +51,13 @@ aim_break region registers pc slot (Give place) = None
 abbrev pub passing_break : Region → List ℕ → ℕ → Passing → Option Break
 passing_break region registers pc passing = aim_break region registers pc passing.point.slot passing.aim
 
-abbrev pub first_break : Option Break → Option Break → Option Break
-first_break None later = later
-first_break (Some broken) later = Some broken
-
 -- the first break by a turn in which every value goes on as it is
 unfoldable pub walk_break : Region → List ℕ → ℕ → Walk → Option Break
 walk_break region registers pc (Looked seen value walk) = walk_break region registers pc walk
 walk_break region registers pc (Passed passing go) =
-    first_break (passing_break region registers pc passing) (walk_break region registers pc (go passing.value))
+    option_or (passing_break region registers pc passing) (walk_break region registers pc (go passing.value))
 walk_break region registers pc (Moved place shape source value walk) =
-    first_break (place_break region registers pc place) (walk_break region registers pc walk)
+    option_or (place_break region registers pc place) (walk_break region registers pc walk)
 walk_break region registers pc (Saved walk) = walk_break region registers pc walk
 walk_break region registers pc (Restored registers' walk back) = walk_break region registers pc walk
 walk_break region registers pc (Ended state) = None

@@ -5,7 +5,7 @@ use Rattle.rv32im_machine.specs.declared.stepping.Stepped.{Stepped}
 use Rattle.rv32im_machine.specs.declared.stepping.Stepped.TheVariants.{Ran, Exited, Stopped}
 use Rattle.rv32im_machine.specs.State.{Control}
 use Rattle.enclosure_regions.specs.declared.region_parts.Region.{Region}
-use Rattle.enclosure_regions.specs.Regions.{stands_in}
+use Rattle.flow_base.specs.Listed.{is_listed}
 
 -- the regions of a program, and the numbers of those that the replay skips
 pub record Enclosures : Type 0 where
@@ -13,7 +13,7 @@ pub record Enclosures : Type 0 where
   pub skip : List ℕ
 
 abbrev pub is_skipped : Enclosures → Region → Bool
-is_skipped enclosures region = stands_in enclosures.skip region.id
+is_skipped enclosures region = is_listed enclosures.skip region.id
 
 -- the region with a number; outside regions, where the number is 0, there is none
 abbrev pub region_numbered : List Region → ℕ → Option Region

@@ -8,7 +8,8 @@ use Rattle.rv32im_machine.specs.Folds.{real_end}
 use Rattle.rv32im_machine.specs.Playing.{Played, Finished, Halted}
 use Rattle.enclosure_regions.specs.declared.region_parts.Region.{Region}
 use Rattle.enclosure_regions.specs.declared.break_kinds.Break.{Break}
-use Rattle.region_machine.specs.Breaking.{first_break, walk_break}
+use Rattle.region_machine.specs.Breaking.{walk_break}
+use Rattle.std.specs.Option.{option_or}
 
 -- what the passer leaves, the first break of the region so far, and the name of the reference by which the passer is
 -- lent
@@ -24,7 +25,7 @@ Guards plays broken lent (Finished reached after) =
     plays (Finished reached after.tape) × ((after.broken ≡ broken) × (after.lent ≡ lent))
 Guards plays broken lent (Halted stop) = plays (Halted stop)
 
-first-none : (broken : Option Break) → broken ≡ first_break broken None
+first-none : (broken : Option Break) → broken ≡ option_or broken None
 first-none None = refl
 first-none (Some broken) = refl
 
@@ -32,7 +33,7 @@ first-none (Some broken) = refl
 pub guards-Ended : {Stop Tape : Type 0} (plays : Walk → Played Stop Tape → Type 0) (tape : Tape) (broken : Option Break)
     (lent : GName) (region : Region) (kept : List ℕ) (pc : ℕ) (state : State) →
     plays (Ended state) (Finished state tape) →
-    Guards (plays (Ended state)) (first_break broken (walk_break region kept pc (Ended state))) lent
+    Guards (plays (Ended state)) (option_or broken (walk_break region kept pc (Ended state))) lent
     (Finished state (record { tape = tape; broken = broken; lent = lent }))
 unfolding walk_break
 guards-Ended plays tape broken lent region kept pc state h = (h, (first-none broken, refl))

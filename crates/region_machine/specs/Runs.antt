@@ -57,14 +57,14 @@ abbrev pub real_turn : Enclosures → Place → Place
 real_turn enclosures place = turn_unless place.broken enclosures place
 
 -- Real: the real run after so many turns
-unfoldable pub real_after : Enclosures → ℕ → Place → Place
-real_after enclosures zero place = place
-real_after enclosures (suc turns) place = real_turn enclosures (real_after enclosures turns place)
+unfoldable pub Real : Enclosures → ℕ → Place → Place
+Real enclosures zero place = place
+Real enclosures (suc turns) place = real_turn enclosures (Real enclosures turns place)
 
 -- How many common turns so many turns of the real run are: each turn is one, but a skipped region's entry and the turns
 -- inside it belong to the common turn of its leave.
 unfoldable pub common_turns : Enclosures → ℕ → Place → ℕ
 common_turns enclosures zero place = zero
 common_turns enclosures (suc turns) place =
-    if is_enclosed enclosures (real_after enclosures turns place).state.control
+    if is_enclosed enclosures (Real enclosures turns place).state.control
     then common_turns enclosures turns place else suc (common_turns enclosures turns place)

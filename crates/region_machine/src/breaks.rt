@@ -1,8 +1,8 @@
 ghost use Rattle.std.specs.Prelude.{◌≡◌, IsTrue};
 ghost use Rattle.enclosure_regions.specs.Regions.{is_region};
-ghost use Rattle.region_machine.specs.Breaking.{first_break};
 ghost use Rattle.region_machine.specs.Breaking.{place_break as break_by_place, slot_break as break_by_slot};
 ghost use Rattle.region_machine.specs.Breaking.{passing_break as break_by_passing};
+ghost use Rattle.std.specs.Option.{option_or};
 
 use enclosure_regions::{Break, Region, written_byte, written_register};
 use flow_base::{Registers, Slot};
@@ -11,12 +11,9 @@ use rv32im_machine::{Aim, Passing, Place};
 /// The earlier of two breaks.
 #[inline(always)]
 pub(crate) fn earlier(first: Option<Break>, second: Option<Break>) -> Option<Break>
-    ensures { result ≡ first_break first second }
+    ensures { result ≡ option_or first second }
 {
-    match first {
-        None => second,
-        Some(broken) => Some(broken),
-    }
+    first.or(second)
 }
 
 /// How the write of a place by the instruction at an address breaks the region, if it does.

@@ -4,7 +4,7 @@ ghost use Rattle.std.specs.Prelude.{◌≡◌, IsTrue};
 ghost use Rattle.std.specs.List.{list_all};
 ghost use Rattle.rv32im_machine.specs.Language.{Turn, turn_walk};
 ghost use Rattle.rv32im_machine.specs.Playing.{Goes, outcome};
-ghost use Rattle.enclosure_regions.specs.Regions.{is_base, is_range, is_region};
+ghost use Rattle.enclosure_regions.specs.Regions.{is_base_register, is_range, is_region};
 ghost use Rattle.region_machine.specs.Guests.{entry, looks, looks_at};
 
 use enclosure_regions::{Range, Region};
@@ -12,7 +12,7 @@ use rv32im_machine::{Machine, Passer, Seen};
 
 /// The base register of a range, if it has one, is looked at.
 fn look_at<P: Passer>(machine: &Machine, passer: &mut P, base: Option<u8>) -> Result<(), P::Stop>
-    requires { IsTrue (is_base base) }
+    requires { IsTrue (is_base_register base) }
     ensures goes { (turn : Turn) → Goes result (λ done. P.Plays passer.new (turn_walk machine.now turn))
         (P.Plays passer.old (turn_walk machine.now (looks_at base turn))) }
     ensures memory { P.memory passer.new ≡ P.memory passer.old }

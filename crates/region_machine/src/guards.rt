@@ -22,8 +22,9 @@ pub(crate) struct Guarding<'p, 'r, P> {
 }
 
 impl<P: Observer> Passer for Guarding<'_, '_, P> {
-    ghost use Rattle.region_machine.specs.Breaking.{first_break, walk_break};
+    ghost use Rattle.region_machine.specs.Breaking.{walk_break};
     ghost use Rattle.region_machine.specs.Guards.{Guard, Guards, guards-Ended};
+    ghost use Rattle.std.specs.Option.{option_or};
 
     type Stop = P::Stop;
 
@@ -36,7 +37,7 @@ impl<P: Observer> Passer for Guarding<'_, '_, P> {
 
     ghost Plays = { λ side walk out.
         Guards (P.Plays side.passer.now walk)
-        (first_break side.broken (walk_break side.region.now side.kept side.pc walk)) side.passer.ghost_name out };
+        (option_or side.broken (walk_break side.region.now side.kept side.pc walk)) side.passer.ghost_name out };
 
     fn look(&mut self, seen: Seen, value: u32) -> Result<(), P::Stop> {
         self.passer.look(seen, value)

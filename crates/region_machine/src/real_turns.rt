@@ -4,7 +4,7 @@ ghost use Rattle.rv32im_machine.specs.Language.{turn_walk};
 ghost use Rattle.rv32im_machine.specs.Playing.{Knows};
 ghost use Rattle.rv32im_machine.specs.Rows.{walk_of};
 ghost use Rattle.enclosure_regions.specs.Breaks.{keep_break, range_break};
-ghost use Rattle.enclosure_regions.specs.Regions.{is_region, stands_in};
+ghost use Rattle.enclosure_regions.specs.Regions.{is_region};
 ghost use Rattle.enclosure_regions.specs.declared.region_parts.Region.{Region as TheRegion};
 ghost use Rattle.region_machine.specs.Breaking.{Breaks, kind_break, walk_break};
 ghost use Rattle.region_machine.specs.Enclosures.{is_enclosed, is_enclosed_kind};

@@ -1,6 +1,6 @@
 ghost use Rattle.std.specs.Prelude.{◌≡◌, ◌≢◌, ℕ, ◌+◌, ◌<◌, ◌++◌, length, List as Seq, IfOk, IsTrue, None};
 ghost use Rattle.flow_base.specs.declared.points.Point.{Point as ThePoint};
-ghost use Rattle.elf32_loader.specs.Images.{picture_of};
+ghost use Rattle.elf32_loader.specs.Images.{image_picture};
 ghost use Rattle.cut_file.specs.Masks.{MaskAt};
 ghost use Rattle.crossing_bits.specs.Askers.{feed};
 ghost use Rattle.crossing_bits.specs.Streams.{left_of};
@@ -130,7 +130,7 @@ impl Replay {
         cut: &Cut,
     ) -> Result<Replay, NoMemory>
         ensures stands { IfOk result (λ replay. Stands replay (MaskAt cut.now.points)
-            (replay_guest (picture_of image.now) public.now cut.now.secret_len)) }
+            (replay_guest (image_picture image.now) public.now cut.now.secret_len)) }
         ensures enclosures { IfOk result (λ replay. replay.enclosures ≡
             (record { regions = regions.now.items; skip = cut.now.skip })) }
         ensures untaken { IfOk result (λ replay. replay.taken ≡ 0) }
@@ -150,7 +150,7 @@ impl Replay {
         cut: &Cut,
     ) -> Result<Replay, NoMemory>
         ensures stands { IfOk result (λ replay. Stands replay (MaskAt cut.now.points)
-            (replay_guest (picture_of image.now) public.now cut.now.secret_len)) }
+            (replay_guest (image_picture image.now) public.now cut.now.secret_len)) }
         ensures enclosures { IfOk result (λ replay. replay.enclosures ≡
             (record { regions = regions.now.items; skip = cut.now.skip })) }
         ensures untaken { IfOk result (λ replay. replay.taken ≡ 0) }

@@ -1,7 +1,7 @@
 ghost use Rattle.std.specs.Prelude.{◌≡◌, IsTrue, List as Seq};
 ghost use Rattle.rv32im_machine.specs.Playing.{Knows, outcome};
 ghost use Rattle.enclosure_regions.specs.declared.region_parts.Region.{Region as TheRegion};
-ghost use Rattle.enclosure_regions.specs.Regions.{is_region, stands_in};
+ghost use Rattle.enclosure_regions.specs.Regions.{is_region};
 ghost use Rattle.replay_machine.specs.ReplayTurns.{entry_walk, replay_kind_walk};
 ghost use Rattle.region_machine.specs.Within.{are_inside, can_leave, can_skip, has_rules, seen};
 

@@ -7,7 +7,6 @@ use Rattle.lockstep_replay.specs.Tasks.{Task as JudgedTask, Limits as CheckLimit
 use Rattle.lockstep_replay.specs.Verdicts.{Judgement, Accepts, Rejects, First}
 use Rattle.lockstep_replay.proofs.Accepting.{accepted_law}
 use Rattle.lockstep_replay.proofs.Judging.{rejected_law}
-use Rattle.measuring.specs.Deciding.{IsDeciding}
 use Rattle.command_line.specs.declared.judgings.Judging.{Judging}
 use Rattle.command_line.specs.declared.judgings.Judging.TheVariants.{Replay, Masks}
 use Rattle.command_line.specs.declared.tellings.Telling.{Telling}
@@ -19,7 +18,7 @@ use Rattle.command_tasks.specs.Tasks.{CheckTask, RunTask, Task, BoundAll, JudgeS
 use Rattle.command_tasks.specs.Tasks.{WriteProgram, ListProgram, VerifyCertificate, MigrateCut, TryNumber}
 use Rattle.command_tasks.specs.Tasks.{IsFormRefusal, IsTaskOf, wants_of}
 use Rattle.command_tasks.specs.Loading.{loaded_from}
-use Rattle.command_tasks.specs.Statuses.{number_of}
+use Rattle.command_tasks.specs.Statuses.{status_number}
 use Rattle.task_answers.specs.Answers.{Answer}
 use Rattle.task_answers.specs.Checks.{AnswersBy, judged_by, judgements_of}
 use Rattle.task_answers.specs.Tellings.{AnswersTelling, IsCertificateText, IsCutOfRun, IsReport, Tells}
@@ -38,6 +37,7 @@ use Rattle.reply_laws.proofs.OneReply.{Decides, DecidesBy, certificate_completes
 use Rattle.reply_laws.proofs.OneReply.{telling-done, trial-done}
 use Rattle.reply_laws.proofs.OneTask.{task_reading}
 use Rattle.reply_laws.proofs.OneUnion.{many_completes}
+use Rattle.transfer_rules.specs.Tables.{IsDeciding}
 
 -- ---- a check
 
@@ -83,7 +83,7 @@ all-counted task limits (secret ∷ secrets) all =
 -- the status of a check by whether the counts are the same
 check-by : (task : JudgedTask) (limits : CheckLimits) (secrets : List (List ℕ)) (same : Bool) →
     (accepted_count (judgements_of task limits secrets) == length (judgements_of task limits secrets)) ≡ same →
-    CompletesCheck task limits secrets (number_of (if same then Done else Rejected))
+    CompletesCheck task limits secrets (status_number (if same then Done else Rejected))
 check-by task limits secrets true e = record {
   known = omega arith;
   accepted = λ zero. all-accepted task limits secrets (grind (arith, nat_tests, e));
@@ -104,7 +104,7 @@ replayed : (task : CheckTask) (answer : Answer) → AnswersBy Replay task answer
 replayed task answer e =
     let judgements = judgements_of (judged_by task.guest task.cut) task.limits task.secrets in
     let counts : Bool = accepted_count judgements == length judgements in
-    let status : number_of (if counts then Done else Rejected) ≡ status_of answer = ap status_of (sym e) in
+    let status : status_number (if counts then Done else Rejected) ≡ status_of answer = ap status_of (sym e) in
     subst (λ s. CompletesCheck (judged_by task.guest task.cut) task.limits task.secrets s) status
     (check-by (judged_by task.guest task.cut) task.limits task.secrets counts refl)
 

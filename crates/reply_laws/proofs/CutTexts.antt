@@ -1,13 +1,13 @@
 -- A cut has one text in a version.
 use Rattle.std.proofs.Common.{◌≡◌, ◌==◌, ◌∙◌, ℕ, List, Bool, true, false, sym, ap}
 use Rattle.std.specs.Prelude.{MatchBool}
-use Rattle.cut_file.specs.Cuts.{CutPicture, is_valid}
+use Rattle.cut_file.specs.Cuts.{CutPicture, is_cut_picture}
 use Rattle.cut_file.specs.Folds.{IsFold}
 use Rattle.cut_file.specs.Texts.{cut_text}
 use Rattle.cut_file.proofs.OneFold.{one-fold}
 use Rattle.task_answers.specs.CutTexts.{IsCutText}
 
-in-version : (is_fold : Bool) (cut one other : CutPicture) → is_valid one ≡ true → is_valid other ≡ true →
+in-version : (is_fold : Bool) (cut one other : CutPicture) → is_cut_picture one ≡ true → is_cut_picture other ≡ true →
     MatchBool is_fold (IsFold cut one) (one ≡ cut) → MatchBool is_fold (IsFold cut other) (other ≡ cut) → one ≡ other
 in-version true cut one other valid also is second = one-fold cut one other valid also is second
 in-version false cut one other valid also is second = is ∙ sym second

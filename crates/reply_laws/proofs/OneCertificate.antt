@@ -8,7 +8,7 @@ use Rattle.flow_graph.proofs.SameGraphs.{same-graph}
 use Rattle.max_flow.specs.declared.answers.Half.{Half}
 use Rattle.max_flow.specs.declared.answers.Solved.{Solved}
 use Rattle.flow_certificate.specs.Certificates.{Picture, arc_of, node_of, region_of}
-use Rattle.flow_certificate.specs.Pictures.{flow_at_link, flow_at_point, half_at, have_counts, inside_at, link_lines, picture_of, point_lines, relay_lines}
+use Rattle.flow_certificate.specs.Pictures.{flow_at_link, flow_at_point, half_at, have_counts, inside_at, link_lines, certificate_picture, point_lines, relay_lines}
 use Rattle.flow_certificate.proofs.OneText.{texts-one}
 use Rattle.flow_certificate.proofs.Written.{arcs-kept, nodes-kept, regions-kept}
 use Rattle.command_tasks.specs.CertificateFiles.{IsCertificate}
@@ -81,7 +81,7 @@ made-solved value points links halves relays = record {
   side = record { points = halves; relays = relays };
 }
 
-solved-kept : (graph : Graph) (solved : Solved) → AreAsMany graph solved → solved_in (picture_of graph solved) ≡ solved
+solved-kept : (graph : Graph) (solved : Solved) → AreAsMany graph solved → solved_in (certificate_picture graph solved) ≡ solved
 unfolding made-solved
 solved-kept graph solved many =
     let lines = point_lines graph.points solved.flow.points solved.side.points in
@@ -105,8 +105,8 @@ pub record SameCertificate (graph other : Graph) (solved another : Solved) : Typ
 pub one_certificate : (file : List ℕ) (graph other : Graph) (solved another : Solved) →
     IsCertificate file graph solved → IsCertificate file other another → SameCertificate graph other solved another
 one_certificate file graph other solved another one second =
-    let same : picture_of graph solved ≡ picture_of other another = texts-one file (picture_of graph solved)
-    (picture_of other another) one.text second.text in
+    let same : certificate_picture graph solved ≡ certificate_picture other another = texts-one file (certificate_picture graph solved)
+    (certificate_picture other another) one.text second.text in
     let many = as-many graph solved one.counts in
     let also = as-many other another second.counts in
     let points = sym (nodes-kept graph.points solved.flow.points solved.side.points many.flows many.halves)

@@ -4,17 +4,17 @@ use Rattle.std.proofs.lemmas.Bool.Decides.{nat_tests}
 use Rattle.std.specs.List.{AllByRecursion}
 use Rattle.flow_base.specs.declared.outputs.Output.{Output}
 use Rattle.lockstep_replay.specs.Tasks.{Task as JudgedTask, Limits}
-use Rattle.measuring.specs.Deciding.{IsDeciding}
 use Rattle.taint_check.specs.declared.whys.TaintWhy.{TaintWhy}
 use Rattle.taint_check.specs.Tainted.{Finding, IsClean, IsUnclear}
 use Rattle.taint_check.proofs.OneVerdict.{one_verdict}
 use Rattle.command_tasks.specs.declared.statuses.Status.TheVariants.{Done, Rejected}
-use Rattle.command_tasks.specs.Statuses.{number_of}
+use Rattle.command_tasks.specs.Statuses.{status_number}
 use Rattle.task_answers.specs.Answers.{Answer}
 use Rattle.task_answers.specs.Findings.{AnswersTaint, AreFindings, findings_reply}
 use Rattle.task_answers.specs.Texts.{clean_count}
 use Rattle.commands.proofs.Readings.{status_of}
 use Rattle.reply_laws.specs.ReplyLaws.{CompletesTaint, HasClean}
+use Rattle.transfer_rules.specs.Tables.{IsDeciding}
 
 -- ---- findings are one
 
@@ -74,7 +74,7 @@ all-counted table task limits (secret ∷ secrets) (IsUnclear why ∷ findings) 
 taint-by : (table : ℕ) (task : JudgedTask) (limits : Limits) (secrets : List (List ℕ)) (findings : List Finding)
     (same : Bool) → IsDeciding table → AreFindings table task limits secrets findings →
     (clean_count findings == length findings) ≡ same →
-    CompletesTaint table task limits secrets (number_of (if same then Done else Rejected))
+    CompletesTaint table task limits secrets (status_number (if same then Done else Rejected))
 taint-by table task limits secrets findings true deciding are e = record {
   known = omega arith;
   clean = λ zero. all-clean table task limits secrets findings are (grind (arith, nat_tests, e));
@@ -93,6 +93,6 @@ pub taint_completes : (table : ℕ) (task : JudgedTask) (limits : Limits) (secre
     CompletesTaint table task limits secrets (status_of answer)
 taint_completes table task limits secrets answer deciding (findings, are, e) =
     let counts : Bool = clean_count findings == length findings in
-    let status : number_of (if counts then Done else Rejected) ≡ status_of answer = ap status_of (sym e) in
+    let status : status_number (if counts then Done else Rejected) ≡ status_of answer = ap status_of (sym e) in
     subst (λ s. CompletesTaint table task limits secrets s) status
     (taint-by table task limits secrets findings counts deciding are refl)

@@ -2,7 +2,7 @@
 use Rattle.std.proofs.Common.{◌≡◌, ◌∙◌, inl, inr, ℕ, List, Option, Some, None, Err, refl, sym, ap, arith}
 use Rattle.enclosure_regions.specs.declared.region_parts.Region.{Region}
 use Rattle.region_learn.specs.declared.faults.LearnFault.{LearnFault}
-use Rattle.region_learn.specs.LearnAnswers.{Grants, Refuses, declaration_fault}
+use Rattle.region_learn.specs.LearnAnswers.{Grants, RefusesToLearn, declaration_fault}
 use Rattle.region_learn.specs.Written.{Run as LearntRun}
 use Rattle.region_learn.proofs.OneDeclaration.{learnt_is_one}
 use Rattle.command_tasks.specs.declared.refusals.Refusal.TheVariants.{Learn}
@@ -22,13 +22,13 @@ same-some : (found : Option LearnFault) (a b : LearnFault) → found ≡ Some a 
 same-some found a b e f = cc
 
 -- a declaration that is granted is not refused
-no-refusal : (run : LearntRun) (regions : List Region) (fault : LearnFault) → Grants run regions → Refuses run fault → ⊥
+no-refusal : (run : LearntRun) (regions : List Region) (fault : LearnFault) → Grants run regions → RefusesToLearn run fault → ⊥
 no-refusal run regions fault grants (inl is) = some-none _ fault grants.exits is
 no-refusal run regions fault grants (inr (others, exits, learnt, is)) =
     some-none (declaration_fault regions) fault grants.fits
     (ap declaration_fault (learnt_is_one run regions others grants.learnt learnt) ∙ is)
 
-one-refusal : (run : LearntRun) (a b : LearnFault) → Refuses run a → Refuses run b → a ≡ b
+one-refusal : (run : LearntRun) (a b : LearnFault) → RefusesToLearn run a → RefusesToLearn run b → a ≡ b
 one-refusal run a b (inl is) (inl also) = same-some _ a b is also
 one-refusal run a b (inl is) (inr (regions, exits, learnt, also)) = absurd (some-none _ a exits is)
 one-refusal run a b (inr (regions, exits, learnt, is)) (inl also) = absurd (some-none _ b exits also)

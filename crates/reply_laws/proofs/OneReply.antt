@@ -6,7 +6,7 @@ use Rattle.std.specs.Fmt.{decimal}
 use Rattle.flow_base.specs.declared.outputs.Output.{Output}
 use Rattle.flow_base.specs.Loads.{Told}
 use Rattle.cut_file.specs.Cuts.{CutPicture}
-use Rattle.cut_file.specs.Pictures.{picture_of as cut_of}
+use Rattle.cut_file.specs.Pictures.{cut_picture}
 use Rattle.flow_certificate.proofs.OneVerdict.{one-verdict}
 use Rattle.leak_report.proofs.OneReport.{one-report_json, one-report_text}
 use Rattle.lockstep_replay.specs.Tasks.{Cross}
@@ -18,7 +18,6 @@ use Rattle.flow_certificate.specs.Verdicts.{IsVerified}
 use Rattle.flow_graph.specs.declared.graphs.Graph.{Graph}
 use Rattle.max_flow.specs.declared.answers.Solved.{Solved}
 use Rattle.measuring.specs.declared.measured.Measured.{Measured}
-use Rattle.measuring.specs.Deciding.{IsDeciding}
 use Rattle.measuring.proofs.OneCause.{one-cause}
 use Rattle.measuring.proofs.OneMeasure.{AreSameMeasures, one-measure, told-alike}
 use Rattle.measuring.proofs.MeasuredWithoutCause.{measured_have_no_cause}
@@ -56,6 +55,7 @@ use Rattle.reply_laws.proofs.OneGuest.{RegionLaws}
 use Rattle.reply_laws.proofs.OneLearning.{learning_same}
 use Rattle.reply_laws.proofs.OneTask.{task_reading}
 use Rattle.reply_laws.proofs.OneUnion.{many_same}
+use Rattle.transfer_rules.specs.Tables.{IsDeciding}
 
 -- ---- tables that decide
 
@@ -208,8 +208,8 @@ trial-done number measured answer e = ap status_of e
 
 cut-told : (version : ℕ) → IsAlike (TellsOf (IsCutOfRun version))
 cut-told version one other first second same (text, is, e) (words, also, f) =
-    let here : IsCutText version (cut_of other.cut) text = subst (λ cut. IsCutText version cut text) same.cut is in
-    e ∙ (ap done_by (one_cut_text version (cut_of other.cut) text words here also) ∙ sym f)
+    let here : IsCutText version (cut_picture other.cut) text = subst (λ cut. IsCutText version cut text) same.cut is in
+    e ∙ (ap done_by (one_cut_text version (cut_picture other.cut) text words here also) ∙ sym f)
 
 report-same : (json : Bool) (one other : Measured) → AreSameMeasures one other → report_of json one ≡ report_of json other
 report-same true one other same = one-report_json one other same

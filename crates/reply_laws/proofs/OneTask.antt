@@ -4,7 +4,7 @@ use Rattle.elf32_loader.specs.Pictures.{Picture}
 use Rattle.flow_certificate.specs.declared.faults.FormFault.{FormFault}
 use Rattle.flow_certificate.specs.declared.faults.FormFault.TheVariants.{Line, Memory as NoRoomForCertificate}
 use Rattle.flow_certificate.specs.Certificates.{IsFormFault}
-use Rattle.flow_certificate.specs.Pictures.{picture_of as certificate_of}
+use Rattle.flow_certificate.specs.Pictures.{certificate_picture}
 use Rattle.flow_certificate.proofs.OneFault.{one-form_fault}
 use Rattle.flow_graph.specs.declared.graphs.Graph.{Graph}
 use Rattle.max_flow.specs.declared.answers.Solved.{Solved}
@@ -200,7 +200,7 @@ one-runs-fault laws runs files first second one other =
 
 no-form-fault : (file : List ℕ) (graph : Graph) (solved : Solved) (fault : FormFault) →
     IsCertificate file graph solved → IsFormFault file fault → (fault ≡ NoRoomForCertificate → ⊥) → ⊥
-no-form-fault file graph solved (Line line) is first room = first.no_text (certificate_of graph solved) is.text
+no-form-fault file graph solved (Line line) is first room = first.no_text (certificate_picture graph solved) is.text
 no-form-fault file graph solved NoRoomForCertificate is first room = room refl
 
 -- ---- every command

@@ -1,7 +1,6 @@
 -- Runs that are measured together have one cut, and no cause not to be: so the answers to `measure-all` are one.
 use Rattle.std.proofs.Common.{◌≡◌, ◌∙◌, inl, inr, ℕ, Err, sym, ap, subst, arith}
-use Rattle.cut_file.specs.Pictures.{picture_of as cut_of}
-use Rattle.measuring.specs.Deciding.{IsDeciding}
+use Rattle.cut_file.specs.Pictures.{cut_picture}
 use Rattle.many_runs.specs.declared.many.Many.{Many}
 use Rattle.many_runs.proofs.ManyWithoutCause.{measured_together}
 use Rattle.many_runs.proofs.OneMany.{one_many, one_many_cause}
@@ -14,6 +13,7 @@ use Rattle.task_answers.specs.ManyRuns.{AnswersMany, AreMeasured, IsRunsRefusal,
 use Rattle.commands.proofs.Readings.{status_of}
 use Rattle.reply_laws.specs.ReplyLaws.{CompletesRuns}
 use Rattle.reply_laws.proofs.CutTexts.{one_cut_text}
+use Rattle.transfer_rules.specs.Tables.{IsDeciding}
 
 no-cause : (runs : ManyRunsTask) (many : Many) (refusal : Refusal) → IsDeciding runs.table → AreMeasured runs many →
     IsRunsRefusal runs refusal → ⊥
@@ -30,10 +30,10 @@ many_same version runs first second deciding (inl (refusal, is, e)) (inr (many, 
 many_same version runs first second deciding (inr (many, is, answers)) (inl (refusal, also, e)) =
     absurd (no-cause runs many refusal deciding is also)
 many_same version runs first second deciding (inr (many, is, (text, told, e))) (inr (other, also, (words, more, f))) =
-    let cuts : cut_of many.cut ≡ cut_of other.cut = one_many (setup_in runs) runs.secrets many other deciding
+    let cuts : cut_picture many.cut ≡ cut_picture other.cut = one_many (setup_in runs) runs.secrets many other deciding
     is.measures also.measures in
-    let here : IsCutText version (cut_of other.cut) text = subst (λ c. IsCutText version c text) cuts told in
-    e ∙ (ap done_by (one_cut_text version (cut_of other.cut) text words here more) ∙ sym f)
+    let here : IsCutText version (cut_picture other.cut) text = subst (λ c. IsCutText version c text) cuts told in
+    e ∙ (ap done_by (one_cut_text version (cut_picture other.cut) text words here more) ∙ sym f)
 
 pub many_completes : (version : ℕ) (runs : ManyRunsTask) (answer : Answer) → IsDeciding runs.table →
     AnswersMany version runs answer → CompletesRuns runs (status_of answer)

@@ -15,7 +15,7 @@ use Rattle.many_runs.specs.declared.faults.ManyFault.{ManyFault}
 use Rattle.many_runs.specs.declared.faults.ManyFault.TheVariants.{Memory as NoRoomForRuns}
 use Rattle.many_runs.specs.Causes.{HasManyCause}
 use Rattle.region_learn.specs.declared.faults.LearnFault.{LearnFault}
-use Rattle.region_learn.specs.LearnAnswers.{Refuses}
+use Rattle.region_learn.specs.LearnAnswers.{RefusesToLearn}
 use Rattle.taint_check.specs.Tainted.{IsClean, IsVerdict}
 use Rattle.every_secret.specs.Bounds.{Found, IsBounded}
 use Rattle.command_line.specs.declared.judgings.Judging.{Judging}
@@ -113,7 +113,7 @@ pub record CompletesRuns (runs : ManyRunsTask) (status : ℕ) : Type 0 where
 
 -- nothing refuses a declaration
 abbrev pub HasDeclaration : RunTask → Type 0
-HasDeclaration run = (fault : LearnFault) → ¬ Refuses (learnt_run run.guest run.secret run.turns) fault
+HasDeclaration run = (fault : LearnFault) → ¬ RefusesToLearn (learnt_run run.guest run.secret run.turns) fault
 
 -- 0 exactly where nothing refuses a declaration, and else 4
 pub record CompletesLearning (run : RunTask) (status : ℕ) : Type 0 where

@@ -1,12 +1,12 @@
 -- What is shown of runs with labels turn by turn.
 use Rattle.std.specs.Prelude.{[], ◌∷◌, refl}
 use Rattle.std.proofs.Common.{ap}
-use Rattle.region_machine.specs.Runs.{real_turn, real_after}
+use Rattle.region_machine.specs.Runs.{real_turn, Real}
 use Rattle.run_labels.specs.Laws.{PlaceLaw, BeginningsLaw}
 use Rattle.run_labels.specs.Runs.{enclosing, run_after, EachRunAnswer, IsUnrefused}
 
 pub place_law : PlaceLaw
-unfolding run_after real_after
+unfolding run_after Real
 place_law regions [] start = refl
 place_law regions (answers ∷ earlier) start =
     ap (λ place. real_turn (enclosing regions) place) (place_law regions earlier start)

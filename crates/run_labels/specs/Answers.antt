@@ -36,15 +36,15 @@ abbrev pub operands_of : ℕ → ℕ → List ℕ → Operands
 operands_of first second masks = record { v1 = first; m1 = first_of masks; v2 = second; m2 = second_of masks }
 
 -- the fact holds of the answer that a passing takes, if it takes one
-abbrev pub Holds : (Operation → Operands → ℕ → Type 0) → Work → List ℕ → ℕ → Type 0
-Holds Fact (Shaped shape) masks answer = Unit {0}
-Holds Fact (Computed operation first second) masks answer = Fact operation (operands_of first second masks) answer
+abbrev pub HoldsOfAnswer : (Operation → Operands → ℕ → Type 0) → Work → List ℕ → ℕ → Type 0
+HoldsOfAnswer Fact (Shaped shape) masks answer = Unit {0}
+HoldsOfAnswer Fact (Computed operation first second) masks answer = Fact operation (operands_of first second masks) answer
 
 -- the fact holds of each answer that a turn takes
 unfoldable pub EachAnswer : (Operation → Operands → ℕ → Type 0) → TurnLabels → List ℕ → Walk → Type 0
 EachAnswer Fact labels answers (Looked seen value walk) = EachAnswer Fact labels answers walk
 EachAnswer Fact labels answers (Passed passing go) =
-    Holds Fact passing.work (masks_of labels passing.sources) (first_of answers)
+    HoldsOfAnswer Fact passing.work (masks_of labels passing.sources) (first_of answers)
     × EachAnswer Fact (labels_after labels (first_of answers) passing) (answers_after passing.work answers)
     (go passing.value)
 EachAnswer Fact labels answers (Moved place shape source value walk) =

@@ -7,10 +7,7 @@ use Rattle.run_labels.specs.declared.faults.MeasureFault.{MeasureFault}
 use Rattle.run_labels.specs.declared.faults.MeasureFault.TheVariants.{SecretCode, BaseSecret}
 use Rattle.run_labels.specs.TurnLabels.{TurnLabels, put_label, save_labels, restore_labels}
 use Rattle.run_labels.specs.Masks.{byte_mask, answers_after, labels_after, moved_label}
-
-abbrev pub first_fault : Option MeasureFault → Option MeasureFault → Option MeasureFault
-first_fault None later = later
-first_fault (Some fault) later = Some fault
+use Rattle.std.specs.Option.{option_or}
 
 -- a look at the word at an address, or at a base register in the entry of the region with this number
 abbrev pub look_fault : ℕ → TurnLabels → Seen → Option MeasureFault
@@ -24,7 +21,7 @@ look_fault region labels (Base register) =
 -- the first look of a turn, in which every value goes on as it is, at what may depend on the secret
 unfoldable pub secret_look : ℕ → TurnLabels → List ℕ → Walk → Option MeasureFault
 secret_look region labels answers (Looked seen value walk) =
-    first_fault (look_fault region labels seen) (secret_look region labels answers walk)
+    option_or (look_fault region labels seen) (secret_look region labels answers walk)
 secret_look region labels answers (Passed passing go) =
     secret_look region (labels_after labels (first_of answers) passing) (answers_after passing.work answers)
     (go passing.value)

@@ -18,8 +18,9 @@ use Rattle.run_labels.specs.declared.faults.MeasureFault.{MeasureFault}
 use Rattle.run_labels.specs.declared.faults.MeasureFault.TheVariants.{Guest as GuestFault, Region as RegionFault}
 use Rattle.run_labels.specs.Answers.{EachAnswer}
 use Rattle.run_labels.specs.Flowing.{labels_in, events_in}
-use Rattle.run_labels.specs.Looking.{first_fault, secret_look}
+use Rattle.run_labels.specs.Looking.{secret_look}
 use Rattle.run_labels.specs.TurnLabels.{at_start}
+use Rattle.std.specs.Option.{option_or}
 
 -- where a run stands, the labels of its registers and bytes, and the events of its turns
 pub record LabelledRun : Type 0 where
@@ -71,10 +72,10 @@ stopped_fault (Stopped fault) = Some (GuestFault fault)
 -- what it looks at, then what it breaks, then its stop
 abbrev pub turn_fault : List Region → List ℕ → LabelledRun → Option MeasureFault
 turn_fault regions answers run =
-    first_fault
+    option_or
     (secret_look (entered_number (kind_of regions run.place.state.control)) (at_start run.labels) answers
     (next_walk regions run))
-    (first_fault (broken_fault (Breaks regions run.place.state))
+    (option_or (broken_fault (Breaks regions run.place.state))
     (stopped_fault (real_end (next_walk regions run)).control.mode))
 
 -- ---- many turns

@@ -2,7 +2,7 @@
 
 ghost use Rattle.std.specs.Prelude.{◌≡◌, ◌≤◌, IfSome, length, true};
 ghost use Rattle.std.specs.List.{list_all};
-ghost use Rattle.many_runs.specs.Following.{is_short};
+ghost use Rattle.many_runs.specs.Following.{is_short_secret};
 
 use crate::files::bytes_of;
 use flow_base::{Bytes, List};
@@ -13,7 +13,7 @@ use std::alloc::Global;
 pub struct Secrets {
     items: List<Bytes>,
     ghost few: { length items ≤ 64 },
-    ghost short: { list_all is_short items ≡ true },
+    ghost short: { list_all is_short_secret items ≡ true },
 }
 
 impl Secrets {
@@ -43,7 +43,7 @@ impl Secrets {
     /// The secrets, in order.
     pub fn all(&self) -> &[Bytes]
         ensures few { length result.now ≤ 64 }
-        ensures short { list_all is_short result.now ≡ true }
+        ensures short { list_all is_short_secret result.now ≡ true }
     {
         self.items.as_slice()
     }

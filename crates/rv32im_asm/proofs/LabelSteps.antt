@@ -9,7 +9,7 @@ use Rattle.std.specs.List.{position_from}
 use Rattle.std.proofs.lemmas.List.{take-append-le}
 use Rattle.std.proofs.Math.Seq.{take-append_seam}
 use Rattle.rv32im_asm.specs.Private.Labels.{IsNear, IsNearBy, noted}
-use Rattle.rv32im_asm.specs.Lines.{label_of, lines_of}
+use Rattle.rv32im_asm.specs.Lines.{line_label, lines_of}
 use Rattle.rv32im_asm.specs.Operands.{both}
 use Rattle.rv32im_asm.specs.Sizes.{is_label, line_size, place_of, total_size}
 use Rattle.rv32im_asm.specs.declared.places.Place.{Place}
@@ -103,11 +103,11 @@ place_behind true lines line =
 place_behind false lines line = refl
 
 place_push : (lines : List (List ℕ)) (line name : List ℕ) (found : Option ℕ)
-    → position_from (λ other. is_label name (label_of other)) 0 lines ≡ found
-    → option_map (place_at (lines ++ line ∷ [])) (or_behind found (is_label name (label_of line)) (0 + length lines))
-    ≡ noted name (label_of line) (record { index = length lines; offset = total_size lines }) (option_map
+    → position_from (λ other. is_label name (line_label other)) 0 lines ≡ found
+    → option_map (place_at (lines ++ line ∷ [])) (or_behind found (is_label name (line_label line)) (0 + length lines))
+    ≡ noted name (line_label line) (record { index = length lines; offset = total_size lines }) (option_map
     (place_at lines) found)
-place_push lines line name None h = place_behind (is_label name (label_of line)) lines line
+place_push lines line name None h = place_behind (is_label name (line_label line)) lines line
 place_push lines line name (Some place) h =
     let below : place < 0 + length lines = position_below _ 0 lines place h in
     ap (λ front. Some (record { index = place; offset = total_size front })) (take-append-le place lines (line ∷ [])
@@ -115,11 +115,11 @@ place_push lines line name (Some place) h =
 
 pub place_of-push : (lines : List (List ℕ)) (line name : List ℕ)
     → place_of (lines ++ line ∷ []) name
-    ≡ noted name (label_of line) (record { index = length lines; offset = total_size lines }) (place_of lines name)
+    ≡ noted name (line_label line) (record { index = length lines; offset = total_size lines }) (place_of lines name)
 place_of-push lines line name =
     ap (option_map (place_at (lines ++ line ∷ []))) (position_push (λ other. is_label name
-    (label_of other)) 0 lines line)
-    ∙ place_push lines line name (position_from (λ other. is_label name (label_of other)) 0 lines) refl
+    (line_label other)) 0 lines line)
+    ∙ place_push lines line name (position_from (λ other. is_label name (line_label other)) 0 lines) refl
 
 -- ---- nearness
 
@@ -137,14 +137,14 @@ noted_near name label place (Some first) near known = known
 
 pub places_next : (front : List (List ℕ)) (line name : List ℕ) (index : ℕ) (offset : Option ℕ) (label : Option (List ℕ))
     (old new : Option Place)
-    → length front ≡ index → offset ≡ total_size front → label ≡ label_of line → old ≡ place_of front name
+    → length front ≡ index → offset ≡ total_size front → label ≡ line_label line → old ≡ place_of front name
     → new ≡ noted name label (record { index = index; offset = offset }) old
     → new ≡ place_of (front ++ line ∷ []) name
 places_next front line name index offset label old new count sum own known note =
     note ∙ (ap (λ o. noted name label (record { index = index; offset = offset }) o) known
     ∙ (ap (λ l. noted name l (record { index = index; offset = offset }) (place_of front name)) own
-    ∙ (ap (λ o. noted name (label_of line) (record { index = index; offset = o }) (place_of front name)) sum
-    ∙ (ap (λ i. noted name (label_of line) (record { index = i; offset = total_size front }) (place_of front name))
+    ∙ (ap (λ o. noted name (line_label line) (record { index = index; offset = o }) (place_of front name)) sum
+    ∙ (ap (λ i. noted name (line_label line) (record { index = i; offset = total_size front }) (place_of front name))
     (sym count)
     ∙ sym (place_of-push front line name)))))
 

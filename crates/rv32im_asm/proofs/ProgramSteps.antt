@@ -2,7 +2,7 @@
 use Rattle.std.proofs.Common.{◌≡◌, ℕ, ◌+◌, List, ◌∷◌, ◌++◌, take, Option, Some, Result, Ok, Err, unwrap_or, refl, ap}
 use Rattle.std.proofs.Common.{sym, ◌∙◌, append_assoc}
 use mathlib.Core.Path.{fun_ext}
-use Rattle.rv32im_asm.specs.Assembling.{first_failing, joined, known_places, reached, reading, readings}
+use Rattle.rv32im_asm.specs.Assembling.{first_failing, followed, known_places, reached, reading, readings}
 use Rattle.rv32im_asm.specs.Sizes.{place_of, places_up_to, total_size}
 use Rattle.rv32im_asm.specs.declared.fault.AsmFault.{AsmFault}
 use Rattle.rv32im_asm.specs.declared.places.Place.{Place}
@@ -18,14 +18,14 @@ pub fault_step : (all more : List (List ℕ)) (index here : ℕ) (line program :
     (fault : AsmFault)
     → total_size (take index all) ≡ Some here
     → Err fault ≡ reading places index here line
-    → joined (Ok program) (readings places all index (line ∷ more)) ≡ readings places all 0 all
+    → followed (Ok program) (readings places all index (line ∷ more)) ≡ readings places all 0 all
     → Err fault ≡ readings places all 0 all
 fault_step all more index here line program places fault known read whole =
-    sym (sym whole ∙ ap (λ first. joined (Ok program) (joined first (readings places all (index + 1) more)))
+    sym (sym whole ∙ ap (λ first. followed (Ok program) (followed first (readings places all (index + 1) more)))
     (read_alike all index here line places known ∙ sym read))
 
 joined-twice : (program bytes : List ℕ) (rest : Result (List ℕ) AsmFault)
-    → joined (Ok (program ++ bytes)) rest ≡ joined (Ok program) (joined (Ok bytes) rest)
+    → followed (Ok (program ++ bytes)) rest ≡ followed (Ok program) (followed (Ok bytes) rest)
 joined-twice program bytes (Err fault) = refl
 joined-twice program bytes (Ok more) = ap Ok (append_assoc program bytes more)
 
@@ -33,11 +33,11 @@ pub bytes_step : (all more : List (List ℕ)) (index here : ℕ) (line program b
     → Option Place)
     → total_size (take index all) ≡ Some here
     → Ok bytes ≡ reading places index here line
-    → joined (Ok program) (readings places all index (line ∷ more)) ≡ readings places all 0 all
-    → joined (Ok (program ++ bytes)) (readings places all (index + 1) more) ≡ readings places all 0 all
+    → followed (Ok program) (readings places all index (line ∷ more)) ≡ readings places all 0 all
+    → followed (Ok (program ++ bytes)) (readings places all (index + 1) more) ≡ readings places all 0 all
 bytes_step all more index here line program bytes places known read whole =
     joined-twice program bytes (readings places all (index + 1) more)
-    ∙ (ap (λ first. joined (Ok program) (joined first (readings places all (index + 1) more)))
+    ∙ (ap (λ first. followed (Ok program) (followed first (readings places all (index + 1) more)))
     (read ∙ sym (read_alike all index here line places known)) ∙ whole)
 
 -- ---- the first line that fails with the labels up to it

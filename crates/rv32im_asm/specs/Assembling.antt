@@ -3,7 +3,7 @@ use Rattle.std.specs.Prelude.{ℕ, ℤ, pos, ◌+◌, ◌-ℤ◌, ◌%◌, ◌==
 use Rattle.std.specs.Prelude.{◌++◌, take, Option, Some, None, Result, Ok, Err, unwrap_or, if◌then◌else◌}
 use Rattle.std.specs.Option.{option_and_then}
 use Rattle.elf32_loader.specs.Pictures.{Picture}
-use Rattle.rv32im_asm.specs.Lines.{label_of, lines_of}
+use Rattle.rv32im_asm.specs.Lines.{line_label, lines_of}
 use Rattle.rv32im_asm.specs.Statements.{Meaning, said_by}
 use Rattle.rv32im_asm.specs.Sizes.{place_of, places_up_to, size_of, total_size}
 use Rattle.rv32im_asm.specs.Encodings.{bytes_with}
@@ -62,9 +62,9 @@ bytes_for places line operation here number None = or_range line (bytes_with ope
 bytes_for places line operation here number (Some name) = bytes_by line operation here (places name)
 
 -- an earlier line than the one of this index begins with the same label
-abbrev pub is_taken : ℕ → Option Place → Bool
-is_taken index None = false
-is_taken index (Some place) = nat_lt place.index index
+abbrev pub stands_before : ℕ → Option Place → Bool
+stands_before index None = false
+stands_before index (Some place) = nat_lt place.index index
 
 -- the bytes of a line with a meaning, or its fault
 abbrev pub reading_with : (List ℕ → Option Place) → ℕ → ℕ → Bool → Meaning → Result (List ℕ) AsmFault
@@ -76,19 +76,19 @@ reading_with places line here taken meaning =
 
 abbrev pub reading_of : (List ℕ → Option Place) → ℕ → ℕ → Option Place → Option Meaning → Result (List ℕ) AsmFault
 reading_of places index here own None = Err (Line (index + 1) Malformed)
-reading_of places index here own (Some meaning) = reading_with places (index + 1) here (is_taken index own) meaning
+reading_of places index here own (Some meaning) = reading_with places (index + 1) here (stands_before index own) meaning
 
 -- the bytes of a line, or its fault, where the lines before it have `here` bytes
 abbrev pub reading : (List ℕ → Option Place) → ℕ → ℕ → List ℕ → Result (List ℕ) AsmFault
-reading places index here line = reading_of places index here (option_and_then places (label_of line)) (said_by line)
+reading places index here line = reading_of places index here (option_and_then places (line_label line)) (said_by line)
 
 -- ---- the whole
 
 -- bytes and then what follows, or the first fault
-abbrev pub joined : Result (List ℕ) AsmFault → Result (List ℕ) AsmFault → Result (List ℕ) AsmFault
-joined (Err fault) rest = Err fault
-joined (Ok bytes) (Err fault) = Err fault
-joined (Ok bytes) (Ok more) = Ok (bytes ++ more)
+abbrev pub followed : Result (List ℕ) AsmFault → Result (List ℕ) AsmFault → Result (List ℕ) AsmFault
+followed (Err fault) rest = Err fault
+followed (Ok bytes) (Err fault) = Err fault
+followed (Ok bytes) (Ok more) = Ok (bytes ++ more)
 
 -- how many bytes the lines before an index have; each has a size where none of them fails
 abbrev pub bytes_before : List (List ℕ) → ℕ → ℕ
@@ -98,7 +98,7 @@ bytes_before lines index = unwrap_or (total_size (take index lines)) 0
 abbrev pub readings : (List ℕ → Option Place) → List (List ℕ) → ℕ → List (List ℕ) → Result (List ℕ) AsmFault
 readings places lines index [] = Ok []
 readings places lines index (line ∷ rest) =
-    joined (reading places index (bytes_before lines index) line) (readings places lines (index + 1) rest)
+    followed (reading places index (bytes_before lines index) line) (readings places lines (index + 1) rest)
 
 -- the index of a line that fails, or what comes after it
 abbrev pub reached : Result (List ℕ) AsmFault → ℕ → ℕ → ℕ

@@ -3,8 +3,8 @@ use Rattle.std.specs.Prelude.{ℕ}
 use Rattle.rv32im_asm.specs.declared.fault.LineKind.{LineKind}
 use Rattle.rv32im_asm.specs.declared.fault.LineKind.TheVariants.{Malformed, Misplaced, TooLong, Empty}
 
-abbrev pub number_of : LineKind → ℕ
-number_of Malformed = 1
-number_of Misplaced = 2
-number_of TooLong = 3
-number_of Empty = 4
+abbrev pub kind_number : LineKind → ℕ
+kind_number Malformed = 1
+kind_number Misplaced = 2
+kind_number TooLong = 3
+kind_number Empty = 4

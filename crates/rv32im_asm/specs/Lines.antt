@@ -62,8 +62,8 @@ abbrev pub text_of : List ℕ → List ℕ
 text_of line = trimmed (before_first (λ byte. byte == 35) line)
 
 -- the label that a line begins with
-abbrev pub label_of : List ℕ → Option (List ℕ)
-label_of line = option_map (λ parts. parts.0) (labelled (text_of line))
+abbrev pub line_label : List ℕ → Option (List ℕ)
+line_label line = option_map (λ parts. parts.0) (labelled (text_of line))
 
 -- a blank parts what follows a label from it
 abbrev pub stands_apart : List ℕ → Bool

@@ -40,9 +40,9 @@ abbrev pub positive_of : List ℕ → Option ℤ
 positive_of text = option_and_then (at_most 4294967295 pos) (magnitude_of text)
 
 -- a number, with an optional - before its digits
-abbrev pub number_of : List ℕ → Option ℤ
-number_of [] = None
-number_of (byte ∷ rest) = if byte == 45 then negative_of rest else positive_of (byte ∷ rest)
+abbrev pub written_number : List ℕ → Option ℤ
+written_number [] = None
+written_number (byte ∷ rest) = if byte == 45 then negative_of rest else positive_of (byte ∷ rest)
 
 abbrev pub is_empty : List ℕ → Bool
 is_empty [] = true
@@ -70,7 +70,7 @@ closed (Some parts) = if is_empty parts.1 then register_named parts.0 else None
 abbrev pub in_parentheses : Option (List ℕ × List ℕ) → Option (ℤ × ℕ)
 in_parentheses None = None
 in_parentheses (Some parts) =
-    both (λ number register. (number, register)) (number_of parts.0) (closed (cut_at 41 parts.1))
+    both (λ number register. (number, register)) (written_number parts.0) (closed (cut_at 41 parts.1))
 
 -- the number and the register
 abbrev pub place_of : List ℕ → Option (ℤ × ℕ)
@@ -89,14 +89,14 @@ plain number = record { number = number; label = None }
 abbrev pub label_value : List ℕ → Value
 label_value name = record { number = pos 0; label = Some name }
 
-abbrev pub label_in : List ℕ → Option Value
-label_in text = if is_name text then Some (label_value text) else None
+abbrev pub label_operand : List ℕ → Option Value
+label_operand text = if is_name text then Some (label_value text) else None
 
 abbrev pub number_in : List ℕ → Option Value
-number_in text = option_map plain (number_of text)
+number_in text = option_map plain (written_number text)
 
 -- a number, a label, or a target of a branch or jump: a label or the offset in bytes
 abbrev pub value_in : Wanted → List ℕ → Option Value
 value_in Number text = number_in text
-value_in Label text = label_in text
+value_in Label text = label_operand text
 value_in Target text = if is_name text then Some (label_value text) else number_in text

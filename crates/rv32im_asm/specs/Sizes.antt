@@ -4,7 +4,7 @@ use Rattle.std.specs.Prelude.{Option, Some, None, option_map, if◌then◌else�
 use Rattle.std.specs.Option.{option_and_then}
 use Rattle.std.specs.List.{position_from}
 use Rattle.std.specs.Str.{bytes_eq}
-use Rattle.rv32im_asm.specs.Lines.{label_of}
+use Rattle.rv32im_asm.specs.Lines.{line_label}
 use Rattle.rv32im_asm.specs.Operands.{both}
 use Rattle.rv32im_asm.specs.Statements.{Meaning, said_by}
 use Rattle.rv32im_asm.specs.declared.places.Place.{Place}
@@ -43,7 +43,7 @@ is_label name (Some label) = bytes_eq label name
 abbrev pub place_of : List (List ℕ) → List ℕ → Option Place
 place_of lines name =
     option_map (λ index. record { index = index; offset = total_size (take index lines) })
-    (position_from (λ line. is_label name (label_of line)) 0 lines)
+    (position_from (λ line. is_label name (line_label line)) 0 lines)
 
 -- a label as it is known up to the line of an index: after that line it has no address
 abbrev pub up_to : ℕ → Place → Place

@@ -2,12 +2,12 @@ ghost use Rattle.std.specs.Prelude.{◌≡◌, ◌≢◌, ℕ, ◌+◌, ◌<◌,
 ghost use Rattle.std.specs.Prelude.{length, replicate};
 ghost use Rattle.std.specs.Prelude.{ℤ, Some, option_map};
 ghost use Rattle.std.specs.Option.{option_and_then, option_copied};
-ghost use Rattle.elf32_loader.specs.Images.{picture_of};
+ghost use Rattle.elf32_loader.specs.Images.{image_picture};
 ghost use Rattle.rv32im_asm.specs.Answers.{answer_of};
 ghost use Rattle.rv32im_asm.specs.Assembling.{one_segment, assembled, bytes_for, is_aligned as stands_aligned};
 ghost use Rattle.rv32im_asm.specs.Assembling.{placed_bytes};
 ghost use Rattle.rv32im_asm.specs.Assembling.{unplaced_bytes};
-ghost use Rattle.rv32im_asm.specs.Assembling.{is_taken as is_taken_by, or_range as or_range_fault};
+ghost use Rattle.rv32im_asm.specs.Assembling.{stands_before, or_range as or_range_fault};
 ghost use Rattle.rv32im_asm.specs.Assembling.{reading as read_as, reading_with};
 ghost use Rattle.rv32im_asm.specs.Assembling.{first_failing as first_to_fail, known_places, readings};
 ghost use Rattle.rv32im_asm.specs.Encodings.{bytes_with};
@@ -125,7 +125,7 @@ fn located(
 
 /// Whether an earlier line than the one of this index begins with its label.
 fn is_taken(labels: &Labels, reach: u64, index: u64, own: Option<&[u8]>) -> bool
-    ensures { result ≡ is_taken_by index (option_and_then (places_up_to reach (places_in labels.now))
+    ensures { result ≡ stands_before index (option_and_then (places_up_to reach (places_in labels.now))
         (option_map (λ name. name.now) own.entry)) }
 {
     let Some(own) = own else { return false };
@@ -283,7 +283,7 @@ fn program(alloc: Global, source: &[u8]) -> Result<Bytes, AsmFault>
 fn image(alloc: Global, program: Bytes) -> Result<Image, NoMemory>
     requires some { 0 < length program }
     requires small { length program ≤ 1048576 }
-    ensures { IfOk result (λ image. picture_of image ≡ one_segment program) }
+    ensures { IfOk result (λ image. image_picture image ≡ one_segment program) }
 {
     let mut segments = List::new(alloc);
     segments.push(Segment {

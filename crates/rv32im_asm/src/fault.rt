@@ -1,5 +1,5 @@
 ghost use Rattle.std.specs.Prelude.{◌≡◌};
-ghost use Rattle.rv32im_asm.specs.Kinds.{number_of};
+ghost use Rattle.rv32im_asm.specs.Kinds.{kind_number};
 
 use flow_base::NoMemory;
 use std::fmt;
@@ -21,7 +21,7 @@ pub enum LineKind {
 impl LineKind {
     /// The number of the kind, from 1 to 4.
     fn number(self) -> u8
-        ensures { result ≡ number_of self }
+        ensures { result ≡ kind_number self }
     {
         match self {
             LineKind::Malformed => 1,
@@ -35,9 +35,9 @@ impl LineKind {
 impl fmt::Display for LineKind {
     ghost use Rattle.std.specs.Prelude.{Some};
     ghost use Rattle.std.specs.Fmt.{decimal};
-    ghost use Rattle.rv32im_asm.specs.Kinds.{number_of};
+    ghost use Rattle.rv32im_asm.specs.Kinds.{kind_number};
 
-    ghost output = { λ kind. Some (decimal (number_of kind)) };
+    ghost output = { λ kind. Some (decimal (kind_number kind)) };
 
     fn fmt<W: fmt::Write>(&self, f: &mut fmt::Formatter<W>) -> fmt::Result {
         let number = self.number();

@@ -2,7 +2,7 @@
 
 ghost use Rattle.std.specs.Prelude.{◌≡◌, ◌<◌, option_map, IfSome};
 ghost use Rattle.rv32im_asm.specs.Lines.{operands_in};
-ghost use Rattle.rv32im_asm.specs.Operands.{label_in, number_in, plain as plain_value, value_in as wanted_in};
+ghost use Rattle.rv32im_asm.specs.Operands.{label_operand, number_in, plain as plain_value, value_in as wanted_in};
 ghost use Rattle.rv32im_asm.specs.Private.Forms.{found_in, found_of};
 ghost use Rattle.rv32im_asm.specs.Statements.{value_of};
 ghost use Rattle.rv32im_asm.specs.declared.statements.Form.TheVariants as forms;
@@ -24,7 +24,7 @@ pub fn plain(number: i64) -> Value<'static>
 }
 
 fn label_value<'a>(text: &'a [u8]) -> Option<Value<'a>>
-    ensures { option_map value_of result ≡ label_in text.entry.now }
+    ensures { option_map value_of result ≡ label_operand text.entry.now }
 {
     if is_name(text) {
         Some(Value {

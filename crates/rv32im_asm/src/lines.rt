@@ -1,7 +1,7 @@
 //! The parts of a line.
 
 ghost use Rattle.std.specs.Prelude.{◌≡◌, option_map};
-ghost use Rattle.rv32im_asm.specs.Lines.{body_in, body_of, label_of, labelled as named_in, operands_in, one_of};
+ghost use Rattle.rv32im_asm.specs.Lines.{body_in, body_of, line_label, labelled as named_in, operands_in, one_of};
 ghost use Rattle.rv32im_asm.specs.Lines.{stands_apart};
 ghost use Rattle.rv32im_asm.specs.Lines.{text_of, three_of, two_of};
 
@@ -28,7 +28,7 @@ fn labelled<'a>(text: &'a [u8]) -> Option<(&'a [u8], &'a [u8])>
 
 /// The label that a line begins with.
 pub fn label<'a>(line: &'a [u8]) -> Option<&'a [u8]>
-    ensures { option_map (λ label. label.now) result ≡ label_of line.entry.now }
+    ensures { option_map (λ label. label.now) result ≡ line_label line.entry.now }
 {
     let (name, _) = labelled(text(line))?;
     Some(name)

@@ -2,7 +2,7 @@
 
 ghost use Rattle.std.specs.Prelude.{◌≡◌, ◌<◌, ◌≤◌, min, option_map, IfSome, pos, neg_ℤ};
 ghost use Rattle.rv32im_asm.specs.Operands.{at_most as at_most_of, digits_in, magnitude_of, negative_of};
-ghost use Rattle.rv32im_asm.specs.Operands.{number_of, place_of, positive_of};
+ghost use Rattle.rv32im_asm.specs.Operands.{written_number, place_of, positive_of};
 ghost use Rattle.rv32im_asm.specs.Operands.{closed as closed_in};
 ghost use Rattle.rv32im_asm.specs.Lines.{cut_at as parts_at};
 
@@ -84,7 +84,7 @@ fn from_zero(text: &[u8]) -> Option<i64>
 
 /// The number of a text.
 pub fn number(text: &[u8]) -> Option<i64>
-    ensures { result ≡ number_of text.now }
+    ensures { result ≡ written_number text.now }
 {
     match text {
         [b'-', rest @ ..] => below_zero(rest),

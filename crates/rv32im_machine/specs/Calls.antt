@@ -8,7 +8,7 @@ use Rattle.guest_calls.specs.declared.kinds.CallKind.{CallKind}
 use Rattle.guest_calls.specs.declared.kinds.CallKind.TheVariants.{Read, Write as WriteCall, Exit as ExitCall, Brk as BrkCall, Unknown}
 use Rattle.guest_calls.specs.declared.writing.WriteCheck.{WriteCheck}
 use Rattle.guest_calls.specs.declared.writing.WriteCheck.TheVariants.{Append, BadAddress, OverLimit}
-use Rattle.guest_calls.specs.Calls.{kind_of, is_public_input, is_secret_input, is_output, bad_descriptor, bad_address, unknown_call, bytes_read, checked_write, moved_break}
+use Rattle.guest_calls.specs.Calls.{call_kind, is_public_input, is_secret_input, is_output, bad_descriptor, bad_address, unknown_call, bytes_read, checked_write, moved_break}
 use Rattle.rv32im_machine.specs.declared.stepping.Fault.TheVariants.{OutputLimit}
 use Rattle.rv32im_machine.specs.declared.stepping.Stepped.TheVariants.{Exited, Stopped}
 use Rattle.rv32im_machine.specs.declared.stepping.Arguments.{Arguments}
@@ -79,7 +79,7 @@ kind_plan BrkCall setting control arguments = break_plan setting control argumen
 kind_plan Unknown setting control arguments = Answer unknown_call
 
 abbrev pub plan_of : Setting → Control → Arguments → CallPlan
-plan_of setting control arguments = kind_plan (kind_of arguments.number) setting control arguments
+plan_of setting control arguments = kind_plan (call_kind arguments.number) setting control arguments
 
 -- what a plan needs of a state, so that it can be carried out
 abbrev pub MayPerform : CallPlan → State → Type 0
@@ -162,4 +162,4 @@ kind_row Unknown setting control = planned (Answer unknown_call) setting control
 
 -- the call of this number
 abbrev pub call_row : ℕ → Setting → Control → Turn
-call_row number setting control = kind_row (kind_of number) setting control
+call_row number setting control = kind_row (call_kind number) setting control

@@ -1,5 +1,5 @@
 -- What is read off a turn: the next passing, the step, the visits; and the real run.
-use Rattle.std.specs.Prelude.{◌≡◌, ℕ, zero, suc, List, [], ◌∷◌, refl}
+use Rattle.std.specs.Prelude.{◌≡◌, ℕ, List, [], ◌∷◌, refl}
 use Rattle.flow_base.specs.declared.points.Point.{Point}
 use Rattle.rv32im_machine.specs.State.{State}
 use Rattle.rv32im_machine.specs.Language.{Walk, Looked, Passed, Moved, Saved, Restored, Ended}
@@ -55,11 +55,6 @@ visits_in (Ended state) = []
 -- Visits: the points that the turn of a state passes, with their values
 abbrev pub Visits : State → List Visit
 Visits state = visits_in (walk_of state)
-
--- Real: the state after so many turns of the real run
-unfoldable pub Real : ℕ → State → State
-Real zero state = state
-Real (suc turns) state = Step (Real turns state)
 
 -- at its end a turn has reached its state
 pub real-Ended : (state : State) → real_end (Ended state) ≡ state

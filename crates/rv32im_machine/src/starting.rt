@@ -1,6 +1,6 @@
 ghost use Rattle.std.specs.Prelude.{◌≡◌, ◌+◌, ◌-◌, ◌^◌, ◌<◌, ◌≤◌, IfOk, IsTrue, length};
 ghost use Rattle.flow_base.specs.Guests.{memory_size};
-ghost use Rattle.elf32_loader.specs.Images.{picture_of};
+ghost use Rattle.elf32_loader.specs.Images.{image_picture};
 ghost use Rattle.elf32_loader.specs.Segments.{are_inside, end_of};
 ghost use Rattle.rv32im_machine.specs.Start.{HoldsImage, laid, laid_at, top_of, first_break, start};
 
@@ -79,8 +79,8 @@ impl Machine {
     ) -> Result<Machine, NoMemory>
         requires { length secret.now < 2 ^ 32 }
         ensures start { IfOk result (λ machine.
-            machine ≡ start (picture_of image.now) public.now secret.now output_limit) }
-        ensures memory { IfOk result (λ machine. HoldsImage (picture_of image.now) machine) }
+            machine ≡ start (image_picture image.now) public.now secret.now output_limit) }
+        ensures memory { IfOk result (λ machine. HoldsImage (image_picture image.now) machine) }
     {
         let memory = GuestMemory::new(alloc)?;
         Machine::new_in(memory, alloc, image, public, secret, output_limit)
@@ -100,8 +100,8 @@ impl Machine {
     ) -> Result<Machine, NoMemory>
         requires { length secret.now < 2 ^ 32 }
         ensures start { IfOk result (λ machine.
-            machine ≡ start (picture_of image.now) public.now secret.now output_limit) }
-        ensures memory { IfOk result (λ machine. HoldsImage (picture_of image.now) machine) }
+            machine ≡ start (image_picture image.now) public.now secret.now output_limit) }
+        ensures memory { IfOk result (λ machine. HoldsImage (image_picture image.now) machine) }
     {
         let mut memory = memory;
         memory.clear();

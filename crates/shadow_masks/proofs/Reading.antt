@@ -4,10 +4,11 @@ use Rattle.std.proofs.Common.{Option, ap, ap₂, ◌∙◌, subst, sym}
 use Rattle.shadow_masks.specs.declared.labels.Label.{Label}
 use Rattle.shadow_masks.specs.Labels.{clean}
 use Rattle.shadow_masks.specs.Pages.{PageShades}
-use Rattle.shadow_masks.specs.Shades.{Shades, register_label, label_at, is_listed, IsNew}
+use Rattle.shadow_masks.specs.Shades.{Shades, register_label, label_at, IsNew}
 use Rattle.shadow_masks.specs.Pages.{is_in_range}
-use Rattle.shadow_masks.specs.Writes.{Write, ToRegister, ToByte, ToBytes, Save, Restore, Follows, Leads}
+use Rattle.shadow_masks.specs.Writes.{Write, ToRegister, ToByte, ToBytes, Save, Restore, IsWritten, Leads}
 use Rattle.shadow_masks.specs.Writes.{LabelMap, after, after_all, default_map, ReadsAs}
+use Rattle.flow_base.specs.Listed.{is_listed}
 
 -- the same labels of registers read alike, and the same labels of bytes
 same_registers : {ours theirs : List Label} (r : ℕ) → ours ≡ theirs →
@@ -18,7 +19,7 @@ same_bytes : {ours theirs : List (Option PageShades)} {our_base their_base : ℕ
     ours ≡ theirs → label_at our_base ours a ≡ label_at their_base theirs a
 same_bytes a same_base same = ap₂ (λ base pages. label_at base pages a) same_base same
 
-reads_next : (write : Write) (map : LabelMap) (old new : Shades) → ReadsAs map old → Follows write old new →
+reads_next : (write : Write) (map : LabelMap) (old new : Shades) → ReadsAs map old → IsWritten write old new →
     ReadsAs (after write map) new
 reads_next (ToRegister register label) map old new reads sets = record {
   registers = λ r. sets.registers r

@@ -11,7 +11,8 @@ use Rattle.std.proofs.lemmas.List.{get_or-set_other}
 use Rattle.shadow_masks.specs.Pages.{PageShades, label_in, label_from, labels_from, is_in_range, AreClean, SetsFewer}
 use Rattle.shadow_masks.specs.Pages.{SetsLabel, SetsPlaces}
 use Rattle.shadow_masks.specs.Shades.{Shades, register_label, kept_label, byte_label, label_at, page_at, IsNew}
-use Rattle.shadow_masks.specs.Shades.{is_listed, SetsByte, SetsBytes, SetsFirstPart, Restores}
+use Rattle.shadow_masks.specs.Shades.{SetsByte, SetsBytes, SetsFirstPart, Restores}
+use Rattle.flow_base.specs.Listed.{is_listed}
 
 -- no byte of a range of no bytes is set
 pub sets_bytes_start : (first : ℕ) (label : ℕ → Label) (shades : Shades) → SetsBytes first 0 label shades shades

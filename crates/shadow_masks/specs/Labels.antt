@@ -1,7 +1,7 @@
 -- The labels of a run's registers and bytes: the bits that the secret may reach, and the point where they last passed.
 use Rattle.std.specs.Prelude.{◌≡◌, ℕ, ◌≤◌, List, slice_index_or}
 use Rattle.shadow_masks.specs.declared.labels.Label.{Label}
-use Rattle.shadow_masks.specs.Points.{nowhere}
+use Rattle.flow_base.specs.Points.{nowhere}
 
 -- the label of a value that the secret does not reach
 abbrev pub clean : Label

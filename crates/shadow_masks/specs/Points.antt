@@ -1,15 +1,11 @@
 -- The points of the bytes of a page.
 use Rattle.std.specs.Prelude.{◌≡◌, ℕ, ◌<◌, ◌==◌, List, if◌then◌else◌, slice_index, slice_index_or}
 use Rattle.flow_base.specs.declared.points.Point.{Point}
-use Rattle.flow_base.specs.declared.points.Slot.TheVariants.{First}
+use Rattle.flow_base.specs.Points.{nowhere}
 
 -- a page has 4,096 addresses
 abbrev pub page_size : ℕ
 page_size = 4096
-
--- the point of a label of mask 0
-abbrev pub nowhere : Point
-nowhere = record { region = 0; address = 0; slot = First }
 
 -- a table of points, and for each byte of a page the number of its point in the table
 pub record Numbered : Type 0 where

@@ -1,12 +1,12 @@
 -- What a shadow holds, and what the calls that change it do.
-use Rattle.std.specs.Prelude.{◌≡◌, ℕ, ◌-◌, ◌/◌, ◌%◌, ◌<◌, ◌==◌, ◌&&◌, nat_lt, nat_le, Bool, List}
+use Rattle.std.specs.Prelude.{◌≡◌, ℕ, ◌-◌, ◌/◌, ◌%◌, ◌<◌, ◌==◌, ◌&&◌, nat_lt, nat_le, List}
 use Rattle.std.specs.Prelude.{Option, None}
 use Rattle.std.specs.Prelude.{if◌then◌else◌, slice_index_or, length}
-use Rattle.std.specs.List.{list_any}
 use Rattle.shadow_masks.specs.declared.labels.Label.{Label}
 use Rattle.shadow_masks.specs.Labels.{clean}
 use Rattle.shadow_masks.specs.Points.{page_size}
 use Rattle.shadow_masks.specs.Pages.{PageShades, label_in, is_in_range, listed_label}
+use Rattle.flow_base.specs.Listed.{is_listed}
 
 -- the labels of the 32 registers, those that were kept, where memory begins, and the pages of memory; None is a page in
 -- which no label with a mask other than 0 was ever set
@@ -37,10 +37,6 @@ label_at base pages address =
 
 abbrev pub byte_label : Shades → ℕ → Label
 byte_label shades address = label_at shades.base shades.pages address
-
--- whether a register is listed
-abbrev pub is_listed : List ℕ → ℕ → Bool
-is_listed registers register = list_any (λ listed. listed == register) registers
 
 -- all labels are clean
 pub record IsNew (base : ℕ) (shades : Shades) : Type 0 where

@@ -2,9 +2,10 @@
 use Rattle.std.specs.Prelude.{◌≡◌, ℕ, ◌-◌, ◌==◌, ◌&&◌, nat_lt, List, [], ◌∷◌, if◌then◌else◌}
 use Rattle.shadow_masks.specs.declared.labels.Label.{Label}
 use Rattle.shadow_masks.specs.Labels.{clean}
-use Rattle.shadow_masks.specs.Shades.{Shades, register_label, kept_label, byte_label, is_listed, IsNew}
+use Rattle.shadow_masks.specs.Shades.{Shades, register_label, kept_label, byte_label, IsNew}
 use Rattle.shadow_masks.specs.Pages.{is_in_range}
 use Rattle.shadow_masks.specs.Shades.{SetsRegister, SetsByte, SetsBytes, Saves, Restores}
+use Rattle.flow_base.specs.Listed.{is_listed}
 
 -- a call that changes labels; one on bytes or a range sets labels by their distance from the first address. Where such
 -- a call is refused it is a write to the first part that was set, and a refused call on one byte is none
@@ -16,17 +17,17 @@ pub data Write : Type 0 where
   Restore : List ℕ → Write
 
 -- what the contract of the call says
-abbrev pub Follows : Write → Shades → Shades → Type 0
-Follows (ToRegister register label) old new = SetsRegister register label old new
-Follows (ToByte address label) old new = SetsByte address label old new
-Follows (ToBytes first length label) old new = SetsBytes first length label old new
-Follows Save old new = Saves old new
-Follows (Restore listed) old new = Restores listed old new
+abbrev pub IsWritten : Write → Shades → Shades → Type 0
+IsWritten (ToRegister register label) old new = SetsRegister register label old new
+IsWritten (ToByte address label) old new = SetsByte address label old new
+IsWritten (ToBytes first length label) old new = SetsBytes first length label old new
+IsWritten Save old new = Saves old new
+IsWritten (Restore listed) old new = Restores listed old new
 
 -- from old, the calls lead in turn to new
 abbrev pub Leads : List Write → Shades → Shades → Type 0
 Leads [] old new = new ≡ old
-Leads (write ∷ writes) old new = (mid : Shades) × Follows write old mid × Leads writes mid new
+Leads (write ∷ writes) old new = (mid : Shades) × IsWritten write old mid × Leads writes mid new
 
 -- a map from registers and addresses to labels, with the kept labels of registers
 pub record LabelMap : Type 0 where

@@ -6,7 +6,7 @@ use Rattle.std.specs.List.{range_with_len}
 use Rattle.guest_calls.specs.declared.kinds.CallKind.{CallKind}
 use Rattle.guest_calls.specs.declared.kinds.CallKind.TheVariants.{Read, Write, Exit, Brk, Unknown}
 use Rattle.flow_base.specs.Guests.{is_inside}
-use Rattle.guest_calls.specs.Calls.{kind_of}
+use Rattle.guest_calls.specs.Calls.{call_kind}
 use Rattle.rv32im_decode.specs.declared.instructions.Instr.{Instr}
 use Rattle.rv32im_decode.specs.declared.instructions.Instr.TheVariants.{Lui, Auipc, Jal, Jalr, Branch, Load, Store as StoreInstr, OpImm, Op, Fence, Ecall, Ebreak}
 use Rattle.rv32im_decode.specs.declared.instructions.LoadKind.{LoadKind}
@@ -156,7 +156,7 @@ composing (StoreInstr kind rs1 rs2 imm) state =
 composing (OpImm kind rd rs1 imm) state = refl
 composing (Op kind rd rs1 rs2) state = refl
 composing (Fence rd rs1 imm) state = refl
-composing Ecall state = calling (kind_of (register_of state.store 17)) state
+composing Ecall state = calling (call_kind (register_of state.store 17)) state
 composing Ebreak state = refl
 
 pub composing-word : (found : Option Instr) (word : ℕ) (state : State)

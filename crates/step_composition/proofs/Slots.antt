@@ -6,7 +6,7 @@ use Rattle.std.specs.List.{range_with_len}
 use Rattle.guest_calls.specs.declared.kinds.CallKind.{CallKind}
 use Rattle.guest_calls.specs.declared.kinds.CallKind.TheVariants.{Read, Write, Exit, Brk, Unknown}
 use Rattle.flow_base.specs.Guests.{is_inside}
-use Rattle.guest_calls.specs.Calls.{kind_of}
+use Rattle.guest_calls.specs.Calls.{call_kind}
 use Rattle.rv32im_decode.specs.declared.instructions.Instr.{Instr}
 use Rattle.rv32im_decode.specs.declared.instructions.Instr.TheVariants.{Lui, Auipc, Jal, Jalr, Branch, Load, Store as StoreInstr, OpImm, Op, Fence, Ecall, Ebreak}
 use Rattle.rv32im_decode.specs.declared.instructions.LoadKind.{LoadKind}
@@ -193,7 +193,7 @@ passing (Op kind rd rs1 rs2) state = refl
 passing (Fence rd rs1 imm) state = refl
 passing Ecall state =
     ap (λ visits. visit state Number (register_of state.store 17) ∷ visits)
-    (calling-passes (kind_of (register_of state.store 17)) state)
+    (calling-passes (call_kind (register_of state.store 17)) state)
 passing Ebreak state = refl
 
 pub passing-word : (found : Option Instr) (word : ℕ) (state : State)

@@ -8,7 +8,7 @@ use Rattle.rv32im_decode.specs.declared.instructions.Instr.TheVariants.{Jalr, Br
 use Rattle.rv32im_decode.specs.Operations.{word_of_truth}
 use Rattle.guest_calls.specs.declared.kinds.CallKind.{CallKind}
 use Rattle.guest_calls.specs.declared.kinds.CallKind.TheVariants.{Read, Write as WriteCall, Brk}
-use Rattle.guest_calls.specs.Calls.{kind_of}
+use Rattle.guest_calls.specs.Calls.{call_kind}
 use Rattle.rv32im_machine.specs.declared.stepping.Arguments.{Arguments}
 use Rattle.rv32im_machine.specs.declared.stepping.CallPlan.{CallPlan}
 use Rattle.rv32im_machine.specs.declared.stepping.CallPlan.TheVariants.{SecretRead, Write, Exit}
@@ -89,7 +89,7 @@ plan_visits _ state = []
 abbrev pub call_visits : State → List Visit
 call_visits state =
     map (λ slot. visit state slot (argument_value (arguments_of state.store) slot))
-    (Number ∷ argument_slots (kind_of (register_of state.store 17)))
+    (Number ∷ argument_slots (call_kind (register_of state.store 17)))
     ++ plan_visits (call_plan state) state
 
 -- ---- the turn

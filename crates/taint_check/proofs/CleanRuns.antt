@@ -6,7 +6,7 @@ use Rattle.flow_base.specs.declared.outputs.Output.{Output}
 use Rattle.crossing_bits.specs.Askers.{Uses}
 use Rattle.enclosure_regions.specs.declared.break_kinds.Break.{Break}
 use Rattle.enclosure_regions.specs.declared.region_parts.Region.{Region}
-use Rattle.enclosure_regions.specs.Regions.{are_regions, stands_in}
+use Rattle.enclosure_regions.specs.Regions.{are_regions}
 use Rattle.rv32im_machine.specs.declared.stepping.Stepped.{Stepped}
 use Rattle.rv32im_machine.specs.declared.stepping.Stepped.TheVariants.{Ran, Exited, Stopped}
 use Rattle.rv32im_machine.specs.Folds.{real_end}
@@ -14,7 +14,7 @@ use Rattle.rv32im_machine.specs.State.{Setting, Control, State}
 use Rattle.region_machine.specs.Breaking.{Breaks}
 use Rattle.region_machine.specs.Enclosures.{is_enclosed, kind_of}
 use Rattle.region_machine.specs.Guests.{guest_walk}
-use Rattle.region_machine.specs.Runs.{Place, real_after, common_turns}
+use Rattle.region_machine.specs.Runs.{Place, Real, common_turns}
 use Rattle.replay_machine.specs.Runs.{ReplayPlace, Replay}
 use Rattle.lockstep_replay.proofs.Bounds.{accepted_where}
 use Rattle.lockstep_replay.specs.Acceptance.{HasExited, EndAlike, SameMark, Accept}
@@ -22,7 +22,7 @@ use Rattle.lockstep_replay.specs.Crossing.{cross_after}
 use Rattle.lockstep_replay.specs.Tasks.{Task, Limits, Cross, enclosed_of, real_of, real_start, replay_start}
 use Rattle.run_labels.specs.Runs.{entered_number, stopped_fault}
 use Rattle.run_labels.specs.TurnLabels.{at_start}
-use Rattle.acceptance_law.specs.Proper.{AreBytes, IsGuest}
+use Rattle.acceptance_law.specs.Proper.{AreBytes, IsProperGuest}
 use Rattle.acceptance_law.specs.ProperLaws.{ProperTurnsLaw}
 use Rattle.acceptance_law.proofs.CoveredRunAccepted.{end_alike, same_fed}
 use Rattle.acceptance_law.proofs.RunFacts.{SameSetting, kind_setting}
@@ -32,16 +32,17 @@ use Rattle.masked_turns.specs.declared.uses.SecretLook.{SecretLook}
 use Rattle.masked_turns.proofs.OutsideMasks.{AreSmall}
 use Rattle.masked_turns.proofs.RunsBegin.{begins_beside}
 use Rattle.taint_check.specs.Cleared.{AnswersUnless, AreRunAnswers, Cleared, MaskedRun, cutting_at, is_hidden, kind_at}
-use Rattle.taint_check.specs.Reasons.{left_unless, look_unless, why_of}
+use Rattle.taint_check.specs.Reasons.{left_unless, look_unless, unclear_of}
 use Rattle.taint_check.proofs.FoundRuns.{AreFine}
 use Rattle.taint_check.proofs.ReasonsCounted.{fine-of}
 use Rattle.taint_check.proofs.RunVerdicts.{cleared-place}
 use Rattle.taint_check.proofs.RunsAgree.{Inside, Outside, copy_start, later, next_is, parts}
 use Rattle.taint_check.proofs.TurnsAgree.{IsClear}
+use Rattle.flow_base.specs.Listed.{is_listed}
 
 -- a turn without a reason is not stopped
 on_of : (look : Option SecretLook) (broken : Option Break) (mode : Stepped) (budget needed : ℕ)
-    (left : Option LeftBits) → why_of look broken mode budget needed left ≡ None → stopped_fault mode ≡ None
+    (left : Option LeftBits) → unclear_of look broken mode budget needed left ≡ None → stopped_fault mode ≡ None
 on_of look broken Ran budget needed left e = refl
 on_of look broken (Exited status) budget needed left e = refl
 on_of look broken (Stopped fault) budget needed left e =
@@ -49,7 +50,7 @@ on_of look broken (Stopped fault) budget needed left e =
     never look broken is.unlooked is.unbroken e
   where
     never : (look : Option SecretLook) (broken : Option Break) → look ≡ None → broken ≡ None →
-        why_of look broken (Stopped fault) budget needed left ≡ None → stopped_fault (Stopped fault) ≡ None
+        unclear_of look broken (Stopped fault) budget needed left ≡ None → stopped_fault (Stopped fault) ≡ None
     never None None a b none = absurd (cc)
     never (Some look) broken a b none = absurd (cc)
     never None (Some broken) a b none = absurd (cc)
@@ -64,9 +65,9 @@ same_mark real copy same on = record {
 }
 
 module _ (table : ℕ) (task : Task) (limits : Limits) (secret other : List ℕ) (bytes : AreBytes secret)
-    (others : AreBytes other) (is : IsGuest (real_start task secret).state) (small : AreSmall task.masks)
+    (others : AreBytes other) (is : IsProperGuest (real_start task secret).state) (small : AreSmall task.masks)
     (proper : ProperTurnsLaw) (rules : are_regions task.enclosures.regions ≡ true)
-    (nowhere : stands_in task.enclosures.skip 0 ≡ false) where
+    (nowhere : is_listed task.enclosures.skip 0 ≡ false) where
   abbrev pub the_start : Place
   the_start = real_start task secret
 
@@ -93,7 +94,7 @@ module _ (table : ℕ) (task : Task) (limits : Limits) (secret other : List ℕ)
   -- ---- the start
 
   begins : IsOutside 0 (the_run [])
-  unfolding Cleared real_after Replay common_turns cross_after
+  unfolding Cleared Real Replay common_turns cross_after
   begins = record {
     copy = the_start.state.store;
     comes = refl;

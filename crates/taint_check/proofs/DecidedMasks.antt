@@ -8,9 +8,8 @@ use Rattle.rv32im_machine.specs.declared.language.Work.{Work}
 use Rattle.rv32im_machine.specs.declared.language.Work.TheVariants.{Shaped, Computed}
 use Rattle.rv32im_machine.specs.Language.{Walk, Looked, Passed, Moved, Saved, Restored, Ended, first_of}
 use Rattle.shadow_masks.specs.Pages.{label_of}
-use Rattle.shadow_masks.specs.Points.{nowhere}
 use Rattle.transfer_rules.specs.declared.operands.Operands.{Operands}
-use Rattle.run_labels.specs.Answers.{Holds, IsTableAnswer, operands_of}
+use Rattle.run_labels.specs.Answers.{HoldsOfAnswer, IsTableAnswer, operands_of}
 use Rattle.run_labels.specs.Masks.{answered_mask, answers_after, masks_of, moved_label, work_mask}
 use Rattle.run_labels.specs.Runs.{entered_number}
 use Rattle.run_labels.specs.TurnLabels.{TurnLabels, aim_label, at_start, put_label, save_labels, restore_labels}
@@ -20,8 +19,9 @@ use Rattle.masked_turns.specs.Clearing.{Cutting, aimed_mask, cleared_in, crossin
 use Rattle.masked_turns.specs.Deciding.{first_left, left_at, left_in}
 use Rattle.masked_turns.specs.Looking.{first_look, look_at, looked_in}
 use Rattle.taint_check.specs.Cleared.{AnswersUnless, MaskedRun, cutting_at, kind_at, labels_unless, walk_at}
-use Rattle.taint_check.specs.Laws.{IsDeciding}
 use Rattle.taint_check.specs.Reasons.{left_unless, look_unless}
+use Rattle.flow_base.specs.Points.{nowhere}
+use Rattle.transfer_rules.specs.Tables.{IsDeciding}
 
 -- ---- one passing
 
@@ -32,7 +32,7 @@ same_answer table deciding operation operands first second by also =
     deciding
 
 same_work : (table : ℕ) → IsDeciding table → (work : Work) (masks : List ℕ) (first second : ℕ) →
-    Holds (IsTableAnswer table) work masks first → Holds (IsTableAnswer table) work masks second →
+    HoldsOfAnswer (IsTableAnswer table) work masks first → HoldsOfAnswer (IsTableAnswer table) work masks second →
     work_mask work masks first ≡ work_mask work masks second
 same_work table deciding (Shaped shape) masks first second by also = refl
 same_work table deciding (Computed operation a b) masks first second by also =
@@ -40,8 +40,8 @@ same_work table deciding (Computed operation a b) masks first second by also =
     (same_answer table deciding operation (operands_of a b masks) first second by also)
 
 same_left : (table : ℕ) → IsDeciding table → (skipped : Bool) (crossing : ℕ) (labels : TurnLabels) (passing : Passing)
-    (first second : ℕ) → Holds (IsTableAnswer table) passing.work (masks_of labels passing.sources) first →
-    Holds (IsTableAnswer table) passing.work (masks_of labels passing.sources) second →
+    (first second : ℕ) → HoldsOfAnswer (IsTableAnswer table) passing.work (masks_of labels passing.sources) first →
+    HoldsOfAnswer (IsTableAnswer table) passing.work (masks_of labels passing.sources) second →
     left_mask skipped crossing labels first passing ≡ left_mask skipped crossing labels second passing
 same_left table deciding skipped crossing labels passing first second by also =
     ap (λ mask. uncrossed (aimed_mask skipped passing.aim passing.point.slot mask) crossing)

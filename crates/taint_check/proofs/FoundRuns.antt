@@ -12,7 +12,7 @@ use Rattle.lockstep_replay.specs.Tasks.{Task, Limits, Cross}
 use Rattle.taint_check.specs.declared.whys.TaintWhy.{TaintWhy}
 use Rattle.taint_check.specs.declared.whys.TaintWhy.TheVariants.{SecretLength}
 use Rattle.taint_check.specs.Cleared.{Cleared, AreRunAnswers}
-use Rattle.taint_check.specs.Reasons.{why_turned}
+use Rattle.taint_check.specs.Reasons.{unclear_turned}
 use Rattle.taint_check.specs.Tainted.{Finding, IsClean, IsUnclear, IsVerdict, found, found_in, found_mode, found_turn}
 use Rattle.taint_check.specs.Tainted.{found_within, first_found}
 
@@ -21,7 +21,7 @@ unfoldable pub AreFine : Task → Limits → List ℕ → List (List ℕ) → Ty
 AreFine task limits secret [] = Unit {0}
 AreFine task limits secret (last ∷ answers) =
     AreFine task limits secret answers
-    × (why_turned task limits (length (Cross task secret (suc (length answers)))) last (Cleared task secret answers)
+    × (unclear_turned task limits (length (Cross task secret (suc (length answers)))) last (Cleared task secret answers)
     ≡ None)
 
 -- the run on a secret, by sound answers, to its exit

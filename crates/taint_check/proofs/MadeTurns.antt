@@ -19,9 +19,9 @@ use Rattle.run_labels.specs.TurnLabels.{TurnLabels, at_start}
 use Rattle.tracked_run.specs.Labels.{map_of}
 use Rattle.lockstep_replay.specs.Tasks.{Task, Limits}
 use Rattle.taint_check.specs.Cleared.{MaskedRun, is_hidden, leaves_skipped}
-use Rattle.taint_check.specs.Reasons.{why_of}
+use Rattle.taint_check.specs.Reasons.{unclear_of}
 use Rattle.taint_check.specs.Private.Tapes.{Tape, EndsCleared}
-use Rattle.taint_check.specs.Private.Turns.{IsReady, Stands, Makes}
+use Rattle.taint_check.specs.Private.Turns.{IsReady, Stands, MakesMasked}
 use Rattle.taint_check.proofs.MaskedTurns.{told-makes, untold-makes}
 use Rattle.taint_check.proofs.ReasonsCounted.{fine-of}
 
@@ -33,8 +33,8 @@ pub step-makes : (task : Task) (limits : Limits) (run : MaskedRun) (cross : List
     kind_of enclosures.regions machine.control ≡ Steps None →
     EndsCleared 0 (record { masks = task.masks; skipped = false }) run.place.past (at_start (map_of before.shades)) before
     (walk_of machine) reached after →
-    Makes before.table task limits run cross reached after
-    (why_of after.look None reached.control.mode after.tally.budget after.tally.needed after.left)
+    MakesMasked before.table task limits run cross reached after
+    (unclear_of after.look None reached.control.mode after.tally.budget after.tally.needed after.left)
 step-makes task limits run cross machine before enclosures e stands unlooked undecided small reached after outside told =
     told-makes task limits run cross machine before enclosures e stands unlooked undecided small reached after None
     (ap (λ k. is_hidden enclosures k) outside)
@@ -46,7 +46,7 @@ pub ready-after : (regions : List Region) (machine reached : State) (before afte
     are_regions regions ≡ true → IsReady regions machine before → after.shades.base ≡ before.shades.base →
     reached.setting ≡ machine.setting → reached ≡ real_end (guest_walk regions machine) →
     broken ≡ Breaks regions machine →
-    why_of after.look broken reached.control.mode after.tally.budget after.tally.needed after.left ≡ None →
+    unclear_of after.look broken reached.control.mode after.tally.budget after.tally.needed after.left ≡ None →
     IsReady regions reached after
 ready-after regions machine reached before after broken rules ready base setting ends breaks none =
     let fine = fine-of after.look broken reached.control.mode after.tally.budget after.tally.needed after.left none in
@@ -79,17 +79,17 @@ pub region-makes : (task : Task) (limits : Limits) (run : MaskedRun) (cross : Li
     EndsCleared (entered_number (kind_of enclosures.regions machine.control))
     (record { masks = task.masks; skipped = leaves_skipped enclosures (kind_of enclosures.regions machine.control) })
     run.place.past (at_start (map_of before.shades)) before (guest_walk enclosures.regions machine) reached after) →
-    Makes before.table task limits run cross reached after
-    (why_of after.look broken reached.control.mode after.tally.budget after.tally.needed after.left)
+    MakesMasked before.table task limits run cross reached after
+    (unclear_of after.look broken reached.control.mode after.tally.budget after.tally.needed after.left)
 region-makes task limits run cross machine before enclosures e stands unlooked undecided small reached after broken breaks
     ends untold told = pick (is_hidden enclosures (kind_of enclosures.regions machine.control)) refl
   where
     pick : (t : Bool) → is_hidden enclosures (kind_of enclosures.regions machine.control) ≡ t →
-        Makes before.table task limits run cross reached after
-        (why_of after.look broken reached.control.mode after.tally.budget after.tally.needed after.left)
+        MakesMasked before.table task limits run cross reached after
+        (unclear_of after.look broken reached.control.mode after.tally.budget after.tally.needed after.left)
     pick true hidden =
-        subst (λ (tape : Tape). Makes before.table task limits run cross reached tape
-        (why_of tape.look broken reached.control.mode tape.tally.budget tape.tally.needed tape.left)) (untold hidden)
+        subst (λ (tape : Tape). MakesMasked before.table task limits run cross reached tape
+        (unclear_of tape.look broken reached.control.mode tape.tally.budget tape.tally.needed tape.left)) (untold hidden)
         (untold-makes task limits run cross machine before enclosures e stands unlooked undecided reached broken hidden
         breaks ends)
     pick false shown =

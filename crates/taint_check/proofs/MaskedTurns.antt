@@ -27,9 +27,9 @@ use Rattle.masked_turns.specs.Deciding.{first_left, left_in}
 use Rattle.masked_turns.specs.Looking.{first_look, looked_in}
 use Rattle.taint_check.specs.declared.whys.TaintWhy.{TaintWhy}
 use Rattle.taint_check.specs.Cleared.{MaskedRun, AnswersUnless, is_hidden, leaves_skipped, next_masked, labels_unless}
-use Rattle.taint_check.specs.Reasons.{why_of, look_unless, left_unless}
+use Rattle.taint_check.specs.Reasons.{unclear_of, look_unless, left_unless}
 use Rattle.taint_check.specs.Private.Tapes.{Tape, EndsCleared}
-use Rattle.taint_check.specs.Private.Turns.{Stands, Makes, crossed_after}
+use Rattle.taint_check.specs.Private.Turns.{Stands, MakesMasked, crossed_after}
 use Rattle.taint_check.proofs.ReasonsCounted.{fine-of, why-counted}
 
 -- ---- what is shown of a turn, and what is hidden
@@ -109,7 +109,7 @@ module _ (task : Task) (limits : Limits) (cross : List Bool) (machine : State) (
   the_bits = crossing task.masks past the_walk
 
   abbrev the_why : Option TaintWhy
-  the_why = why_of after.look broken reached.control.mode after.tally.budget after.tally.needed after.left
+  the_why = unclear_of after.look broken reached.control.mode after.tally.budget after.tally.needed after.left
 
   module _ (shown : is_hidden task.enclosures the_kind ≡ false) (breaks : broken ≡ Breaks task.enclosures.regions machine)
       (told : EndsCleared (entered_number the_kind) the_cutting past (at_start (map_of before.shades)) before the_walk
@@ -127,7 +127,7 @@ module _ (task : Task) (limits : Limits) (cross : List Bool) (machine : State) (
         told.tallies.needed ∙ ap (λ n. counted_bits n) (sum ∙ ap length (sym crossed))
 
     is-why : the_why
-        ≡ why_of (look_unless (is_hidden task.enclosures the_kind) task told.answers the_run)
+        ≡ unclear_of (look_unless (is_hidden task.enclosures the_kind) task told.answers the_run)
         (Breaks task.enclosures.regions machine) (real_end the_walk).control.mode limits.budget
         (length (crossed_after task the_run cross))
         (left_unless (is_hidden task.enclosures the_kind) task told.answers the_run)
@@ -147,17 +147,17 @@ module _ (task : Task) (limits : Limits) (cross : List Bool) (machine : State) (
         why-counted after.look broken reached.control.mode after.tally.budget
         (length (crossed_after task the_run cross)) after.tally.needed after.left
         (subst (λ b. b < 4294967295) (sym told.tallies.budget) small) counted
-        ∙ ap (λ l. why_of l broken reached.control.mode after.tally.budget
+        ∙ ap (λ l. unclear_of l broken reached.control.mode after.tally.budget
         (length (crossed_after task the_run cross)) after.left) looked
-        ∙ ap (λ b. why_of (look_unless (is_hidden task.enclosures the_kind) task told.answers the_run) b
+        ∙ ap (λ b. unclear_of (look_unless (is_hidden task.enclosures the_kind) task told.answers the_run) b
         reached.control.mode after.tally.budget (length (crossed_after task the_run cross)) after.left) breaks
-        ∙ ap (λ m. why_of (look_unless (is_hidden task.enclosures the_kind) task told.answers the_run)
+        ∙ ap (λ m. unclear_of (look_unless (is_hidden task.enclosures the_kind) task told.answers the_run)
         (Breaks task.enclosures.regions machine) m after.tally.budget (length (crossed_after task the_run cross))
         after.left) mode
-        ∙ ap (λ n. why_of (look_unless (is_hidden task.enclosures the_kind) task told.answers the_run)
+        ∙ ap (λ n. unclear_of (look_unless (is_hidden task.enclosures the_kind) task told.answers the_run)
         (Breaks task.enclosures.regions machine) (real_end the_walk).control.mode n
         (length (crossed_after task the_run cross)) after.left) budget
-        ∙ ap (λ l. why_of (look_unless (is_hidden task.enclosures the_kind) task told.answers the_run)
+        ∙ ap (λ l. unclear_of (look_unless (is_hidden task.enclosures the_kind) task told.answers the_run)
         (Breaks task.enclosures.regions machine) (real_end the_walk).control.mode limits.budget
         (length (crossed_after task the_run cross)) l) decided
 
@@ -182,7 +182,7 @@ module _ (task : Task) (limits : Limits) (cross : List Bool) (machine : State) (
           within = subst (λ b. length (crossed_after task the_run cross) ≤ b) (told.tallies.budget ∙ stands.budget) bound.0;
         }
 
-    pub makes-shown : Makes before.table task limits the_run cross reached after the_why
+    pub makes-shown : MakesMasked before.table task limits the_run cross reached after the_why
     makes-shown = record {
       answers = told.answers;
       are_answers = subst (λ t. AnswersUnless t before.table task told.answers the_run) (sym shown) told.are_answers;
@@ -210,8 +210,8 @@ module _ (task : Task) (limits : Limits) (cross : List Bool) (machine : State) (
       ap (λ t. cross ++ crossing_unless t task.masks past (guest_walk task.enclosures.regions machine)) enclosed
       ∙ append-nil cross
 
-  hidden-why : why_of before.look broken reached.control.mode before.tally.budget before.tally.needed before.left
-      ≡ why_of (look_unless (is_hidden task.enclosures (kind_of task.enclosures.regions machine.control)) task [] same_run)
+  hidden-why : unclear_of before.look broken reached.control.mode before.tally.budget before.tally.needed before.left
+      ≡ unclear_of (look_unless (is_hidden task.enclosures (kind_of task.enclosures.regions machine.control)) task [] same_run)
       (Breaks task.enclosures.regions machine) (real_end (guest_walk task.enclosures.regions machine)).control.mode
       limits.budget (length (crossed_after task same_run cross))
       (left_unless (is_hidden task.enclosures (kind_of task.enclosures.regions machine.control)) task [] same_run)
@@ -226,23 +226,23 @@ module _ (task : Task) (limits : Limits) (cross : List Bool) (machine : State) (
       ap (λ (s : State). s.control.mode) ends in
       let needed : before.tally.needed ≡ length (crossed_after task same_run cross) =
       stands.needed ∙ sym (ap length uncrossing) in
-      ap (λ l. why_of l broken reached.control.mode before.tally.budget before.tally.needed before.left) look
-      ∙ ap (λ b. why_of (look_unless (is_hidden task.enclosures (kind_of task.enclosures.regions machine.control)) task []
+      ap (λ l. unclear_of l broken reached.control.mode before.tally.budget before.tally.needed before.left) look
+      ∙ ap (λ b. unclear_of (look_unless (is_hidden task.enclosures (kind_of task.enclosures.regions machine.control)) task []
       same_run) b reached.control.mode before.tally.budget before.tally.needed before.left) breaks
-      ∙ ap (λ m. why_of (look_unless (is_hidden task.enclosures (kind_of task.enclosures.regions machine.control)) task []
+      ∙ ap (λ m. unclear_of (look_unless (is_hidden task.enclosures (kind_of task.enclosures.regions machine.control)) task []
       same_run) (Breaks task.enclosures.regions machine) m before.tally.budget before.tally.needed before.left) mode
-      ∙ ap (λ n. why_of (look_unless (is_hidden task.enclosures (kind_of task.enclosures.regions machine.control)) task []
+      ∙ ap (λ n. unclear_of (look_unless (is_hidden task.enclosures (kind_of task.enclosures.regions machine.control)) task []
       same_run) (Breaks task.enclosures.regions machine)
       (real_end (guest_walk task.enclosures.regions machine)).control.mode n before.tally.needed before.left) stands.budget
-      ∙ ap (λ n. why_of (look_unless (is_hidden task.enclosures (kind_of task.enclosures.regions machine.control)) task []
+      ∙ ap (λ n. unclear_of (look_unless (is_hidden task.enclosures (kind_of task.enclosures.regions machine.control)) task []
       same_run) (Breaks task.enclosures.regions machine)
       (real_end (guest_walk task.enclosures.regions machine)).control.mode limits.budget n before.left) needed
-      ∙ ap (λ l. why_of (look_unless (is_hidden task.enclosures (kind_of task.enclosures.regions machine.control)) task []
+      ∙ ap (λ l. unclear_of (look_unless (is_hidden task.enclosures (kind_of task.enclosures.regions machine.control)) task []
       same_run) (Breaks task.enclosures.regions machine)
       (real_end (guest_walk task.enclosures.regions machine)).control.mode limits.budget
       (length (crossed_after task same_run cross)) l) left
 
-  hidden-next : why_of before.look broken reached.control.mode before.tally.budget before.tally.needed before.left ≡ None →
+  hidden-next : unclear_of before.look broken reached.control.mode before.tally.budget before.tally.needed before.left ≡ None →
       Stands task limits (next_masked task [] same_run) (crossed_after task same_run cross) reached before
   hidden-next e =
       let fine = fine-of before.look broken reached.control.mode before.tally.budget before.tally.needed before.left e in
@@ -258,8 +258,8 @@ module _ (task : Task) (limits : Limits) (cross : List Bool) (machine : State) (
         within = subst (λ bits. length bits ≤ limits.budget) (sym uncrossing) stands.within;
       }
 
-  pub makes-hidden : Makes before.table task limits same_run cross reached before
-      (why_of before.look broken reached.control.mode before.tally.budget before.tally.needed before.left)
+  pub makes-hidden : MakesMasked before.table task limits same_run cross reached before
+      (unclear_of before.look broken reached.control.mode before.tally.budget before.tally.needed before.left)
   makes-hidden = record {
     answers = [];
     are_answers = subst (λ t. AnswersUnless t before.table task [] same_run) (sym hidden) tt;
@@ -278,14 +278,14 @@ pub told-makes : (task : Task) (limits : Limits) (run : MaskedRun) (cross : List
     EndsCleared (entered_number (kind_of enclosures.regions machine.control))
     (record { masks = task.masks; skipped = leaves_skipped enclosures (kind_of enclosures.regions machine.control) })
     run.place.past (at_start (map_of before.shades)) before (guest_walk enclosures.regions machine) reached after →
-    Makes before.table task limits run cross reached after
-    (why_of after.look broken reached.control.mode after.tally.budget after.tally.needed after.left)
+    MakesMasked before.table task limits run cross reached after
+    (unclear_of after.look broken reached.control.mode after.tally.budget after.tally.needed after.left)
 told-makes task limits run cross machine before enclosures e stands unlooked undecided small reached after broken shown
     breaks told =
     let back : enclosures ≡ task.enclosures = sym e in
     let same = run-same task limits run cross machine before stands in
-    subst (λ r. Makes before.table task limits r cross reached after
-    (why_of after.look broken reached.control.mode after.tally.budget after.tally.needed after.left)) same
+    subst (λ r. MakesMasked before.table task limits r cross reached after
+    (unclear_of after.look broken reached.control.mode after.tally.budget after.tally.needed after.left)) same
     (makes-shown task limits cross machine run.place.past before
     (subst (λ r. Stands task limits r cross machine before) (sym same) stands) unlooked undecided small reached after broken
     (subst (λ (n : Enclosures). is_hidden n (kind_of n.regions machine.control) ≡ false) back shown)
@@ -300,13 +300,13 @@ pub untold-makes : (task : Task) (limits : Limits) (run : MaskedRun) (cross : Li
     (reached : State) (broken : Option Break) →
     is_hidden enclosures (kind_of enclosures.regions machine.control) ≡ true → broken ≡ Breaks enclosures.regions machine →
     reached ≡ real_end (guest_walk enclosures.regions machine) →
-    Makes before.table task limits run cross reached before
-    (why_of before.look broken reached.control.mode before.tally.budget before.tally.needed before.left)
+    MakesMasked before.table task limits run cross reached before
+    (unclear_of before.look broken reached.control.mode before.tally.budget before.tally.needed before.left)
 untold-makes task limits run cross machine before enclosures e stands unlooked undecided reached broken hidden breaks ends =
     let back : enclosures ≡ task.enclosures = sym e in
     let same = run-same task limits run cross machine before stands in
-    subst (λ r. Makes before.table task limits r cross reached before
-    (why_of before.look broken reached.control.mode before.tally.budget before.tally.needed before.left)) same
+    subst (λ r. MakesMasked before.table task limits r cross reached before
+    (unclear_of before.look broken reached.control.mode before.tally.budget before.tally.needed before.left)) same
     (makes-hidden task limits cross machine run.place.past before
     (subst (λ r. Stands task limits r cross machine before) (sym same) stands) unlooked undecided reached broken
     (subst (λ (n : Enclosures). is_hidden n (kind_of n.regions machine.control) ≡ true) back hidden)

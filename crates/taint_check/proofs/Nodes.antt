@@ -17,7 +17,7 @@ use Rattle.rv32im_machine.specs.Language.{Walk, Looked, Passed, Moved, Saved, Re
 use Rattle.rv32im_machine.specs.Playing.{Played, Finished, Halted}
 use Rattle.region_machine.specs.Runs.{passed}
 use Rattle.shadow_masks.specs.Shades.{Shades}
-use Rattle.run_labels.specs.Answers.{Holds, IsSoundAnswer, IsTableAnswer}
+use Rattle.run_labels.specs.Answers.{HoldsOfAnswer, IsSoundAnswer, IsTableAnswer}
 use Rattle.run_labels.specs.Masks.{masks_of, moved_label}
 use Rattle.run_labels.specs.TurnLabels.{TurnLabels, put_label, save_labels, restore_labels}
 use Rattle.lockstep_replay.specs.Crossing.{crossing}
@@ -146,8 +146,8 @@ module _ (region : ℕ) (cutting : Cutting) (past : List Point) (labels : TurnLa
   then_labels work = labels_left cutting.skipped (crossed work) labels answer (of_work work)
 
   passed-work : (work : Work) (out : Played NoMemory Tape) → before.tally.budget < 4294967295 →
-      shades.base ≡ before.shades.base → Holds IsSoundAnswer work (masks_of labels sources) answer →
-      Holds (IsTableAnswer before.table) work (masks_of labels sources) answer →
+      shades.base ≡ before.shades.base → HoldsOfAnswer IsSoundAnswer work (masks_of labels sources) answer →
+      HoldsOfAnswer (IsTableAnswer before.table) work (masks_of labels sources) answer →
       left ≡ first_left before.left (decided work) →
       Tallies before.tally (bits_under value (crossed work)) tally →
       PlaysCleared region cutting (point ∷ past) (then_labels work)

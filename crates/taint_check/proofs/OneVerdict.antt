@@ -10,18 +10,19 @@ use Rattle.shadow_masks.specs.Writes.{LabelMap}
 use Rattle.lockstep_replay.specs.Tasks.{Task, Limits, Cross}
 use Rattle.taint_check.specs.declared.whys.TaintWhy.TheVariants.{SecretLength}
 use Rattle.taint_check.specs.Cleared.{AnswersUnless, AreRunAnswers, Cleared, MaskedRun, is_hidden, kind_at, next_masked, walk_at}
-use Rattle.taint_check.specs.Laws.{IsDeciding, OneVerdict}
-use Rattle.taint_check.specs.Reasons.{why_of, why_turned}
+use Rattle.taint_check.specs.Laws.{OneVerdict}
+use Rattle.taint_check.specs.Reasons.{unclear_of, unclear_turned}
 use Rattle.taint_check.specs.Tainted.{Finding, IsUnclear, IsVerdict, Tainted, first_found, found, found_in, found_turn}
 use Rattle.taint_check.specs.Tainted.{found_within}
 use Rattle.taint_check.proofs.DecidedMasks.{turns_are_decided}
+use Rattle.transfer_rules.specs.Tables.{IsDeciding}
 
 -- ---- one turn
 
 -- what is found in the next turn of a run after so many
 abbrev found_next : Task → Limits → List ℕ → ℕ → List ℕ → MaskedRun → Option Finding
 found_next task limits secret turns answers run =
-    found_turn (why_turned task limits (length (Cross task secret (suc turns))) answers run)
+    found_turn (unclear_turned task limits (length (Cross task secret (suc turns))) answers run)
     (next_masked task answers run).place.state (Cross task secret (suc turns))
 
 module _ (table : ℕ) (task : Task) (limits : Limits) (secret : List ℕ) (deciding : IsDeciding table) where
@@ -35,10 +36,10 @@ module _ (table : ℕ) (task : Task) (limits : Limits) (secret : List ℕ) (deci
       (turns_are_decided table deciding (is_hidden task.enclosures (kind_at task run)) task a b run by also).labels_are
 
   same_why : (run : MaskedRun) (needed : ℕ) (a b : List ℕ) → AreNext a run → AreNext b run →
-      why_turned task limits needed a run ≡ why_turned task limits needed b run
+      unclear_turned task limits needed a run ≡ unclear_turned task limits needed b run
   same_why run needed a b by also =
       let same = turns_are_decided table deciding (is_hidden task.enclosures (kind_at task run)) task a b run by also in
-      ap₂ (λ look left. why_of look (Breaks task.enclosures.regions run.place.state)
+      ap₂ (λ look left. unclear_of look (Breaks task.enclosures.regions run.place.state)
       (real_end (walk_at task run)).control.mode limits.budget needed left) same.looks_are same.left_are
 
   same_found_next : (run : MaskedRun) (turns : ℕ) (a b : List ℕ) → AreNext a run → AreNext b run →

@@ -4,7 +4,7 @@ use Rattle.std.proofs.Common.{◌≡◌, ℕ, ◌≤◌, Bool, true, false, List
 use Rattle.std.proofs.Common.{refl, sym, subst, ◌∙◌, arith}
 use Rattle.std.proofs.lemmas.Nat.{and_le_l}
 use Rattle.flow_base.specs.declared.points.Point.{Point}
-use Rattle.flow_base.specs.Points.{width_of}
+use Rattle.flow_base.specs.Points.{width_of, nowhere}
 use Rattle.flow_base.specs.Words.{Agree, bits_under, patched}
 use Rattle.enclosure_regions.specs.declared.region_parts.Region.{Region}
 use Rattle.rv32im_machine.specs.Folds.{real_end}
@@ -16,7 +16,6 @@ use Rattle.replay_machine.specs.Runs.{mask_at, replayed}
 use Rattle.lockstep_replay.specs.Crossing.{crossing}
 use Rattle.run_labels.specs.TurnLabels.{TurnLabels, label_at, put_label}
 use Rattle.shadow_masks.specs.Pages.{label_of}
-use Rattle.shadow_masks.specs.Points.{nowhere}
 use Rattle.transfer_rules.specs.Table1.{flipped}
 use Rattle.acceptance_law.specs.Proper.{place_limit}
 use Rattle.acceptance_law.proofs.AgreeOutsideMask.{patched_uncrossed}

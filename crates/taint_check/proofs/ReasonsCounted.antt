@@ -10,7 +10,7 @@ use Rattle.masked_turns.specs.declared.uses.LeftBits.{LeftBits}
 use Rattle.masked_turns.specs.declared.uses.SecretLook.{SecretLook}
 use Rattle.masked_turns.specs.declared.uses.SecretLook.TheVariants.{Code, BaseRegister}
 use Rattle.taint_check.specs.declared.whys.TaintWhy.TheVariants.{BudgetOverrun}
-use Rattle.taint_check.specs.Reasons.{why_of, why_looked, why_broken, why_mode, why_budget}
+use Rattle.taint_check.specs.Reasons.{unclear_of, unclear_looked, unclear_broken, unclear_mode, unclear_budget}
 
 -- nothing is found in a turn
 pub record IsFine (look : Option SecretLook) (broken : Option Break) (mode : Stepped) (budget needed : ℕ)
@@ -20,14 +20,14 @@ pub record IsFine (look : Option SecretLook) (broken : Option Break) (mode : Ste
   pub within : nat_lt budget needed ≡ false
   pub undecided : left ≡ None
 
-fine-budget : (t : Bool) (budget needed : ℕ) (left : Option LeftBits) → why_budget t budget needed left ≡ None →
+fine-budget : (t : Bool) (budget needed : ℕ) (left : Option LeftBits) → unclear_budget t budget needed left ≡ None →
     (t ≡ false) × (left ≡ None)
 fine-budget true budget needed left e = absurd (cc)
 fine-budget false budget needed None e = (refl, refl)
 fine-budget false budget needed (Some left) e = absurd (cc)
 
 pub fine-of : (look : Option SecretLook) (broken : Option Break) (mode : Stepped) (budget needed : ℕ)
-    (left : Option LeftBits) → why_of look broken mode budget needed left ≡ None →
+    (left : Option LeftBits) → unclear_of look broken mode budget needed left ≡ None →
     IsFine look broken mode budget needed left
 fine-of (Some (Code pc)) broken mode budget needed left e = absurd (cc)
 fine-of (Some (BaseRegister region register)) broken mode budget needed left e = absurd (cc)
@@ -42,7 +42,7 @@ fine-of None None (Exited status) budget needed left e =
 
 budget-counted : (budget total counted : ℕ) (left : Option LeftBits) (t s : Bool) → budget < 4294967295 →
     counted ≡ counted_bits total → nat_lt budget counted ≡ t → nat_lt budget total ≡ s →
-    why_budget t budget counted left ≡ why_budget s budget total left
+    unclear_budget t budget counted left ≡ unclear_budget s budget total left
 budget-counted budget total counted left true true small c p q =
     let same : counted_bits counted ≡ counted_bits total = omega (arith, c) in
     ap (λ n. Some (BudgetOverrun budget n)) same
@@ -55,7 +55,7 @@ budget-counted budget total counted left false true small c p q =
     absurd (omega (arith, c, more, less, small))
 
 mode-counted : (mode : Stepped) (budget total counted : ℕ) (left : Option LeftBits) → budget < 4294967295 →
-    counted ≡ counted_bits total → why_mode mode budget counted left ≡ why_mode mode budget total left
+    counted ≡ counted_bits total → unclear_mode mode budget counted left ≡ unclear_mode mode budget total left
 mode-counted Ran budget total counted left small c =
     budget-counted budget total counted left (nat_lt budget counted) (nat_lt budget total) small c refl refl
 mode-counted (Exited status) budget total counted left small c =
@@ -64,6 +64,6 @@ mode-counted (Stopped fault) budget total counted left small c = refl
 
 pub why-counted : (look : Option SecretLook) (broken : Option Break) (mode : Stepped) (budget total counted : ℕ)
     (left : Option LeftBits) → budget < 4294967295 → counted ≡ counted_bits total →
-    why_of look broken mode budget counted left ≡ why_of look broken mode budget total left
+    unclear_of look broken mode budget counted left ≡ unclear_of look broken mode budget total left
 why-counted look broken mode budget total counted left small c =
-    ap (λ w. why_looked look (why_broken broken w)) (mode-counted mode budget total counted left small c)
+    ap (λ w. unclear_looked look (unclear_broken broken w)) (mode-counted mode budget total counted left small c)

@@ -6,22 +6,22 @@ use Rattle.rv32im_machine.specs.declared.stepping.Stepped.{Stepped}
 use Rattle.rv32im_machine.specs.declared.stepping.Stepped.TheVariants.{Ran, Exited, Stopped}
 use Rattle.rv32im_machine.specs.State.{State}
 use Rattle.enclosure_regions.specs.declared.region_parts.Region.{Region}
-use Rattle.region_machine.specs.Runs.{real_after, real_turn}
+use Rattle.region_machine.specs.Runs.{Real, real_turn}
 use Rattle.lockstep_replay.specs.Crossing.{cross_after, crossing_of}
 use Rattle.lockstep_replay.specs.Tasks.{Task, Limits, real_of, Cross}
 use Rattle.taint_check.specs.declared.whys.TaintWhy.{TaintWhy}
 use Rattle.taint_check.specs.declared.whys.TaintWhy.TheVariants.{TurnLimit, SecretLength}
 use Rattle.taint_check.specs.Cleared.{Cleared, AreRunAnswers}
-use Rattle.taint_check.specs.Reasons.{why_turned}
+use Rattle.taint_check.specs.Reasons.{unclear_turned}
 use Rattle.taint_check.specs.Tainted.{Finding, IsClean, IsUnclear, found, found_in, found_turn, found_mode, found_within}
 use Rattle.taint_check.specs.Tainted.{first_found, exit_of, IsVerdict}
 use Rattle.taint_check.specs.Private.Tapes.{Tape}
-use Rattle.taint_check.specs.Private.Turns.{Begins, Stands, Makes, crossed_after}
+use Rattle.taint_check.specs.Private.Turns.{Begins, Stands, MakesMasked, crossed_after}
 
 -- a run with masks stands where the real run does, whatever the rules answer
 pub cleared-place : (task : Task) (secret : List ℕ) (answers : List (List ℕ)) →
     (Cleared task secret answers).place ≡ real_of task secret (length answers)
-unfolding Cleared real_after
+unfolding Cleared Real
 cleared-place task secret [] = refl
 cleared-place task secret (last ∷ answers) =
     ap (λ place. real_turn task.enclosures place) (cleared-place task secret answers)
@@ -53,7 +53,7 @@ going-start table task limits secret machine tape regions skip begins =
 module _ (table : ℕ) (task : Task) (limits : Limits) (secret : List ℕ) (turns : ℕ) (machine : State) (tape : Tape)
     (going : IsGoing table task limits secret turns machine tape) (reached : State) (after : Tape)
     (why : Option TaintWhy)
-    (makes : Makes table task limits (Cleared task secret going.answers) (Cross task secret (length going.answers)) reached
+    (makes : MakesMasked table task limits (Cleared task secret going.answers) (Cross task secret (length going.answers)) reached
     after why) where
   abbrev all : List (List ℕ)
   all = makes.answers ∷ going.answers
@@ -69,8 +69,8 @@ module _ (table : ℕ) (task : Task) (limits : Limits) (secret : List ℕ) (turn
   unfolding found Cleared
   found-all =
       let now = found_in task limits secret makes.answers going.answers in
-      let is : why ≡ why_turned task limits (length crossed) makes.answers (Cleared task secret going.answers) =
-      makes.why_is ∙ ap (λ bits. why_turned task limits (length bits) makes.answers (Cleared task secret going.answers))
+      let is : why ≡ unclear_turned task limits (length crossed) makes.answers (Cleared task secret going.answers) =
+      makes.why_is ∙ ap (λ bits. unclear_turned task limits (length bits) makes.answers (Cleared task secret going.answers))
       (crossed-next task secret going.answers) in
       ap (λ f. first_found f now) going.none
       ∙ (ap (λ w. found_turn w (Cleared task secret all).place.state crossed) (sym is)

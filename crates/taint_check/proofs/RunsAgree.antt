@@ -7,7 +7,7 @@ use Rattle.std.proofs.lemmas.Bool.{eqb-true}
 use Rattle.flow_base.specs.declared.points.Point.{Point}
 use Rattle.crossing_bits.specs.Askers.{feed}
 use Rattle.enclosure_regions.specs.declared.region_parts.Region.{Region}
-use Rattle.enclosure_regions.specs.Regions.{are_regions, stands_in}
+use Rattle.enclosure_regions.specs.Regions.{are_regions}
 use Rattle.rv32im_machine.specs.declared.stepping.Stepped.TheVariants.{Ran}
 use Rattle.rv32im_machine.specs.Folds.{real_end}
 use Rattle.rv32im_machine.specs.Language.{Walk}
@@ -15,7 +15,7 @@ use Rattle.rv32im_machine.specs.State.{Setting, Control, Store, State}
 use Rattle.region_machine.specs.Breaking.{Breaks, kind_break}
 use Rattle.region_machine.specs.Enclosures.{Kind, Enters, Leaves, Steps, kind_of, is_enclosed, is_enclosed_kind}
 use Rattle.region_machine.specs.Guests.{guest_walk, kind_walk}
-use Rattle.region_machine.specs.Runs.{Place, passed, visited, real_after, turn_unless, unbroken_turn}
+use Rattle.region_machine.specs.Runs.{Place, passed, visited, Real, turn_unless, unbroken_turn}
 use Rattle.region_machine.proofs.NoExitInside.{enclosed_runs_on}
 use Rattle.region_machine.proofs.RangesStayInside.{numbered, entered-found}
 use Rattle.replay_machine.specs.Runs.{ReplayPlace, replay_fresh, replay_turn}
@@ -39,12 +39,13 @@ use Rattle.taint_check.proofs.RunVerdicts.{cleared-place}
 use Rattle.taint_check.proofs.SkipsAgree.{Within, skip_enters, skip_steps, skip_leaves}
 use Rattle.taint_check.proofs.StandsAgree.{At, HasStood, step_stands, entry_stands, leave_stands}
 use Rattle.taint_check.proofs.TurnsAgree.{IsClear}
+use Rattle.flow_base.specs.Listed.{is_listed}
 
 module _ (task : Task) (secret other : List ℕ) (bytes : AreBytes secret) (others : AreBytes other)
     (public_bytes : AreBytes (real_start task secret).state.setting.public_input)
     (small_start : (real_start task secret).state.setting.start_break < 2 ^ 32) (small : AreSmall task.masks)
     (proper : ProperTurnsLaw) (rules : are_regions task.enclosures.regions ≡ true)
-    (nowhere : stands_in task.enclosures.skip 0 ≡ false) where
+    (nowhere : is_listed task.enclosures.skip 0 ≡ false) where
   abbrev pub the_start : Place
   the_start = real_start task secret
 
@@ -167,7 +168,7 @@ module _ (task : Task) (secret other : List ℕ) (bytes : AreBytes secret) (othe
         ∙ ap (λ s. crossing task.masks past (guest_walk regions s)) parts
 
     real_enclosed : (t : Bool) → is_enclosed task.enclosures here ≡ t →
-        is_enclosed task.enclosures (real_after task.enclosures (length answers) the_start).state.control ≡ t
+        is_enclosed task.enclosures (Real task.enclosures (length answers) the_start).state.control ≡ t
     real_enclosed t e =
         ap (λ (p : Place). is_enclosed task.enclosures p.state.control) (sym (cleared-place task secret answers)) ∙ e
 
@@ -264,7 +265,7 @@ module _ (task : Task) (secret other : List ℕ) (bytes : AreBytes secret) (othe
 
       module _ (at : Outside (length answers) the_run) where
         enters : (region : Region) → kind_of regions here ≡ Enters region → (t : Bool) →
-            stands_in task.enclosures.skip region.id ≡ t → Later
+            is_listed task.enclosures.skip region.id ≡ t → Later
         enters region e false unskipped =
             let found = numbered regions (λ other_region. other_region.enter == here.pc) region rules
             (entered-found here.mode regions here region e) in
@@ -282,7 +283,7 @@ module _ (task : Task) (secret other : List ℕ) (bytes : AreBytes secret) (othe
             (at.stands.nowhere out.1) (unbroken_as (Enters region) e) at.stands (clear_as (Enters region) e refl))
 
         outside_turn : (kind : Kind) → kind_of regions here ≡ kind → Later
-        outside_turn (Enters region) e = enters region e (stands_in task.enclosures.skip region.id) refl
+        outside_turn (Enters region) e = enters region e (is_listed task.enclosures.skip region.id) refl
         outside_turn (Leaves region) e =
             let found = leaves_inside here.mode regions here region e in
             stood_as (Leaves region) here at.copy e refl refl at.comes
@@ -296,8 +297,8 @@ module _ (task : Task) (secret other : List ℕ) (bytes : AreBytes secret) (othe
             small proper here the_run.labels last values at.copy past None e at.stands (clear_as (Steps None) e refl))
         outside_turn (Steps (Some region)) e =
             let found = steps_inside here.mode regions here region e in
-            let unskipped : stands_in task.enclosures.skip region.id ≡ false =
-            subst (λ r. stands_in task.enclosures.skip r ≡ false) (sym (numbered_id regions here.region region found))
+            let unskipped : is_listed task.enclosures.skip region.id ≡ false =
+            subst (λ r. is_listed task.enclosures.skip r ≡ false) (sym (numbered_id regions here.region region found))
             at.stands.runs in
             stood_as (Steps (Some region)) here at.copy e unskipped unskipped at.comes
             (step_stands task.enclosures.skip regions task.masks setting secret other bytes others public_bytes small_start

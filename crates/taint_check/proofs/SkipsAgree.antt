@@ -6,7 +6,6 @@ use Rattle.flow_base.specs.declared.points.Point.{Point}
 use Rattle.crossing_bits.specs.Askers.{feed}
 use Rattle.enclosure_regions.specs.declared.region_parts.Region.{Region}
 use Rattle.enclosure_regions.specs.Breaks.{keep_break, range_break}
-use Rattle.enclosure_regions.specs.Regions.{stands_in}
 use Rattle.rv32im_machine.specs.declared.language.Place.TheVariants.{Register}
 use Rattle.rv32im_machine.specs.declared.stepping.Stepped.TheVariants.{Ran}
 use Rattle.rv32im_machine.specs.Folds.{real_end}
@@ -24,7 +23,7 @@ use Rattle.replay_machine.specs.Runs.{Masks, replayed, replay_inside}
 use Rattle.lockstep_replay.specs.Crossing.{crossing}
 use Rattle.shadow_masks.specs.Writes.{LabelMap, after, Save}
 use Rattle.run_labels.specs.TurnLabels.{at_start}
-use Rattle.acceptance_law.specs.Proper.{AreBytes, IsGuest}
+use Rattle.acceptance_law.specs.Proper.{AreBytes, IsProperGuest}
 use Rattle.acceptance_law.specs.ProperLaws.{ProperTurnsLaw}
 use Rattle.acceptance_law.proofs.Entering.{SameStarts, outside_same, entry_end}
 use Rattle.acceptance_law.proofs.QuietInsideRegions.{step_quiet}
@@ -41,6 +40,7 @@ use Rattle.masked_turns.proofs.StepEnds.{step_ends}
 use Rattle.taint_check.proofs.LeavesAgree.{skip_kept}
 use Rattle.taint_check.proofs.StandsAgree.{At, HasStood, entry_cleared, is_proper, left_stands, same_starts}
 use Rattle.taint_check.proofs.TurnsAgree.{IsClear}
+use Rattle.flow_base.specs.Listed.{is_listed}
 
 module _ (skip : List ℕ) (regions : List Region) (masks : Masks) (setting : Setting) (secret other : List ℕ)
     (bytes : AreBytes secret) (others : AreBytes other) (public_bytes : AreBytes setting.public_input)
@@ -59,7 +59,7 @@ module _ (skip : List ℕ) (regions : List Region) (masks : Masks) (setting : Se
 
   pub skip_enters : (control : Control) (labels : LabelMap) (answers : List ℕ) (real copy : Store) (past : List Point)
       (region : Region) → control.mode ≡ Ran → kind_of regions control ≡ Enters region →
-      stands_in skip region.id ≡ true → region_numbered regions region.id ≡ Some region → control.region ≡ 0 →
+      is_listed skip region.id ≡ true → region_numbered regions region.id ≡ Some region → control.region ≡ 0 →
       range_break region real.registers setting.base ≡ None → Standing control labels real copy past →
       IsClear region.id (record { masks = masks; skipped = false }) past (at_start labels) answers
       (walked setting secret (entry region control) real none_held) →
@@ -107,7 +107,7 @@ module _ (skip : List ℕ) (regions : List Region) (masks : Masks) (setting : Se
   -- ---- a turn inside, which changes no mask
 
   inside_guest : (control entered_by : Control) (labels : LabelMap) (real copy : Store) (past : List Point) →
-      Within control entered_by labels real copy past → IsGuest (state_of setting secret control real)
+      Within control entered_by labels real copy past → IsProperGuest (state_of setting secret control real)
   inside_guest control entered_by labels real copy past at =
       guest_within setting secret control real bytes public_bytes small_start at.small_break at.to.limits
       (λ r. subst (λ xs. slice_index xs r ≤ 4294967295) (sym at.to.kept) (at.beside.real_limits (Register r)))
@@ -162,7 +162,7 @@ module _ (skip : List ℕ) (regions : List Region) (masks : Masks) (setting : Se
 
   pub skip_leaves : (control entered_by : Control) (labels : LabelMap) (answers : List ℕ) (real copy : Store)
       (past : List Point) (at : Within control entered_by labels real copy past) → control.pc ≡ at.region.leave →
-      HasRules at.region → stands_in skip 0 ≡ false → keep_break at.region real.kept real.registers ≡ None →
+      HasRules at.region → is_listed skip 0 ≡ false → keep_break at.region real.kept real.registers ≡ None →
       IsClear 0 (record { masks = masks; skipped = true }) past (at_start labels) answers
       (walked setting secret (leave at.region real.kept control) real none_held) →
       HasStood skip regions masks setting secret other bytes others public_bytes small_start small proper entered_by

@@ -7,7 +7,6 @@ use Rattle.crossing_bits.specs.Askers.{feed, Fed'}
 use Rattle.enclosure_regions.specs.declared.region_parts.Range.{Range}
 use Rattle.enclosure_regions.specs.declared.region_parts.Region.{Region}
 use Rattle.enclosure_regions.specs.Breaks.{keep_break, outside_range, range_break}
-use Rattle.enclosure_regions.specs.Regions.{stands_in}
 use Rattle.enclosure_regions.specs.Turns.{base_value}
 use Rattle.rv32im_machine.specs.declared.language.Seen.{Seen}
 use Rattle.rv32im_machine.specs.declared.language.Seen.TheVariants.{Base}
@@ -23,7 +22,7 @@ use Rattle.replay_machine.specs.Runs.{Masks, replayed, replay_turn, replay_insid
 use Rattle.lockstep_replay.specs.Crossing.{crossing}
 use Rattle.shadow_masks.specs.Writes.{LabelMap, after, Save}
 use Rattle.run_labels.specs.TurnLabels.{TurnLabels, at_start}
-use Rattle.acceptance_law.specs.Proper.{AreBytes, IsGuest, IsProper}
+use Rattle.acceptance_law.specs.Proper.{AreBytes, IsProperGuest, IsProper}
 use Rattle.acceptance_law.specs.ProperLaws.{ProperTurnsLaw}
 use Rattle.acceptance_law.specs.Sides.{NamedSide}
 use Rattle.acceptance_law.proofs.Entering.{SameStarts, outside_same, entry_end, entry_passed, entry_crossing, entry_replayed}
@@ -41,6 +40,7 @@ use Rattle.masked_turns.proofs.RegionsKeepStanding.{stands_entered, stands_left}
 use Rattle.masked_turns.proofs.StepEnds.{step_ends, cleared_kept}
 use Rattle.taint_check.proofs.LeavesAgree.{leave_kept}
 use Rattle.taint_check.proofs.TurnsAgree.{IsClear, KeepsAgreed, turn_kept}
+use Rattle.flow_base.specs.Listed.{is_listed}
 
 -- ---- the entry
 
@@ -87,7 +87,7 @@ entry_cleared setting secret store held region control cutting past labels answe
 
 -- the relays do not matter for what turns are like
 abbrev a_side : List ℕ → NamedSide
-a_side skip = record { first = λ point. true; second = λ point. true; relay = λ region. stands_in skip region }
+a_side skip = record { first = λ point. true; second = λ point. true; relay = λ region. is_listed skip region }
 
 module _ (skip : List ℕ) (regions : List Region) (masks : Masks) (setting : Setting) (secret other : List ℕ)
     (bytes : AreBytes secret) (others : AreBytes other) (public_bytes : AreBytes setting.public_input)
@@ -109,12 +109,12 @@ module _ (skip : List ℕ) (regions : List Region) (masks : Masks) (setting : Se
   cutting_for skipped = record { masks = masks; skipped = skipped }
 
   pub guest_of : (control : Control) (labels : LabelMap) (real copy : Store) (past : List Point) →
-      At control labels real copy past → IsGuest (state_of setting secret control real)
+      At control labels real copy past → IsProperGuest (state_of setting secret control real)
   guest_of control labels real copy past at =
       guest_within setting secret control real bytes public_bytes small_start at.small_break at.beside.real_limits
       at.kept_words
 
-  pub is_proper : (control : Control) (real : Store) → IsGuest (state_of setting secret control real) →
+  pub is_proper : (control : Control) (real : Store) → IsProperGuest (state_of setting secret control real) →
       IsProper setting.base control.region (turn_of setting control)
   is_proper control real guest =
       proper_turn (a_side skip) skip regions masks setting secret other bytes others public_bytes small_start
@@ -149,7 +149,7 @@ module _ (skip : List ℕ) (regions : List Region) (masks : Masks) (setting : Se
         stands = record {
           beside = kept.beside;
           counts = λ point never. refl;
-          runs = subst (λ r. stands_in skip r ≡ false) (sym same) at.runs;
+          runs = subst (λ r. is_listed skip r ≡ false) (sym same) at.runs;
           nowhere = λ none. same ∙ at.nowhere (subst (λ r. region_numbered regions r ≡ None) same none);
           inside = λ region is_in. kept_moved everything setting.base region labels _ real _ copy _ kept_labels
               alone.ends.same_kept kept.kept
@@ -162,7 +162,7 @@ module _ (skip : List ℕ) (regions : List Region) (masks : Masks) (setting : Se
   -- ---- the entry of a region that is not skipped
 
   pub entry_stands : (control : Control) (labels : LabelMap) (answers : List ℕ) (real copy : Store) (past : List Point)
-      (region : Region) → kind_of regions control ≡ Enters region → stands_in skip region.id ≡ false →
+      (region : Region) → kind_of regions control ≡ Enters region → is_listed skip region.id ≡ false →
       region_numbered regions region.id ≡ Some region → range_break region real.registers setting.base ≡ None →
       At control labels real copy past →
       IsClear region.id (cutting_for false) past (at_start labels) answers
@@ -211,7 +211,7 @@ module _ (skip : List ℕ) (regions : List Region) (masks : Masks) (setting : Se
   -- ---- the leave, of a region that was run or of one that was skipped
 
   pub left_stands : (skipped : Bool) (control : Control) (labels : LabelMap) (answers : List ℕ) (real copy : Store)
-      (past : List Point) (region : Region) (copied : Walk) → stands_in skip 0 ≡ false →
+      (past : List Point) (region : Region) (copied : Walk) → is_listed skip 0 ≡ false →
       control.current_break < 2 ^ 32 → ((register : ℕ) → slice_index real.kept register ≤ 4294967295) →
       (kept : KeepsAgreed (cutting_for skipped) setting other (at_start labels) answers
       (walked setting secret (leave region real.kept control) real none_held) copied copy past) →
@@ -230,7 +230,7 @@ module _ (skip : List ℕ) (regions : List Region) (masks : Masks) (setting : Se
 
   pub leave_stands : (skipped : Bool) (control : Control) (labels : LabelMap) (answers : List ℕ) (real copy : Store)
       (past : List Point) (region : Region) → kind_of regions control ≡ Leaves region →
-      region_numbered regions control.region ≡ Some region → HasRules region → stands_in skip 0 ≡ false →
+      region_numbered regions control.region ≡ Some region → HasRules region → is_listed skip 0 ≡ false →
       keep_break region real.kept real.registers ≡ None → At control labels real copy past →
       IsClear 0 (cutting_for skipped) past (at_start labels) answers
       (walked setting secret (leave region real.kept control) real none_held) →

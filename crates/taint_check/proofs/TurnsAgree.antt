@@ -4,7 +4,7 @@ use Rattle.std.proofs.Common.{◌≡◌, ℕ, ◌^◌, ◌<◌, ◌≤◌, List,
 use Rattle.std.proofs.Common.{Option, Some, None, refl, sym, ap, subst, ◌∙◌, arith}
 use Rattle.std.proofs.lemmas.Nat.{and_le_l}
 use Rattle.flow_base.specs.declared.points.Point.{Point}
-use Rattle.flow_base.specs.Points.{width_of}
+use Rattle.flow_base.specs.Points.{width_of, nowhere}
 use Rattle.flow_base.specs.Words.{Agree, bits_under, patched}
 use Rattle.crossing_bits.specs.Askers.{feed, Fed'}
 use Rattle.rv32im_machine.specs.declared.language.Aim.TheVariants.{Decide}
@@ -18,13 +18,12 @@ use Rattle.rv32im_machine.specs.Language.{seen_value, none_held}
 use Rattle.region_machine.specs.Runs.{passed}
 use Rattle.replay_machine.specs.Runs.{mask_at, replayed}
 use Rattle.lockstep_replay.specs.Crossing.{crossing}
-use Rattle.run_labels.specs.Answers.{Holds, IsSoundAnswer}
+use Rattle.run_labels.specs.Answers.{HoldsOfAnswer, IsSoundAnswer}
 use Rattle.run_labels.specs.Masks.{masks_of, work_mask}
 use Rattle.run_labels.specs.TurnLabels.{TurnLabels, at_start, put_label}
 use Rattle.shadow_masks.specs.Pages.{label_of}
-use Rattle.shadow_masks.specs.Points.{nowhere}
 use Rattle.transfer_rules.specs.Table1.{flipped}
-use Rattle.acceptance_law.specs.Proper.{AreBytes, IsPassing, IsPut, IsProper, place_limit}
+use Rattle.acceptance_law.specs.Proper.{AreBytes, IsPassing, FitsPlace, IsProper, place_limit}
 use Rattle.acceptance_law.proofs.AgreeOutsideMask.{agree_zero, patched_uncrossed}
 use Rattle.acceptance_law.proofs.Passings.{made_agrees, made_fits, mask_fits, patched_slot, slot_word}
 use Rattle.acceptance_law.proofs.Turns.{feed_bits, label_of_limit, seen_word}
@@ -75,7 +74,7 @@ module _ (cutting : Cutting) (small : AreSmall cutting.masks) (setting : Setting
   module _ (labels : TurnLabels) (answers : List ℕ) (real : Store) (held : Held) (copy : Store) (taken : Held)
       (past : List Point) (beside : Beside everything setting.base labels real held copy taken) (point : Point)
       (making : Making) (sources : Sources) (is : IsPassing setting.base region point making sources)
-      (sound : Holds IsSoundAnswer (work_of making (values_of setting secret real held sources))
+      (sound : HoldsOfAnswer IsSoundAnswer (work_of making (values_of setting secret real held sources))
       (masks_of labels sources) (first_of answers)) where
     abbrev pub real_value : ℕ
     real_value = made making (values_of setting secret real held sources)
@@ -129,7 +128,7 @@ module _ (cutting : Cutting) (small : AreSmall cutting.masks) (setting : Setting
         (subst (λ m. Agree m real_value passed_value) (decided_none point mask_left none) left_agrees)
 
     -- the value that has gone on stands beside the real one
-    pub put_passed : (place : Place) → IsPut setting.base point place →
+    pub put_passed : (place : Place) → FitsPlace setting.base point place →
         Beside everything setting.base (put_label place (label_of mask_left nowhere) labels)
         (put setting.base place real_value real) (hold place real_value held)
         (put setting.base place passed_value copy) (hold place passed_value taken)

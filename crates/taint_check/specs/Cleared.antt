@@ -7,7 +7,7 @@ use Rattle.region_machine.specs.Guests.{guest_walk}
 use Rattle.region_machine.specs.Runs.{Place, real_turn}
 use Rattle.shadow_masks.specs.Writes.{LabelMap, default_map}
 use Rattle.run_labels.specs.TurnLabels.{at_start}
-use Rattle.masked_turns.specs.Answers.{AreAnswers}
+use Rattle.masked_turns.specs.Answers.{AreWalkAnswers}
 use Rattle.masked_turns.specs.Clearing.{Cutting, cleared_in}
 use Rattle.lockstep_replay.specs.Tasks.{Task, real_start}
 
@@ -59,7 +59,7 @@ next_masked task answers run = record {
 abbrev pub AnswersUnless : Bool → ℕ → Task → List ℕ → MaskedRun → Type 0
 AnswersUnless true table task answers run = Unit {0}
 AnswersUnless false table task answers run =
-    AreAnswers table (cutting_at task run) run.place.past (at_start run.labels) answers (walk_at task run)
+    AreWalkAnswers table (cutting_at task run) run.place.past (at_start run.labels) answers (walk_at task run)
 
 -- ---- many turns
 

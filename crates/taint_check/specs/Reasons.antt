@@ -20,36 +20,36 @@ use Rattle.taint_check.specs.declared.whys.TaintWhy.TheVariants.{SecretCode, Bas
 use Rattle.taint_check.specs.Cleared.{MaskedRun, kind_at, walk_at, cutting_at, is_hidden}
 
 -- bits that are left decide
-abbrev pub why_left : Option LeftBits → Option TaintWhy
-why_left None = None
-why_left (Some left) = Some (Left left.point left.mask)
+abbrev pub unclear_left : Option LeftBits → Option TaintWhy
+unclear_left None = None
+unclear_left (Some left) = Some (Left left.point left.mask)
 
 -- or before that more bits have crossed than the budget
-abbrev pub why_budget : Bool → ℕ → ℕ → Option LeftBits → Option TaintWhy
-why_budget true budget needed left = Some (BudgetOverrun budget (counted_bits needed))
-why_budget false budget needed left = why_left left
+abbrev pub unclear_budget : Bool → ℕ → ℕ → Option LeftBits → Option TaintWhy
+unclear_budget true budget needed left = Some (BudgetOverrun budget (counted_bits needed))
+unclear_budget false budget needed left = unclear_left left
 
 -- or before that the run is stopped
-abbrev pub why_mode : Stepped → ℕ → ℕ → Option LeftBits → Option TaintWhy
-why_mode (Stopped fault) budget needed left = Some (RealFault fault)
-why_mode Ran budget needed left = why_budget (nat_lt budget needed) budget needed left
-why_mode (Exited status) budget needed left = why_budget (nat_lt budget needed) budget needed left
+abbrev pub unclear_mode : Stepped → ℕ → ℕ → Option LeftBits → Option TaintWhy
+unclear_mode (Stopped fault) budget needed left = Some (RealFault fault)
+unclear_mode Ran budget needed left = unclear_budget (nat_lt budget needed) budget needed left
+unclear_mode (Exited status) budget needed left = unclear_budget (nat_lt budget needed) budget needed left
 
 -- or before that it breaks a region
-abbrev pub why_broken : Option Break → Option TaintWhy → Option TaintWhy
-why_broken (Some broken) later = Some (RegionBreak broken)
-why_broken None later = later
+abbrev pub unclear_broken : Option Break → Option TaintWhy → Option TaintWhy
+unclear_broken (Some broken) later = Some (RegionBreak broken)
+unclear_broken None later = later
 
 -- or before that it looks at what may differ
-abbrev pub why_looked : Option SecretLook → Option TaintWhy → Option TaintWhy
-why_looked (Some (Code pc)) later = Some (SecretCode pc)
-why_looked (Some (BaseRegister region register)) later = Some (BaseSecret region register)
-why_looked None later = later
+abbrev pub unclear_looked : Option SecretLook → Option TaintWhy → Option TaintWhy
+unclear_looked (Some (Code pc)) later = Some (SecretCode pc)
+unclear_looked (Some (BaseRegister region register)) later = Some (BaseSecret region register)
+unclear_looked None later = later
 
 -- of a turn with this look and these bits left at a decision, that breaks a region so and leaves the guest in this mode,
 -- so many bits having crossed
-abbrev pub why_of : Option SecretLook → Option Break → Stepped → ℕ → ℕ → Option LeftBits → Option TaintWhy
-why_of look broken mode budget needed left = why_looked look (why_broken broken (why_mode mode budget needed left))
+abbrev pub unclear_of : Option SecretLook → Option Break → Stepped → ℕ → ℕ → Option LeftBits → Option TaintWhy
+unclear_of look broken mode budget needed left = unclear_looked look (unclear_broken broken (unclear_mode mode budget needed left))
 
 -- a hidden turn looks at no mask
 abbrev pub look_unless : Bool → Task → List ℕ → MaskedRun → Option SecretLook
@@ -64,8 +64,8 @@ left_unless false task answers run =
     left_in (cutting_at task run) run.place.past (at_start run.labels) answers (walk_at task run)
 
 -- why the next turn of a run leaves the check unclear, if it does, where so many bits have crossed up to and with it
-abbrev pub why_turned : Task → Limits → ℕ → List ℕ → MaskedRun → Option TaintWhy
-why_turned task limits needed answers run =
-    why_of (look_unless (is_hidden task.enclosures (kind_at task run)) task answers run)
+abbrev pub unclear_turned : Task → Limits → ℕ → List ℕ → MaskedRun → Option TaintWhy
+unclear_turned task limits needed answers run =
+    unclear_of (look_unless (is_hidden task.enclosures (kind_at task run)) task answers run)
     (Breaks task.enclosures.regions run.place.state) (real_end (walk_at task run)).control.mode limits.budget needed
     (left_unless (is_hidden task.enclosures (kind_at task run)) task answers run)

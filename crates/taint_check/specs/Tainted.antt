@@ -11,7 +11,7 @@ use Rattle.taint_check.specs.declared.verdicts.TaintVerdict.TheVariants as verdi
 use Rattle.taint_check.specs.declared.whys.TaintWhy.{TaintWhy}
 use Rattle.taint_check.specs.declared.whys.TaintWhy.TheVariants.{TurnLimit, SecretLength}
 use Rattle.taint_check.specs.Cleared.{Cleared, AreRunAnswers}
-use Rattle.taint_check.specs.Reasons.{why_turned}
+use Rattle.taint_check.specs.Reasons.{unclear_turned}
 
 -- clean with these crossing bits and this output, or unclear
 pub data Finding : Type 0 where
@@ -43,7 +43,7 @@ first_found None later = later
 abbrev pub found_in : Task → Limits → List ℕ → List ℕ → List (List ℕ) → Option Finding
 found_in task limits secret answers earlier =
     found_turn
-    (why_turned task limits (length (Cross task secret (suc (length earlier)))) answers (Cleared task secret earlier))
+    (unclear_turned task limits (length (Cross task secret (suc (length earlier)))) answers (Cleared task secret earlier))
     (Cleared task secret (answers ∷ earlier)).place.state (Cross task secret (suc (length earlier)))
 
 -- the first finding in the turns for which the rules gave these answers, the latest turn first

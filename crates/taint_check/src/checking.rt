@@ -1,6 +1,6 @@
 ghost use Rattle.std.specs.Prelude.{◌≡◌, ℕ, ◌<◌, ◌^◌, [], length, IfOk, List as Seq};
-ghost use Rattle.elf32_loader.specs.Images.{picture_of};
-ghost use Rattle.cut_file.specs.Pictures.{picture_of as cut_picture};
+ghost use Rattle.elf32_loader.specs.Images.{image_picture};
+ghost use Rattle.cut_file.specs.Pictures.{cut_picture};
 ghost use Rattle.lockstep_replay.specs.Tasks.{Task, Limits, task_of};
 ghost use Rattle.taint_check.specs.Laws.{IsAcceptedIfClean};
 ghost use Rattle.taint_check.specs.Tainted.{IsClean, IsVerdict, exit_of, finding_of};
@@ -96,7 +96,7 @@ fn checked(
     requires secret { length secret.now < 2 ^ 32 }
     requires budget { budget < 4294967295 }
     ensures { IfOk result (λ verdict. IsVerdict book.now.table
-        (task_of (picture_of image.now) public.now regions.now.items (cut_picture cut.now))
+        (task_of (image_picture image.now) public.now regions.now.items (cut_picture cut.now))
         (record { budget = budget; turns = turns }) secret.now (finding_of verdict)) }
 {
     let got = secret.len() as u32;
@@ -131,10 +131,10 @@ pub fn taint(
     requires secret { length secret.now < 2 ^ 32 }
     requires budget { budget < 4294967295 }
     ensures verdict { IfOk result (λ verdict. IsVerdict book.now.table
-        (task_of (picture_of image.now) public.now regions.now.items (cut_picture cut.now))
+        (task_of (image_picture image.now) public.now regions.now.items (cut_picture cut.now))
         (record { budget = budget; turns = turns }) secret.now (finding_of verdict)) }
     ensures accepted { IfOk result (λ verdict. IsAcceptedIfClean
-        (task_of (picture_of image.now) public.now regions.now.items (cut_picture cut.now))
+        (task_of (image_picture image.now) public.now regions.now.items (cut_picture cut.now))
         (record { budget = budget; turns = turns }) secret.now (finding_of verdict)) }
 {
     tell_inputs(image, public, secret, regions);

@@ -1,5 +1,5 @@
 ghost use Rattle.std.specs.Prelude.{◌≡◌, ◌<◌, nat_lt};
-ghost use Rattle.taint_check.specs.Reasons.{why_of, why_broken, why_budget, why_left, why_looked, why_mode};
+ghost use Rattle.taint_check.specs.Reasons.{unclear_of, unclear_broken, unclear_budget, unclear_left, unclear_looked, unclear_mode};
 
 use crate::whys::TaintWhy;
 use enclosure_regions::Break;
@@ -8,7 +8,7 @@ use rv32im_machine::Stepped;
 
 /// Bits that are left decide.
 fn left_reason(left: Option<LeftBits>) -> Option<TaintWhy>
-    ensures { result ≡ why_left left }
+    ensures { result ≡ unclear_left left }
 {
     left.map(|left| TaintWhy::Left {
         point: left.point,
@@ -18,7 +18,7 @@ fn left_reason(left: Option<LeftBits>) -> Option<TaintWhy>
 
 /// Or before that more bits have crossed than the budget.
 fn budget_reason(budget: u32, needed: u32, left: Option<LeftBits>) -> Option<TaintWhy>
-    ensures { result ≡ why_budget (nat_lt budget needed) budget needed left }
+    ensures { result ≡ unclear_budget (nat_lt budget needed) budget needed left }
 {
     if budget < needed {
         Some(TaintWhy::BudgetOverrun { budget, needed })
@@ -29,7 +29,7 @@ fn budget_reason(budget: u32, needed: u32, left: Option<LeftBits>) -> Option<Tai
 
 /// Or before that the run is stopped.
 fn mode_reason(mode: Stepped, budget: u32, needed: u32, left: Option<LeftBits>) -> Option<TaintWhy>
-    ensures { result ≡ why_mode mode budget needed left }
+    ensures { result ≡ unclear_mode mode budget needed left }
 {
     match mode {
         Stepped::Ran => budget_reason(budget, needed, left),
@@ -40,7 +40,7 @@ fn mode_reason(mode: Stepped, budget: u32, needed: u32, left: Option<LeftBits>) 
 
 /// Or before that it breaks a region.
 fn break_reason(broken: Option<Break>, later: Option<TaintWhy>) -> Option<TaintWhy>
-    ensures { result ≡ why_broken broken later }
+    ensures { result ≡ unclear_broken broken later }
 {
     match broken {
         Some(broken) => Some(TaintWhy::RegionBreak(broken)),
@@ -50,7 +50,7 @@ fn break_reason(broken: Option<Break>, later: Option<TaintWhy>) -> Option<TaintW
 
 /// Or before that it looks at what may differ.
 fn look_reason(look: Option<SecretLook>, later: Option<TaintWhy>) -> Option<TaintWhy>
-    ensures { result ≡ why_looked look later }
+    ensures { result ≡ unclear_looked look later }
 {
     match look {
         Some(SecretLook::Code { pc }) => Some(TaintWhy::SecretCode { pc }),
@@ -72,7 +72,7 @@ pub(crate) fn reason(
     needed: u32,
     left: Option<LeftBits>,
 ) -> Option<TaintWhy>
-    ensures { result ≡ why_of look broken mode budget needed left }
+    ensures { result ≡ unclear_of look broken mode budget needed left }
 {
     look_reason(
         look,

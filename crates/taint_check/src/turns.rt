@@ -5,8 +5,8 @@ ghost use Rattle.region_machine.specs.Within.{seen};
 ghost use Rattle.run_labels.specs.Runs.{entered_number as number_entered};
 ghost use Rattle.lockstep_replay.specs.Tasks.{Task, Limits};
 ghost use Rattle.taint_check.specs.Cleared.{MaskedRun, is_hidden, leaves_skipped as is_skipped_leave};
-ghost use Rattle.taint_check.specs.Reasons.{why_of};
-ghost use Rattle.taint_check.specs.Private.Turns.{IsReady, Stands, Makes};
+ghost use Rattle.taint_check.specs.Reasons.{unclear_of};
+ghost use Rattle.taint_check.specs.Private.Turns.{IsReady, Stands, MakesMasked};
 ghost use Rattle.taint_check.specs.Private.Tapes.{tape_of};
 
 use crate::clearing::Clearing;
@@ -57,7 +57,7 @@ fn hiding<'s>(turn: GuestTurn<'_>, skip: &'s [u16]) -> &'s [u16]
 /// Why a turn leaves the check unclear that breaks a region so, if it does either.
 #[inline(always)]
 fn reason_of(machine: &Machine, side: &Clearing<'_>, broken: Option<Break>) -> Option<TaintWhy>
-    ensures { result ≡ why_of side.now.look broken machine.now.control.mode side.now.tally.budget side.now.tally.needed
+    ensures { result ≡ unclear_of side.now.look broken machine.now.control.mode side.now.tally.budget side.now.tally.needed
         side.now.left }
 {
     reason(
@@ -85,7 +85,7 @@ fn make_step(
         task.enclosures ≡ record { regions = _marked.now.regions.items; skip = _skip.now } →
         Stands task limits run cross machine.old (tape_of side.old.book.now.table side.old.shadow side.old.tally
         side.old.look side.old.left) →
-        Makes side.old.book.now.table task limits run cross machine.new (tape_of side.new.book.now.table side.new.shadow side.new.tally
+        MakesMasked side.old.book.now.table task limits run cross machine.new (tape_of side.new.book.now.table side.new.shadow side.new.tally
         side.new.look side.new.left) why) }
     ensures ready { IfOk result (λ why. why ≡ None → IsReady _marked.now.regions.items machine.new (tape_of side.new.book.now.table side.new.shadow side.new.tally
         side.new.look side.new.left)) }
@@ -112,7 +112,7 @@ fn make_region_turn(
         task.enclosures ≡ record { regions = marked.now.regions.items; skip = skip.now } →
         Stands task limits run cross machine.old (tape_of side.old.book.now.table side.old.shadow side.old.tally
         side.old.look side.old.left) →
-        Makes side.old.book.now.table task limits run cross machine.new (tape_of side.new.book.now.table side.new.shadow side.new.tally
+        MakesMasked side.old.book.now.table task limits run cross machine.new (tape_of side.new.book.now.table side.new.shadow side.new.tally
         side.new.look side.new.left) why) }
     ensures ready { IfOk result (λ why. why ≡ None → IsReady marked.now.regions.items machine.new (tape_of side.new.book.now.table side.new.shadow side.new.tally
         side.new.look side.new.left)) }
@@ -141,7 +141,7 @@ pub(crate) fn make_turn(
         task.enclosures ≡ record { regions = marked.now.regions.items; skip = skip.now } →
         Stands task limits run cross machine.old (tape_of side.old.book.now.table side.old.shadow side.old.tally
         side.old.look side.old.left) →
-        Makes side.old.book.now.table task limits run cross machine.new (tape_of side.new.book.now.table side.new.shadow side.new.tally
+        MakesMasked side.old.book.now.table task limits run cross machine.new (tape_of side.new.book.now.table side.new.shadow side.new.tally
         side.new.look side.new.left) why) }
     ensures ready { IfOk result (λ why. why ≡ None → IsReady marked.now.regions.items machine.new (tape_of side.new.book.now.table side.new.shadow side.new.tally
         side.new.look side.new.left)) }

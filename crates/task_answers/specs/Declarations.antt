@@ -2,7 +2,7 @@
 use Rattle.std.specs.Prelude.{◌≡◌, ℕ, List}
 use Rattle.enclosure_regions.specs.declared.region_parts.Region.{Region}
 use Rattle.enclosure_regions.specs.Reading.{Spells}
-use Rattle.region_learn.specs.LearnAnswers.{Grants, Refuses}
+use Rattle.region_learn.specs.LearnAnswers.{Grants, RefusesToLearn}
 use Rattle.region_learn.specs.Learning.{run_of}
 use Rattle.region_learn.specs.Minimal.{NoByteCanGo, NoOutputIsKept, NoRegisterCanGo}
 use Rattle.region_learn.specs.RegionTexts.{regions_text}
@@ -34,7 +34,7 @@ pub record IsDeclaration (guest : Guest) (secret : List ℕ) (turns : ℕ) (regi
 
 -- why there is none
 abbrev pub IsLearnRefusal : Guest → List ℕ → ℕ → Refusal → Type 0
-IsLearnRefusal guest secret turns refusal = IsRefusedBy (Refuses (learnt_run guest secret turns)) Learn refusal
+IsLearnRefusal guest secret turns refusal = IsRefusedBy (RefusesToLearn (learnt_run guest secret turns)) Learn refusal
 
 -- the text of a region file, which spells the regions
 abbrev pub TellsRegions : List Region → Answer → Type 0

@@ -1,6 +1,6 @@
 -- Several runs of a guest that are measured together, and their one cut.
 use Rattle.std.specs.Prelude.{◌≡◌, ◌≢◌, ℕ, List}
-use Rattle.cut_file.specs.Pictures.{picture_of as cut_of}
+use Rattle.cut_file.specs.Pictures.{cut_picture}
 use Rattle.many_runs.specs.declared.faults.ManyFault.TheVariants.{Memory as NoRoomForRuns}
 use Rattle.many_runs.specs.declared.many.Many.{Many}
 use Rattle.many_runs.specs.Accepting.{AreAcceptedByFolds, AreAcceptedByTheCut, HasShortText}
@@ -33,7 +33,7 @@ IsRunsRefusal runs refusal =
 
 -- the text of the one cut in a version
 abbrev pub TellsAll : ℕ → Many → Answer → Type 0
-TellsAll version many answer = (text : List ℕ) × IsCutText version (cut_of many.cut) text × (answer ≡ done_by text)
+TellsAll version many answer = (text : List ℕ) × IsCutText version (cut_picture many.cut) text × (answer ≡ done_by text)
 
 abbrev pub AnswersMany : ℕ → ManyRunsTask → Answer → Type 0
 AnswersMany version runs answer = Reads (AreMeasured runs) (IsRunsRefusal runs) (TellsAll version) answer

@@ -1,8 +1,8 @@
 -- What is told of a run.
 use Rattle.std.specs.Prelude.{◌≡◌, ℕ, List, Bool, true, false}
-use Rattle.cut_file.specs.Pictures.{picture_of as cut_of}
+use Rattle.cut_file.specs.Pictures.{cut_picture}
 use Rattle.flow_certificate.specs.Certificates.{CertText}
-use Rattle.flow_certificate.specs.Pictures.{picture_of as certificate_of}
+use Rattle.flow_certificate.specs.Pictures.{certificate_picture}
 use Rattle.leak_report.specs.JsonReports.{report_json}
 use Rattle.leak_report.specs.Reports.{report_text}
 use Rattle.max_flow.specs.declared.answers.Solved.{Solved}
@@ -17,7 +17,7 @@ use Rattle.task_answers.specs.Runs.{AnswersRun}
 
 -- the text of the cut of a measured run in a version
 abbrev pub IsCutOfRun : ℕ → Measured → List ℕ → Type 0
-IsCutOfRun version measured text = IsCutText version (cut_of measured.cut) text
+IsCutOfRun version measured text = IsCutText version (cut_picture measured.cut) text
 
 -- its maximum flow and its side
 abbrev pub solved_of : Measured → Solved
@@ -25,7 +25,7 @@ solved_of measured = record { value = measured.value; flow = measured.flow; side
 
 -- the text of its certificate
 abbrev pub IsCertificateText : Measured → List ℕ → Type 0
-IsCertificateText measured text = CertText text (certificate_of measured.graph (solved_of measured))
+IsCertificateText measured text = CertText text (certificate_picture measured.graph (solved_of measured))
 
 -- its report, which may be JSON
 abbrev pub report_of : Bool → Measured → List ℕ

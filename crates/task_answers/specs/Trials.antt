@@ -1,7 +1,7 @@
 -- A trial of the tool by a number: the guest of the number is measured, and judged by its own cut.
 use Rattle.std.specs.Prelude.{◌≡◌, ℕ, List, [], ◌++◌, codes, length}
 use Rattle.std.specs.Fmt.{decimal}
-use Rattle.cut_file.specs.Pictures.{picture_of as cut_of}
+use Rattle.cut_file.specs.Pictures.{cut_picture}
 use Rattle.lockstep_replay.specs.Tasks.{Cross}
 use Rattle.measuring.specs.declared.measured.Measured.{Measured}
 use Rattle.trial_guests.specs.Programs.{picture_of_number}
@@ -31,7 +31,7 @@ run_of_number number = record {
 -- how many bits cross the cut of the measured run
 abbrev pub crossing_count : ℕ → Measured → ℕ
 crossing_count number measured =
-    length (Cross (judged_by (guest_of_number number) (cut_of measured.cut)) (secret_of number) trial_turns)
+    length (Cross (judged_by (guest_of_number number) (cut_picture measured.cut)) (secret_of number) trial_turns)
 
 -- the length of the secret, the maximum flow and the number of points of the graph
 abbrev pub trial_head : ℕ → Measured → List ℕ

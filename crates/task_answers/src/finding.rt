@@ -1,7 +1,7 @@
 //! A check of secrets with one machine: each is followed from a fresh start, with masks.
 
 ghost use Rattle.std.specs.Prelude.{◌≡◌, ◌≤◌, ◌∷◌, [], List as Seq, Ok as Fine, length, IfOk};
-ghost use Rattle.cut_file.specs.Pictures.{picture_of as cut_of};
+ghost use Rattle.cut_file.specs.Pictures.{cut_picture};
 ghost use Rattle.taint_check.specs.Tainted.{Finding, IsUnclear, finding_of};
 ghost use Rattle.command_tasks.specs.ReadTasks.{AreShort, guest_in, limits_in};
 ghost use Rattle.task_answers.specs.Checks.{judged_by};
@@ -29,7 +29,7 @@ fn find(
     book: &RuleBook,
 ) -> Result<TaintVerdict, NoMemory>
     requires short { length secret.now ≤ 65536 }
-    ensures { IfOk result (λ verdict. IsFinding book.now.table (judged_by (guest_in guest.now) (cut_of cut.now))
+    ensures { IfOk result (λ verdict. IsFinding book.now.table (judged_by (guest_in guest.now) (cut_picture cut.now))
         (limits_in limits) secret.now (finding_of verdict)) }
 {
     taint(
@@ -92,7 +92,7 @@ fn lines_of(
 ) -> Result<Lines, NoMemory>
     requires short { AreShort secrets.now }
     ensures { IfOk result (λ lines. (findings : Seq Finding)
-        × AreFindings book.now.table (judged_by (guest_in guest.now) (cut_of cut.now)) (limits_in limits) secrets.now
+        × AreFindings book.now.table (judged_by (guest_in guest.now) (cut_picture cut.now)) (limits_in limits) secrets.now
         findings × (lines.text.items ≡ finding_lines 1 findings) × (lines.clean ≡ clean_count findings)) }
 {
     let mut text = Vec::new(alloc);
@@ -118,7 +118,7 @@ pub fn find_secrets(
     book: &RuleBook,
 ) -> Result<Reply, NoMemory>
     requires short { AreShort secrets.now }
-    ensures { IfOk result (λ reply. AnswersTaint book.now.table (judged_by (guest_in guest.now) (cut_of cut.now))
+    ensures { IfOk result (λ reply. AnswersTaint book.now.table (judged_by (guest_in guest.now) (cut_picture cut.now))
         (limits_in limits) secrets.now (Fine reply)) }
 {
     let lines = lines_of(alloc, guest, cut, secrets, limits, book)?;

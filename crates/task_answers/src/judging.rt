@@ -1,7 +1,7 @@
 //! Secrets that are judged, each from a fresh start.
 
 ghost use Rattle.std.specs.Prelude.{◌≡◌, ◌≢◌, ◌≤◌, Ok as Fine, length, map, IfOk, [], ◌∷◌};
-ghost use Rattle.cut_file.specs.Pictures.{picture_of as cut_of};
+ghost use Rattle.cut_file.specs.Pictures.{cut_picture};
 ghost use Rattle.lockstep_replay.specs.Judgements.{judgement_of};
 ghost use Rattle.lockstep_replay.specs.Verdicts.{First};
 ghost use Rattle.command_tasks.specs.ReadTasks.{AreShort, IsBoundedCheck, check_in, guest_in, limits_in};
@@ -31,7 +31,7 @@ fn judge_in(
     limits: Limits,
 ) -> Result<(Verdict, Memories), NoMemory>
     requires short { length secret.now ≤ 65536 }
-    ensures { IfOk result (λ judged. judgement_of judged.0 ≡ First (judged_by (guest_in guest.now) (cut_of cut.now))
+    ensures { IfOk result (λ judged. judgement_of judged.0 ≡ First (judged_by (guest_in guest.now) (cut_picture cut.now))
         (limits_in limits) secret.now) }
 {
     let lockstep = Lockstep::new_in(
@@ -57,7 +57,7 @@ pub fn judge(
     limits: Limits,
 ) -> Result<Verdict, NoMemory>
     requires short { length secret.now ≤ 65536 }
-    ensures { IfOk result (λ verdict. judgement_of verdict ≡ First (judged_by (guest_in guest.now) (cut_of cut.now))
+    ensures { IfOk result (λ verdict. judgement_of verdict ≡ First (judged_by (guest_in guest.now) (cut_picture cut.now))
         (limits_in limits) secret.now) }
 {
     let memories = Memories::new(alloc)?;
@@ -93,9 +93,9 @@ fn lines_of(
 ) -> Result<Lines, NoMemory>
     requires short { AreShort secrets.now }
     ensures text { IfOk result (λ lines. lines.text.items ≡ verdict_lines 1 (judgements_of
-        (judged_by (guest_in guest.now) (cut_of cut.now)) (limits_in limits) secrets.now)) }
+        (judged_by (guest_in guest.now) (cut_picture cut.now)) (limits_in limits) secrets.now)) }
     ensures accepted { IfOk result (λ lines. lines.accepted ≡ accepted_count (judgements_of
-        (judged_by (guest_in guest.now) (cut_of cut.now)) (limits_in limits) secrets.now)) }
+        (judged_by (guest_in guest.now) (cut_picture cut.now)) (limits_in limits) secrets.now)) }
 {
     let mut text = Vec::new(alloc);
     let mut number: u32 = 0;
@@ -122,7 +122,7 @@ fn replay_secrets(
     limits: Limits,
 ) -> Result<Reply, NoMemory>
     requires short { AreShort secrets.now }
-    ensures { IfOk result (λ reply. reply ≡ check_reply (judgements_of (judged_by (guest_in guest.now) (cut_of cut.now))
+    ensures { IfOk result (λ reply. reply ≡ check_reply (judgements_of (judged_by (guest_in guest.now) (cut_picture cut.now))
         (limits_in limits) secrets.now) limits.budget) }
 {
     let lines = lines_of(alloc, guest, cut, secrets, limits)?;

@@ -1,7 +1,7 @@
 //! What is told of a run.
 
 ghost use Rattle.std.specs.Prelude.{◌≡◌, ◌≢◌, ◌∷◌, [], Err, IfOk, map};
-ghost use Rattle.cut_file.specs.Pictures.{picture_of as cut_of};
+ghost use Rattle.cut_file.specs.Pictures.{cut_picture};
 ghost use Rattle.command_tasks.specs.ReadTasks.{IsBoundedRun, run_in};
 ghost use Rattle.command_tasks.specs.declared.refusals.Refusal.TheVariants.{Memory};
 ghost use Rattle.task_answers.specs.CutTexts.{IsCutText};
@@ -25,7 +25,7 @@ use transfer_rules::RuleBook;
 /// The text of a cut that is measured: of its fold where version 2 is wanted.
 pub fn cut_text(alloc: Global, version: u32, cut: &Cut) -> Result<Bytes, NoMemory>
     requires { cut.now.version ≡ 1 }
-    ensures { IfOk result (λ text. IsCutText version (cut_of cut.now) text) }
+    ensures { IfOk result (λ text. IsCutText version (cut_picture cut.now) text) }
 {
     if version == 2 {
         let folded = fold(alloc, cut)?;

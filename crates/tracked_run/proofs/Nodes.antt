@@ -17,23 +17,24 @@ use Rattle.rv32im_machine.specs.Language.{Walk, Looked, Passed, Moved, Saved, Re
 use Rattle.rv32im_machine.specs.Playing.{Played, Finished, Halted}
 use Rattle.shadow_masks.specs.Shades.{Shades}
 use Rattle.run_labels.specs.declared.faults.MeasureFault.{MeasureFault}
-use Rattle.run_labels.specs.Answers.{EachAnswer, Holds, IsSoundAnswer, IsTableAnswer}
+use Rattle.run_labels.specs.Answers.{EachAnswer, HoldsOfAnswer, IsSoundAnswer, IsTableAnswer}
 use Rattle.run_labels.specs.Flowing.{labels_in, events_in, passing_events}
-use Rattle.run_labels.specs.Looking.{first_fault, look_fault, secret_look}
+use Rattle.run_labels.specs.Looking.{look_fault, secret_look}
 use Rattle.run_labels.specs.Masks.{labels_after, masks_of, moved_label}
 use Rattle.run_labels.specs.TurnLabels.{TurnLabels, put_label, save_labels, restore_labels}
 use Rattle.tracked_run.specs.Linking.{Appends}
 use Rattle.tracked_run.specs.Private.Tracks.{Left, Tracks}
 use Rattle.tracked_run.proofs.Appending.{appends-more}
+use Rattle.std.specs.Option.{option_or}
 
 first-assoc : (first second third : Option MeasureFault) →
-    first_fault (first_fault first second) third ≡ first_fault first (first_fault second third)
+    option_or (option_or first second) third ≡ option_or first (option_or second third)
 first-assoc None second third = refl
 first-assoc (Some fault) second third = refl
 
 pub tracks-looked : {E : Type 0} (stands : E → List Event → Type 0) (table region : ℕ) (labels : TurnLabels)
     (before : Left E) (refused : Option MeasureFault) (seen : Seen) (value : ℕ) (walk : Walk)
-    (out : Played NoMemory (Left E)) → refused ≡ first_fault before.refused (look_fault region labels seen) →
+    (out : Played NoMemory (Left E)) → refused ≡ option_or before.refused (look_fault region labels seen) →
     Tracks stands table region labels (record before { refused = refused }) walk out →
     Tracks stands table region labels before (Looked seen value walk) out
 unfolding EachAnswer real_end labels_in secret_look events_in
@@ -44,7 +45,7 @@ tracks-looked stands table region labels before refused seen value walk (Finishe
   ends = h.ends;
   base = h.base;
   labelled = h.labelled;
-  refused = h.refused ∙ (ap (λ r. first_fault r (secret_look region labels h.answers walk)) e
+  refused = h.refused ∙ (ap (λ r. option_or r (secret_look region labels h.answers walk)) e
       ∙ first-assoc before.refused (look_fault region labels seen) (secret_look region labels h.answers walk));
   added = h.added;
   shadow_lent = h.shadow_lent;
@@ -124,8 +125,8 @@ passed-work : {E : Type 0} (stands : E → List Event → Type 0) (table region 
     (before : Left E) (shades : Shades) (events : E) (answer : ℕ) (point : Point) (aim : Aim) (work : Work)
     (sources : Sources) (value : ℕ) (go : ℕ → Walk) (out : Played NoMemory (Left E)) →
     shades.base ≡ before.shades.base →
-    Holds IsSoundAnswer work (masks_of labels sources) answer →
-    Holds (IsTableAnswer table) work (masks_of labels sources) answer →
+    HoldsOfAnswer IsSoundAnswer work (masks_of labels sources) answer →
+    HoldsOfAnswer (IsTableAnswer table) work (masks_of labels sources) answer →
     Appends (stands before.events) (stands events) (passing_events labels answer
     (record { point = point; aim = aim; work = work; sources = sources; value = value })) →
     Tracks stands table region (labels_after labels answer
@@ -166,8 +167,8 @@ passed-work stands table region labels before shades events answer point aim wor
 pub tracks-passed : {E : Type 0} (stands : E → List Event → Type 0) (table region : ℕ) (old new : TurnLabels)
     (before : Left E) (shades : Shades) (events : E) (answer : ℕ) (passing : Passing) (go : ℕ → Walk)
     (out : Played NoMemory (Left E)) → shades.base ≡ before.shades.base →
-    Holds IsSoundAnswer passing.work (masks_of old passing.sources) answer →
-    Holds (IsTableAnswer table) passing.work (masks_of old passing.sources) answer →
+    HoldsOfAnswer IsSoundAnswer passing.work (masks_of old passing.sources) answer →
+    HoldsOfAnswer (IsTableAnswer table) passing.work (masks_of old passing.sources) answer →
     new ≡ labels_after old answer passing →
     Appends (stands before.events) (stands events) (passing_events old answer passing) →
     Tracks stands table region new (record before { shades = shades; events = events }) (go passing.value) out →

@@ -19,13 +19,14 @@ use Rattle.region_machine.specs.Guests.{guest_walk}
 use Rattle.region_machine.specs.Within.{may_leave}
 use Rattle.region_machine.proofs.RangesStayInside.{guest_keeps}
 use Rattle.run_labels.specs.declared.faults.MeasureFault.{MeasureFault}
-use Rattle.run_labels.specs.Looking.{first_fault, secret_look}
+use Rattle.run_labels.specs.Looking.{secret_look}
 use Rattle.run_labels.specs.Runs.{LabelledRun, enclosing, entered_number, broken_fault, stopped_fault, turn_fault}
-use Rattle.tracked_run.specs.Labels.{map_of, labels_of, none_held}
+use Rattle.tracked_run.specs.Labels.{map_of, labels_of, clean_held}
 use Rattle.tracked_run.specs.Outcomes.{fault_of, spent_by, turn_answer}
-use Rattle.tracked_run.specs.Runs.{Stands, Makes, Turns}
+use Rattle.tracked_run.specs.Runs.{Stands, MakesTurn, Turns}
 use Rattle.tracked_run.specs.Private.Tracks.{Left, EndsTracked}
 use Rattle.tracked_run.proofs.Settings.{same_setting}
+use Rattle.std.specs.Option.{option_or}
 
 -- ---- no region is skipped
 
@@ -37,12 +38,12 @@ never_enclosed regions (Steps (Some region)) = refl
 
 -- ---- refusals
 
-none-later : (first later : Option MeasureFault) → first_fault first later ≡ None → later ≡ None
+none-later : (first later : Option MeasureFault) → option_or first later ≡ None → later ≡ None
 none-later None later e = e
 none-later (Some fault) later e = absurd (cc)
 
 unbroken-of : (broken : Option Break) (later : Option MeasureFault) →
-    first_fault (broken_fault broken) later ≡ None → broken ≡ None
+    option_or (broken_fault broken) later ≡ None → broken ≡ None
 unbroken-of None later e = refl
 unbroken-of (Some broken) later e = absurd (cc)
 
@@ -52,13 +53,13 @@ stopped-is fault e = absurd (cc)
 pub not-broken : (refused : Option MeasureFault) (broken : Option Break) (mode : Stepped) →
     fault_of refused broken mode ≡ None → broken ≡ None
 not-broken refused broken mode e =
-    unbroken-of broken (stopped_fault mode) (none-later refused (first_fault (broken_fault broken) (stopped_fault mode)) e)
+    unbroken-of broken (stopped_fault mode) (none-later refused (option_or (broken_fault broken) (stopped_fault mode)) e)
 
 not-stopped : (refused : Option MeasureFault) (broken : Option Break) (fault : Fault) →
     fault_of refused broken (mode.Stopped fault) ≡ None → ⊥
 not-stopped refused broken fault e =
     stopped-is fault (none-later (broken_fault broken) (stopped_fault (mode.Stopped fault))
-    (none-later refused (first_fault (broken_fault broken) (stopped_fault (mode.Stopped fault))) e))
+    (none-later refused (option_or (broken_fault broken) (stopped_fault (mode.Stopped fault))) e))
 
 -- ---- the run, by the machine and the shadow
 
@@ -101,7 +102,7 @@ stands-same machine shadow run s =
 record Facts {E : Type 0} (stands : E → List Event → Type 0) (table : ℕ) (regions : List Region) (machine : State)
     (before : Left E) (reached : State) (after : Left E) (broken : Option Break) : Type 0 where
   pub tracked :
-      EndsTracked stands table (entered_number (kind_of regions machine.control)) (labels_of before.shades none_held) before
+      EndsTracked stands table (entered_number (kind_of regions machine.control)) (labels_of before.shades clean_held) before
       (guest_walk regions machine) reached after
   pub unrefused : before.refused ≡ None
   pub breaks : broken ≡ Breaks regions machine
@@ -114,9 +115,9 @@ is-fault : {E : Type 0} (stands : E → List Event → Type 0) (table : ℕ) (re
 is-fault stands table regions machine past earlier before reached after broken k =
     let end : State = real_end (guest_walk regions machine) in
     let look : Option MeasureFault = secret_look (entered_number (kind_of regions machine.control))
-    (labels_of before.shades none_held) k.tracked.answers (guest_walk regions machine) in
+    (labels_of before.shades clean_held) k.tracked.answers (guest_walk regions machine) in
     let looked : after.refused ≡ look =
-    k.tracked.refused ∙ ap (λ r. first_fault r look) k.unrefused in
+    k.tracked.refused ∙ ap (λ r. option_or r look) k.unrefused in
     let stops : reached.control.mode ≡ end.control.mode = ap (λ (s : State). s.control.mode) k.tracked.ends in
     ap (λ r. fault_of r (Breaks regions machine) end.control.mode) (sym looked)
     ∙ (ap (λ x. fault_of after.refused x end.control.mode) (sym k.breaks)
@@ -126,7 +127,7 @@ made : {E : Type 0} (stands : E → List Event → Type 0) (table : ℕ) (region
     (past : List Point) (earlier : List Event) (before : Left E) (reached : State) (after : Left E)
     (broken : Option Break) (mode : Stepped) → Facts stands table regions machine before reached after broken →
     fault_of after.refused broken reached.control.mode ≡ None → reached.control.mode ≡ mode →
-    Makes table regions (run_of machine past before.shades earlier) (stands before.events) (stands after.events) reached
+    MakesTurn table regions (run_of machine past before.shades earlier) (stands before.events) (stands after.events) reached
     after.shades mode
 made stands table regions machine past earlier before reached after broken mode k none m = record {
   answers = k.tracked.answers;
@@ -165,7 +166,7 @@ turned-by stands table regions machine past earlier before reached after broken 
 
 pub turned : {E : Type 0} (stands : E → List Event → Type 0) (table : ℕ) (regions : List Region) (machine : State)
     (before : Left E) (reached : State) (after : Left E) (broken : Option Break) (run : LabelledRun) →
-    EndsTracked stands table (entered_number (kind_of regions machine.control)) (labels_of before.shades none_held) before
+    EndsTracked stands table (entered_number (kind_of regions machine.control)) (labels_of before.shades clean_held) before
     (guest_walk regions machine) reached after →
     before.refused ≡ None → broken ≡ Breaks regions machine → Stands machine before.shades run →
     Turns table regions run (stands before.events) (stands after.events) reached after.shades

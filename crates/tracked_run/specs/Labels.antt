@@ -13,17 +13,17 @@ use Rattle.tracked_run.specs.declared.source_masks.SourceMasks.{SourceMasks}
 abbrev pub map_of : Shades → LabelMap
 map_of shades = record { registers = register_label shades; kept = kept_label shades; bytes = byte_label shades }
 
-abbrev pub none_held : Held
-none_held = record { first = clean; second = clean }
+abbrev pub clean_held : Held
+clean_held = record { first = clean; second = clean }
 
 abbrev pub labels_of : Shades → Held → TurnLabels
 labels_of shades held = record { map = map_of shades; first = held.first; second = held.second }
 
-abbrev pub listed_masks : SourceMasks → List ℕ
-listed_masks masks = masks.first ∷ masks.second ∷ masks.third ∷ masks.fourth ∷ []
+abbrev pub masks_in_order : SourceMasks → List ℕ
+masks_in_order masks = masks.first ∷ masks.second ∷ masks.third ∷ masks.fourth ∷ []
 
 -- these are the masks of the list, and 0 past its end
 pub record AreMasks (masks : SourceMasks) (list : List ℕ) : Type 0 where
   pub first : masks.first ≡ first_of list
   pub second : masks.second ≡ second_of list
-  pub all : joined (listed_masks masks) ≡ joined list
+  pub all : joined (masks_in_order masks) ≡ joined list

@@ -6,11 +6,11 @@ use Rattle.rv32im_machine.specs.declared.stepping.Stepped.{Stepped}
 use Rattle.rv32im_machine.specs.declared.stepping.Stepped.TheVariants.{Ran, Exited, Stopped}
 use Rattle.run_labels.specs.declared.faults.MeasureFault.{MeasureFault}
 use Rattle.run_labels.specs.declared.faults.MeasureFault.TheVariants.{Guest as GuestFault}
-use Rattle.run_labels.specs.Looking.{first_fault}
 use Rattle.run_labels.specs.Runs.{broken_fault, stopped_fault}
 use Rattle.tracked_run.specs.declared.outcomes.TrackedTurn.{TrackedTurn}
 use Rattle.tracked_run.specs.declared.outcomes.TrackedTurn.TheVariants as turn
 use Rattle.tracked_run.specs.declared.outcomes.Spent.{Spent}
+use Rattle.std.specs.Option.{option_or}
 use Rattle.tracked_run.specs.declared.outcomes.Spent.TheVariants as spent
 
 -- what each turn answers once no more are made
@@ -35,4 +35,4 @@ turn_answer None (Stopped fault) = turn.Refused (GuestFault fault)
 
 -- a look at what may depend on the secret, then what breaks a region, then the stop of the guest
 abbrev pub fault_of : Option MeasureFault → Option Break → Stepped → Option MeasureFault
-fault_of refused broken mode = first_fault refused (first_fault (broken_fault broken) (stopped_fault mode))
+fault_of refused broken mode = option_or refused (option_or (broken_fault broken) (stopped_fault mode))

@@ -29,7 +29,7 @@ pub record AreAnswers (table : ℕ) (regions : List Region) (run : LabelledRun) 
 
 -- the turn is made by such answers and not refused, machine and shadow stand where it has come to, the guest is in this
 -- mode, and the events of the turn are added
-pub record Makes (table : ℕ) (regions : List Region) (run : LabelledRun) (stood stands : List Event → Type 0)
+pub record MakesTurn (table : ℕ) (regions : List Region) (run : LabelledRun) (stood stands : List Event → Type 0)
     (machine : State) (shadow : Shades) (mode : Stepped) : Type 0 where
   pub answers : List ℕ
   pub are_answers : AreAnswers table regions run answers
@@ -40,7 +40,7 @@ pub record Makes (table : ℕ) (regions : List Region) (run : LabelledRun) (stoo
 
 -- the turn is refused by such answers; it is played to its end, machine and labels stand where it has come to, and its
 -- events are added
-pub record Refuses (table : ℕ) (regions : List Region) (run : LabelledRun) (stood stands : List Event → Type 0)
+pub record RefusesTurn (table : ℕ) (regions : List Region) (run : LabelledRun) (stood stands : List Event → Type 0)
     (machine : State) (shadow : Shades) (fault : MeasureFault) : Type 0 where
   pub answers : List ℕ
   pub are_answers : AreAnswers table regions run answers
@@ -53,9 +53,9 @@ pub record Refuses (table : ℕ) (regions : List Region) (run : LabelledRun) (st
 abbrev pub Turns : ℕ → List Region → LabelledRun → (List Event → Type 0) → (List Event → Type 0) → State → Shades →
     Result TrackedTurn NoMemory → Type 0
 Turns table regions run stood stands machine shadow (Ok Ran) =
-    Makes table regions run stood stands machine shadow mode.Ran
+    MakesTurn table regions run stood stands machine shadow mode.Ran
 Turns table regions run stood stands machine shadow (Ok (Exited status)) =
-    Makes table regions run stood stands machine shadow (mode.Exited status)
+    MakesTurn table regions run stood stands machine shadow (mode.Exited status)
 Turns table regions run stood stands machine shadow (Ok (Refused fault)) =
-    Refuses table regions run stood stands machine shadow fault
+    RefusesTurn table regions run stood stands machine shadow fault
 Turns table regions run stood stands machine shadow (Err none) = Unit {0}

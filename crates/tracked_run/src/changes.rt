@@ -3,11 +3,12 @@ ghost use Rattle.rv32im_machine.specs.Language.{shaped};
 ghost use Rattle.shadow_masks.specs.Pages.{label_of};
 ghost use Rattle.rv32im_machine.specs.Playing.{IsPlace, IsSeen, IsSource};
 ghost use Rattle.shadow_masks.specs.Labels.{IsLabel};
-ghost use Rattle.run_labels.specs.Looking.{first_fault, look_fault as fault_of_look};
+ghost use Rattle.run_labels.specs.Looking.{look_fault as fault_of_look};
 ghost use Rattle.run_labels.specs.Masks.{moved_label as label_moved};
 ghost use Rattle.run_labels.specs.TurnLabels.{put_label as label_put, save_labels, restore_labels};
 ghost use Rattle.tracked_run.specs.Labels.{labels_of};
 ghost use Rattle.tracked_run.specs.declared.held.Held.{Held as TheHeld};
+ghost use Rattle.std.specs.Option.{option_or};
 
 use crate::held::Held;
 use crate::placing::{label_at, labelled, put_label};
@@ -62,18 +63,15 @@ pub(crate) fn earlier(
     first: Option<MeasureFault>,
     second: Option<MeasureFault>,
 ) -> Option<MeasureFault>
-    ensures { result ≡ first_fault first second }
+    ensures { result ≡ option_or first second }
 {
-    match first {
-        Some(fault) => Some(fault),
-        None => second,
-    }
+    first.or(second)
 }
 
 /// The first refusal stays. Where there is no other, nothing is written.
 #[inline(always)]
 pub(crate) fn note_fault(refused: &mut Option<MeasureFault>, fault: Option<MeasureFault>)
-    ensures { refused.new ≡ first_fault refused.old fault }
+    ensures { refused.new ≡ option_or refused.old fault }
 {
     match (*refused, fault) {
         (None, Some(_)) => *refused = fault,

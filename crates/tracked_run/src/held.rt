@@ -1,5 +1,5 @@
 ghost use Rattle.std.specs.Prelude.{◌≡◌};
-ghost use Rattle.tracked_run.specs.Labels.{none_held};
+ghost use Rattle.tracked_run.specs.Labels.{clean_held};
 
 use shadow_masks::Label;
 
@@ -13,7 +13,7 @@ pub struct Held {
 impl Held {
     /// A turn begins with no operand.
     pub fn none() -> Held
-        ensures { result ≡ none_held }
+        ensures { result ≡ clean_held }
     {
         Held {
             first: Label::clean(),

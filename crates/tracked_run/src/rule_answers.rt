@@ -1,6 +1,6 @@
 ghost use Rattle.std.specs.Prelude.{◌≡◌};
-ghost use Rattle.run_labels.specs.Answers.{Holds, IsSoundAnswer, IsTableAnswer};
-ghost use Rattle.tracked_run.specs.Labels.{listed_masks};
+ghost use Rattle.run_labels.specs.Answers.{HoldsOfAnswer, IsSoundAnswer, IsTableAnswer};
+ghost use Rattle.tracked_run.specs.Labels.{masks_in_order};
 
 use crate::source_masks::SourceMasks;
 use rv32im_machine::{Operation, Work};
@@ -21,8 +21,8 @@ fn rule_answer(book: &RuleBook, operation: Operation, operands: Operands) -> u32
 /// The mask that the book's rule answers for what is computed from sources of these masks; of what moves bits about no
 /// rule is asked.
 pub fn answer_of(book: &RuleBook, work: Work, masks: SourceMasks) -> u32
-    ensures sound { Holds IsSoundAnswer work (listed_masks masks) result }
-    ensures table { Holds (IsTableAnswer book.now.table) work (listed_masks masks) result }
+    ensures sound { HoldsOfAnswer IsSoundAnswer work (masks_in_order masks) result }
+    ensures table { HoldsOfAnswer (IsTableAnswer book.now.table) work (masks_in_order masks) result }
 {
     match work {
         Work::Shaped(_) => 0,

@@ -6,7 +6,7 @@ ghost use Rattle.rv32im_machine.specs.Language.{part_of, shaped};
 ghost use Rattle.shadow_masks.specs.Pages.{label_from};
 ghost use Rattle.shadow_masks.specs.Shades.{byte_label};
 ghost use Rattle.run_labels.specs.Masks.{masks_of, source_mask as mask_of_source};
-ghost use Rattle.tracked_run.specs.Labels.{AreMasks, labels_of, listed_masks};
+ghost use Rattle.tracked_run.specs.Labels.{AreMasks, labels_of, masks_in_order};
 
 use crate::held::Held;
 use crate::placing::label_at;
@@ -82,7 +82,7 @@ pub fn masks_of_sources(shadow: &Shadow, held: Held, sources: Sources) -> Source
 
 /// The masks of bytes as one mask, the lowest byte first; none where one is not the mask of a byte.
 fn joined_masks(masks: SourceMasks) -> Option<u32>
-    ensures { IfSome result (λ mask. mask ≡ joined (listed_masks masks)) }
+    ensures { IfSome result (λ mask. mask ≡ joined (masks_in_order masks)) }
 {
     let bytes = masks.first <= 0xff
         && masks.second <= 0xff
@@ -109,7 +109,7 @@ fn part_mask(part: Part, mask: u32) -> u32
 
 /// The mask of what moves bits of its sources about; none where that is no word, as in no turn of a guest.
 pub(crate) fn shaped_mask(shape: Shape, masks: SourceMasks) -> Option<u32>
-    ensures { IfSome result (λ mask. mask ≡ shaped shape (listed_masks masks)) }
+    ensures { IfSome result (λ mask. mask ≡ shaped shape (masks_in_order masks)) }
 {
     match shape {
         Shape::Copied => Some(masks.first),

@@ -30,7 +30,7 @@ pub struct Tracked<'a> {
 
 impl<'a> Tracked<'a> {
     ghost use Rattle.std.specs.Prelude.{◌≡◌, ◌<◌, ◌^◌, [], length, None, Some, IfOk, IfSome};
-    ghost use Rattle.elf32_loader.specs.Images.{picture_of};
+    ghost use Rattle.elf32_loader.specs.Images.{image_picture};
     ghost use Rattle.region_machine.specs.Starts.{guest};
     ghost use Rattle.run_labels.specs.Runs.{LabelledRun, unlabelled};
     ghost use Rattle.tracked_run.specs.Outcomes.{answer_of, spent_by};
@@ -49,7 +49,7 @@ impl<'a> Tracked<'a> {
     ) -> Result<Tracked<'a>, NoMemory>
         requires { length secret.now < 2 ^ 32 }
         ensures stands { IfOk result (λ tracked. Stands tracked.machine tracked.shadow
-            (unlabelled (guest (picture_of image.now) public.now secret.now))) }
+            (unlabelled (guest (image_picture image.now) public.now secret.now))) }
         ensures regions { IfOk result (λ tracked. tracked.marked.regions.items ≡ regions.now.items) }
         ensures table { IfOk result (λ tracked. tracked.book.now.table ≡ book.now.table) }
         ensures unspent { IfOk result (λ tracked. tracked.spent ≡ None) }

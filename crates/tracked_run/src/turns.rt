@@ -1,5 +1,5 @@
 ghost use Rattle.std.specs.Prelude.{◌≡◌, None, Ok, IfOk, IsTrue};
-ghost use Rattle.tracked_run.specs.Labels.{none_held};
+ghost use Rattle.tracked_run.specs.Labels.{clean_held};
 ghost use Rattle.region_machine.specs.Enclosures.{kind_of};
 ghost use Rattle.region_machine.specs.Within.{may_leave};
 ghost use Rattle.run_labels.specs.Runs.{LabelledRun, broken_fault, stopped_fault, entered_number as number_entered};
@@ -98,7 +98,7 @@ fn play_turn<E: Events>(
 ) -> Result<TrackedTurn, NoMemory>
     requires base { side.old.shadow.now.base ≡ machine.old.setting.base }
     requires leave { IsTrue (may_leave marked.now.regions.items machine.old) }
-    requires held { side.old.held ≡ none_held }
+    requires held { side.old.held ≡ clean_held }
     requires region { side.old.region ≡ number_entered (kind_of marked.now.regions.items machine.old.control) }
     requires unrefused { side.old.refused ≡ None }
     ensures turns { IfOk result (λ turn. (run : LabelledRun) → Stands machine.old side.old.shadow.now run →

@@ -51,8 +51,8 @@ instruction_class (Branch kind rs1 rs2 offset) = Some (branch_class kind)
 instruction_class other = None
 
 -- loads, stores and JALR add their immediate to a register and take the sum as an address
-abbrev pub has_address : Instr → Bool
-has_address (Load kind rd rs1 imm) = true
-has_address (Store kind rs1 rs2 imm) = true
-has_address (Jalr rd rs1 imm) = true
-has_address other = false
+abbrev pub takes_address : Instr → Bool
+takes_address (Load kind rd rs1 imm) = true
+takes_address (Store kind rs1 rs2 imm) = true
+takes_address (Jalr rd rs1 imm) = true
+takes_address other = false

@@ -1,5 +1,5 @@
 -- That a mask is the one of a table, and the mask of an address by a table.
-use Rattle.std.specs.Prelude.{◌≡◌, ℕ, ℤ, ◌-◌, ◌%◌, List, [], ◌∷◌}
+use Rattle.std.specs.Prelude.{◌≡◌, ◌⊎◌, ℕ, ℤ, ◌-◌, ◌%◌, List, [], ◌∷◌}
 use Rattle.rv32im_decode.specs.declared.instructions.Instr.{Instr}
 use Rattle.rv32im_decode.specs.declared.instructions.Instr.TheVariants.{Jalr, Load, Store}
 use Rattle.rv32im_decode.specs.Operations.{word_of}
@@ -39,3 +39,8 @@ mask_of_address other first mask table = 0
 abbrev pub classes_in_order : List Class
 classes_in_order =
     Add ∷ Sub ∷ And ∷ Or ∷ Xor ∷ Sll ∷ Srl ∷ Sra ∷ Slt ∷ Sltu ∷ Equal ∷ Mul ∷ High ∷ Div ∷ []
+
+-- tables 1 and 2 say what each answer of a mask rule is; of the answers of other books nothing but their soundness is
+-- known
+abbrev pub IsDeciding : ℕ → Type 0
+IsDeciding table = (table ≡ 1) ⊎ (table ≡ 2)

@@ -2,7 +2,7 @@
 
 ghost use Rattle.std.specs.Prelude.{◌≡◌, ◌≢◌, ◌%◌, None, IfSome, IsTrue};
 ghost use Rattle.rv32im_decode.specs.Operations.{target_of, word_of};
-ghost use Rattle.transfer_rules.specs.Classes.{instruction_class, has_address};
+ghost use Rattle.transfer_rules.specs.Classes.{instruction_class, takes_address};
 ghost use Rattle.transfer_rules.specs.Operations.{computed};
 ghost use Rattle.transfer_rules.specs.Soundness.{IsEvenForTarget, IsSoundAddress, IsSoundSum, KeepsMask};
 ghost use Rattle.transfer_rules.specs.Tables.{IsByTable, mask_of_address, mask_of_target, sum_operands};
@@ -30,7 +30,7 @@ pub fn mask_of(book: &RuleBook, instr: &Instr, operands: Operands) -> u32
 /// The mask of the address that a load, a store or JALR computes from the first operand and its mask, by the book's
 /// rule of sums (RISC-V Unprivileged ISA, "Load and Store Instructions" and "Unconditional Jumps").
 pub fn address_mask(book: &RuleBook, instr: &Instr, first: u32, mask: u32) -> u32
-    requires { IsTrue (has_address instr.now) }
+    requires { IsTrue (takes_address instr.now) }
     ensures sound { IsSoundAddress instr.now first mask result }
     ensures table { IsByTable book.now.table (mask_of_address instr.now first mask) result }
     ensures even { IsEvenForTarget instr.now result }

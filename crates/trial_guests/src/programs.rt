@@ -1,7 +1,7 @@
 ghost use Rattle.std.specs.Prelude.{◌≡◌, ◌≤◌, ◌<◌, ◌++◌, ◌-◌, ◌^◌, ℕ, pos, length, IfOk, OnOk};
 ghost use Rattle.std.specs.Int.{to_le_bytes, w32};
 ghost use Rattle.std.specs.List.{AllByRecursion};
-ghost use Rattle.elf32_loader.specs.Images.{picture_of};
+ghost use Rattle.elf32_loader.specs.Images.{image_picture};
 ghost use Rattle.rv32im_decode.specs.Encoding.{InRange, encoded};
 ghost use Rattle.trial_guests.specs.Programs.{closing, code_of, masking, maskings, one_segment, opening, program_of};
 ghost use Rattle.trial_guests.specs.Programs.{width_of as width_of_of};
@@ -184,7 +184,7 @@ fn code(alloc: Global, number: u32) -> Result<Bytes, NoMemory>
 /// The program of a number: one segment at 0x00010000, which is its base and its entry. Its error is lack of memory; it
 /// is answered too where the code is empty or has more than 1 MiB, which of no number is so.
 pub fn image(alloc: Global, number: u32) -> Result<Image, NoMemory>
-    ensures { IfOk result (λ image. picture_of image ≡ one_segment (code_of (program_of number))) }
+    ensures { IfOk result (λ image. image_picture image ≡ one_segment (code_of (program_of number))) }
 {
     let bytes = code(alloc, number)?;
     if bytes.len() == 0 || bytes.len() > 1_048_576 {

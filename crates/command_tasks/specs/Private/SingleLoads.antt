@@ -10,10 +10,10 @@ use Rattle.command_tasks.specs.Loading.{Want, load_refusal}
 use Rattle.command_tasks.specs.Names.{shown}
 
 -- the refusal of a name whose load was answered by a fault; Memory is free
-abbrev pub Refuses : List ℕ → LoadFault → Refusal → Type 0
-Refuses name faults.Failed refusal = refusal ≢ Memory → refusal ≡ Load (shown name)
-Refuses name (faults.TooLarge number) refusal = refusal ≢ Memory → refusal ≡ TooLarge (shown name) number
-Refuses name faults.Memory refusal = refusal ≡ Memory
+abbrev pub RefusesLoad : List ℕ → LoadFault → Refusal → Type 0
+RefusesLoad name faults.Failed refusal = refusal ≢ Memory → refusal ≡ Load (shown name)
+RefusesLoad name (faults.TooLarge number) refusal = refusal ≢ Memory → refusal ≡ TooLarge (shown name) number
+RefusesLoad name faults.Memory refusal = refusal ≡ Memory
 
 abbrev pub or_refusal : List ℕ → Result (List ℕ) LoadFault → Result (List ℕ) Refusal
 or_refusal name (Ok file) = Ok file

@@ -14,12 +14,13 @@ use Rattle.cut_file.specs.declared.faults.CutFault.{CutFault}
 use Rattle.cut_file.specs.declared.faults.CutFault.TheVariants as faults
 use Rattle.cut_file.specs.declared.lines.Line.{Line}
 use Rattle.cut_file.specs.declared.lines.Line.TheVariants as forms
-use Rattle.cut_file.specs.Cuts.{CutPicture, have_other_masks, is_empty, is_region, is_version, is_word, stands_before}
+use Rattle.cut_file.specs.Cuts.{CutPicture, have_other_masks, is_empty, is_version, is_word, stands_before}
 use Rattle.cut_file.specs.Fronts.{Front, followed, version_of}
 use Rattle.cut_file.specs.Fronts.Front.{Nothing, Versioned, Sized, Listed, Whole}
 use Rattle.flow_base.specs.HexWords.{digit_of, hex_word}
 use Rattle.flow_base.specs.TextPieces.{after_text}
-use Rattle.cut_file.specs.Texts.{joined}
+use Rattle.cut_file.specs.Texts.{separated}
+use Rattle.flow_base.specs.Points.{is_region_number}
 
 -- ---- parts
 
@@ -228,7 +229,7 @@ number_line_in text =
     or_else (option_map forms.Version (tested_number (codes "flowcheck-cut ") is_version text))
     (or_else (option_map forms.Secret (tested_number (codes "secret ") is_short text))
     (or_else (option_map forms.Bits (tested_number (codes "bits ") is_word text))
-    (option_map forms.Skip (tested_number (codes "skip ") is_region text))))
+    (option_map forms.Skip (tested_number (codes "skip ") is_region_number text))))
 
 abbrev pub end_in : List ℕ → Option Line
 end_in text = if bytes_eq text (codes "end") then Some forms.End else None
@@ -300,4 +301,4 @@ whole_cut size cut (byte ∷ bytes) = Err (faults.Trailing (size - length (byte 
 unfoldable pub cut_in : List ℕ → Result CutPicture CutFault
 cut_in file =
     lines_in 1 Nothing (parts 10 file) >> λ whole.
-    whole_cut (length file) whole.0 (joined 10 whole.1)
+    whole_cut (length file) whole.0 (separated 10 whole.1)

@@ -31,7 +31,7 @@ HoldsTurn masks (Meets why) outside state tape = (tape.unclear ≡ Some why) × 
 HoldsTurn masks (Halts range) outside state tape = (tape.unclear ≡ None) × (outside ≡ Some range)
 
 -- what comes of a turn that is fed the string as it is afterwards
-pub record Makes (masks : Masks) (asker : Asker Reached) (before : Stream) (outside : Option Outside) (state : State)
+pub record MakesFed (masks : Masks) (asker : Asker Reached) (before : Stream) (outside : Option Outside) (state : State)
     (after : Tape) : Type 0 where
   pub reached : Reached
   pub feeds : feed asker (drop before.taken after.stream.bits) ≡ Fed' reached (left_of after.stream)

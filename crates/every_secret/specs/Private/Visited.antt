@@ -6,7 +6,7 @@ use Rattle.rv32im_machine.specs.declared.language.Passing.{Passing}
 use Rattle.run_labels.specs.TurnLabels.{TurnLabels}
 use Rattle.masked_turns.specs.Clearing.{Cutting}
 use Rattle.masked_turns.specs.Deciding.{left_at}
-use Rattle.every_secret.specs.Masked.{why_left}
+use Rattle.every_secret.specs.Masked.{unclear_by_left}
 use Rattle.every_secret.specs.Rules.{Rules}
 use Rattle.every_secret.specs.Shown.{asked_for, shown_at}
 use Rattle.every_secret.specs.Private.Tapes.{Tape, Takes, knowledge_of}
@@ -24,4 +24,4 @@ pub record IsVisited (rules : Rules) (cutting : Cutting) (past : List Point) (ol
       (take (asked_for (shown_at passing.point.slot) (differing_at rules cutting (knowledge_of past old before) passing))
       (drop before.stream.taken after.stream.bits))
   pub unclear : after.unclear
-      ≡ why_left (left_at passing.aim passing.point (left_of_mask rules cutting (knowledge_of past old before) passing))
+      ≡ unclear_by_left (left_at passing.aim passing.point (left_of_mask rules cutting (knowledge_of past old before) passing))

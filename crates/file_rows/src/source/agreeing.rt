@@ -1,6 +1,6 @@
 ghost use Rattle.std.specs.Prelude.{◌≡◌, ◌<◌, ◌^◌, ◌↔◌, IfSome, IsTrue, length};
 ghost use Rattle.file_rows.specs.Words.{IsAssembledTo, IsListed, IsRefused, has_bytes as shows};
-ghost use Rattle.elf32_loader.specs.Images.{picture_of};
+ghost use Rattle.elf32_loader.specs.Images.{image_picture};
 
 use elf32_loader::Image;
 use rv32im_asm::{AsmFault, assemble, list};
@@ -11,7 +11,7 @@ const START: u32 = 0x1_0000;
 
 /// Whether an image is one segment of these bytes at the start, which is its base and its entry.
 fn has_bytes(image: &Image, bytes: &[u8]) -> bool
-    ensures { result ≡ shows (picture_of image.now) bytes.now }
+    ensures { result ≡ shows (image_picture image.now) bytes.now }
 {
     match image.segments.as_slice() {
         [segment] => {

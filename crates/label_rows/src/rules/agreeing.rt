@@ -1,5 +1,5 @@
 ghost use Rattle.std.specs.Prelude.{◌≡◌, ◌≢◌, None, IsTrue};
-ghost use Rattle.transfer_rules.specs.Classes.{has_address as has_address_of};
+ghost use Rattle.transfer_rules.specs.Classes.{takes_address};
 ghost use Rattle.transfer_rules.specs.Tables.{IsByTable};
 ghost use Rattle.label_rows.specs.Rows.{agreement, is_wanted as is_wanted_of, table_mask as table_mask_of};
 
@@ -8,7 +8,7 @@ use transfer_rules::{Operands, RuleBook, address_mask, class_of, mask_of};
 
 /// Whether an instruction computes an address.
 fn has_address(instr: &Instr) -> bool
-    ensures { result ≡ has_address_of instr.now }
+    ensures { result ≡ takes_address instr.now }
 {
     match instr {
         Instr::Load { .. } | Instr::Store { .. } | Instr::Jalr { .. } => true,

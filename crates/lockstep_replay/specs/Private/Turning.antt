@@ -23,15 +23,16 @@ use Rattle.region_machine.specs.declared.real_turns.RealTurn.{RealTurn}
 use Rattle.lockstep_replay.specs.declared.rounds.Round.{Round}
 use Rattle.lockstep_replay.specs.declared.verdicts.Why.{Why}
 use Rattle.lockstep_replay.specs.Crossing.{crossing_unless}
-use Rattle.lockstep_replay.specs.Differences.{byte_difference, status_difference, first_of}
+use Rattle.lockstep_replay.specs.Differences.{byte_difference, status_difference}
 use Rattle.lockstep_replay.specs.Sides.{tally_of}
 use Rattle.lockstep_replay.specs.Tapes.{Tallies}
 use Rattle.lockstep_replay.specs.Verdicts.{why_marks, why_broken, why_mode, why_common, why_replay}
+use Rattle.std.specs.Option.{option_or}
 
 -- ---- the real run
 
 -- a turn of this kind has come to this state, and has left the real side so
-pub record Makes (enclosures : Enclosures) (kind : Kind) (before : State) (tally : Tallying) (reached : State)
+pub record MakesReal (enclosures : Enclosures) (kind : Kind) (before : State) (tally : Tallying) (reached : State)
     (after : Tallying) (turn : RealTurn) : Type 0 where
   pub state : reached ≡ real_end (kind_walk kind before)
   pub enclosed : turn.enclosed ≡ is_enclosed_kind enclosures kind
@@ -64,7 +65,7 @@ Ends None enclosed mode = enclosed ≡ false → (status : ℕ) → mode ≡ Exi
 abbrev pub why_compared : State → ℕ → Standing → Stepped → Option Why
 why_compared real needed standing mode =
     why_marks (mark_of real needed) (mark_of standing.state standing.taken)
-    (first_of (byte_difference 0 real.control.output standing.state.control.output)
+    (option_or (byte_difference 0 real.control.output standing.state.control.output)
     (status_difference (length real.control.output) real.control.mode mode))
 
 -- where nothing fails, the replay has used the bits up, and stands where it has come to

@@ -1,9 +1,9 @@
 ghost use Rattle.std.specs.Prelude.{◌≡◌, ◌<◌, ◌^◌, [], length, IfSome};
 ghost use Rattle.lockstep_replay.specs.Judgements.{judgement_of};
-ghost use Rattle.cut_file.specs.Pictures.{picture_of as cut_of};
+ghost use Rattle.cut_file.specs.Pictures.{cut_picture};
 ghost use Rattle.lockstep_replay.specs.Tasks.{task_of};
 ghost use Rattle.lockstep_replay.specs.Verdicts.{First};
-ghost use Rattle.elf32_loader.specs.Images.{picture_of};
+ghost use Rattle.elf32_loader.specs.Images.{image_picture};
 ghost use Rattle.machine_rows.specs.Accepted.{IsAccepted, IsJudgement, limits};
 
 use cut_file::{Cut, read_cut};
@@ -71,7 +71,7 @@ fn judge(
 ) -> Option<Verdict>
     requires short { length secret.now < 2 ^ 32 }
     ensures { IfSome result (λ verdict. judgement_of verdict ≡ First
-        (task_of (picture_of image.now) public_input.now [] (cut_of cut.now)) limits secret.now) }
+        (task_of (image_picture image.now) public_input.now [] (cut_picture cut.now)) limits secret.now) }
 {
     let regions = Regions::none(alloc);
     let Ok(lockstep) = Lockstep::new(

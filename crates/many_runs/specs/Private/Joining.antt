@@ -9,13 +9,13 @@ use Rattle.flow_graph.specs.declared.named_links.NamedEnd.TheVariants.{Source, A
 use Rattle.flow_graph.specs.declared.named_links.NamedLink.{NamedLink}
 use Rattle.measuring.specs.declared.recordings.Recording.{Recording}
 use Rattle.measuring.specs.Visits.{all_masks}
-use Rattle.many_runs.specs.Uniting.{joined}
+use Rattle.many_runs.specs.Uniting.{united_masks}
 
 -- the masks of a point in all recordings, visit by visit
 unfoldable pub recorded_masks : Point → List Recording → List ℕ
 recorded_masks point [] = []
 recorded_masks point (recording ∷ recordings) =
-    joined (all_masks recording.visits point) (recorded_masks point recordings)
+    united_masks (all_masks recording.visits point) (recorded_masks point recordings)
 
 -- the visits of a point with these masks
 unfoldable pub passes : Point → List ℕ → List Event

@@ -1,6 +1,6 @@
 -- What a look over a flow finds.
 use Rattle.std.specs.Prelude.{◌≡◌, ℕ, ◌≤◌, ◌<◌, ◌==◌, cond, List, length, slice_index}
-use Rattle.max_flow.specs.Networks.{Net, IsFlow, AreAtMost, sum_below, value_of}
+use Rattle.max_flow.specs.Networks.{Net, IsFlow, AreAtMost, sum_below, source_flow}
 use Rattle.max_flow.specs.Private.Rooms.{IsBounded}
 
 -- the sum of those of the first n numbers whose key is this node
@@ -19,5 +19,5 @@ pub record AreBalanced (into out : List ℕ) : Type 0 where
 pub record IsFlowOfValue (net : Net) (flow : List ℕ) (value : ℕ) : Type 0 where
   pub flow_is : IsFlow net flow
   pub bounded : IsBounded net flow
-  pub value_is : value_of net flow ≡ value
+  pub value_is : source_flow net flow ≡ value
   pub most : AreAtMost value flow

@@ -2,7 +2,7 @@
 use Rattle.std.specs.Prelude.{◌≡◌, ℕ, ◌^◌, ◌<◌, List, length, slice_index}
 use Rattle.max_flow.specs.declared.networks.Network.{Network}
 use Rattle.max_flow.specs.declared.searching.Tree.{Tree}
-use Rattle.max_flow.specs.Networks.{Net, IsNet, IsFlow, value_of, AreAtMost}
+use Rattle.max_flow.specs.Networks.{Net, IsNet, IsFlow, source_flow, AreAtMost}
 use Rattle.max_flow.specs.Private.Adjacency.{AreChains}
 use Rattle.max_flow.specs.Private.Balances.{IsFlowOfValue}
 use Rattle.max_flow.specs.Private.Searching.{IsFound, is_found}
@@ -37,7 +37,7 @@ pub record IsSearched (net : Net) (flow : List ℕ) (value : ℕ) (tree : Tree) 
 -- a flow of this value, and a search over it that does not find the sink
 pub record IsRaised (net : Net) (flow : List ℕ) (value : ℕ) (tree : Tree) : Type 0 where
   pub flow_is : IsFlow net flow
-  pub value_is : value_of net flow ≡ value
+  pub value_is : source_flow net flow ≡ value
   pub most : AreAtMost value flow
   pub tree_is : IsTree net flow tree
   pub sink : slice_index tree.places.items 1 ≡ 0

@@ -18,7 +18,7 @@ use Rattle.lockstep_replay.specs.Sides.{tally_of}
 use Rattle.lockstep_replay.specs.Tapes.{Tally, Tallies}
 use Rattle.masked_turns.specs.declared.uses.LeftBits.{LeftBits}
 use Rattle.masked_turns.specs.declared.uses.SecretLook.{SecretLook}
-use Rattle.masked_turns.specs.Answers.{AreAnswers, EachCleared}
+use Rattle.masked_turns.specs.Answers.{AreWalkAnswers, EachCleared}
 use Rattle.masked_turns.specs.Clearing.{Cutting, cleared_in}
 use Rattle.masked_turns.specs.Deciding.{first_left, left_in}
 use Rattle.masked_turns.specs.Looking.{first_look, looked_in}
@@ -41,7 +41,7 @@ tape_of table shades tally look left =
 pub record EndsCleared (region : ℕ) (cutting : Cutting) (past : List Point) (labels : TurnLabels) (before : Tape)
     (walk : Walk) (state : State) (after : Tape) : Type 0 where
   pub answers : List ℕ
-  pub are_answers : AreAnswers before.table cutting past labels answers walk
+  pub are_answers : AreWalkAnswers before.table cutting past labels answers walk
   pub table : after.table ≡ before.table
   pub ends : state ≡ real_end walk
   pub base : after.shades.base ≡ before.shades.base

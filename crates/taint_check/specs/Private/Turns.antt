@@ -9,7 +9,7 @@ use Rattle.lockstep_replay.specs.Crossing.{crossing_of}
 use Rattle.lockstep_replay.specs.Tasks.{Task, Limits, real_start}
 use Rattle.taint_check.specs.declared.whys.TaintWhy.{TaintWhy}
 use Rattle.taint_check.specs.Cleared.{MaskedRun, AnswersUnless, is_hidden, kind_at, next_masked, unmasked}
-use Rattle.taint_check.specs.Reasons.{why_turned}
+use Rattle.taint_check.specs.Reasons.{unclear_turned}
 use Rattle.taint_check.specs.Private.Tapes.{Tape}
 
 -- between two turns nothing is found, the masks are those of the machine's memory, and the machine can leave its region
@@ -44,10 +44,10 @@ crossed_after task run cross = cross ++ crossing_of task.enclosures task.masks r
 
 -- the turn is made by such answers and is unclear for this reason, if it is; where it is not, machine and masks stand
 -- where the run has come to
-pub record Makes (table : ℕ) (task : Task) (limits : Limits) (run : MaskedRun) (cross : List Bool) (machine : State)
+pub record MakesMasked (table : ℕ) (task : Task) (limits : Limits) (run : MaskedRun) (cross : List Bool) (machine : State)
     (tape : Tape) (why : Option TaintWhy) : Type 0 where
   pub answers : List ℕ
   pub are_answers : AnswersUnless (is_hidden task.enclosures (kind_at task run)) table task answers run
-  pub why_is : why ≡ why_turned task limits (length (crossed_after task run cross)) answers run
+  pub why_is : why ≡ unclear_turned task limits (length (crossed_after task run cross)) answers run
   pub state : machine ≡ (next_masked task answers run).place.state
   pub next : why ≡ None → Stands task limits (next_masked task answers run) (crossed_after task run cross) machine tape

@@ -2,7 +2,7 @@
 use Rattle.std.specs.Prelude.{◌≡◌, ℕ, List, Option, Some, None}
 use Rattle.flow_graph.specs.declared.events.Event.{Event}
 use Rattle.rv32im_machine.specs.declared.language.Passing.{Passing}
-use Rattle.run_labels.specs.Answers.{Holds, IsSoundAnswer, IsTableAnswer}
+use Rattle.run_labels.specs.Answers.{HoldsOfAnswer, IsSoundAnswer, IsTableAnswer}
 use Rattle.run_labels.specs.Flowing.{passing_events}
 use Rattle.run_labels.specs.Masks.{labels_after, mask_of, masks_of}
 use Rattle.run_labels.specs.TurnLabels.{TurnLabels}
@@ -10,8 +10,8 @@ use Rattle.tracked_run.specs.Linking.{Appends}
 
 -- a sound answer of the table
 pub record IsAnswer (table : ℕ) (labels : TurnLabels) (passing : Passing) (answer : ℕ) : Type 0 where
-  pub sound : Holds IsSoundAnswer passing.work (masks_of labels passing.sources) answer
-  pub by_table : Holds (IsTableAnswer table) passing.work (masks_of labels passing.sources) answer
+  pub sound : HoldsOfAnswer IsSoundAnswer passing.work (masks_of labels passing.sources) answer
+  pub by_table : HoldsOfAnswer (IsTableAnswer table) passing.work (masks_of labels passing.sources) answer
 
 -- a mask is that of the passing by such an answer
 pub record IsMask (table : ℕ) (labels : TurnLabels) (passing : Passing) (mask : ℕ) : Type 0 where

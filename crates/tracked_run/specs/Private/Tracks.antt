@@ -12,10 +12,11 @@ use Rattle.shadow_masks.specs.Shades.{Shades}
 use Rattle.run_labels.specs.declared.faults.MeasureFault.{MeasureFault}
 use Rattle.run_labels.specs.Answers.{EachAnswer, IsSoundAnswer, IsTableAnswer}
 use Rattle.run_labels.specs.Flowing.{labels_in, events_in}
-use Rattle.run_labels.specs.Looking.{first_fault, secret_look}
+use Rattle.run_labels.specs.Looking.{secret_look}
 use Rattle.run_labels.specs.TurnLabels.{TurnLabels}
 use Rattle.tracked_run.specs.Labels.{map_of}
 use Rattle.tracked_run.specs.Linking.{Appends}
+use Rattle.std.specs.Option.{option_or}
 
 -- what a turn leaves: the labels, the receiver of events, the first look at what may depend on the secret, and the names
 -- of the references by which the shadow and the receiver are lent
@@ -36,7 +37,7 @@ pub record EndsTracked {E : Type 0} (stands : E → List Event → Type 0) (tabl
   pub ends : state ≡ real_end walk
   pub base : after.shades.base ≡ before.shades.base
   pub labelled : map_of after.shades ≡ labels_in labels answers walk
-  pub refused : after.refused ≡ first_fault before.refused (secret_look region labels answers walk)
+  pub refused : after.refused ≡ option_or before.refused (secret_look region labels answers walk)
   pub added : Appends (stands before.events) (stands after.events) (events_in labels answers walk)
   pub shadow_lent : after.shadow_lent ≡ before.shadow_lent
   pub events_lent : after.events_lent ≡ before.events_lent
@@ -48,7 +49,7 @@ Tracks stands table region labels before walk (Finished state after) =
     EndsTracked stands table region labels before walk state after
 Tracks stands table region labels before walk (Halted stop) = Unit {0}
 
-none-more : (fault : Option MeasureFault) → fault ≡ first_fault fault None
+none-more : (fault : Option MeasureFault) → fault ≡ option_or fault None
 none-more None = refl
 none-more (Some fault) = refl
 

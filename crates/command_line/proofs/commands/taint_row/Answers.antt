@@ -1,6 +1,6 @@
 use Rattle.std.proofs.Common.{◌∷◌, rules, codes, refl, subst, map}
 use Rattle.command_line.specs.CommandLines.{IsCheck, IsChoice, check_options}
-use Rattle.command_line.specs.Parts.{value_of}
+use Rattle.command_line.specs.Parts.{option_value}
 use Rattle.command_line.specs.Words.{check_of, named_in, parts_in}
 use Rattle.command_line.specs.declared.judgings.Judging.TheVariants.{Masks}
 use Rattle.command_line.proofs.OneCommand.{same_choice}
@@ -8,7 +8,7 @@ use Rattle.command_line.proofs.commands.taint_row.Goals as goal
 
 pub returns-in_default-2-clause-none : goal.returns-in_default-2-clause-none
 returns-in_default-2-clause-none c = λ e. λ command. λ (table, check, is, choice, same).
-    let value = value_of (codes "--rules") (map named_in c.args.parts.now.options) in
+    let value = option_value (codes "--rules") (map named_in c.args.parts.now.options) in
     let found : IsChoice value c.in-Some.table = rw c.in-Some.is at c.in_ok-table.ensures.is in
     c.in_ok-check.ensures.none (search rules) check
     (subst (λ n. IsCheck (codes "--rules" ∷ check_options) (Masks n) (parts_in c.args.parts.now) check)

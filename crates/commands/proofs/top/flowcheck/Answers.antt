@@ -1,5 +1,5 @@
 use Rattle.std.proofs.Common.{◌≡◌, ap, arith, map, string_bytes}
-use Rattle.command_tasks.specs.Statuses.{number_of}
+use Rattle.command_tasks.specs.Statuses.{status_number}
 use Rattle.commands.specs.Replies.{reply_of}
 use Rattle.commands.proofs.WholeReplies.{faults_put, is_reply, put_part, put_whole}
 use Rattle.commands.proofs.top.flowcheck.Goals as goal
@@ -19,8 +19,8 @@ returns-in-Ok-put-clause-memory g c = λ eight.
     let answers = rw c.as_slice.ensures.value at c.answer.ensures.answers c.in-Ok.ensures.0 in
     let reply = is_reply (g.F.Files.told c.args.files.now) (map string_bytes c.args.words.items) c.answer.result answers in
     let low = reply.low in
-    let same : number_of c.in-Ok.reply.status ≡ (reply_of c.answer.result).status =
-    ap (λ r. number_of r.status) c.in-Ok.ensures.1 in
+    let same : status_number c.in-Ok.reply.status ≡ (reply_of c.answer.result).status =
+    ap (λ r. status_number r.status) c.in-Ok.ensures.1 in
     let number = c.number-in-Ok-put.ensures in
     absurd (omega (arith, low, same, number, eight))
 

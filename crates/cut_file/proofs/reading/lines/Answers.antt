@@ -1,7 +1,7 @@
 use Rattle.std.proofs.Common.{◌≡◌, false, sym, ap, ◌∙◌, arith}
 use Rattle.std.proofs.lemmas.Result.{err_from_is_err_and}
 use Rattle.cut_file.specs.Fronts.{is_whole}
-use Rattle.cut_file.specs.Pictures.{front_of, picture_of}
+use Rattle.cut_file.specs.Pictures.{front_of, cut_picture}
 use Rattle.cut_file.proofs.FileTexts.{fine}
 use Rattle.cut_file.proofs.LineDrafts.{cut-off, ends-here, fails-here, goes-on, not-whole}
 use Rattle.cut_file.proofs.reading.lines.Goals as goal
@@ -16,7 +16,7 @@ returns-in_err-longer-clause-err c =
 pub returns-in-Whole-clause-ok : goal.returns-in-Whole-clause-ok
 returns-in-Whole-clause-ok c =
     sym c.loop-text.invariant.same
-    ∙ ends-here c.loop-text.number (front_of c.loop-text.draft) (picture_of c.in-Whole.cut) c.loop-text.rest.now
+    ∙ ends-here c.loop-text.number (front_of c.loop-text.draft) (cut_picture c.in-Whole.cut) c.loop-text.rest.now
     c.in-Some.text.now c.in-Some.more.now (sym c.in-Some.ensures.halves)
     (c.in_ok-longer.ensures.ok ∙ ap (λ d. fine (front_of d)) c.in-Whole.is)
 

@@ -2,7 +2,7 @@ use Rattle.std.proofs.Common.{◌≡◌, List, ℕ, sym, ap, ◌++◌, ◌∙◌
 use Rattle.std.proofs.lemmas.Result.{on_ok_weaker}
 use Rattle.std.specs.Prelude.{map}
 use Rattle.flow_base.proofs.JoinedPieces.{joins}
-use Rattle.cut_file.specs.Pictures.{picture_of}
+use Rattle.cut_file.specs.Pictures.{cut_picture}
 use Rattle.cut_file.specs.Texts.{lines_text}
 use Rattle.cut_file.specs.declared.lines.Line.TheVariants.{Point, Skip}
 use Rattle.cut_file.specs.declared.points.CutPoint.{CutPoint}
@@ -24,4 +24,4 @@ returns c =
     c.as_slice-2.ensures in
     on_ok_weaker c.put.result (λ last.
     joins _ skips _ _ _ skipped (joins _ points _ _ _ crossed last)
-    ∙ ap (λ (l : List ℕ). text ++ l) (sym (later-pieces cut.version (picture_of cut)))) c.put.ensures.ok
+    ∙ ap (λ (l : List ℕ). text ++ l) (sym (later-pieces cut.version (cut_picture cut)))) c.put.ensures.ok

@@ -1,5 +1,5 @@
 use Rattle.std.proofs.Common.{List, ℕ, ◌++◌, ap, ◌∙◌}
-use Rattle.cut_file.specs.Pictures.{picture_of}
+use Rattle.cut_file.specs.Pictures.{cut_picture}
 use Rattle.cut_file.specs.Texts.{lines_text}
 use Rattle.cut_file.specs.Private.Writing.{later_lines}
 use Rattle.cut_file.proofs.Pieces.{cut-pieces}
@@ -8,7 +8,7 @@ use Rattle.cut_file.proofs.writing.write_cut.Goals as goal
 
 pub returns : goal.returns
 returns c =
-    let cut = picture_of c.args.cut.now in
+    let cut = cut_picture c.args.cut.now in
     record {
       valid = cut-valid c.args.cut.now;
       text =

@@ -1,8 +1,8 @@
 use Rattle.std.proofs.Common.{◌≡◌, true, refl, sym, ap, ap₂, ◌∙◌, subst, drop}
 use Rattle.crossing_bits.specs.Askers.{Fed', feed}
 use Rattle.crossing_bits.specs.Streams.{Stream, left_of}
-use Rattle.cut_file.specs.Pictures.{picture_of as cut_picture}
-use Rattle.elf32_loader.specs.Images.{picture_of}
+use Rattle.cut_file.specs.Pictures.{cut_picture}
+use Rattle.elf32_loader.specs.Images.{image_picture}
 use Rattle.lockstep_replay.specs.Tasks.{Limits, Task, replay_start, task_of}
 use Rattle.region_machine.specs.Within.{may_leave}
 use Rattle.rv32im_machine.specs.Start.{start}
@@ -33,14 +33,14 @@ returns-clause-end g c = λ rules answers untaken zeros_are.
     let side = c.in_ok-side.side in
     let new = c.walk_path.new.side in
     let machine = c.in_ok-machine.machine in
-    let task : Task = task_of (picture_of walks.image.now) walks.public.now walks.marked.now.regions.items
+    let task : Task = task_of (image_picture walks.image.now) walks.public.now walks.marked.now.regions.items
     (cut_picture walks.cut.now) in
     let limits : Limits = record { budget = walks.budget; turns = walks.turns } in
     let before = tape_of side.book.now.table side.shadow side.masks side.bits side.crossed side.byte_masks.items
     side.status_mask side.unclear in
     let start_is : (replay_start task).state ≡ machine =
     sym (c.in_ok-machine.ensures.start
-    ∙ ap (λ zeros. start (picture_of walks.image.now) walks.public.now zeros 1048576) zeros_are) in
+    ∙ ap (λ zeros. start (image_picture walks.image.now) walks.public.now zeros 1048576) zeros_are) in
     let holds : HoldsPlace task.masks (unmasked (replay_start task)) machine before = record {
       state_is = start_is;
       labels = c.in_ok-side.ensures.masks;

@@ -1,6 +1,6 @@
 use Rattle.std.proofs.Common.{◌∙◌, subst}
-use Rattle.cut_file.specs.Pictures.{picture_of as cut_picture}
-use Rattle.elf32_loader.specs.Images.{picture_of}
+use Rattle.cut_file.specs.Pictures.{cut_picture}
+use Rattle.elf32_loader.specs.Images.{image_picture}
 use Rattle.lockstep_replay.specs.Tasks.{task_of}
 use Rattle.every_secret.specs.Bounds.{judged}
 use Rattle.every_secret.specs.Private.Finding.{found_by}
@@ -14,7 +14,7 @@ use Rattle.every_secret.proofs.bounding.next_path.Goals as goal
 pub returns-in-Unclear-clause-steps : goal.returns-in-Unclear-clause-steps
 returns-in-Unclear-clause-steps g c = λ rules answers untaken zeros_are opens.
     let walks = c.args.walks in
-    let asker = MaskedReplay rules (task_of (picture_of walks.image.now) walks.public.now walks.marked.now.regions.items
+    let asker = MaskedReplay rules (task_of (image_picture walks.image.now) walks.public.now walks.marked.now.regions.items
     (cut_picture walks.cut.now)) (record { budget = walks.budget; turns = walks.turns }) in
     let path = c.in_ok-walked.walked in
     let walked = is-walked c.args.limit (found_by c.args.found) asker c.args.bits path.bits path.end
@@ -27,7 +27,7 @@ returns-in-Unclear-clause-steps g c = λ rules answers untaken zeros_are opens.
 pub returns-in_ok-step-in-Found-clause-steps : goal.returns-in_ok-step-in-Found-clause-steps
 returns-in_ok-step-in-Found-clause-steps g c = λ rules answers untaken zeros_are opens.
     let walks = c.args.walks in
-    let asker = MaskedReplay rules (task_of (picture_of walks.image.now) walks.public.now walks.marked.now.regions.items
+    let asker = MaskedReplay rules (task_of (image_picture walks.image.now) walks.public.now walks.marked.now.regions.items
     (cut_picture walks.cut.now)) (record { budget = walks.budget; turns = walks.turns }) in
     let path = c.in_ok-walked.walked in
     let walked = is-walked c.args.limit (found_by c.args.found) asker c.args.bits path.bits path.end

@@ -1,6 +1,6 @@
 use Rattle.std.proofs.Common.{ap, arith}
-use Rattle.cut_file.specs.Pictures.{picture_of as cut_picture}
-use Rattle.elf32_loader.specs.Images.{picture_of}
+use Rattle.cut_file.specs.Pictures.{cut_picture}
+use Rattle.elf32_loader.specs.Images.{image_picture}
 use Rattle.lockstep_replay.specs.Tasks.{task_of}
 use Rattle.every_secret.specs.Bounds.{Found}
 use Rattle.every_secret.specs.Private.Finding.{found_by}
@@ -18,7 +18,7 @@ loop-init g c =
       stopped = omega (arith, paths, stopped);
       taken = c.in_ok-bits.ensures.untaken;
       on = λ rules answers zeros_are.
-          begins-all c.args.limit (MaskedReplay rules (task_of (picture_of walks.image.now) walks.public.now
+          begins-all c.args.limit (MaskedReplay rules (task_of (image_picture walks.image.now) walks.public.now
           walks.marked.now.regions.items (cut_picture walks.cut.now))
           (record { budget = walks.budget; turns = walks.turns })) (found_by c.nothing-found.result) c.in_ok-bits.bits.bits
           c.nothing-found.ensures c.in_ok-bits.ensures.empty;

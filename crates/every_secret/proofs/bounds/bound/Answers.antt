@@ -1,8 +1,8 @@
 use Rattle.std.proofs.Common.{◌≡◌, ◌<◌, ℕ, List, true, arith, rules, sym}
-use Rattle.cut_file.specs.Cuts.{CutPicture, is_valid as is_valid_cut}
-use Rattle.cut_file.specs.Pictures.{picture_of as cut_picture}
+use Rattle.cut_file.specs.Cuts.{CutPicture, is_cut_picture}
+use Rattle.cut_file.specs.Pictures.{cut_picture}
 use Rattle.acceptance_law.specs.MeasuredLaws.{AreInputs}
-use Rattle.elf32_loader.specs.Images.{picture_of}
+use Rattle.elf32_loader.specs.Images.{image_picture}
 use Rattle.elf32_loader.specs.Pictures.{Picture}
 use Rattle.enclosure_regions.specs.declared.region_parts.Region.{Region}
 use Rattle.lockstep_replay.specs.Tasks.{Limits, task_of}
@@ -15,7 +15,7 @@ use Rattle.every_secret.proofs.bounds.bound.Goals as goal
 
 tells : (by : Rules) (program : Picture) (public_input : List ℕ) (regions : List Region) (secret : List ℕ)
     (cut : CutPicture) (limits : Limits) (paths : ℕ) (answer : Answer) → AreSoundRules by →
-    AreInputs program public_input regions secret → is_valid_cut cut ≡ true → limits.budget < 4294967295 →
+    AreInputs program public_input regions secret → is_cut_picture cut ≡ true → limits.budget < 4294967295 →
     Bounds by (task_of program public_input regions cut) limits paths ≡ answer →
     TellsAll (task_of program public_input regions cut) limits answer
 tells by program public_input regions secret cut limits paths (IsBounded found) sound inputs valid small is =
@@ -31,8 +31,8 @@ tells by program public_input regions secret cut limits paths (IsUnclear bits wh
 pub returns-clause-all : goal.returns-clause-all
 returns-clause-all g c = λ by answers sound.
     let answer : Answer = answer_of c.in_ok-verdict.verdict in
-    let is : answer ≡ Bounds by (task_of (picture_of c.args.image.now) c.args.public.now c.args.regions.now.items
+    let is : answer ≡ Bounds by (task_of (image_picture c.args.image.now) c.args.public.now c.args.regions.now.items
     (cut_picture c.args.cut.now)) (record { budget = c.args.budget; turns = c.args.turns }) c.args.paths = search rules in
-    tells by (picture_of c.args.image.now) c.args.public.now c.args.regions.now.items _ (cut_picture c.args.cut.now)
+    tells by (image_picture c.args.image.now) c.args.public.now c.args.regions.now.items _ (cut_picture c.args.cut.now)
     (record { budget = c.args.budget; turns = c.args.turns }) c.args.paths answer sound c.tell_inputs.ensures
     c.tell_cut.ensures c.requires.budget (sym is)

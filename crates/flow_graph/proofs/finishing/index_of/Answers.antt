@@ -1,11 +1,11 @@
 use Rattle.std.proofs.Common.{sym}
-use Rattle.flow_graph.specs.EventGraphs.{no_point}
 use Rattle.flow_graph.proofs.Indices.{found-index, apart-index, rises}
+use Rattle.flow_base.specs.Points.{nowhere}
 use Rattle.flow_graph.proofs.finishing.index_of.Goals as goal
 
 pub returns-in-Ok : goal.returns-in-Ok
-returns-in-Ok c = sym (found-index c.args.names.now c.args.point.now c.in-Ok.index no_point c.requires.sorted
-    c.in-Ok.ensures.bound (c.in-Ok.ensures.ok no_point))
+returns-in-Ok c = sym (found-index c.args.names.now c.args.point.now c.in-Ok.index nowhere c.requires.sorted
+    c.in-Ok.ensures.bound (c.in-Ok.ensures.ok nowhere))
 
 pub returns-in-Err : goal.returns-in-Err
 returns-in-Err c = sym (apart-index c.args.names.now c.args.point.now c.in-Err.field-0

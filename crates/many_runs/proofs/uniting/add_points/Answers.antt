@@ -1,9 +1,9 @@
 use Rattle.std.proofs.Common.{subst, ap, ◌∙◌, ◌++◌, get_or}
-use Rattle.flow_graph.specs.EventGraphs.{no_point}
 use Rattle.measuring.specs.Recordings.{Records}
 use Rattle.measuring.specs.VisitRuns.{run_masks}
 use Rattle.many_runs.specs.Private.Joining.{passes}
 use Rattle.many_runs.proofs.FedEvents.{points-end, points-open, reach-end, reach-start, reach-step}
+use Rattle.flow_base.specs.Points.{nowhere}
 use Rattle.many_runs.proofs.uniting.add_points.Goals as goal
 
 pub loop-rest-init : goal.loop-rest-init
@@ -12,9 +12,9 @@ loop-rest-init c = λ events records. reach-start _ events _ records
 pub loop-rest-preserved : goal.loop-rest-preserved
 loop-rest-preserved c =
     λ events records. reach-step _ _ _ _ _ _
-    (points-open c.args.recordings.now c.loop-rest.rest.now no_point c.in-len1-up.len_at_least)
+    (points-open c.args.recordings.now c.loop-rest.rest.now nowhere c.in-len1-up.len_at_least)
     (c.loop-rest.invariant events records)
-    (λ es before. subst (λ masks. Records c.add_runs.new.union (es ++ passes (get_or c.loop-rest.rest.now 0 no_point) masks))
+    (λ es before. subst (λ masks. Records c.add_runs.new.union (es ++ passes (get_or c.loop-rest.rest.now 0 nowhere) masks))
     (ap run_masks c.as_slice.ensures ∙ c.in_ok-runs.ensures) (c.in_ok-add_runs.ensures es before))
 
 pub returns : goal.returns

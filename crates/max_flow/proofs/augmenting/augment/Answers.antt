@@ -1,5 +1,5 @@
 use Rattle.std.proofs.Common.{◌≡◌, ◌≢◌, ◌+◌}
-use Rattle.max_flow.specs.Networks.{value_of}
+use Rattle.max_flow.specs.Networks.{source_flow}
 use Rattle.max_flow.specs.Private.Solving.{net_of}
 use Rattle.max_flow.proofs.WalksBack.{walking_first, walking_on, walked_flow, walked-value}
 use Rattle.max_flow.proofs.Amounts.{raising_first, raising_on, raised_most}
@@ -11,7 +11,7 @@ loop-at-init c = record {
       c.args.tree.now.queue.items c.requires.network.net c.requires.flow c.requires.bounded c.requires.tree
       c.requires.found);
   raising = raising_first (net_of c.args.network.now) c.args.flows.now c.args.tree.now.places.items
-      (value_of (net_of c.args.network.now) c.args.flows.now) 1 c.room-amount.result c.requires.most;
+      (source_flow (net_of c.args.network.now) c.args.flows.now) 1 c.room-amount.result c.requires.most;
 }
 
 pub loop-at-preserved : goal.loop-at-preserved
@@ -38,7 +38,7 @@ returns-clause-value c =
 
 pub returns-clause-most : goal.returns-clause-most
 returns-clause-most c =
-    let total : value_of (net_of c.args.network.now) c.loop-at.flows ≡ value_of (net_of c.args.network.now)
+    let total : source_flow (net_of c.args.network.now) c.loop-at.flows ≡ source_flow (net_of c.args.network.now)
     c.args.flows.now + c.room-amount.result =
     walked-value (net_of c.args.network.now) c.loop-at.flows _ _ _ _ c.loop-at.at c.room-amount.result
     c.requires.network.net c.loop-at-test.false c.loop-at.invariant.walking in

@@ -1,5 +1,5 @@
 use Rattle.std.proofs.Common.{slice_index}
-use Rattle.max_flow.specs.Networks.{value_of}
+use Rattle.max_flow.specs.Networks.{source_flow}
 use Rattle.max_flow.specs.Private.Searching.{IsWalking, IsRaising}
 use Rattle.max_flow.specs.Private.Solving.{net_of}
 use Rattle.max_flow.proofs.augmenting.augment.Given as goal
@@ -7,8 +7,8 @@ use Rattle.max_flow.proofs.augmenting.augment.Given as goal
 abbrev pub invariant-loop-at : goal.invariant-loop-at
 invariant-loop-at l = record {
   walking : IsWalking (net_of l.network) l.flows l.tree.places.items l.tree.arrivals.items l.tree.rooms.items
-      (value_of (net_of l.network) l.initial.flows) l.at l.amount;
-  raising : IsRaising (net_of l.network) l.flows l.tree.places.items (value_of (net_of l.network) l.initial.flows) l.at
+      (source_flow (net_of l.network) l.initial.flows) l.at l.amount;
+  raising : IsRaising (net_of l.network) l.flows l.tree.places.items (source_flow (net_of l.network) l.initial.flows) l.at
       l.amount;
 }
 

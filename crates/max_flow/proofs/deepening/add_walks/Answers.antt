@@ -1,5 +1,5 @@
 use Rattle.std.proofs.Common.{◌-◌, ◌^◌, ◌<◌, subst, arith}
-use Rattle.max_flow.specs.Networks.{value_of}
+use Rattle.max_flow.specs.Networks.{source_flow}
 use Rattle.max_flow.specs.Private.Searching.{IsStart}
 use Rattle.max_flow.specs.Private.Solving.{net_of}
 use Rattle.max_flow.proofs.SearchSteps.{found_first}
@@ -8,7 +8,7 @@ use Rattle.max_flow.proofs.deepening.add_walks.Goals as goal
 
 pub overflow_add-total : goal.overflow_add-total
 overflow_add-total c =
-    let small : value_of (net_of c.args.network.now) c.augment-total.new.flows < 2 ^ 64 - 1 =
+    let small : source_flow (net_of c.args.network.now) c.augment-total.new.flows < 2 ^ 64 - 1 =
     value_small (net_of c.args.network.now) c.augment-total.new.flows c.requires.network.net c.requires.small
     c.augment-total.ensures.flow in
     omega (arith, small, c.augment-total.ensures.value, c.loop.invariant.value)

@@ -1,5 +1,5 @@
 use Rattle.std.proofs.Common.{◌≡◌, ◌+◌, slice_index}
-use Rattle.max_flow.specs.Networks.{AreAtMost, IsFlow, value_of}
+use Rattle.max_flow.specs.Networks.{AreAtMost, IsFlow, source_flow}
 use Rattle.max_flow.specs.Private.Rooms.{IsBounded}
 use Rattle.max_flow.specs.Private.Solving.{net_of, IsTree}
 use Rattle.max_flow.specs.Private.Stacks.{AreCursors}
@@ -9,8 +9,8 @@ abbrev pub invariant-loop : goal.invariant-loop
 invariant-loop l = record {
   flow : IsFlow (net_of l.network) l.flows;
   bounded : IsBounded (net_of l.network) l.flows;
-  value : value_of (net_of l.network) l.flows ≡ value_of (net_of l.network) l.initial.flows + l.total;
-  most : AreAtMost (value_of (net_of l.network) l.flows) l.flows;
+  value : source_flow (net_of l.network) l.flows ≡ source_flow (net_of l.network) l.initial.flows + l.total;
+  most : AreAtMost (source_flow (net_of l.network) l.flows) l.flows;
   tree : IsTree (net_of l.network) l.flows l.tree;
   root : slice_index l.tree.places.items 0 ≡ 1;
   leaving : AreCursors l.network.tails.items l.network.nodes l.leaving;

@@ -1,5 +1,5 @@
 use Rattle.std.proofs.Common.{◌<◌, ◌-◌, ◌^◌, arith, subst}
-use Rattle.max_flow.specs.Networks.{value_of}
+use Rattle.max_flow.specs.Networks.{source_flow}
 use Rattle.max_flow.specs.Private.Searching.{IsStart}
 use Rattle.max_flow.specs.Private.Solving.{net_of}
 use Rattle.max_flow.proofs.SearchSteps.{found_first}
@@ -16,7 +16,7 @@ add_walks-requires-clause-tree c =
 
 pub overflow_add-result : goal.overflow_add-result
 overflow_add-result c =
-    let small : value_of (net_of c.args.network.now) c.add_walks.new.flows < 2 ^ 64 - 1 =
+    let small : source_flow (net_of c.args.network.now) c.add_walks.new.flows < 2 ^ 64 - 1 =
     value_small (net_of c.args.network.now) c.add_walks.new.flows c.requires.network.net c.requires.small
     c.in_ok-more.ensures.flow in
     omega (arith, small, c.in_ok-more.ensures.value, c.augment-first.ensures.value)

@@ -1,5 +1,5 @@
 use Rattle.std.proofs.Common.{◌≡◌, ◌-◌, ◌^◌, slice_index}
-use Rattle.max_flow.specs.Networks.{AreAtMost, IsFlow, value_of}
+use Rattle.max_flow.specs.Networks.{AreAtMost, IsFlow, source_flow}
 use Rattle.max_flow.specs.Private.Rooms.{IsBounded, IsClosed}
 use Rattle.max_flow.specs.Private.Searching.{is_found}
 use Rattle.max_flow.specs.Private.Solving.{net_of, IsTree}
@@ -9,7 +9,7 @@ abbrev pub invariant-loop-alloc : goal.invariant-loop-alloc
 invariant-loop-alloc l = record {
   flow : IsFlow (net_of l.network) l.flows;
   bounded : IsBounded (net_of l.network) l.flows;
-  value : value_of (net_of l.network) l.flows ≡ l.value;
+  value : source_flow (net_of l.network) l.flows ≡ l.value;
   most : AreAtMost l.value l.flows;
   tree : IsTree (net_of l.network) l.flows l.tree;
   closed : slice_index l.tree.places.items 1 ≡ 0 → IsClosed (net_of l.network) l.flows (is_found l.tree.places.items);

@@ -1,6 +1,6 @@
 use Rattle.std.proofs.Common.{◌≡◌, length, sym, ap, ◌∙◌, subst}
 use Rattle.std.proofs.lemmas.List.{length-map}
-use Rattle.max_flow.specs.Networks.{IsFlow, IsSide, value_of, capacity_of}
+use Rattle.max_flow.specs.Networks.{IsFlow, IsSide, source_flow, capacity_of}
 use Rattle.max_flow.specs.Private.Rooms.{HasSmallSide, IsLeast}
 use Rattle.max_flow.specs.Flows.{network_of}
 use Rattle.max_flow.specs.Private.Searching.{is_found}
@@ -45,8 +45,8 @@ returns-clause-side c =
     let e : net_of c.in_ok-network.network ≡ network_of c.args.graph.now = c.in_ok-network.ensures.net in
     let flow : IsFlow (network_of c.args.graph.now) c.in_ok-value.field-0.flows.items =
     subst (λ n. IsFlow n c.in_ok-value.field-0.flows.items) e c.in_ok-value.ensures.flow in
-    let value : value_of (network_of c.args.graph.now) c.in_ok-value.field-0.flows.items ≡ c.in_ok-value.field-0.value
-    = subst (λ n. value_of n c.in_ok-value.field-0.flows.items ≡ c.in_ok-value.field-0.value) e
+    let value : source_flow (network_of c.args.graph.now) c.in_ok-value.field-0.flows.items ≡ c.in_ok-value.field-0.value
+    = subst (λ n. source_flow n c.in_ok-value.field-0.flows.items ≡ c.in_ok-value.field-0.value) e
     c.in_ok-value.ensures.value in
     let side : IsSide (network_of c.args.graph.now) (is_found c.in_ok-value.field-0.places.items) =
     subst (λ n. IsSide n (is_found c.in_ok-value.field-0.places.items)) e c.in_ok-value.ensures.side in

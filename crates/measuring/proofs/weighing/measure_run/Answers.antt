@@ -1,6 +1,6 @@
 use Rattle.std.proofs.Common.{subst, length}
 use Rattle.std.proofs.lemmas.Result.{IfOk-weaker, IfErr-weaker}
-use Rattle.elf32_loader.specs.Images.{picture_of}
+use Rattle.elf32_loader.specs.Images.{image_picture}
 use Rattle.region_machine.specs.Starts.{guest}
 use Rattle.run_labels.specs.Runs.{unlabelled}
 use Rattle.measuring.specs.Following.{EndsAs}
@@ -11,7 +11,7 @@ use Rattle.measuring.proofs.weighing.measure_run.Goals as goal
 pub returns-in-Ok-Exited-clause-ok : goal.returns-in-Ok-Exited-clause-ok
 returns-in-Ok-Exited-clause-ok g c =
     let ended = subst (EndsAs c.args.book.now.table c.args.regions.now.items
-    (unlabelled (guest (picture_of c.args.image.now) c.args.public.now c.args.secret.now)) c.args.turns)
+    (unlabelled (guest (image_picture c.args.image.now) c.args.public.now c.args.secret.now)) c.args.turns)
     c.in-Ok-Exited.field-0-is c.in-Ok-Exited.ensures in
     IfOk-weaker c.conclude.result _ _
     (λ measured weighs. measures _ _ _ (length c.args.secret.now) _ c.in-Ok-Exited.exit measured ended
@@ -21,7 +21,7 @@ returns-in-Ok-Exited-clause-ok g c =
 pub returns-in-Ok-Exited-clause-err : goal.returns-in-Ok-Exited-clause-err
 returns-in-Ok-Exited-clause-err g c =
     let ended = subst (EndsAs c.args.book.now.table c.args.regions.now.items
-    (unlabelled (guest (picture_of c.args.image.now) c.args.public.now c.args.secret.now)) c.args.turns)
+    (unlabelled (guest (image_picture c.args.image.now) c.args.public.now c.args.secret.now)) c.args.turns)
     c.in-Ok-Exited.field-0-is c.in-Ok-Exited.ensures in
     IfErr-weaker c.conclude.result _ _
     (λ fault cause. exit_cause _ _ _ _ c.in-Ok-Exited.exit fault ended cause) c.conclude.ensures.err
@@ -29,6 +29,6 @@ returns-in-Ok-Exited-clause-err g c =
 pub conclude-requires-clause-known : goal.conclude-requires-clause-known
 conclude-requires-clause-known g c =
     let ended = subst (EndsAs c.args.book.now.table c.args.regions.now.items
-    (unlabelled (guest (picture_of c.args.image.now) c.args.public.now c.args.secret.now)) c.args.turns)
+    (unlabelled (guest (image_picture c.args.image.now) c.args.public.now c.args.secret.now)) c.args.turns)
     c.in-Ok-Exited.field-0-is c.in-Ok-Exited.ensures in
     record { events = _; records = ended.records }

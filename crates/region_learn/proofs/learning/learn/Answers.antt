@@ -6,7 +6,7 @@ use Rattle.enclosure_regions.specs.declared.region_lists.Regions.{Regions}
 use Rattle.enclosure_regions.specs.declared.region_parts.Region.{Region}
 use Rattle.region_learn.specs.declared.notes.Notes.{Notes}
 use Rattle.region_learn.specs.Private.Books.{BookOf, IsNew, are_bare, numbers_of}
-use Rattle.region_learn.specs.LearnAnswers.{Refuses}
+use Rattle.region_learn.specs.LearnAnswers.{RefusesToLearn}
 use Rattle.region_learn.specs.Written.{Run, bare}
 use Rattle.region_learn.proofs.BareLists.{bare_none, bare_twice, base_room}
 use Rattle.region_learn.proofs.FreshNotes.{new_book_of}
@@ -50,6 +50,6 @@ returns-clause-err c = λ free.
     (record { regions = map bare c.args.regions.now.items; start = c.in_ok-machine.machine; turns = c.args.turns }) =
     ap (λ (l : List Region). record { regions = l; start = c.in_ok-machine.machine; turns = c.args.turns })
     (ap (λ (r : Regions). r.items) c.in_ok-marked.ensures ∙ c.in_ok-bare.ensures) in
-    let refused = subst (λ (r : Run). Refuses r c.in-Err.fault) same (c.in-Err.ensures.err free) in
-    subst (λ (s : State). Refuses (record { regions = map bare c.args.regions.now.items; start = s; turns = c.args.turns })
+    let refused = subst (λ (r : Run). RefusesToLearn r c.in-Err.fault) same (c.in-Err.ensures.err free) in
+    subst (λ (s : State). RefusesToLearn (record { regions = map bare c.args.regions.now.items; start = s; turns = c.args.turns })
     c.in-Err.fault) c.in_ok-machine.ensures.start refused

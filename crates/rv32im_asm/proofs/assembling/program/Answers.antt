@@ -1,7 +1,7 @@
 use Rattle.std.proofs.Common.{◌≡◌, ◌+◌, ◌≤◌, [], ◌∷◌, ◌++◌, length, take, Some, Ok, Err, add-one, ap, sym, ◌∙◌, arith}
 use Rattle.std.proofs.Common.{length-append}
 use Rattle.std.proofs.lemmas.Grind.{common_steps}
-use Rattle.rv32im_asm.specs.Assembling.{joined, known_places, reading, readings}
+use Rattle.rv32im_asm.specs.Assembling.{followed, known_places, reading, readings}
 use Rattle.rv32im_asm.specs.Private.Labels.{places_in}
 use Rattle.rv32im_asm.specs.Lines.{lines_of}
 use Rattle.rv32im_asm.specs.Operands.{both}
@@ -17,10 +17,10 @@ returns-in_err-piece-clause-exact c = λ _.
     let all = lines_of c.args.source.now in
     let known = known_places all in
     let more = lines_of c.first_line.result.1.now in
-    let whole : joined (Ok c.loop-rest.program.items) (readings known all c.loop-rest.index
+    let whole : followed (Ok c.loop-rest.program.items) (readings known all c.loop-rest.index
     (c.first_line.result.0.now ∷ more))
     ≡ readings known all 0 all =
-    ap (λ left. joined (Ok c.loop-rest.program.items) (readings known all c.loop-rest.index left))
+    ap (λ left. followed (Ok c.loop-rest.program.items) (readings known all c.loop-rest.index left))
     (sym c.first_line.ensures.lines)
     ∙ c.loop-rest.invariant.program in
     let answer : c.from_residual-in_err-piece.result ≡ Err c.in_err-piece.field-0.0 = grind (arith, common_steps) in
@@ -44,9 +44,9 @@ loop-rest-preserved c =
     let next : HasNext all c.loop-rest.index line more =
     has_next all c.loop-rest.index line _ (c.loop-rest.invariant.left ∙ c.first_line.ensures.lines) in
     let grown : take (c.loop-rest.index + 1) all ≡ front ++ line ∷ [] = rw add-one next.front in
-    let whole : joined (Ok c.loop-rest.program.items) (readings known all c.loop-rest.index (line ∷ more))
+    let whole : followed (Ok c.loop-rest.program.items) (readings known all c.loop-rest.index (line ∷ more))
     ≡ readings known all 0 all =
-    ap (λ left. joined (Ok c.loop-rest.program.items) (readings known all c.loop-rest.index left))
+    ap (λ left. followed (Ok c.loop-rest.program.items) (readings known all c.loop-rest.index left))
     (sym c.first_line.ensures.lines)
     ∙ c.loop-rest.invariant.program in
     let read : Ok (bytes_in c.in_ok-piece.piece) ≡ reading
@@ -68,7 +68,7 @@ loop-rest-preserved c =
       here = ap total_size grown ∙ (total_size-push front line
           ∙ (ap (λ offset. both (λ m n. m + n) offset (line_size line)) c.loop-rest.invariant.here
           ∙ ap (λ size. both (λ m n. m + n) (Some c.loop-rest.here) size) sized));
-      program = ap (λ items. joined (Ok items) (readings known all (c.loop-rest.index + 1) more)) put
+      program = ap (λ items. followed (Ok items) (readings known all (c.loop-rest.index + 1) more)) put
           ∙ bytes_step all more c.loop-rest.index c.loop-rest.here line c.loop-rest.program.items
           (bytes_in c.in_ok-piece.piece)
           known c.loop-rest.invariant.here

@@ -1,5 +1,5 @@
 use Rattle.std.proofs.Common.{◌≡◌, ◌+◌, ◌≤◌, length, take, drop, Some, Ok}
-use Rattle.rv32im_asm.specs.Assembling.{joined, known_places, readings}
+use Rattle.rv32im_asm.specs.Assembling.{followed, known_places, readings}
 use Rattle.rv32im_asm.specs.Lines.{lines_of}
 use Rattle.rv32im_asm.specs.Sizes.{total_size}
 use Rattle.rv32im_asm.proofs.assembling.program.Given as goal
@@ -11,7 +11,7 @@ abbrev pub invariant-loop-rest : goal.invariant-loop-rest
 invariant-loop-rest l = record {
   left : drop l.index (lines_of l.source) ≡ lines_of l.rest;
   here : total_size (take l.index (lines_of l.source)) ≡ Some l.here;
-  program : joined (Ok l.program.items)
+  program : followed (Ok l.program.items)
       (readings (known_places (lines_of l.source)) (lines_of l.source) l.index (lines_of l.rest))
       ≡ readings (known_places (lines_of l.source)) (lines_of l.source) 0 (lines_of l.source);
   size : length l.program.items ≤ l.here;

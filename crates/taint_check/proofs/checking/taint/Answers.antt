@@ -1,8 +1,8 @@
 use Rattle.std.specs.Prelude.{◌≡◌, true, ℕ, List}
 use Rattle.std.proofs.lemmas.Result.{IfOk-weaker}
-use Rattle.cut_file.specs.Cuts.{CutPicture, is_valid as is_valid_cut}
-use Rattle.cut_file.specs.Pictures.{picture_of as cut_picture}
-use Rattle.elf32_loader.specs.Images.{picture_of}
+use Rattle.cut_file.specs.Cuts.{CutPicture, is_cut_picture}
+use Rattle.cut_file.specs.Pictures.{cut_picture}
+use Rattle.elf32_loader.specs.Images.{image_picture}
 use Rattle.elf32_loader.specs.Pictures.{Picture}
 use Rattle.enclosure_regions.specs.declared.region_parts.Region.{Region}
 use Rattle.acceptance_law.specs.MeasuredLaws.{AreInputs}
@@ -14,7 +14,7 @@ use Rattle.taint_check.proofs.checking.taint.Goals as goal
 
 accepted : (table : ℕ) (program : Picture) (public_input : List ℕ) (regions : List Region) (secret : List ℕ)
     (cut : CutPicture) (limits : Limits) (finding : Finding) → AreInputs program public_input regions secret →
-    is_valid_cut cut ≡ true → IsVerdict table (task_of program public_input regions cut) limits secret finding →
+    is_cut_picture cut ≡ true → IsVerdict table (task_of program public_input regions cut) limits secret finding →
     IsAcceptedIfClean (task_of program public_input regions cut) limits secret finding
 accepted table program public_input regions secret cut limits (IsClean bits output) inputs valid verdict =
     clean_law table program public_input regions secret cut limits bits output inputs valid verdict
@@ -23,7 +23,7 @@ accepted table program public_input regions secret cut limits (IsUnclear why) in
 pub returns-clause-accepted : goal.returns-clause-accepted
 returns-clause-accepted g c =
     IfOk-weaker c.checked.result _ _
-    (λ verdict is. accepted c.args.book.now.table (picture_of c.args.image.now) c.args.public.now
+    (λ verdict is. accepted c.args.book.now.table (image_picture c.args.image.now) c.args.public.now
     c.args.regions.now.items c.args.secret.now (cut_picture c.args.cut.now)
     (record { budget = c.args.budget; turns = c.args.turns }) (finding_of verdict) c.tell_inputs.ensures
     c.tell_cut.ensures is)

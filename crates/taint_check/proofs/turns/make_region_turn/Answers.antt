@@ -9,7 +9,7 @@ use Rattle.run_labels.specs.TurnLabels.{at_start}
 use Rattle.tracked_run.specs.Labels.{map_of, labels_of}
 use Rattle.taint_check.specs.Cleared.{is_hidden, leaves_skipped}
 use Rattle.taint_check.specs.Private.Tapes.{tape_of}
-use Rattle.taint_check.specs.Private.Turns.{Makes}
+use Rattle.taint_check.specs.Private.Turns.{MakesMasked}
 use Rattle.taint_check.proofs.MadeTurns.{region-makes, ready-after, told-same}
 use Rattle.taint_check.proofs.turns.make_region_turn.Goals as goal
 
@@ -28,7 +28,7 @@ returns-clause-makes g c = λ task limits run cross e stands.
     ≡ is_hidden enclosures kind =
     subst (λ k. is_enclosed_kind (record { regions = regions; skip = c.hiding.result.now }) k ≡ is_hidden enclosures k) is
     (c.hiding.ensures regions) in
-    subst (λ why. Makes side.book.now.table task limits run cross c.real_turn_by.new.machine after why)
+    subst (λ why. MakesMasked side.book.now.table task limits run cross c.real_turn_by.new.machine after why)
     (sym c.reason_of.ensures)
     (region-makes task limits run cross machine before enclosures e stands c.requires.look c.requires.left
     side.tally.small c.real_turn_by.new.machine after c.in_ok-made.made.broken c.in_ok-made.ensures.broken

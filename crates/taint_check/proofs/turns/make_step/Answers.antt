@@ -5,7 +5,7 @@ use Rattle.region_machine.specs.Guests.{kind_walk}
 use Rattle.rv32im_machine.specs.Folds.{real_end}
 use Rattle.replay_machine.proofs.MasksAhead.{ahead-self}
 use Rattle.taint_check.specs.Private.Tapes.{tape_of}
-use Rattle.taint_check.specs.Private.Turns.{Makes}
+use Rattle.taint_check.specs.Private.Turns.{MakesMasked}
 use Rattle.taint_check.proofs.MadeTurns.{step-makes, ready-after}
 use Rattle.taint_check.proofs.turns.make_step.Goals as goal
 
@@ -16,7 +16,7 @@ returns-clause-makes g c = λ task limits run cross e stands.
     let before = tape_of side.book.now.table side.shadow side.tally side.look side.left in
     let after = tape_of new.book.now.table new.shadow new.tally new.look new.left in
     let told = c.in_ok-turn_by.ensures.plays task.masks run.place.past stands.ahead in
-    subst (λ why. Makes side.book.now.table task limits run cross c.turn_by.new.machine after why)
+    subst (λ why. MakesMasked side.book.now.table task limits run cross c.turn_by.new.machine after why)
     (sym c.reason_of.ensures)
     (step-makes task limits run cross c.args.machine.now before
     (record { regions = c.args._marked.now.regions.items; skip = c.args._skip.now }) e stands c.requires.ready.look

@@ -2,7 +2,7 @@ use Rattle.std.proofs.Common.{◌∷◌, [], List, sym, subst, arith}
 use Rattle.std.proofs.Math.ListN.{drop_of_length-le}
 use Rattle.std.proofs.lemmas.Grind.{common_steps}
 use Rattle.std.proofs.lemmas.List.{drop_more}
-use Rattle.cut_file.specs.Pictures.{picture_of as cut_of}
+use Rattle.cut_file.specs.Pictures.{cut_picture}
 use Rattle.taint_check.specs.Tainted.{Finding, finding_of}
 use Rattle.command_tasks.specs.ReadTasks.{guest_in, limits_in}
 use Rattle.task_answers.specs.Checks.{judged_by}
@@ -14,7 +14,7 @@ pub loop-secret-preserved : goal.loop-secret-preserved
 loop-secret-preserved g c =
     let l = c.loop-secret in
     let table = c.args.book.now.table in
-    let judged = judged_by (guest_in c.args.guest.now) (cut_of c.args.cut.now) in
+    let judged = judged_by (guest_in c.args.guest.now) (cut_picture c.args.cut.now) in
     let limits = limits_in c.args.limits in
     let secrets = c.args.secrets.now in
     let finding : Finding = finding_of c.in_ok-verdict.verdict in
@@ -35,7 +35,7 @@ pub returns : goal.returns
 returns g c =
     let l = c.loop-secret in
     let table = c.args.book.now.table in
-    let judged = judged_by (guest_in c.args.guest.now) (cut_of c.args.cut.now) in
+    let judged = judged_by (guest_in c.args.guest.now) (cut_picture c.args.cut.now) in
     let limits = limits_in c.args.limits in
     let none = drop_of_length-le c.args.secrets.now {i = l.secret-index} (omega (arith, c.loop-secret-test.false)) in
     all_findings table judged limits c.args.secrets.now l.text.items l.number l.clean

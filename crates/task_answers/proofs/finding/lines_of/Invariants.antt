@@ -1,5 +1,5 @@
 use Rattle.std.proofs.Common.{◌≡◌, ◌≤◌, ◌+◌, ◌++◌, List, drop}
-use Rattle.cut_file.specs.Pictures.{picture_of as cut_of}
+use Rattle.cut_file.specs.Pictures.{cut_picture}
 use Rattle.taint_check.specs.Tainted.{Finding}
 use Rattle.command_tasks.specs.ReadTasks.{guest_in, limits_in}
 use Rattle.task_answers.specs.Checks.{judged_by}
@@ -14,10 +14,10 @@ invariant-loop-secret g l = record {
   -- with any findings of the secrets that are left there are findings of all
   found :
       (rest : List Finding) →
-      AreFindings l.book.table (judged_by (guest_in l.guest) (cut_of l.cut)) (limits_in l.limits)
+      AreFindings l.book.table (judged_by (guest_in l.guest) (cut_picture l.cut)) (limits_in l.limits)
       (drop l.secret-index l.secrets) rest →
       (findings : List Finding)
-      × AreFindings l.book.table (judged_by (guest_in l.guest) (cut_of l.cut)) (limits_in l.limits) l.secrets findings
+      × AreFindings l.book.table (judged_by (guest_in l.guest) (cut_picture l.cut)) (limits_in l.limits) l.secrets findings
       × (l.text.items ++ finding_lines (l.number + 1) rest ≡ finding_lines 1 findings)
       × (l.clean + clean_count rest ≡ clean_count findings);
 }

@@ -1,9 +1,9 @@
-use Rattle.cut_file.specs.Pictures.{picture_of as cut_of}
+use Rattle.cut_file.specs.Pictures.{cut_picture}
 use Rattle.command_tasks.specs.ReadTasks.{guest_in, limits_in}
 use Rattle.task_answers.specs.Checks.{judged_by}
 use Rattle.task_answers.proofs.judging.judge_in.Goals as goal
 
 pub returns : goal.returns
 returns c =
-    c.run_keeping.ensures (judged_by (guest_in c.args.guest.now) (cut_of c.args.cut.now)) (limits_in c.args.limits)
+    c.run_keeping.ensures (judged_by (guest_in c.args.guest.now) (cut_picture c.args.cut.now)) (limits_in c.args.limits)
     c.args.secret.now c.in_ok-lockstep.ensures

@@ -1,5 +1,5 @@
 use Rattle.std.proofs.Common.{◌∙◌, List, ℕ, subst, sym, ap}
-use Rattle.cut_file.specs.Pictures.{picture_of as cut_of}
+use Rattle.cut_file.specs.Pictures.{cut_picture}
 use Rattle.lockstep_replay.specs.Acceptance.{Accept}
 use Rattle.lockstep_replay.specs.Tasks.{Cross, Limits}
 use Rattle.lockstep_replay.specs.Verdicts.{First}
@@ -13,7 +13,7 @@ use Rattle.task_answers.proofs.trials.crossing.Goals as goal
 pub crossing_of-requires : goal.crossing_of-requires
 crossing_of-requires c =
     let number = c.args.number in
-    let cut = cut_of c.args.measured.now.cut in
+    let cut = cut_picture c.args.measured.now.cut in
     let task = judged_by (guest_of_number number) cut in
     let output = c.args.measured.now.output in
     let limits : Limits = record { budget = c.args.measured.now.cut.bits; turns = trial_turns } in
@@ -29,7 +29,7 @@ crossing_of-requires c =
 pub returns : goal.returns
 returns c =
     let number = c.args.number in
-    let cut = cut_of c.args.measured.now.cut in
+    let cut = cut_picture c.args.measured.now.cut in
     let task = judged_by (guest_of_number number) cut in
     let output = c.args.measured.now.output in
     let limits : Limits = record { budget = c.args.measured.now.cut.bits; turns = trial_turns } in

@@ -1,7 +1,7 @@
 use Rattle.std.proofs.Common.{refl, ap, ◌∙◌, ◌∷◌, arith}
 use Rattle.tracked_run.specs.Labels.{labels_of}
 use Rattle.run_labels.specs.TurnLabels.{aim_label}
-use Rattle.every_secret.specs.Masked.{why_left}
+use Rattle.every_secret.specs.Masked.{unclear_by_left}
 use Rattle.every_secret.specs.Private.Tapes.{tape_of}
 use Rattle.every_secret.proofs.Nodes.{masks-passed}
 use Rattle.every_secret.proofs.OneVisit.{put-width, visited}
@@ -30,5 +30,5 @@ returns-clause-goes g c = λ clear go out after masks past ahead.
     (c.in_ok-put_aimed.ensures.put ∙ ap (λ label. aim_label passing.aim label old) c.labelled-label.ensures.label)
     (omega (arith, c.saturating_add-self.ensures, c.bit_count.ensures.count)) c.shown_of-shown.ensures c.in_ok-self.ensures.bytes c.in_ok-self.ensures.status c.in_ok-value.ensures.takes
     c.in_ok-value.ensures.value
-    (c.decided-self.ensures ∙ ap (λ left. why_left left) c.left_bits.ensures))
+    (c.decided-self.ensures ∙ ap (λ left. unclear_by_left left) c.left_bits.ensures))
     (after masks (passing.point ∷ past) (c.next-crossing.ensures.counted masks past ahead))

@@ -1,6 +1,6 @@
 use Rattle.std.proofs.Common.{ap, ◌∙◌}
 use Rattle.tracked_run.specs.Labels.{labels_of}
-use Rattle.every_secret.specs.Masked.{why_looked}
+use Rattle.every_secret.specs.Masked.{unclear_by_look}
 use Rattle.every_secret.specs.Private.Tapes.{knowledge_of, tape_of}
 use Rattle.every_secret.proofs.Nodes.{masks-looked, over-looked}
 use Rattle.every_secret.proofs.walking.WalkingPasser.look.Goals as goal
@@ -21,4 +21,4 @@ returns-in-None-clause-goes g c = λ walk out after masks past ahead.
     self.status_mask self.unclear in
     masks-looked (record { masks = masks; skipped = self.skipped }) self.region past (labels_of self.shadow self.held)
     tape c.in-None.is c.looked-self.result c.args.seen c.args._value walk out
-    (c.looked-self.ensures ∙ ap (λ look. why_looked look) (c.secret_look.ensures self.held)) (after masks past ahead)
+    (c.looked-self.ensures ∙ ap (λ look. unclear_by_look look) (c.secret_look.ensures self.held)) (after masks past ahead)

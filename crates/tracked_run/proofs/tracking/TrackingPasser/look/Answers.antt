@@ -1,7 +1,7 @@
 use Rattle.std.proofs.Common.{ap, ◌∙◌}
-use Rattle.run_labels.specs.Looking.{first_fault}
 use Rattle.tracked_run.specs.Labels.{labels_of}
 use Rattle.tracked_run.proofs.Nodes.{tracks-looked}
+use Rattle.std.specs.Option.{option_or}
 use Rattle.tracked_run.proofs.tracking.TrackingPasser.look.Goals as goal
 
 pub returns-clause-goes : goal.returns-clause-goes
@@ -16,5 +16,5 @@ returns-clause-goes g c = λ walk out after.
       events_lent = c.args.self.now.events.ghost_name;
     })
     c.note_fault.new.refused c.args.seen c.args._value walk out
-    (c.note_fault.ensures ∙ ap (λ fault. first_fault c.args.self.now.refused fault)
+    (c.note_fault.ensures ∙ ap (λ fault. option_or c.args.self.now.refused fault)
     (c.look_fault-fault.ensures c.args.self.now.held)) after
