@@ -1,16 +1,17 @@
 -- The network of a graph is one: its edges join nodes that there are, and none enters the source.
-use Rattle.std.proofs.Common.{◌≡◌, ◌≢◌, ℕ, zero, suc, ◌+◌, ◌-◌, ◌*◌, ◌≤◌, ◌<◌, ◌++◌, ◌∷◌, [], Bool, true}
+use Rattle.std.proofs.Common.{◌≡◌, ◌≢◌, ℕ, zero, suc, ◌+◌, ◌-◌, ◌*◌, ◌^◌, ◌≤◌, ◌<◌, ◌++◌, ◌∷◌, [], Bool, true}
 use Rattle.std.proofs.Common.{List, length, map, get_or, take, slice_index, refl, sym, ◌∙◌, subst, ⊎_elim}
 use Rattle.std.proofs.Common.{arith, length-append, add-one, append_assoc, ap}
 use Rattle.std.specs.List.{list_all}
 use Rattle.std.proofs.lemmas.Bool.{cases_lt, cases_eq, and_parts, ltb-true}
-use Rattle.std.proofs.lemmas.List.{length-map, get_or_append_left, get_or-append_right, get_or_push, length_push, take_more, map-append}
+use Rattle.std.proofs.lemmas.List.{length-map, get_or_append_left, get_or-append_right, get_or_push, length_push, take_more, map-append, get_or-map}
 use Rattle.flow_graph.specs.declared.ends.Arc.{Arc}
 use Rattle.flow_graph.specs.declared.ends.End.{End}
 use Rattle.flow_graph.specs.declared.ends.End.TheVariants.{Source, Point, Relay, Sink}
 use Rattle.flow_graph.specs.declared.graphs.Graph.{Graph}
 use Rattle.flow_graph.specs.Graphs.{is_origin, is_target, is_link}
 use Rattle.max_flow.specs.Networks.{IsNet}
+use Rattle.max_flow.specs.Private.Rooms.{AreFew}
 use Rattle.max_flow.specs.Flows.{halves_from, tail_of, head_of, network_of}
 
 pub length-halves : (start n : ℕ) → length (halves_from start n) ≡ n
@@ -84,6 +85,38 @@ head_inside count relays (Point i) is = let below : i < count = ltb-true i count
 head_inside count relays (Relay r) is = let below : r < 65536 = ltb-true r 65536 (and_parts _ _ is).0 in
     (omega arith, omega arith)
 head_inside count relays Sink is = (omega arith, omega arith)
+
+-- one of the numbers that fit in 32 bits
+pub few_at : {X : Type 0} (f : X → ℕ) (xs : List X) (i : ℕ) (d : X) (n : ℕ) → i < length xs → AreFew (map f xs) →
+    n ≡ f (get_or xs i d) → n < 2 ^ 32
+few_at f xs i d n below few is =
+    let count : length (map f xs) ≡ length xs = length-map xs f in
+    let each : slice_index (map f xs) i < 2 ^ 32 = few i (omega (arith, count, below)) in
+    let same : slice_index (map f xs) i ≡ f (get_or xs i d) = get_or-map f xs i d 0 below in
+    omega (arith, each, same, is)
+
+pub tails_few : (graph : Graph) → length graph.points ≤ 65536 →
+    AreFew (map (λ link. tail_of (length graph.points) link.source) graph.links)
+tails_few graph few i below =
+    let count : length (map (λ link. tail_of (length graph.points) link.source) graph.links) ≡ length graph.links =
+    length-map graph.links (λ link. tail_of (length graph.points) link.source) in
+    all_map (λ v. v < 2 ^ 32) (λ link. tail_of (length graph.points) link.source)
+    (is_link (length graph.points) graph.relays)
+    (λ link is. let inside : tail_of (length graph.points) link.source < 2 + 2 * length graph.points + 65536 =
+    tail_inside (length graph.points) graph.relays link.source (and_parts _ _ is).0 in omega (arith, inside, few))
+    graph.links graph.links_are_valid i (omega (arith, count, below))
+
+pub heads_few : (graph : Graph) → length graph.points ≤ 65536 →
+    AreFew (map (λ link. head_of (length graph.points) link.target) graph.links)
+heads_few graph few i below =
+    let count : length (map (λ link. head_of (length graph.points) link.target) graph.links) ≡ length graph.links =
+    length-map graph.links (λ link. head_of (length graph.points) link.target) in
+    all_map (λ v. v < 2 ^ 32) (λ link. head_of (length graph.points) link.target)
+    (is_link (length graph.points) graph.relays)
+    (λ link is. let inside : head_of (length graph.points) link.target < 2 + 2 * length graph.points + 65536 =
+    (head_inside (length graph.points) graph.relays link.target (and_parts _ _ (and_parts _ _ is).1).0).0 in
+    omega (arith, inside, few))
+    graph.links graph.links_are_valid i (omega (arith, count, below))
 
 pub graph_net : (graph : Graph) → IsNet (network_of graph)
 graph_net graph =

@@ -1,6 +1,7 @@
 ghost use Rattle.std.specs.Prelude.{◌≡◌, ◌+◌, ◌*◌, ◌^◌, ◌<◌, ◌≤◌, ◌++◌, map, length, IfOk, OnOk, IsTrue};
 ghost use Rattle.std.specs.List.{list_all};
 ghost use Rattle.max_flow.specs.Flows.{IsWithinLimits, halves_from, head_of, is_small, network_of, tail_of};
+ghost use Rattle.max_flow.specs.Private.Rooms.{AreFew};
 ghost use Rattle.max_flow.specs.Private.Solving.{net_of, IsNetwork};
 
 use crate::chains::chains_of;
@@ -35,15 +36,15 @@ pub fn head_number(count: usize, end: End) -> usize
     }
 }
 
-/// The first halves of the points, or the second ones, by where they begin.
-fn halves(alloc: Global, start: usize, count: usize) -> Result<List<usize>, NoMemory>
+/// The first halves of the points, or the second ones, by where they begin, in a list with room for so many nodes.
+fn halves(alloc: Global, start: usize, count: usize, room: usize) -> Result<List<u32>, NoMemory>
     requires start { start ≤ 3 }
     requires count { count ≤ 65536 }
     ensures { IfOk result (λ numbers. numbers ≡ halves_from start count) }
 {
-    let mut numbers = List::new(alloc);
+    let mut numbers = List::from_vec(Vec::with_capacity(alloc, room)?);
     for i in 0..count {
-        numbers.push(start + 2 * i)?;
+        numbers.push((start + 2 * i) as u32)?;
     }
     Ok(numbers)
 }
@@ -52,33 +53,36 @@ fn halves(alloc: Global, start: usize, count: usize) -> Result<List<usize>, NoMe
 #[derive(Drop)]
 struct Ends {
     /// The nodes that they leave.
-    tails: List<usize>,
+    tails: List<u32>,
     /// The nodes that they enter.
-    heads: List<usize>,
+    heads: List<u32>,
 }
 
 /// Puts the nodes at the ends of the links at the end.
 fn push_ends(ends: &mut Ends, count: usize, links: &[Arc]) -> Result<(), NoMemory>
-    requires { count ≤ 65536 }
+    requires count { count ≤ 65536 }
+    requires tails { AreFew (map (λ link. tail_of count link.source) links.now) }
+    requires heads { AreFew (map (λ link. head_of count link.target) links.now) }
     ensures tails { OnOk result (ends.new.tails ≡ ends.old.tails ++ map (λ link. tail_of count link.source) links.now) }
     ensures heads { OnOk result (ends.new.heads ≡ ends.old.heads ++ map (λ link. head_of count link.target) links.now) }
 {
     for link in links {
-        ends.tails.push(tail_number(count, link.source))?;
-        ends.heads.push(head_number(count, link.target))?;
+        ends.tails.push(tail_number(count, link.source) as u32)?;
+        ends.heads.push(head_number(count, link.target) as u32)?;
     }
     Ok(())
 }
 
 /// The nodes at the ends of the edges of a graph.
 fn ends_of(alloc: Global, graph: &Graph) -> Result<Ends, NoMemory>
-    requires { length graph.now.points ≤ 65536 }
+    requires { IsWithinLimits graph.now }
     ensures tails { IfOk result (λ ends. ends.tails ≡ (network_of graph.now).tails) }
     ensures heads { IfOk result (λ ends. ends.heads ≡ (network_of graph.now).heads) }
 {
     let count = graph.points.len();
-    let tails = halves(alloc, 2, count)?;
-    let heads = halves(alloc, 3, count)?;
+    let room = count + graph.links.len();
+    let tails = halves(alloc, 2, count, room)?;
+    let heads = halves(alloc, 3, count, room)?;
     let mut ends = Ends { tails, heads };
     push_ends(&mut ends, count, graph.links.as_slice())?;
     Ok(ends)
@@ -89,7 +93,7 @@ fn limits_of(alloc: Global, points: &[Node]) -> Result<List<u64>, NoMemory>
     requires { IsTrue (list_all is_small points.now) }
     ensures { IfOk result (λ limits. limits ≡ map (λ node. node.capacity) points.now) }
 {
-    let mut limits = List::new(alloc);
+    let mut limits = List::from_vec(Vec::with_capacity(alloc, points.len())?);
     let mut rest = points;
     while let [node, more @ ..] = rest {
         limits.push(node.capacity as u64)?;

@@ -2,22 +2,22 @@ ghost use Rattle.std.specs.Prelude.{◌≡◌, ◌+◌, ◌-◌, ◌<◌, ◌≤
 ghost use Rattle.max_flow.specs.Networks.{AreAtMost, IsFlow, source_flow};
 ghost use Rattle.max_flow.specs.Private.Rooms.{HasSmallSide, IsBounded};
 ghost use Rattle.max_flow.specs.Private.Searching.{IsStart};
-ghost use Rattle.max_flow.specs.Private.Solving.{net_of, IsNetwork, IsTree};
+ghost use Rattle.max_flow.specs.Private.Solving.{net_of, IsNetwork, IsRoomy, IsTree};
 ghost use Rattle.max_flow.specs.Private.Stacks.{AreCursors, IsStack};
 
 use crate::augmenting::augment;
 use crate::networks::Network;
-use crate::searching::{Tree, begin, reach};
+use crate::searching::{Tree, reach};
 use flow_base::NoMemory;
 use std::alloc::Global;
 
 /// Whether a walk may go on from a node to another: one that a search found later, or the sink.
-fn is_deeper(levels: &[usize], at: usize, to: usize) -> bool {
+fn is_deeper(levels: &[u32], at: usize, to: usize) -> bool {
     to == 1 || at < levels.len() && to < levels.len() && levels[at] < levels[to]
 }
 
 /// Whether any edge is still to be tried at a node.
-fn is_open(leaving: &[usize], entering: &[usize], node: usize) -> bool {
+fn is_open(leaving: &[u32], entering: &[u32], node: usize) -> bool {
     node < leaving.len() && leaving[node] != 0 || node < entering.len() && entering[node] != 0
 }
 
@@ -27,11 +27,11 @@ fn next_leaving(
     network: &Network,
     flows: &[u64],
     tree: &Tree,
-    leaving: &mut [usize],
-    entering: &[usize],
-    levels: &[usize],
+    leaving: &mut [u32],
+    entering: &[u32],
+    levels: &[u32],
     at: usize,
-) -> usize
+) -> u32
     requires network { IsNetwork network.now }
     requires flows { length flows.now ≡ length network.now.tails.items }
     requires places { length tree.now.places.items ≡ network.now.nodes }
@@ -41,7 +41,7 @@ fn next_leaving(
     ensures cursor { result ≡ slice_index leaving.new at }
 {
     while leaving[at] != 0 {
-        let edge = leaving[at] - 1;
+        let edge = (leaving[at] - 1) as usize;
         let to = network.head(edge);
         if flows[edge] < network.limit(edge)
             && tree.place(to) == 0
@@ -61,11 +61,11 @@ fn next_entering(
     network: &Network,
     flows: &[u64],
     tree: &Tree,
-    leaving: &[usize],
-    entering: &mut [usize],
-    levels: &[usize],
+    leaving: &[u32],
+    entering: &mut [u32],
+    levels: &[u32],
     at: usize,
-) -> usize
+) -> u32
     requires network { IsNetwork network.now }
     requires flows { length flows.now ≡ length network.now.tails.items }
     requires places { length tree.now.places.items ≡ network.now.nodes }
@@ -75,7 +75,7 @@ fn next_entering(
     ensures cursor { result ≡ slice_index entering.new at }
 {
     while entering[at] != 0 {
-        let edge = entering[at] - 1;
+        let edge = (entering[at] - 1) as usize;
         let to = network.tail(edge);
         if flows[edge] != 0
             && tree.place(to) == 0
@@ -94,9 +94,9 @@ fn go_on(
     network: &Network,
     flows: &[u64],
     tree: &mut Tree,
-    leaving: &mut [usize],
-    entering: &[usize],
-    levels: &[usize],
+    leaving: &mut [u32],
+    entering: &[u32],
+    levels: &[u32],
     at: usize,
 ) -> Result<bool, NoMemory>
     requires network { IsNetwork network.now }
@@ -115,7 +115,7 @@ fn go_on(
     if cursor == 0 {
         return Ok(false);
     }
-    let edge = cursor - 1;
+    let edge = (cursor - 1) as usize;
     let room = network.limit(edge).saturating_sub(flows[edge]);
     reach(network, flows, tree, at, edge, network.head(edge), room)?;
     Ok(true)
@@ -126,9 +126,9 @@ fn go_back(
     network: &Network,
     flows: &[u64],
     tree: &mut Tree,
-    leaving: &[usize],
-    entering: &mut [usize],
-    levels: &[usize],
+    leaving: &[u32],
+    entering: &mut [u32],
+    levels: &[u32],
     at: usize,
 ) -> Result<bool, NoMemory>
     requires network { IsNetwork network.now }
@@ -147,7 +147,7 @@ fn go_back(
     if cursor == 0 {
         return Ok(false);
     }
-    let edge = cursor - 1;
+    let edge = (cursor - 1) as usize;
     reach(
         network,
         flows,
@@ -193,9 +193,9 @@ fn add_walks(
     network: &Network,
     flows: &mut [u64],
     tree: &mut Tree,
-    leaving: &mut [usize],
-    entering: &mut [usize],
-    levels: &[usize],
+    leaving: &mut [u32],
+    entering: &mut [u32],
+    levels: &[u32],
     steps: u64,
 ) -> Result<u64, NoMemory>
     requires network { IsNetwork network.now }
@@ -212,6 +212,7 @@ fn add_walks(
     ensures value { IfOk result (λ total. source_flow (net_of network.now) flows.new ≡ source_flow (net_of network.now)
         flows.old + total) }
     ensures most { OnOk result (AreAtMost (source_flow (net_of network.now) flows.new) flows.new) }
+    ensures room { OnOk result (IsRoomy network.now.nodes tree.new) }
 {
     let mut total = 0;
     for _ in 0..steps {
@@ -241,15 +242,15 @@ pub fn deepen(
     alloc: Global,
     network: &Network,
     flows: &mut [u64],
-    found: &Tree,
+    tree: &mut Tree,
     steps: u64,
 ) -> Result<u64, NoMemory>
     requires network { IsNetwork network.now }
     requires small { HasSmallSide (net_of network.now) }
     requires flow { IsFlow (net_of network.now) flows.old }
     requires bounded { IsBounded (net_of network.now) flows.old }
-    requires tree { IsTree (net_of network.now) flows.old found.now }
-    requires found { 0 < slice_index found.now.places.items 1 }
+    requires tree { IsTree (net_of network.now) flows.old tree.old }
+    requires found { 0 < slice_index tree.old.places.items 1 }
     requires most { AreAtMost (source_flow (net_of network.now) flows.old) flows.old }
     ensures flow { OnOk result (IsFlow (net_of network.now) flows.new) }
     ensures bounded { OnOk result (IsBounded (net_of network.now) flows.new) }
@@ -257,18 +258,20 @@ pub fn deepen(
         flows.old + total) }
     ensures some { IfOk result (λ total. 0 < total) }
     ensures most { OnOk result (AreAtMost (source_flow (net_of network.now) flows.new) flows.new) }
+    ensures room { OnOk result (IsRoomy network.now.nodes tree.new) }
 {
-    let first = augment(network, flows, found);
+    let first = augment(network, flows, tree);
+    let levels = tree.places.as_slice().to_vec(alloc)?;
     let mut leaving = network.leaving.first.as_slice().to_vec(alloc)?;
     let mut entering = network.entering.first.as_slice().to_vec(alloc)?;
-    let mut tree = begin(alloc, network.nodes())?;
+    tree.begin(network.nodes())?;
     let more = add_walks(
         network,
         flows,
-        &mut tree,
+        tree,
         &mut leaving,
         &mut entering,
-        found.places.as_slice(),
+        &levels,
         steps,
     )?;
     Ok(first + more)

@@ -8,17 +8,18 @@ use flow_base::NoMemory;
 use std::alloc::Global;
 
 /// Adds each flow at the place of its key, over zeros. Gives whether each sum fits in a number.
-fn add_up(keys: &[usize], flows: &[u64], sums: &mut [u64]) -> bool
+fn add_up(keys: &[u32], flows: &[u64], sums: &mut [u64]) -> bool
     requires count { length flows.now ≡ length keys.now }
     requires none { (v : ℕ) → slice_index sums.old v ≡ 0 }
     requires inside { (i : ℕ) → i < length keys.now → slice_index keys.now i < length sums.old }
     ensures { result ≡ true → AreSums keys.now flows.now (length keys.now) sums.new }
 {
     for (i, key) in keys.iter().enumerate() {
-        let Some(sum) = sums[*key].checked_add(flows[i]) else {
+        let node = *key as usize;
+        let Some(sum) = sums[node].checked_add(flows[i]) else {
             return false;
         };
-        sums[*key] = sum;
+        sums[node] = sum;
     }
     true
 }
@@ -65,7 +66,7 @@ fn are_at_most(flows: &[u64], most: u64) -> bool
 fn sums_at(
     alloc: Global,
     nodes: usize,
-    keys: &[usize],
+    keys: &[u32],
     flows: &[u64],
 ) -> Result<Option<Vec<u64>>, NoMemory>
     requires count { length flows.now ≡ length keys.now }

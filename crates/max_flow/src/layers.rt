@@ -7,6 +7,30 @@ use std::alloc::Global;
 /// What stands in a list where no node is.
 const NONE: usize = 0xffff_ffff;
 
+/// What stands before and after each node in a list.
+#[derive(Drop)]
+struct Links {
+    /// For each node the next one.
+    next: Table,
+    /// For each node the one before.
+    before: Table,
+}
+
+impl Links {
+    fn new(alloc: Global, nodes: usize) -> Result<Links, NoMemory> {
+        Ok(Links {
+            next: Table::filled(alloc, 0, nodes)?,
+            before: Table::filled(alloc, 0, nodes)?,
+        })
+    }
+
+    /// Makes a node follow another one. Where one of them is none, the other stands at that end of its list.
+    fn join(&mut self, before: usize, next: usize) {
+        self.next.put(before, next);
+        self.before.put(next, before);
+    }
+}
+
 /// The nodes by their label, a lower bound of the number of arcs with room from them to the sink. The nodes of a label
 /// stand in a list.
 #[derive(Drop)]
@@ -17,10 +41,8 @@ pub struct Layers {
     labels: Table,
     /// For each label the first node of its list.
     firsts: Table,
-    /// For each node of a list the next one.
-    next: Table,
-    /// For each node of a list the one before.
-    before: Table,
+    /// How the nodes of the lists follow each other.
+    links: Links,
     /// No node of a list has a greater label.
     top: usize,
 }
@@ -32,8 +54,7 @@ impl Layers {
             nodes,
             labels: Table::filled(alloc, 0, nodes)?,
             firsts: Table::filled(alloc, 0, nodes)?,
-            next: Table::filled(alloc, 0, nodes)?,
-            before: Table::filled(alloc, 0, nodes)?,
+            links: Links::new(alloc, nodes)?,
             top: 0,
         };
         layers.clear();
@@ -63,28 +84,20 @@ impl Layers {
 
     /// Puts a node that is in no list into that of a label.
     pub fn enter(&mut self, node: usize, label: usize) {
-        let first = self.firsts.at(label);
+        self.links.join(NONE, node);
+        self.links.join(node, self.firsts.at(label));
         self.labels.put(node, label);
-        self.next.put(node, first);
-        self.before.put(node, NONE);
-        if first != NONE {
-            self.before.put(first, node);
-        }
         self.firsts.put(label, node);
         self.top = self.top.max(label);
     }
 
     /// Takes a node out of its list.
     fn leave(&mut self, node: usize) {
-        let before = self.before.at(node);
-        let next = self.next.at(node);
+        let before = self.links.before.at(node);
+        let next = self.links.next.at(node);
+        self.links.join(before, next);
         if before == NONE {
             self.firsts.put(self.labels.at(node), next);
-        } else {
-            self.next.put(before, next);
-        }
-        if next != NONE {
-            self.before.put(next, before);
         }
         self.labels.put(node, self.nodes);
     }
@@ -111,7 +124,7 @@ impl Layers {
                     break;
                 }
                 self.labels.put(node, self.nodes);
-                node = self.next.at(node);
+                node = self.links.next.at(node);
             }
             self.firsts.put(higher, NONE);
         }

@@ -8,8 +8,8 @@ use crate::chains::Chains;
 #[derive(Drop)]
 pub struct Network {
     pub nodes: usize,
-    pub tails: Vec<usize>,
-    pub heads: Vec<usize>,
+    pub tails: Vec<u32>,
+    pub heads: Vec<u32>,
     pub limits: Vec<u64>,
     pub leaving: Chains,
     pub entering: Chains,
@@ -35,7 +35,7 @@ impl Network {
         requires { edge < length self.now.tails.items }
         ensures { result ≡ slice_index self.now.tails.items edge }
     {
-        self.tails[edge]
+        self.tails[edge] as usize
     }
 
     /// The node that an edge leads to.
@@ -43,7 +43,7 @@ impl Network {
         requires { edge < length self.now.heads.items }
         ensures { result ≡ slice_index self.now.heads.items edge }
     {
-        self.heads[edge]
+        self.heads[edge] as usize
     }
 
     /// How much an edge can hold: its limit, or for an open edge all that a number can.

@@ -16,7 +16,7 @@ use std::alloc::Global;
 pub struct Answer {
     pub value: u64,
     pub flows: Vec<u64>,
-    pub places: Vec<usize>,
+    pub places: Vec<u32>,
 }
 
 /// The value of a flow, and the last search over it.
@@ -43,8 +43,8 @@ fn raise(
     let mut value = first;
     let mut tree = found;
     while tree.place(1) != 0 {
-        value += deepen(alloc, network, flows, &tree, u64::MAX)?;
-        tree = search(alloc, network, flows)?;
+        value += deepen(alloc, network, flows, &mut tree, u64::MAX)?;
+        search(network, flows, &mut tree)?;
     }
     Ok(Raised { value, tree })
 }

@@ -36,10 +36,10 @@ fn most_of(network: &Network) -> u64 {
 fn used_nodes(network: &Network) -> usize {
     let mut last: usize = 1;
     for tail in &network.tails {
-        last = last.max(*tail);
+        last = last.max(*tail as usize);
     }
     for head in &network.heads {
-        last = last.max(*head);
+        last = last.max(*head as usize);
     }
     last.saturating_add(1)
 }
@@ -54,10 +54,12 @@ impl Rows {
         let mut leaving = Table::filled(alloc, 0, nodes)?;
         let mut entering = Table::filled(alloc, 0, nodes)?;
         for tail in &network.tails {
-            leaving.put(*tail, leaving.at(*tail) + 1);
+            let node = *tail as usize;
+            leaving.put(node, leaving.at(node) + 1);
         }
         for head in &network.heads {
-            entering.put(*head, entering.at(*head) + 1);
+            let node = *head as usize;
+            entering.put(node, entering.at(node) + 1);
         }
         let mut rows = Rows {
             nodes,

@@ -26,7 +26,7 @@ fn scan_leaving(
 {
     let mut cursor = network.leaving.last_at(at);
     while cursor != 0 {
-        let edge = cursor - 1;
+        let edge = (cursor - 1) as usize;
         let room = network.limit(edge).saturating_sub(flows[edge]);
         reach(network, flows, tree, at, edge, network.head(edge), room)?;
         cursor = network.leaving.before(edge);
@@ -53,7 +53,7 @@ fn scan_entering(
 {
     let mut cursor = network.entering.last_at(at);
     while cursor != 0 {
-        let edge = cursor - 1;
+        let edge = (cursor - 1) as usize;
         reach(
             network,
             flows,
@@ -79,10 +79,11 @@ fn is_idle(network: &Network, flows: &[u64], at: usize) -> bool
     if at < 2 || last == 0 {
         return false;
     }
-    if flows[last - 1] != 0 {
+    let edge = (last - 1) as usize;
+    if flows[edge] != 0 {
         return false;
     }
-    let earlier = network.leaving.before(last - 1);
+    let earlier = network.leaving.before(edge);
     earlier == 0
 }
 

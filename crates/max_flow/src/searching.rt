@@ -1,9 +1,9 @@
-ghost use Rattle.std.specs.Prelude.{◌≡◌, ◌+◌, ◌-◌, ◌<◌, ◌≤◌, ◌++◌, ◌∷◌, [], length, slice_index, slice_set, take, IfOk};
+ghost use Rattle.std.specs.Prelude.{◌≡◌, ◌+◌, ◌-◌, ◌^◌, ◌<◌, ◌≤◌, ◌++◌, ◌∷◌, [], length, slice_index, slice_set, take, IfOk};
 ghost use Rattle.std.specs.Prelude.{OnOk};
 ghost use Rattle.max_flow.specs.Networks.{IsFlow};
 ghost use Rattle.max_flow.specs.Private.Rooms.{IsClosed};
 ghost use Rattle.max_flow.specs.Private.Searching.{Reaches, HasGrown, is_found, IsStart};
-ghost use Rattle.max_flow.specs.Private.Solving.{net_of, IsNetwork, IsTree};
+ghost use Rattle.max_flow.specs.Private.Solving.{net_of, IsNetwork, IsRoomy, IsTree};
 
 use crate::networks::Network;
 use crate::scanning::scan;
@@ -14,19 +14,43 @@ use std::alloc::Global;
 /// (0: not found), the edge over which it was found, and how much more can be brought there.
 #[derive(Drop)]
 pub struct Tree {
-    pub places: Vec<usize>,
-    pub arrivals: Vec<usize>,
+    pub places: Vec<u32>,
+    pub arrivals: Vec<u32>,
     pub rooms: Vec<u64>,
-    pub queue: Vec<usize>,
+    pub queue: Vec<u32>,
 }
 
 impl Tree {
+    /// A tree with room for so many nodes.
+    pub fn new(alloc: Global, nodes: usize) -> Result<Tree, NoMemory>
+        ensures { IfOk result (λ tree. IsRoomy nodes tree) }
+    {
+        Ok(Tree {
+            places: vec![in alloc; 0; nodes]?,
+            arrivals: vec![in alloc; 0; nodes]?,
+            rooms: vec![in alloc; 0; nodes]?,
+            queue: Vec::new(alloc),
+        })
+    }
+
+    /// Forgets each node but the source, which is found.
+    pub fn begin(&mut self, nodes: usize) -> Result<(), NoMemory>
+        requires some { 0 < nodes }
+        requires room { IsRoomy nodes self.old }
+        ensures { OnOk result (IsStart nodes self.new.places.items self.new.arrivals.items self.new.rooms.items
+            self.new.queue.items) }
+    {
+        self.places.fill(0);
+        self.queue.clear();
+        self.put(0, 0, u64::MAX)
+    }
+
     /// The place of a node in the queue, counted from 1; 0 where it is not found.
     pub fn place(&self, node: usize) -> usize
         requires { node < length self.now.places.items }
         ensures { result ≡ slice_index self.now.places.items node }
     {
-        self.places[node]
+        self.places[node] as usize
     }
 
     /// The edge over which a node was found.
@@ -34,7 +58,7 @@ impl Tree {
         requires { node < length self.now.arrivals.items }
         ensures { result ≡ slice_index self.now.arrivals.items node }
     {
-        self.arrivals[node]
+        self.arrivals[node] as usize
     }
 
     /// How much more can be brought to a node.
@@ -57,7 +81,7 @@ impl Tree {
         requires { index < length self.now.queue.items }
         ensures { result ≡ slice_index self.now.queue.items index }
     {
-        self.queue[index]
+        self.queue[index] as usize
     }
 
     /// Takes the last node of the queue out again.
@@ -72,7 +96,7 @@ impl Tree {
         ensures rooms { self.new.rooms.items ≡ self.old.rooms.items }
     {
         let last = self.queue.len() - 1;
-        let node = self.queue[last];
+        let node = self.queue[last] as usize;
         self.queue.truncate(last);
         self.places[node] = 0;
     }
@@ -82,34 +106,21 @@ impl Tree {
         requires places { node < length self.old.places.items }
         requires arrivals { node < length self.old.arrivals.items }
         requires rooms { node < length self.old.rooms.items }
+        requires small { node < 2 ^ 32 }
+        requires edge { edge < 2 ^ 32 }
+        requires few { length self.old.queue.items + 1 < 2 ^ 32 }
         ensures queue { OnOk result (self.new.queue.items ≡ self.old.queue.items ++ node ∷ []) }
         ensures places { OnOk result (self.new.places.items ≡ slice_set self.old.places.items node
             (length self.old.queue.items + 1)) }
         ensures arrivals { OnOk result (self.new.arrivals.items ≡ slice_set self.old.arrivals.items node edge) }
         ensures rooms { OnOk result (self.new.rooms.items ≡ slice_set self.old.rooms.items node room) }
     {
-        self.queue.push(node).map_err(|_| NoMemory)?;
-        self.places[node] = self.queue.len();
-        self.arrivals[node] = edge;
+        self.queue.push(node as u32).map_err(|_| NoMemory)?;
+        self.places[node] = self.queue.len() as u32;
+        self.arrivals[node] = edge as u32;
         self.rooms[node] = room;
         Ok(())
     }
-}
-
-/// A tree in which the source alone is found.
-pub fn begin(alloc: Global, nodes: usize) -> Result<Tree, NoMemory>
-    requires { 0 < nodes }
-    ensures { IfOk result (λ tree. IsStart nodes tree.places.items tree.arrivals.items tree.rooms.items
-        tree.queue.items) }
-{
-    let mut tree = Tree {
-        places: vec![in alloc; 0; nodes]?,
-        arrivals: vec![in alloc; 0; nodes]?,
-        rooms: vec![in alloc; 0; nodes]?,
-        queue: Vec::new(alloc),
-    };
-    tree.put(0, 0, u64::MAX)?;
-    Ok(tree)
 }
 
 /// Finds a node from another one over an edge, where the edge has room and the node is not found yet.
@@ -122,6 +133,7 @@ pub fn reach(
     node: usize,
     room: u64,
 ) -> Result<(), NoMemory>
+    requires network { IsNetwork network.now }
     requires tree { IsTree (net_of network.now) flows.now tree.old }
     requires inside { node < network.now.nodes }
     requires source { source < network.now.nodes }
@@ -140,19 +152,21 @@ pub fn reach(
     Ok(())
 }
 
-/// Searches from the source over edges with room, nearest nodes first, until the sink is found or nothing is left.
-pub fn search(alloc: Global, network: &Network, flows: &[u64]) -> Result<Tree, NoMemory>
+/// Searches from the source over edges with room, nearest nodes first, until the sink is found or nothing is left. What
+/// the tree held is gone.
+pub fn search(network: &Network, flows: &[u64], tree: &mut Tree) -> Result<(), NoMemory>
     requires network { IsNetwork network.now }
     requires flow { IsFlow (net_of network.now) flows.now }
-    ensures tree { IfOk result (λ tree. IsTree (net_of network.now) flows.now tree) }
-    ensures closed { IfOk result (λ tree. slice_index tree.places.items 1 ≡ 0 → IsClosed (net_of network.now)
-        flows.now (is_found tree.places.items)) }
+    requires room { IsRoomy network.now.nodes tree.old }
+    ensures tree { OnOk result (IsTree (net_of network.now) flows.now tree.new) }
+    ensures closed { OnOk result (slice_index tree.new.places.items 1 ≡ 0 → IsClosed (net_of network.now)
+        flows.now (is_found tree.new.places.items)) }
 {
-    let mut tree = begin(alloc, network.nodes())?;
+    tree.begin(network.nodes())?;
     let mut next = 0;
     while next < tree.count() && tree.place(1) == 0 {
-        scan(network, flows, &mut tree, next)?;
+        scan(network, flows, tree, next)?;
         next += 1;
     }
-    Ok(tree)
+    Ok(())
 }

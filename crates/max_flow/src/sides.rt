@@ -22,7 +22,7 @@ fn half_of(first: bool, second: bool) -> Half
 }
 
 /// For each point its halves that are found.
-fn found_halves(alloc: Global, places: &[usize], count: usize) -> Result<List<Half>, NoMemory>
+fn found_halves(alloc: Global, places: &[u32], count: usize) -> Result<List<Half>, NoMemory>
     requires count { count ≤ 65536 }
     requires places { 2 + 2 * count ≤ length places.now }
     ensures count { IfOk result (λ halves. length halves ≡ count) }
@@ -39,7 +39,7 @@ fn found_halves(alloc: Global, places: &[usize], count: usize) -> Result<List<Ha
 /// For each relay whether it is found, where the relays' nodes begin at `start`.
 fn found_relays(
     alloc: Global,
-    places: &[usize],
+    places: &[u32],
     start: usize,
     relays: &[u16],
 ) -> Result<List<bool>, NoMemory>
@@ -54,7 +54,7 @@ fn found_relays(
 }
 
 /// The side of what is found.
-pub fn side_of(alloc: Global, graph: &Graph, places: &[usize]) -> Result<Side, NoMemory>
+pub fn side_of(alloc: Global, graph: &Graph, places: &[u32]) -> Result<Side, NoMemory>
     requires count { length graph.now.points ≤ 65536 }
     requires places { length places.now ≡ 2 + 2 * length graph.now.points + 65536 }
     ensures points_count { IfOk result (λ side. length side.points ≡ length graph.now.points) }
@@ -72,14 +72,13 @@ pub fn side_of(alloc: Global, graph: &Graph, places: &[usize]) -> Result<Side, N
 }
 
 /// What flows through the points, and over the links.
-pub fn flow_of(alloc: Global, graph: &Graph, flows: &[u64]) -> Result<Flow, NoMemory>
-    requires { length flows.now ≡ length graph.now.points + length graph.now.links }
-    ensures points { IfOk result (λ flow. flow.points ≡ take (length graph.now.points) flows.now) }
-    ensures links { IfOk result (λ flow. flow.links ≡ drop (length graph.now.points) flows.now) }
+pub fn flow_of(graph: &Graph, flows: Vec<u64>) -> Result<Flow, NoMemory>
+    requires { length flows.items ≡ length graph.now.points + length graph.now.links }
+    ensures points { IfOk result (λ flow. flow.points ≡ take (length graph.now.points) flows.items) }
+    ensures links { IfOk result (λ flow. flow.links ≡ drop (length graph.now.points) flows.items) }
 {
-    let count = graph.points.len();
-    let points = flows[..count].to_vec(alloc)?;
-    let links = flows[count..].to_vec(alloc)?;
+    let mut points = flows;
+    let links = points.split_off(graph.points.len())?;
     Ok(Flow {
         points: List::from_vec(points),
         links: List::from_vec(links),

@@ -30,7 +30,7 @@ pub fn solve(alloc: Global, graph: &Graph) -> Result<Solved, NoMemory>
         flows,
         places,
     } = solve_network(alloc, &network)?;
-    let flow = flow_of(alloc, graph, &flows)?;
+    let flow = flow_of(graph, flows)?;
     let side = side_of(alloc, graph, &places)?;
     Ok(Solved { value, flow, side })
 }

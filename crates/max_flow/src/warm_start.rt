@@ -1,7 +1,7 @@
-ghost use Rattle.std.specs.Prelude.{length, IfOk};
+ghost use Rattle.std.specs.Prelude.{length, IfOk, OnOk};
 ghost use Rattle.max_flow.specs.Private.Balances.{IsFlowOfValue};
 ghost use Rattle.max_flow.specs.Private.Rooms.{HasSmallSide};
-ghost use Rattle.max_flow.specs.Private.Solving.{net_of, IsNetwork, IsSearched, AreZeros};
+ghost use Rattle.max_flow.specs.Private.Solving.{net_of, IsNetwork, IsRoomy, IsSearched, AreZeros};
 
 use crate::deepening::deepen;
 use crate::feasible::value_of_flow;
@@ -49,33 +49,37 @@ fn guess(alloc: Global, network: &Network) -> Result<Vec<u64>, NoMemory>
 
 /// Adds the walk of one search to no flow, and those over the nodes that it placed, by as many steps as there are edges.
 /// Gives the value.
-fn raise_once(alloc: Global, network: &Network, flows: &mut [u64]) -> Result<u64, NoMemory>
+fn raise_once(
+    alloc: Global,
+    network: &Network,
+    flows: &mut [u64],
+    tree: &mut Tree,
+) -> Result<u64, NoMemory>
     requires network { IsNetwork network.now }
     requires small { HasSmallSide (net_of network.now) }
     requires none { IsFlowOfValue (net_of network.now) flows.old 0 }
-    ensures { IfOk result (λ value. IsFlowOfValue (net_of network.now) flows.new value) }
+    requires room { IsRoomy network.now.nodes tree.old }
+    ensures value { IfOk result (λ value. IsFlowOfValue (net_of network.now) flows.new value) }
+    ensures room { OnOk result (IsRoomy network.now.nodes tree.new) }
 {
-    let tree = search(alloc, network, flows)?;
+    search(network, flows, tree)?;
     if tree.place(1) == 0 {
         return Ok(0);
     }
     let steps = network.edges() as u64;
-    let value = deepen(alloc, network, flows, &tree, steps)?;
+    let value = deepen(alloc, network, flows, tree, steps)?;
     Ok(value)
 }
 
 /// A flow of this value, searched.
-fn searched(
-    alloc: Global,
-    network: &Network,
-    flows: Vec<u64>,
-    value: u64,
-) -> Result<Start, NoMemory>
+fn searched(network: &Network, flows: Vec<u64>, value: u64, tree: Tree) -> Result<Start, NoMemory>
     requires network { IsNetwork network.now }
     requires flow { IsFlowOfValue (net_of network.now) flows.items value }
+    requires room { IsRoomy network.now.nodes tree }
     ensures { IfOk result (λ start. IsSearched (net_of network.now) start.flows.items start.value start.tree) }
 {
-    let tree = search(alloc, network, &flows)?;
+    let mut tree = tree;
+    search(network, &flows, &mut tree)?;
     Ok(Start { value, flows, tree })
 }
 
@@ -86,8 +90,9 @@ fn first_round(alloc: Global, network: &Network) -> Result<Start, NoMemory>
     ensures { IfOk result (λ start. IsSearched (net_of network.now) start.flows.items start.value start.tree) }
 {
     let mut flows = no_flow(alloc, network)?;
-    let value = raise_once(alloc, network, &mut flows)?;
-    searched(alloc, network, flows, value)
+    let mut tree = Tree::new(alloc, network.nodes())?;
+    let value = raise_once(alloc, network, &mut flows, &mut tree)?;
+    searched(network, flows, value, tree)
 }
 
 /// The flow that the search goes on from: that of its first round; or where the sink is still reached then, the numbers
@@ -103,7 +108,7 @@ pub fn first_flow(alloc: Global, network: &Network) -> Result<Start, NoMemory>
     }
     let flows = guess(alloc, network)?;
     match value_of_flow(alloc, network, &flows)? {
-        Some(value) => searched(alloc, network, flows, value),
+        Some(value) => searched(network, flows, value, first.tree),
         None => Ok(first),
     }
 }

@@ -7,6 +7,10 @@ use Rattle.max_flow.specs.Networks.{Net, IsSide, capacity_of}
 unfoldable pub bound : List ℕ → ℕ → ℕ
 bound limits i = cond (nat_lt i (length limits)) (slice_index limits i) (2 ^ 64 - 1)
 
+-- numbers that fit in 32 bits
+abbrev pub AreFew : List ℕ → Type 0
+AreFew numbers = (i : ℕ) → i < length numbers → slice_index numbers i < 2 ^ 32
+
 -- a flow that is also within what numbers hold on the open edges
 pub record IsBounded (net : Net) (flow : List ℕ) : Type 0 where
   pub count : length flow ≡ length net.tails

@@ -19,6 +19,8 @@ net_of network = record {
 -- a network whose limits fit in a number, with the edges at each node in chains
 pub record IsNetwork (network : Network) : Type 0 where
   pub net : IsNet (net_of network)
+  pub nodes_few : network.nodes < 2 ^ 31
+  pub edges_few : length network.tails.items < 2 ^ 31
   pub fits : (i : ℕ) → slice_index network.limits.items i < 2 ^ 64
   pub leaving : AreChains network.tails.items (length network.tails.items) network.nodes network.leaving.first.items
       network.leaving.next.items
@@ -27,6 +29,12 @@ pub record IsNetwork (network : Network) : Type 0 where
 
 abbrev pub IsTree : Net → List ℕ → Tree → Type 0
 IsTree net flow tree = IsFound net flow tree.places.items tree.arrivals.items tree.rooms.items tree.queue.items
+
+-- a tree with room for so many nodes
+pub record IsRoomy (nodes : ℕ) (tree : Tree) : Type 0 where
+  pub places_count : length tree.places.items ≡ nodes
+  pub arrivals_count : length tree.arrivals.items ≡ nodes
+  pub rooms_count : length tree.rooms.items ≡ nodes
 
 -- a flow of this value, and a search over it
 pub record IsSearched (net : Net) (flow : List ℕ) (value : ℕ) (tree : Tree) : Type 0 where

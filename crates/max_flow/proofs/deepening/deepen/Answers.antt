@@ -8,11 +8,11 @@ use Rattle.max_flow.proofs.deepening.deepen.Goals as goal
 
 pub add_walks-requires-clause-tree : goal.add_walks-requires-clause-tree
 add_walks-requires-clause-tree c =
-    let t = c.in_ok-tree.tree in
+    let t = c.begin.new.self in
     found_first (net_of c.args.network.now) c.augment-first.new.flows t.places.items t.arrivals.items t.rooms.items
     t.queue.items c.requires.network.net
     (subst (λ n. IsStart n t.places.items t.arrivals.items t.rooms.items t.queue.items) c.nodes.ensures
-    c.in_ok-tree.ensures)
+    c.in_ok-begin.ensures)
 
 pub overflow_add-result : goal.overflow_add-result
 overflow_add-result c =
@@ -28,7 +28,7 @@ pub add_walks-requires-clause-bounded : goal.add_walks-requires-clause-bounded
 add_walks-requires-clause-bounded c = c.augment-first.ensures.bounded
 
 pub add_walks-requires-clause-root : goal.add_walks-requires-clause-root
-add_walks-requires-clause-root c = c.in_ok-tree.ensures.source
+add_walks-requires-clause-root c = c.in_ok-begin.ensures.source
 
 pub add_walks-requires-clause-most : goal.add_walks-requires-clause-most
 add_walks-requires-clause-most c = c.augment-first.ensures.most

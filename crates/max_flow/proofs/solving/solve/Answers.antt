@@ -19,25 +19,24 @@ flow_of-requires c =
     let e : net_of c.in_ok-network.network ≡ network_of c.args.graph.now = c.in_ok-network.ensures.net in
     let flow : IsFlow (network_of c.args.graph.now) c.in_ok-value.field-0.flows.items =
     subst (λ n. IsFlow n c.in_ok-value.field-0.flows.items) e c.in_ok-value.ensures.flow in
-    ap length c.deref.ensures.value ∙ (flow.count ∙ edges-count c.args.graph.now)
+    flow.count ∙ edges-count c.args.graph.now
 
 pub returns-clause-flow : goal.returns-clause-flow
 returns-clause-flow c =
     let e : net_of c.in_ok-network.network ≡ network_of c.args.graph.now = c.in_ok-network.ensures.net in
     let flow : IsFlow (network_of c.args.graph.now) c.in_ok-value.field-0.flows.items =
     subst (λ n. IsFlow n c.in_ok-value.field-0.flows.items) e c.in_ok-value.ensures.flow in
-    flow_from c.args.graph.now c.in_ok-value.field-0.flows.items _ _ flow
-    (rw c.deref.ensures.value at c.in_ok-flow.ensures.points)
-    (rw c.deref.ensures.value at c.in_ok-flow.ensures.links)
+    flow_from c.args.graph.now c.in_ok-value.field-0.flows.items _ _ flow c.in_ok-flow.ensures.points
+    c.in_ok-flow.ensures.links
 
 pub returns-clause-points : goal.returns-clause-points
 returns-clause-points c = front_most c.in_ok-value.field-0.value (length c.args.graph.now.points)
-    c.in_ok-value.field-0.flows.items _ (rw c.deref.ensures.value at c.in_ok-flow.ensures.points)
+    c.in_ok-value.field-0.flows.items _ c.in_ok-flow.ensures.points
     c.in_ok-value.ensures.most
 
 pub returns-clause-links : goal.returns-clause-links
 returns-clause-links c = back_most c.in_ok-value.field-0.value (length c.args.graph.now.points)
-    c.in_ok-value.field-0.flows.items _ (rw c.deref.ensures.value at c.in_ok-flow.ensures.links)
+    c.in_ok-value.field-0.flows.items _ c.in_ok-flow.ensures.links
     c.in_ok-value.ensures.most
 
 pub returns-clause-side : goal.returns-clause-side
@@ -59,8 +58,8 @@ returns-clause-side c =
     c.in_ok-value.ensures.least in
     let made : IsMade c.args.graph.now c.in_ok-value.field-0.places.items c.in_ok-side.side.points
     c.in_ok-side.side.relays = record {
-      points = rw c.deref-2.ensures.value at c.in_ok-side.ensures.points;
-      relays = rw c.deref-2.ensures.value at c.in_ok-side.ensures.relays;
+      points = rw c.deref.ensures.value at c.in_ok-side.ensures.points;
+      relays = rw c.deref.ensures.value at c.in_ok-side.ensures.relays;
       source = side.source;
       sink = side.sink;
     } in
@@ -78,8 +77,8 @@ returns-clause-capacity c =
     c.in_ok-value.field-0.value) e c.in_ok-value.ensures.capacity in
     let made : IsMade c.args.graph.now c.in_ok-value.field-0.places.items c.in_ok-side.side.points
     c.in_ok-side.side.relays = record {
-      points = rw c.deref-2.ensures.value at c.in_ok-side.ensures.points;
-      relays = rw c.deref-2.ensures.value at c.in_ok-side.ensures.relays;
+      points = rw c.deref.ensures.value at c.in_ok-side.ensures.points;
+      relays = rw c.deref.ensures.value at c.in_ok-side.ensures.relays;
       source = side.source;
       sink = side.sink;
     } in
