@@ -9,6 +9,7 @@ use Rattle.flow_graph.specs.EventGraphs.{is_among}
 use Rattle.flow_base.specs.PointOrders.{is_same}
 use Rattle.location_collapse.specs.LatestLinks.{has_flow, has_output, is_latest_flow, is_latest_output}
 use Rattle.flow_base.proofs.PointEquality.{point_eq, points_same}
+use Rattle.flow_base.proofs.PointOrders.{same-one}
 use Rattle.location_collapse.proofs.EqualityByOrder.{link_eq, links_same}
 use Rattle.location_collapse.proofs.LinkMarks.{among_alike}
 
@@ -25,6 +26,17 @@ flow_eq s t from to = refl
 output_eq : (r region : ℕ) (p to : Point) → link_eq (record { source = Relay region; target = At to })
     (record { source = Relay r; target = At p }) ≡ ((region == r) && point_eq to p)
 output_eq r region p to = refl
+
+same_point : (p q : Point) → point_eq p q ≡ true → p ≡ q
+same_point p q e = same-one p q (ap (λ eq. eq p q) (sym points_same) ∙ e)
+
+-- a link whose ends equal two points leads from the one to the other
+pub led : (link : NamedLink) (from to s t : Point) → link.source ≡ At from → link.target ≡ At to →
+    point_eq from s ≡ true → point_eq to t ≡ true → link ≡ record { source = At s; target = At t }
+led link from to s t starts ends first second =
+    let source : link.source ≡ At s = starts ∙ ap At (same_point from s first) in
+    let target : link.target ≡ At t = ends ∙ ap At (same_point to t second) in
+    λ i. record { source = source i; target = target i }
 
 pub flow_known : (keys : List NamedLink) (flow : Option (Point × Point)) (s t from to : Point) →
     IfSome flow (λ ends. has_flow keys ends.0 ends.1 ≡ true) → flow ≡ Some (from, to) →

@@ -1,7 +1,7 @@
 -- The links that are kept, and what one link more makes of them.
 use Rattle.std.proofs.Common.{◌≡◌, ◌||◌, ◌++◌, ◌∷◌, [], cond, Bool, true, false, List, refl, sym, ap, ◌∙◌}
-use Rattle.std.proofs.Common.{ℕ, Option, Some, None}
-use Rattle.std.specs.List.{list_all}
+use Rattle.std.proofs.Common.{ℕ, Option, Some, None, slice_get}
+use Rattle.std.specs.List.{IsDistinct, list_all}
 use Rattle.std.specs.Map.{keys_of, lookup}
 use Rattle.std.specs.Option.{is_some, IfNone, IfSome}
 use Rattle.std.proofs.lemmas.Bool.{and_from}
@@ -10,7 +10,9 @@ use Rattle.std.proofs.lemmas.Map.Made.{is_some-lookup}
 use Rattle.flow_graph.specs.declared.named_links.NamedLink.{NamedLink}
 use Rattle.flow_graph.specs.EventGraphs.{is_among}
 use Rattle.flow_graph.specs.Keeping.{TakesLinks}
+use Rattle.indexmap.specs.IndexMap.{IndexMap}
 use Rattle.hinted_map.specs.Places.{StandsAt}
+use Rattle.hinted_map.proofs.Places.{stands}
 use Rattle.location_collapse.specs.Limits.{is_same_link}
 use Rattle.location_collapse.proofs.EqualityByOrder.{any_flipped, links_alike}
 
@@ -32,6 +34,14 @@ pub found_among : (entries : List (NamedLink × Unit {0})) (link : NamedLink) (f
     is_some found ≡ is_among (keys_of entries) link
 found_among entries link (Some i) place none = sym (ap is_some place.found) ∙ among_found entries link
 found_among entries link None place none = sym (ap is_some none) ∙ among_found entries link
+
+-- a link that stands at an index is among the keys
+pub stands_known : {S : Type 0} (map : IndexMap NamedLink (Unit {0}) S) (link : NamedLink) (index : ℕ)
+    (none : Unit {0}) → IsDistinct is_same_link (keys_of map.entries) → slice_get map.entries index ≡ Some (link, none) →
+    is_among (keys_of map.entries) link ≡ true
+stands_known map link index none differ at =
+    sym (found_among map.entries link (Some index)
+    (stands links_alike map link link index none differ (links_alike.refl link) at) tt)
 
 is_none : {A : Type 0} (o : Option A) → is_some o ≡ false → o ≡ None
 is_none None e = refl

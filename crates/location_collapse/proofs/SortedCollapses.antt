@@ -1,70 +1,86 @@
 -- The points and links of a collapse in order stand for the same events.
-use Rattle.std.proofs.Common.{◌≡◌, ℕ, suc, ◌+◌, ◌-◌, ◌≤◌, ◌<◌, ◌||◌, ◌∷◌, [], cond, Bool, true, false, List, length, drop}
-use Rattle.std.proofs.Common.{Some, refl, sym, ap, ◌∙◌, subst, arith, slice_get, unwrap_or}
-use Rattle.std.proofs.Math.Seq.{drop-cons}
-use Rattle.std.proofs.lemmas.Option.{slice_get_within, get_or_from_slice_get}
-use Rattle.std.proofs.lemmas.Bool.{and_from, and_parts}
-use Rattle.std.specs.List.{list_all}
+use Rattle.std.proofs.Common.{◌≡◌, ℕ, List, [], true, refl, sym, ap, ◌∙◌, subst, unwrap_or}
+use Rattle.std.proofs.lemmas.List.Elements.{All-contains, All-weaker}
+use Rattle.std.proofs.lemmas.List.Sums.{AllPass-from_list_all, list_all-from_AllPass}
+use Rattle.std.proofs.lemmas.Map.Lookups.{CmpEqualImpliesEq, exact_unsigned}
+use Rattle.std.proofs.lemmas.Map.Made.{update_all_none}
+use Rattle.std.proofs.lemmas.Map.Views.{All-set_contains, btree_map_len-le_from_list, btree_set_contains_from_list}
+use Rattle.std.specs.BTreeMap as tree
+use Rattle.std.specs.BTreeMap.{BTreeMap}
+use Rattle.std.specs.BTreeSet as sorted
+use Rattle.std.specs.BTreeSet.{BTreeSet}
+use Rattle.std.specs.List.{IsDistinct, list_all}
 use Rattle.std.specs.Map.{keys_of}
 use Rattle.std.specs.Option.{is_some}
+use Rattle.std.specs.Ordering.{is_eq, ordering_then}
+use Rattle.std.specs.declared.cmp.Ordering.{Ordering}
+use Rattle.std.specs.declared.cmp.Ordering.TheVariants.{Less, Equal, Greater}
 use Rattle.flow_base.specs.declared.points.Point.{Point}
+use Rattle.flow_base.specs.PointOrders.{is_same, point_cmp}
+use Rattle.flow_base.proofs.PointEquality.{points_alike}
+use Rattle.flow_base.proofs.PointOrders.{point_total, same-one}
 use Rattle.flow_graph.specs.declared.events.Event.{Event}
+use Rattle.flow_graph.specs.declared.named_links.NamedEnd.{NamedEnd}
+use Rattle.flow_graph.specs.declared.named_links.NamedEnd.TheVariants.{Source, At, Relay, Sink}
 use Rattle.flow_graph.specs.declared.named_links.NamedLink.{NamedLink}
-use Rattle.flow_base.specs.PointOrders.{is_same}
-use Rattle.flow_graph.specs.EventGraphs.{is_among}
+use Rattle.flow_graph.specs.EventGraphs.{link_cmp}
 use Rattle.flow_graph.specs.Keeping.{Keeps, TakesLinks, capacity_in, is_known, is_positive, is_sound}
-use Rattle.location_collapse.specs.Limits.{is_same_link, is_kept_capacity}
+use Rattle.flow_graph.proofs.LinksByIndex.{link_total, named_end_cmp}
+use Rattle.flow_graph.proofs.SameLinksSameRelays.{contains-among}
+use Rattle.location_collapse.specs.Limits.{is_kept_capacity}
 use Rattle.location_collapse.specs.Private.Sorting.{HasSame}
 use Rattle.location_collapse.proofs.CapacityMaps.{found_positive}
-use Rattle.flow_base.proofs.PointEquality.{points_alike}
+use Rattle.location_collapse.proofs.EqualityByOrder.{any_flipped}
 
-drop_found : {X : Type 0} (es : List X) (i : ℕ) (e : X) → slice_get es i ≡ Some e → drop i es ≡ e ∷ drop (suc i) es
-drop_found es i e found =
-    drop-cons es i e (slice_get_within es i e found) ∙ ap (λ x. x ∷ drop (suc i) es) (get_or_from_slice_get es i e e found)
+-- points that differ, each with its capacity, as one map
+pub points_sorted : (entries : List (Point × ℕ)) (map : BTreeMap Point ℕ) → IsDistinct is_same (keys_of entries) →
+    tree.IsFromIterResult point_cmp entries map → HasSame map.entries entries
+points_sorted entries map differ made = record {
+  same = λ q. made.0 q ∙ update_all_none points_alike is_same (λ x y. refl) entries q differ;
+  few = btree_map_len-le_from_list point_total entries map made;
+}
 
--- the entry before those that were put in
-pub same_more : (old new es : List (Point × ℕ)) (left : ℕ) (p : Point) (n : ℕ) → 0 < left → HasSame old (drop left es) →
-    slice_get es (left - 1) ≡ Some (p, n) →
-    ((q : Point) → capacity_in new q ≡ cond (is_same p q) (Some n) (capacity_in old q)) →
-    length new ≤ length old + 1 → HasSame new (drop (left - 1) es)
-same_more old new es left p n some had at put longer =
-    let whole : suc (left - 1) ≡ left = omega (arith, some) in
-    let all : drop (left - 1) es ≡ (p, n) ∷ drop left es = drop_found es (left - 1) (p, n) at ∙ ap (λ i. (p, n) ∷ drop i es)
-    whole in
-    record {
-      same = λ q. put q ∙ (ap (λ o. cond (is_same p q) (Some n) o) (had.same q) ∙ (ap (λ b. cond b (Some n)
-          (capacity_in (drop left es) q)) (points_alike.symm p q) ∙ ap (λ l. capacity_in l q) (sym all)));
-      few = let before : length old ≤ length (drop left es) = had.few in
-          let count : length (drop (left - 1) es) ≡ suc (length (drop left es)) = ap length all in
-          omega (arith, before, longer, count);
-    }
+then_both : (o r : Ordering) → ordering_then o r ≡ Equal → (o ≡ Equal) × (r ≡ Equal)
+then_both Less r e = absurd (cc)
+then_both Equal r e = (refl, e)
+then_both Greater r e = absurd (cc)
 
-moved : (b c : Bool) → (b || (c || false)) ≡ (c || b)
-moved true true = refl
-moved true false = refl
-moved false true = refl
-moved false false = refl
+end_exact : (s t : NamedEnd) → named_end_cmp s t ≡ Equal → s ≡ t
+end_exact Source Source e = refl
+end_exact Source (At q) e = absurd (cc)
+end_exact Source (Relay r) e = absurd (cc)
+end_exact Source Sink e = absurd (cc)
+end_exact (At p) Source e = absurd (cc)
+end_exact (At p) (At q) e = ap At (same-one p q (ap is_eq e))
+end_exact (At p) (Relay r) e = absurd (cc)
+end_exact (At p) Sink e = absurd (cc)
+end_exact (Relay r) Source e = absurd (cc)
+end_exact (Relay r) (At q) e = absurd (cc)
+end_exact (Relay r) (Relay t) e = ap Relay (exact_unsigned r t e)
+end_exact (Relay r) Sink e = absurd (cc)
+end_exact Sink Source e = absurd (cc)
+end_exact Sink (At q) e = absurd (cc)
+end_exact Sink (Relay r) e = absurd (cc)
+end_exact Sink Sink e = refl
 
--- the link before those that were put in
-pub links_more : (old new : List NamedLink) (entries : List (NamedLink × Unit {0})) (left : ℕ) (link : NamedLink)
-    (none : Unit {0}) → 0 < left → TakesLinks [] old (keys_of (drop left entries)) →
-    slice_get entries (left - 1) ≡ Some (link, none) → TakesLinks old new (link ∷ []) →
-    TakesLinks [] new (keys_of (drop (left - 1) entries))
-links_more old new entries left link none some had at takes =
-    let whole : suc (left - 1) ≡ left = omega (arith, some) in
-    let all : drop (left - 1) entries ≡ (link, none) ∷ drop left entries =
-    drop_found entries (left - 1) (link, none) at ∙ ap (λ i. (link, none) ∷ drop i entries) whole in
-    record {
-      linked = λ j.
-          takes.linked j
-          ∙ (ap (λ b. b || is_among (link ∷ []) j) (had.linked j)
-          ∙ (moved (is_among (keys_of (drop left entries)) j) (is_same_link link j)
-          ∙ ap (λ es. is_among (keys_of es) j) (sym all)));
-      sound = λ test first more.
-          let parts = and_parts (test link) (list_all test (keys_of (drop left entries)))
-          (ap (λ es. list_all test (keys_of es)) (sym all) ∙ more) in
-          takes.sound test (had.sound test first parts.1) (and_from (test link) true parts.0 refl);
-    }
+link_exact : CmpEqualImpliesEq link_cmp
+link_exact j k e =
+    let both = then_both (named_end_cmp j.source k.source) (named_end_cmp j.target k.target) e in
+    let source : j.source ≡ k.source = end_exact j.source k.source both.0 in
+    let target : j.target ≡ k.target = end_exact j.target k.target both.1 in
+    λ i. record { source = source i; target = target i }
+
+-- links as one set
+pub links_sorted : (links : List NamedLink) (set : BTreeSet NamedLink) → sorted.IsFromIterResult link_cmp links set →
+    TakesLinks [] set.keys links
+links_sorted links set made = record {
+  linked = λ j. sym (contains-among set j) ∙ (made.0 j ∙ any_flipped links j);
+  sound = λ test none all.
+      list_all-from_AllPass test set.keys (All-weaker (λ k. sorted.contains link_cmp set k ≡ true) (λ k. test k ≡ true)
+      (λ k has. All-contains (λ x. test x ≡ true) links k (AllPass-from_list_all test links all)
+      ((btree_set_contains_from_list link_total link_exact links set made k).0 has)) set.keys
+      (All-set_contains link_total set));
+}
 
 known_same : (sorted entries : List (Point × ℕ)) → HasSame sorted entries → is_known entries ≡ is_known sorted
 known_same sorted entries has = λ i p. is_some (sym (has.same p) i)

@@ -98,6 +98,9 @@ impl Collapse {
                 if self.links.is_latest_flow(&source, &target) {
                     return Ok(());
                 }
+                if self.links.follows_flow(&source, &target) {
+                    return Ok(());
+                }
                 self.put(NamedLink {
                     source: NamedEnd::At(source),
                     target: NamedEnd::At(target),

@@ -4,6 +4,7 @@ ghost use Rattle.std.proofs.Props.{props};
 ghost use Rattle.std.specs.Map.{keys_of};
 ghost use Rattle.flow_graph.specs.EventGraphs.{is_among};
 ghost use Rattle.flow_graph.specs.Keeping.{TakesLinks};
+ghost use Rattle.flow_graph.specs.declared.named_links.NamedEnd.TheVariants.{At};
 ghost use Rattle.hinted_map.specs.Places.{StandsAt};
 ghost use Rattle.location_collapse.specs.LatestLinks.{flow_after, has_flow, has_output, is_latest_flow, is_latest_output, output_after};
 ghost use Rattle.location_collapse.specs.Limits.{HasAllLinks, is_same_link};
@@ -19,8 +20,8 @@ const MAX_LINKS: usize = 1_048_576;
 
 /// The links by the names of their ends, in the order in which they first occurred. They are at most 1,048,576.
 ///
-/// Of the links between two points, and of those from a relay to a point, the ends of the latest one are kept beside, so
-/// that it is known by them alone and not looked for.
+/// Of the links between two points, and of those from a relay to a point, the ends of the latest one that was looked for
+/// and found are kept beside, so that it is known by them alone and not looked for again.
 #[derive(Drop)]
 pub struct KeptLinks {
     pub named: HintedMap<NamedLink, ()>,
@@ -55,6 +56,35 @@ impl KeptLinks {
             Some((from, to)) => from == *source && to == *target,
             None => false,
         }
+    }
+
+    /// Whether the link from a point to a point stands at an index, and so has occurred.
+    #[inline(always)]
+    fn is_flow_at(&self, index: usize, source: &Point, target: &Point) -> bool
+        ensures { OnTrue result (has_flow (keys_of self.now.named.map.entries) source.now target.now ≡ true) }
+    {
+        let _differing = self.named.len();
+        match self.named.map.get_index(index) {
+            Some((link, _)) => leads(link, source, target),
+            None => false,
+        }
+    }
+
+    /// Whether the link from a point to a point stands after the one that was found latest, and so has occurred: it is
+    /// then found. A run follows the same links in the same order again and again. The links stay.
+    #[inline(always)]
+    pub fn follows_flow(&mut self, source: &Point, target: &Point) -> bool
+        ensures known { OnTrue result (has_flow (keys_of self.old.named.map.entries) source.now target.now ≡ true) }
+        ensures map { self.new.named.map ≡ self.old.named.map }
+        ensures flow { self.new.flow ≡ self.old.flow }
+        ensures output { self.new.output ≡ self.old.output }
+    {
+        let next = self.named.latest.wrapping_add(1);
+        if !self.is_flow_at(next, source, target) {
+            return false;
+        }
+        self.named.note(next);
+        true
     }
 
     /// Whether the link from the relay of a region to a point is the latest one of its kind, and so has occurred.
@@ -132,5 +162,19 @@ impl KeptLinks {
             Ok(_) => Ok(()),
             Err(NoMemory) => Err(CollapseFault::Memory),
         }
+    }
+}
+
+/// Whether a link leads from a point to a point.
+#[inline(always)]
+fn leads(link: &NamedLink, source: &Point, target: &Point) -> bool
+    ensures { OnTrue result (link.now ≡ record { source = At source.now; target = At target.now }) }
+{
+    match link.source {
+        NamedEnd::At(from) => match link.target {
+            NamedEnd::At(to) => from == *source && to == *target,
+            _ => false,
+        },
+        _ => false,
     }
 }

@@ -1,80 +1,67 @@
-ghost use Rattle.std.specs.BTreeMap as tree;
-ghost use Rattle.std.specs.Prelude.{◌≡◌, ◌+◌, ◌≤◌, ◌∷◌, [], cond, length, List as Seq, IfOk, OnOk, Some};
+ghost use Rattle.std.specs.Prelude.{◌≡◌, [], List as Seq, IfOk};
 ghost use Rattle.std.specs.Map.{keys_of};
-ghost use Rattle.flow_base.specs.declared.points.Point.{Point as ThePoint};
-ghost use Rattle.flow_base.specs.PointOrders.{is_same};
 ghost use Rattle.flow_graph.specs.declared.events.Event.{Event as AnEvent};
 ghost use Rattle.flow_graph.specs.EventGraphs.{IsGraphOf};
-ghost use Rattle.flow_graph.specs.Keeping.{TakesLinks, capacity_in};
+ghost use Rattle.flow_graph.specs.Keeping.{TakesLinks};
 ghost use Rattle.location_collapse.specs.Collapses.{StandsFor};
 ghost use Rattle.location_collapse.specs.Private.Sorting.{HasSame};
 
 use crate::collapses::Collapse;
-use flow_base::{NoMemory, Point};
+use flow_base::{List, NoMemory, Point};
 use flow_graph::{Builder, Graph, NamedLink};
+use hinted_map::HintedMap;
 use indexmap::IndexMap;
 use std::alloc::Global;
 use std::collections::{BTreeMap, BTreeSet};
+use std::iter::FromIterator;
 
-/// Puts a point with its capacity among others.
-fn put_point(
-    sorted: &mut BTreeMap<Point, u128>,
-    point: Point,
-    capacity: u128,
-) -> Result<(), NoMemory>
-    ensures put { OnOk result ((q : ThePoint) → capacity_in sorted.new.entries q ≡ cond (is_same point q)
-        (Some capacity) (capacity_in sorted.old.entries q)) }
-    ensures len { OnOk result (length sorted.new.entries ≤ length sorted.old.entries + 1) }
-{
-    match sorted.insert(point, capacity) {
-        Ok(_) => Ok(()),
-        Err(_) => Err(NoMemory),
-    }
-}
-
-/// The points with their capacities, in order.
-fn sorted_points(
+/// The points with their capacities, as they stand in the map.
+fn listed_points(
     alloc: Global,
     capacities: &IndexMap<Point, u64>,
-) -> Result<BTreeMap<Point, u128>, NoMemory>
-    ensures { IfOk result (λ sorted. HasSame sorted.entries capacities.now.entries) }
+) -> Result<List<(Point, u128)>, NoMemory>
+    ensures { IfOk result (λ listed. listed ≡ capacities.now.entries) }
 {
-    let mut sorted = BTreeMap::new(alloc);
-    let mut left = capacities.len();
-    while left > 0 {
-        left -= 1;
-        if let Some((point, capacity)) = capacities.get_index(left) {
-            put_point(&mut sorted, *point, u128::from(*capacity))?;
-        }
+    let mut listed = List::from_vec(Vec::with_capacity(alloc, capacities.len())?);
+    for (point, capacity) in capacities {
+        listed.push((*point, u128::from(*capacity)))?;
     }
+    Ok(listed)
+}
+
+/// The points with their capacities, in order. They are sorted at once, since a run sees many of them in order.
+fn sorted_points(
+    alloc: Global,
+    capacities: &HintedMap<Point, u64>,
+) -> Result<BTreeMap<Point, u128>, NoMemory>
+    ensures { IfOk result (λ sorted. HasSame sorted.entries capacities.now.map.entries) }
+{
+    let _differing = capacities.len();
+    let listed = listed_points(alloc, &capacities.map)?;
+    let sorted = BTreeMap::from_iter(alloc, listed.into_vec())?;
     Ok(sorted)
 }
 
-/// Puts a link among others.
-fn put_link(sorted: &mut BTreeSet<NamedLink>, link: NamedLink) -> Result<(), NoMemory>
-    ensures { OnOk result (TakesLinks sorted.old.keys sorted.new.keys (link ∷ [])) }
+/// The links, as they stand in the map.
+fn listed_links(alloc: Global, named: &IndexMap<NamedLink, ()>) -> Result<List<NamedLink>, NoMemory>
+    ensures { IfOk result (λ listed. listed ≡ keys_of named.now.entries) }
 {
-    match sorted.insert(link) {
-        Ok(_) => Ok(()),
-        Err(_) => Err(NoMemory),
+    let mut listed = List::from_vec(Vec::with_capacity(alloc, named.len())?);
+    for (link, _) in named {
+        listed.push(*link)?;
     }
+    Ok(listed)
 }
 
-/// The links, in order.
+/// The links, in order. They are sorted at once, as the points are.
 fn sorted_links(
     alloc: Global,
     named: &IndexMap<NamedLink, ()>,
 ) -> Result<BTreeSet<NamedLink>, NoMemory>
     ensures { IfOk result (λ sorted. TakesLinks [] sorted.keys (keys_of named.now.entries)) }
 {
-    let mut sorted = BTreeSet::new(alloc);
-    let mut left = named.len();
-    while left > 0 {
-        left -= 1;
-        if let Some((link, _)) = named.get_index(left) {
-            put_link(&mut sorted, *link)?;
-        }
-    }
+    let listed = listed_links(alloc, named)?;
+    let sorted = BTreeSet::from_iter(alloc, listed.into_vec())?;
     Ok(sorted)
 }
 
@@ -85,7 +72,7 @@ fn builder_of(alloc: Global, collapse: &Collapse) -> Result<Builder, NoMemory>
     ensures links { IfOk result (λ builder. TakesLinks [] builder.links.keys
         (keys_of collapse.now.links.named.map.entries)) }
 {
-    let capacities = sorted_points(alloc, &collapse.points.capacities.map)?;
+    let capacities = sorted_points(alloc, &collapse.points.capacities)?;
     let links = sorted_links(alloc, &collapse.links.named.map)?;
     Ok(Builder { capacities, links })
 }

@@ -1,11 +1,15 @@
-use Rattle.std.proofs.Common.{sym, arith}
-use Rattle.location_collapse.proofs.SortedCollapses.{same_more}
+use Rattle.std.proofs.Common.{◌≡◌, sym, ◌∙◌, subst, map-id}
+use Rattle.std.proofs.lemmas.Iterator.{items_from_drains}
+use Rattle.std.proofs.lemmas.Iterator.Adapters.{YieldsList-from_vec}
+use Rattle.std.specs.BTreeMap as tree
+use Rattle.flow_base.specs.PointOrders.{point_cmp}
+use Rattle.location_collapse.proofs.SortedCollapses.{points_sorted}
 use Rattle.location_collapse.proofs.sorting.sorted_points.Goals as goal
 
-pub loop-left-preserved-in-Continue-1 : goal.loop-left-preserved-in-Continue-1
-loop-left-preserved-in-Continue-1 c = (
-  same_more c.loop-left.sorted.entries c.put_point.new.sorted.entries c.args.capacities.now.entries c.loop-left.left
-      c.in-Some.point.now c.from.result (omega (arith, c.loop-left-test.true)) c.loop-left.invariant.0
-      (rw c.from.ensures (sym c.in-Some.ensures.entry)) c.in_ok-put_point.ensures.put c.in_ok-put_point.ensures.len,
-  omega (arith, c.loop-left.invariant.1),
-)
+pub returns : goal.returns
+returns c =
+    let ran = c.in_ok-sorted.ensures.ran in
+    let all : ran.1 ≡ c.into_vec.result.items =
+    sym (map-id ran.1) ∙ items_from_drains ran.1 ran.3 (YieldsList-from_vec c.into_vec.result.items ran.2.0 (ran.2.1 ∙ c.into_vec.result.ok.0)) in
+    points_sorted c.args.capacities.now.map.entries c.in_ok-sorted.sorted c.len-differing.ensures.differ (subst (λ l. tree.IsFromIterResult point_cmp l c.in_ok-sorted.sorted)
+    (all ∙ (c.into_vec.ensures ∙ c.in_ok-listed.ensures)) ran.4)

@@ -1,6 +1,8 @@
+use Rattle.std.proofs.Common.{sym, subst}
 use Rattle.std.proofs.lemmas.Result.{on_ok_weaker}
 use Rattle.std.proofs.lemmas.Bool.{ne_eqb, OnTrue_at}
 use Rattle.std.specs.Map.{keys_of}
+use Rattle.flow_graph.specs.Keeping.{Keeps}
 use Rattle.location_collapse.specs.Collapses.{knows}
 use Rattle.location_collapse.proofs.EventSteps.{makes_link, makes_secret, makes_implicit, makes_output, no_output}
 use Rattle.location_collapse.proofs.EventSteps.{known_link}
@@ -17,6 +19,12 @@ returns-then-is_latest_flow-clause-ok c = λ events stands.
     (makes_link (knows c.args.self.now) c.in-Link.source c.in-Link.target)
     (OnTrue_at c.if-is_latest_flow.true c.is_latest_flow.ensures.known) stands)
 
+pub returns-then-follows_flow-clause-ok : goal.returns-then-follows_flow-clause-ok
+returns-then-follows_flow-clause-ok c = λ events stands.
+    rw (c.in-Link.is, c.follows_flow.ensures.map) (known_link c.args.self.now.points.capacities.map.entries (keys_of c.args.self.now.links.named.map.entries) _ _ events
+    (makes_link (knows c.args.self.now) c.in-Link.source c.in-Link.target)
+    (OnTrue_at c.if-follows_flow.true c.follows_flow.ensures.known) stands)
+
 pub returns-then-is_latest_output-clause-ok : goal.returns-then-is_latest_output-clause-ok
 returns-then-is_latest_output-clause-ok c = λ events stands.
     rw c.in-Out.is (known_link c.args.self.now.points.capacities.map.entries (keys_of c.args.self.now.links.named.map.entries) _ _ events
@@ -26,11 +34,12 @@ returns-then-is_latest_output-clause-ok c = λ events stands.
 pub returns-in-Pass-clause-ok : goal.returns-in-Pass-clause-ok
 returns-in-Pass-clause-ok c = rw c.in-Pass.is c.pass.ensures.ok
 
-pub returns-else-is_latest_flow-clause-ok : goal.returns-else-is_latest_flow-clause-ok
-returns-else-is_latest_flow-clause-ok c =
+pub returns-else-follows_flow-clause-ok : goal.returns-else-follows_flow-clause-ok
+returns-else-follows_flow-clause-ok c =
     rw c.in-Link.is
-    (on_ok_weaker c.put.result (λ ok events. ok _ events (makes_link (knows c.args.self.now) c.in-Link.source
-    c.in-Link.target)) c.put.ensures.ok)
+    (on_ok_weaker c.put.result (λ ok events stands. ok _ events (makes_link (knows c.args.self.now) c.in-Link.source
+    c.in-Link.target) (subst (λ map. Keeps c.args.self.now.points.capacities.map.entries (keys_of map.entries) events)
+    (sym c.follows_flow.ensures.map) stands)) c.put.ensures.ok)
 
 pub returns-in-FromSecret-clause-ok : goal.returns-in-FromSecret-clause-ok
 returns-in-FromSecret-clause-ok c =
@@ -53,11 +62,12 @@ returns-else-is_latest_output-clause-ok c =
 pub returns-in-Pass-clause-limit : goal.returns-in-Pass-clause-limit
 returns-in-Pass-clause-limit c = rw c.in-Pass.is c.pass.ensures.limit
 
-pub returns-else-is_latest_flow-clause-limit : goal.returns-else-is_latest_flow-clause-limit
-returns-else-is_latest_flow-clause-limit c =
+pub returns-else-follows_flow-clause-limit : goal.returns-else-follows_flow-clause-limit
+returns-else-follows_flow-clause-limit c =
     rw c.in-Link.is
-    (λ full events. c.put.ensures.limit full _ events (makes_link (knows c.args.self.now) c.in-Link.source
-    c.in-Link.target))
+    (λ full events stands. c.put.ensures.limit full _ events (makes_link (knows c.args.self.now) c.in-Link.source
+    c.in-Link.target) (subst (λ map. Keeps c.args.self.now.points.capacities.map.entries (keys_of map.entries) events)
+    (sym c.follows_flow.ensures.map) stands))
 
 pub returns-in-FromSecret-clause-limit : goal.returns-in-FromSecret-clause-limit
 returns-in-FromSecret-clause-limit c =
