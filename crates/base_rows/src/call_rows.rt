@@ -5,6 +5,7 @@ use guest_calls::{
     BAD_ADDRESS, BAD_DESCRIPTOR, UNKNOWN_CALL, call_kind, inside, move_break, read_count,
     write_check,
 };
+use std::fmt::Debug;
 
 /// The numbers of a row, 0 where there are fewer than five.
 fn numbers(row: &str) -> Option<[u32; 5]> {
@@ -13,7 +14,7 @@ fn numbers(row: &str) -> Option<[u32; 5]> {
     for place in 0..5 {
         match words.next() {
             Some(word) => {
-                numbers[place] = hexadecimal(Some(word))?;
+                numbers[place] = hexadecimal(word)?;
             }
             None => return Some(numbers),
         }
@@ -21,19 +22,25 @@ fn numbers(row: &str) -> Option<[u32; 5]> {
     Some(numbers)
 }
 
+/// Prints what the call of a row answers; whether it is printed.
+fn print_answer<T: Debug>(rt: &HostRuntime, name: &str, answer: &T) -> bool {
+    println!(rt; "{name} {answer:?}").is_ok()
+}
+
+/// Prints the word that the call of a row answers; whether it is printed.
+fn print_word(rt: &HostRuntime, name: &str, word: u32) -> bool {
+    println!(rt; "{name} {word:x}").is_ok()
+}
+
 /// Prints the answer of a row of these numbers; whether it is one of these rows, and is printed.
 fn print_call(rt: &HostRuntime, name: &str, numbers: [u32; 5]) -> bool {
     let [first, second, third, fourth, fifth] = numbers;
     match name {
-        "call" => println!(rt; "call {:?}", call_kind(first)).is_ok(),
-        "inside" => println!(rt; "inside {}", inside(first, second, third)).is_ok(),
-        "count" => println!(rt; "count {:x}", read_count(first, second)).is_ok(),
-        "write" => println!(rt;
-            "write {:?}",
-            write_check(first, second, third, fourth, fifth)
-        )
-        .is_ok(),
-        "break" => println!(rt; "break {:x}", move_break(first, second, third, fourth)).is_ok(),
+        "call" => print_answer(rt, name, &call_kind(first)),
+        "inside" => print_answer(rt, name, &inside(first, second, third)),
+        "count" => print_word(rt, name, read_count(first, second)),
+        "write" => print_answer(rt, name, &write_check(first, second, third, fourth, fifth)),
+        "break" => print_word(rt, name, move_break(first, second, third, fourth)),
         _ => false,
     }
 }

@@ -1,11 +1,11 @@
 //! Rows of texts of cuts. In a row a slash stands for a line feed, and a caret for a carriage return.
 
-ghost use Rattle.std.specs.Prelude.{◌<◌, ◌^◌, length, IfSome};
+ghost use Rattle.std.specs.Prelude.{◌≡◌, ◌<◌, ◌^◌, length, IfSome};
 
 use crate::cuts::{first_mask, fold_text, migrated_text, written};
 use crate::input::put_line;
 use crate::texts::bytes_of;
-use cut_file::{CutFault, read_cut};
+use cut_file::{Cut, CutFault, read_cut};
 use flow_base::Bytes;
 use std::alloc::{AllocError, Global};
 
@@ -16,11 +16,10 @@ const LONGEST: usize = 1_048_576;
 fn file_of(alloc: Global, row: &str) -> Option<Vec<u8>>
     ensures { IfSome result (λ file. length file.items < 2 ^ 32) }
 {
-    let file = bytes_of(alloc, row.as_bytes()).ok()?;
-    if file.len() > LONGEST {
-        return None;
+    match bytes_of(alloc, row.as_bytes()) {
+        Ok(file) if file.len() <= LONGEST => Some(file),
+        _ => None,
     }
-    Some(file)
 }
 
 /// Adds the text of a cut with one point, which lists so many rounds of 64 masks and then more.
@@ -42,18 +41,24 @@ fn rounds_of(alloc: Global, row: &str) -> Option<String> {
     Some(text)
 }
 
+/// The texts of the fold of a cut in version 1, and of that cut in version 2; None where memory is short.
+fn texts_of(alloc: Global, cut: &Cut) -> Option<(Bytes, Bytes)>
+    requires { cut.now.version ≡ 1 }
+{
+    let folded = fold_text(alloc, cut).ok()?;
+    let migrated = migrated_text(alloc, cut).ok()?;
+    Some((folded, migrated))
+}
+
 /// The texts of the fold of the cut of a file in version 1, and of that cut in version 2; None where the file has no
 /// such cut, or memory is short.
 fn others_of(alloc: Global, file: &[u8]) -> Option<(Bytes, Bytes)>
     requires { length file.now < 2 ^ 32 }
 {
-    let cut = read_cut(alloc, file).ok()?;
-    if cut.version != 1 {
-        return None;
+    match read_cut(alloc, file) {
+        Ok(cut) if cut.version == 1 => texts_of(alloc, &cut),
+        _ => None,
     }
-    let folded = fold_text(alloc, &cut).ok()?;
-    let migrated = migrated_text(alloc, &cut).ok()?;
-    Some((folded, migrated))
 }
 
 /// These texts of the file that a row spells.
@@ -71,15 +76,22 @@ fn print_whether_same(rt: &HostRuntime, same: bool) -> bool {
     }
 }
 
-/// Prints that a file is read and written back as it is, or its first fault.
-fn print_cut(rt: &HostRuntime, row: &str) -> bool {
-    let Some(file) = file_of(rt.alloc(), row) else {
-        return false;
-    };
-    match written(rt.alloc(), file.as_slice()) {
-        Ok(text) => print_whether_same(rt, text.as_slice() == file.as_slice()),
+/// Prints whether what is written of a file is that file, or its first fault.
+fn print_written(rt: &HostRuntime, file: &[u8]) -> bool
+    requires { length file.now < 2 ^ 32 }
+{
+    match written(rt.alloc(), file) {
+        Ok(text) => print_whether_same(rt, text.as_slice() == file),
         Err(CutFault::Memory) => false,
         Err(fault) => println!(rt; "{fault}").is_ok(),
+    }
+}
+
+/// Prints that a file is read and written back as it is, or its first fault.
+fn print_cut(rt: &HostRuntime, row: &str) -> bool {
+    match file_of(rt.alloc(), row) {
+        Some(file) => print_written(rt, file.as_slice()),
+        None => false,
     }
 }
 
@@ -93,12 +105,9 @@ fn print_fold(rt: &HostRuntime, row: &str) -> bool {
     }
 }
 
-/// Prints the text of the fold of a cut of so many rounds, or that the fold is the cut in version 2.
-fn print_rounds(rt: &HostRuntime, row: &str) -> bool {
-    let Some(text) = rounds_of(rt.alloc(), row) else {
-        return false;
-    };
-    match others_of_row(rt.alloc(), text.as_str()) {
+/// Prints the text of the fold of a cut, or that the fold is the cut in version 2.
+fn print_folded(rt: &HostRuntime, row: &str) -> bool {
+    match others_of_row(rt.alloc(), row) {
         Some((folded, migrated)) => {
             if folded.as_slice() == migrated.as_slice() {
                 println!(rt; "all masks are kept").is_ok()
@@ -110,16 +119,29 @@ fn print_rounds(rt: &HostRuntime, row: &str) -> bool {
     }
 }
 
+/// Prints the text of the fold of a cut of so many rounds, or that the fold is the cut in version 2.
+fn print_rounds(rt: &HostRuntime, row: &str) -> bool {
+    match rounds_of(rt.alloc(), row) {
+        Some(text) => print_folded(rt, text.as_str()),
+        None => false,
+    }
+}
+
+/// Prints a mask, if there is one.
+fn print_first(rt: &HostRuntime, mask: Option<u32>) -> bool {
+    match mask {
+        Some(mask) => println!(rt; "mask {mask:x}").is_ok(),
+        None => println!(rt; "no mask").is_ok(),
+    }
+}
+
 /// Prints the mask at a visit of the first point of a cut.
 fn print_mask(rt: &HostRuntime, row: &str) -> bool {
     let (visit, text) = row.split_once(' ').unwrap_or((row, ""));
-    let Some(file) = file_of(rt.alloc(), text) else {
-        return false;
-    };
     let visit = visit.parse::<u64>().unwrap_or(0);
-    match first_mask(rt.alloc(), file.as_slice(), visit) {
-        Some(mask) => println!(rt; "mask {mask:x}").is_ok(),
-        None => println!(rt; "no mask").is_ok(),
+    match file_of(rt.alloc(), text) {
+        Some(file) => print_first(rt, first_mask(rt.alloc(), file.as_slice(), visit)),
+        None => false,
     }
 }
 

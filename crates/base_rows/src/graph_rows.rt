@@ -50,23 +50,39 @@ fn three_points(alloc: Global) -> Result<List<Node>, NoMemory> {
     Ok(points)
 }
 
-/// The relays and the links of a row; None where it has a word that is neither, or memory is short.
-fn lists_of(alloc: Global, row: &str) -> Option<(List<u16>, List<Arc>)> {
-    let mut relays = List::new(alloc);
-    let mut links = List::new(alloc);
-    for word in row.split(' ') {
+/// Relays and links.
+#[derive(Drop)]
+struct Lists {
+    relays: List<u16>,
+    links: List<Arc>,
+}
+
+impl Lists {
+    /// Adds the link or the relay that a word names; None where it is neither, or memory is short.
+    fn push(&mut self, word: &str) -> Option<()> {
         match link_of(word) {
-            Some(link) => links.push(link).ok()?,
-            None => relays.push(word.parse::<u16>().ok()?).ok()?,
+            Some(link) => self.links.push(link).ok(),
+            None => self.relays.push(word.parse::<u16>().ok()?).ok(),
         }
     }
-    Some((relays, links))
+}
+
+/// The relays and the links of a row; None where it has a word that is neither, or memory is short.
+fn lists_of(alloc: Global, row: &str) -> Option<Lists> {
+    let mut lists = Lists {
+        relays: List::new(alloc),
+        links: List::new(alloc),
+    };
+    for word in row.split(' ') {
+        lists.push(word)?;
+    }
+    Some(lists)
 }
 
 /// Whether the lists of a row are those of a graph of three points; None where it has no lists, or memory is short.
 fn are_of_graph(alloc: Global, row: &str) -> Option<bool> {
-    let (relays, links) = lists_of(alloc, row)?;
     let points = three_points(alloc).ok()?;
+    let Lists { relays, links } = lists_of(alloc, row)?;
     Some(Graph::from_lists(points, relays, links).is_some())
 }
 

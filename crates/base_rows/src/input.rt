@@ -7,11 +7,11 @@ pub fn put_line(rt: &HostRuntime, bytes: &[u8]) -> bool {
 }
 
 /// The number that decimal digits spell.
-pub fn number(word: Option<&str>) -> Option<u32> {
-    word?.parse::<u32>().ok()
+pub fn number(word: &str) -> Option<u32> {
+    word.parse::<u32>().ok()
 }
 
 /// The number that hexadecimal digits spell.
-pub fn hexadecimal(word: Option<&str>) -> Option<u32> {
-    u32::from_str_radix(word?, 16).ok()
+pub fn hexadecimal(word: &str) -> Option<u32> {
+    u32::from_str_radix(word, 16).ok()
 }

@@ -69,12 +69,22 @@ fn table_of(alloc: Global) -> Option<Table> {
     })
 }
 
-fn main(rt: HostRuntime) -> io::Result<()> {
-    let Some(mut table) = table_of(rt.alloc()) else {
-        return println!(rt; "memory is short");
-    };
+/// Prints the answer of a line, if it was read.
+fn print_line(rt: &HostRuntime, table: &mut Table, line: io::Result<String>) -> io::Result<()> {
+    print(rt, table, line?.as_str())
+}
+
+/// Prints the answers of all lines.
+fn print_all(rt: &HostRuntime, table: &mut Table) -> io::Result<()> {
     for line in rt.lines(rt.alloc()) {
-        print(&rt, &mut table, line?.as_str())?;
+        print_line(rt, table, line)?;
     }
     Ok(())
+}
+
+fn main(rt: HostRuntime) -> io::Result<()> {
+    match table_of(rt.alloc()) {
+        Some(mut table) => print_all(&rt, &mut table),
+        None => println!(rt; "memory is short"),
+    }
 }

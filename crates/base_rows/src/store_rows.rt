@@ -21,16 +21,24 @@ fn held(alloc: Global, name: &str, text: &str) -> Result<Held, NoMemory> {
     Ok(Held { name, bytes })
 }
 
-/// The files in memory; one name is held twice.
-fn memory_files(alloc: Global) -> Result<MemoryFiles, NoMemory> {
+/// The names and the texts of the files in memory; one name is held twice.
+const HELD: [(&str, &str); 3] = [("a", "12345"), ("b", ""), ("a", "second")];
+
+/// The files in memory, before the first load.
+fn all_held(alloc: Global) -> Result<List<Held>, NoMemory> {
     let mut names = List::new(alloc);
-    names.push(held(alloc, "a", "12345")?)?;
-    names.push(held(alloc, "b", "")?)?;
-    names.push(held(alloc, "a", "second")?)?;
+    for (name, text) in HELD {
+        names.push(held(alloc, name, text)?)?;
+    }
+    Ok(names)
+}
+
+/// The files in memory, whose second load fails.
+fn memory_files(alloc: Global) -> Result<MemoryFiles, NoMemory> {
     let mut fails = List::new(alloc);
     fails.push(2)?;
     Ok(MemoryFiles {
-        names,
+        names: all_held(alloc)?,
         fails,
         loads: 0,
         faults: 0,
@@ -46,21 +54,20 @@ fn memory_sink(alloc: Global) -> Result<MemorySink, NoMemory> {
 
 /// The name and the limit of a row.
 fn name_and_limit<'a>(row: &'a str) -> Option<(&'a str, u32)> {
-    let (name, limit) = row.split_once(' ')?;
-    Some((name, number(Some(limit))?))
+    match row.split_once(' ') {
+        Some((name, limit)) => Some(name).zip(number(limit)),
+        None => None,
+    }
 }
 
 /// Prints what a load of a name within a limit answers.
 fn print_load<F: Files>(rt: &HostRuntime, files: &mut F, row: &str) -> bool {
-    let Some((name, limit)) = name_and_limit(row) else {
-        return false;
-    };
-    if limit == u32::MAX {
-        return false;
-    }
-    match files.load(rt.alloc(), name, limit) {
-        Ok(bytes) => put_line(rt, bytes.as_slice()),
-        Err(fault) => println!(rt; "{fault:?}").is_ok(),
+    match name_and_limit(row) {
+        Some((name, limit)) if limit < u32::MAX => match files.load(rt.alloc(), name, limit) {
+            Ok(bytes) => put_line(rt, bytes.as_slice()),
+            Err(fault) => println!(rt; "{fault:?}").is_ok(),
+        },
+        _ => false,
     }
 }
 

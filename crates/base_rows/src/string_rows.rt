@@ -12,8 +12,10 @@ pub struct Strings {
 
 /// The value and the mask of a row.
 fn pair_of(row: &str) -> Option<(u32, u32)> {
-    let (value, mask) = row.split_once(' ')?;
-    Some((hexadecimal(Some(value))?, hexadecimal(Some(mask))?))
+    match row.split_once(' ') {
+        Some((value, mask)) => hexadecimal(value).zip(hexadecimal(mask)),
+        None => None,
+    }
 }
 
 /// Prints the word that was made of bits, if there is one.
@@ -26,42 +28,45 @@ fn print_word(rt: &HostRuntime, word: Option<u32>) -> bool {
 
 /// Prints how many bits the mask of a row has.
 fn print_ones(rt: &HostRuntime, row: &str) -> bool {
-    match hexadecimal(Some(row)) {
+    match hexadecimal(row) {
         Some(mask) => print_word(rt, Some(bit_count(mask))),
         None => false,
     }
 }
 
+/// The empty string with room for as many bits as a row says; None where it says no number, or memory is short.
+fn bits_of(alloc: Global, row: &str) -> Option<Bits> {
+    Bits::with_room(alloc, number(row)?).ok()
+}
+
 impl Strings {
     /// The empty string; None where memory is short.
     pub fn new(alloc: Global) -> Option<Strings> {
-        let bits = Bits::with_room(alloc, 0).ok()?;
-        Some(Strings { bits })
+        match Bits::with_room(alloc, 0) {
+            Ok(bits) => Some(Strings { bits }),
+            Err(_) => None,
+        }
     }
 
     /// A new string with room for so many bits.
     fn start(&mut self, rt: &HostRuntime, row: &str) -> bool {
-        let Some(room) = number(Some(row)) else {
-            return false;
-        };
-        match Bits::with_room(rt.alloc(), room) {
-            Ok(bits) => {
+        match bits_of(rt.alloc(), row) {
+            Some(bits) => {
                 self.bits = bits;
                 println!(rt; "no bits").is_ok()
             }
-            Err(_) => false,
+            None => false,
         }
     }
 
     /// Pushes the bits of a value under a mask, while there are at most 65,536.
     fn push(&mut self, rt: &HostRuntime, row: &str) -> bool {
-        let Some((value, mask)) = pair_of(row) else {
-            return false;
-        };
-        if self.bits.count() > 65_504 || bit_count(mask) > 32 {
-            return false;
+        match pair_of(row) {
+            Some((value, mask)) if self.bits.count() <= 65_504 && bit_count(mask) <= 32 => {
+                self.bits.push_masked(value, mask).is_ok() && println!(rt; "pushed").is_ok()
+            }
+            _ => false,
         }
-        self.bits.push_masked(value, mask).is_ok() && println!(rt; "pushed").is_ok()
     }
 
     /// Prints all bits, how many there are, and how many are left.
@@ -85,7 +90,7 @@ impl Strings {
 
     /// Prints the word that the bits under the mask of a row make.
     fn take(&mut self, rt: &HostRuntime, row: &str) -> bool {
-        match hexadecimal(Some(row)) {
+        match hexadecimal(row) {
             Some(mask) => print_word(rt, self.bits.take_masked(mask)),
             None => false,
         }

@@ -11,20 +11,33 @@ pub struct Visits {
     counts: VisitCounts,
 }
 
+/// The slot that a word names.
+fn slot_of(word: &str) -> Option<Slot> {
+    match word {
+        "u1" => Some(Slot::First),
+        "rs" => Some(Slot::Result),
+        "x10" => Some(Slot::OutReg(10)),
+        "r0" => Some(Slot::OutRange(0)),
+        _ => None,
+    }
+}
+
+/// The address and the slot of a text.
+fn place_of(text: &str) -> Option<(u32, Slot)> {
+    match text.split_once(' ') {
+        Some((address, slot)) => hexadecimal(address).zip(slot_of(slot)),
+        None => None,
+    }
+}
+
 /// The point of a row.
 fn point_of(row: &str) -> Option<Point> {
     let (region, rest) = row.split_once(' ')?;
-    let (address, slot) = rest.split_once(' ')?;
-    let slot = match slot {
-        "u1" => Slot::First,
-        "rs" => Slot::Result,
-        "x10" => Slot::OutReg(10),
-        "r0" => Slot::OutRange(0),
-        _ => return None,
-    };
+    let region = region.parse::<u16>().ok()?;
+    let (address, slot) = place_of(rest)?;
     Some(Point {
-        region: region.parse::<u16>().ok()?,
-        address: hexadecimal(Some(address))?,
+        region,
+        address,
         slot,
     })
 }

@@ -11,7 +11,7 @@ use std::alloc::Global;
 fn list_of(alloc: Global, row: &str) -> Option<List<u32>> {
     let mut numbers = List::new(alloc);
     for word in row.split(' ') {
-        numbers.push(number(Some(word))?).ok()?;
+        numbers.push(number(word)?).ok()?;
     }
     Some(numbers)
 }
@@ -34,8 +34,10 @@ fn print_list(rt: &HostRuntime, row: &str) -> bool {
 
 /// The two numbers of a row.
 fn pair_of(row: &str) -> Option<(u32, u32)> {
-    let (first, second) = row.split_once(' ')?;
-    Some((number(Some(first))?, number(Some(second))?))
+    match row.split_once(' ') {
+        Some((first, second)) => number(first).zip(number(second)),
+        None => None,
+    }
 }
 
 /// Prints what a register holds after a write.
@@ -70,19 +72,25 @@ fn print_output(rt: &HostRuntime, row: &str) -> bool {
     }
 }
 
-/// The slot that a row names.
-fn slot_of(row: &str) -> Option<Slot>
+/// The slot of a kind with this number.
+fn numbered_slot(kind: &str, count: u8) -> Option<Slot>
     ensures { IfSome result (λ slot. IsTrue (is_slot slot)) }
 {
-    if row == "decision" {
-        return Some(Slot::Decision);
-    }
-    let (kind, count) = row.split_once(' ')?;
-    let count = count.parse::<u8>().ok()?;
     match kind {
         "register" if 1 <= count && count <= 31 => Some(Slot::OutReg(count)),
         "range" if count < 64 => Some(Slot::OutRange(count)),
         _ => None,
+    }
+}
+
+/// The slot that a row names.
+fn slot_of(row: &str) -> Option<Slot>
+    ensures { IfSome result (λ slot. IsTrue (is_slot slot)) }
+{
+    match row.split_once(' ') {
+        Some((kind, count)) => numbered_slot(kind, count.parse::<u8>().ok()?),
+        None if row == "decision" => Some(Slot::Decision),
+        None => None,
     }
 }
 
@@ -96,7 +104,7 @@ fn print_slot(rt: &HostRuntime, row: &str) -> bool {
 
 /// Prints the digits of a word, and the word.
 fn print_word(rt: &HostRuntime, row: &str) -> bool {
-    match number(Some(row)) {
+    match number(row) {
         Some(word) => put_line(rt, &hex_digits(word)) && put_line(rt, &hex_word(word)),
         None => false,
     }
