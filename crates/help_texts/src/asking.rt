@@ -3,7 +3,7 @@ ghost use Rattle.help_texts.specs.Texts.{asks, asks_version, is_command, is_help
 
 use crate::endings::add_ending;
 use crate::forms::{Form, form_named, forms};
-use crate::parsers::{command, command_line};
+use crate::parsers::help_of;
 use std::alloc::{AllocError, Global};
 
 const VERSION: &str = "flowcheck 0.1.0\nproved with rattle-kit-13\n";
@@ -11,19 +11,9 @@ const VERSION: &str = "flowcheck 0.1.0\nproved with rattle-kit-13\n";
 const BELOW: &str =
     "\nflowcheck help COMMAND tells of one command. docs/GUIDE.md says what each answer means.\n";
 
-/// The form of a command as `clap` tells it.
-fn form_alone(alloc: Global, form: &Form) -> Result<String, AllocError> {
-    command(alloc, form)?.render_help()
-}
-
-/// The commands as `clap` tells them.
-fn names_alone(alloc: Global) -> Result<String, AllocError> {
-    command_line(alloc)?.render_help()
-}
-
 /// The help of a command: its form as `clap` tells it, its statuses and an example.
 fn form_text(alloc: Global, form: &Form) -> Result<String, AllocError> {
-    let mut text = form_alone(alloc, form)?;
+    let mut text = help_of(alloc, Some(form))?;
     add_ending(&mut text, form)?;
     Ok(text)
 }
@@ -38,7 +28,7 @@ fn add_form(alloc: Global, text: &mut String, form: &Form) -> Result<(), AllocEr
 /// The text of the help: the commands, and then the form of each, as `clap` tells them, with its statuses and an
 /// example. Its error is out of memory.
 pub fn help(alloc: Global) -> Result<String, AllocError> {
-    let mut text = names_alone(alloc)?;
+    let mut text = help_of(alloc, None)?;
     text.push_str(BELOW)?;
     for form in forms() {
         add_form(alloc, &mut text, form)?;

@@ -1,10 +1,10 @@
 ghost use Rattle.std.specs.Prelude.{IfOk, string_bytes};
 ghost use Rattle.help_texts.specs.Texts.{IsComplaint};
 
+use crate::adding::add_all;
 use crate::forms::{Form, form_of, forms};
-use crate::meanings::{Meaning, meaning_of};
-use crate::parsers::{command, command_line};
-use clap::Command;
+use crate::meanings::meaning_of;
+use crate::parsers::{command_line, usage_of};
 use clap::error::ErrorKind;
 use std::alloc::{AllocError, Global};
 
@@ -18,60 +18,27 @@ const DIGITS: &str =
     "error: a number is written in decimal digits alone, without a sign and without leading zeros";
 
 /// What to do beside what `clap` says is wrong, by how that begins and what it contains.
-const TIPS: [Meaning; 6] = [
-    Meaning {
-        start: "error: unexpected value '",
-        part: " for '<SECRET>...'",
-        text: "a call takes 1 to 64 secrets; tools/sweep.py judges any number by calls of check",
-    },
-    Meaning {
-        start: "error: invalid value '",
-        part: " for '<BUDGET>'",
-        text: "<BUDGET> stands after the cut; it is a number of bits in decimal digits, as in the cut's line `bits`",
-    },
-    Meaning {
-        start: "error: invalid value '",
-        part: ": invalid digit found in string",
-        text: "a number is written in decimal digits alone",
-    },
-    Meaning {
-        start: "error: unexpected argument '--",
-        part: "",
-        text: "",
-    },
-    Meaning {
-        start: "error: unexpected argument '-",
-        part: "",
-        text: "a file whose name begins with `-` is named with ./ before it",
-    },
-    Meaning {
-        start: "error: the following required arguments were not provided",
-        part: "<SECRET>",
-        text: "a guest that reads no public input has an empty file in its place",
-    },
-];
+const TIPS: &str = "\
+    error: unexpected value '| for '<SECRET>...'|a call takes 1 to 64 secrets; tools/sweep.py judges any number by \
+        calls of check\n\
+    error: invalid value '| for '<BUDGET>'|<BUDGET> stands after the cut; it is a number of bits in decimal digits, \
+        as in the cut's line `bits`\n\
+    error: invalid value '|: invalid digit found in string|a number is written in decimal digits alone\n\
+    error: unexpected argument '--||\n\
+    error: unexpected argument '-||a file whose name begins with `-` is named with ./ before it\n\
+    error: the following required arguments were not provided|<SECRET>|a guest that reads no public input has an \
+        empty file in its place\n\
+    ";
 
 const ONE_SECRET: &str = "this command takes one secret; measure-all measures several together";
 
 const OPTIONS: &str = "\nOptions stand after the command. For all of it: flowcheck --help";
 
-/// The command that the words begin with, or a command line where they begin with none.
-fn command_of<'a>(alloc: Global, words: &[String]) -> Result<Command<'a>, AllocError> {
-    match form_of(words) {
-        Some(form) => command(alloc, form),
-        None => command_line(alloc),
-    }
-}
-
-/// The line of the form of the command that the words begin with, or of a command line where they begin with none.
-fn form_line(alloc: Global, words: &[String]) -> Result<String, AllocError> {
-    command_of(alloc, words)?.render_usage()
-}
-
-/// Adds an empty line, and that line.
+/// Adds an empty line, and the form of the command that the words begin with, or of a command line where they begin with
+/// none.
 pub fn add_form_line(alloc: Global, text: &mut String, words: &[String]) -> Result<(), AllocError> {
-    let form = form_line(alloc, words)?;
-    write!(text, "\n{form}\n")
+    let form = usage_of(alloc, form_of(words))?;
+    add_all(text, &["\n", form.as_str(), "\n"])
 }
 
 /// Adds the options of a command, in a line of their own, where it has any.
@@ -96,15 +63,20 @@ fn add_commands(text: &mut String) -> Result<(), AllocError> {
     text.push_str(OPTIONS)
 }
 
-/// That line, the options, and where the words and options of the command are told of; or the commands.
+/// Adds the options of a command, and where its words and options are told of.
+fn add_command(text: &mut String, form: &Form) -> Result<(), AllocError> {
+    add_options(text, form)?;
+    text.push_str("\nFor its words and options: flowcheck help ")?;
+    text.push_str(form.name)
+}
+
+/// The form of the command that the words begin with, its options, and where these are told of; or the form of a command
+/// line, and the commands.
 fn form_told(alloc: Global, words: &[String]) -> Result<String, AllocError> {
-    let mut text = form_line(alloc, words)?;
-    match form_of(words) {
-        Some(form) => {
-            add_options(&mut text, form)?;
-            let name = form.name;
-            write!(text, "\nFor its words and options: flowcheck help {name}")?;
-        }
+    let form = form_of(words);
+    let mut text = usage_of(alloc, form)?;
+    match form {
+        Some(form) => add_command(&mut text, form)?,
         None => add_commands(&mut text)?,
     }
     Ok(text)
@@ -123,7 +95,7 @@ fn is_of_one_run(words: &[String]) -> bool {
 
 /// What to do beside what `clap` says is wrong with words; empty where there is nothing to say.
 fn tip_of(words: &[String], head: &str) -> &'static str {
-    let tip = meaning_of(&TIPS, head);
+    let tip = meaning_of(TIPS, head);
     if tip.is_empty()
         && head.starts_with("error: unexpected argument '")
         && !head.starts_with("error: unexpected argument '-")
@@ -152,7 +124,8 @@ fn start_of(alloc: Global, words: &[String], text: &str) -> Result<String, Alloc
     let mut start = head.trim_end().to_string(alloc)?;
     let tip = tip_of(words, head);
     if !tip.is_empty() {
-        write!(start, "\n  tip: {tip}")?;
+        start.push_str("\n  tip: ")?;
+        start.push_str(tip)?;
     }
     add_tips(&mut start, rest)?;
     Ok(start)

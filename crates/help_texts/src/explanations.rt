@@ -1,9 +1,9 @@
 //! What an answer means that is not the plain one, and what to change.
 
 use crate::complaints::complaint;
-use crate::findings::findings;
+use crate::findings::add_findings;
 use crate::naming::{named, options_last};
-use crate::refusals::{malformed, not_loaded, refused_run, too_large};
+use crate::refusals::{add_malformed, add_not_loaded, add_refused_run, add_too_large};
 use clap::ArgMatches;
 use std::alloc::{AllocError, Global};
 
@@ -24,43 +24,73 @@ fn text_of(bytes: &[u8]) -> &str {
     }
 }
 
-/// What a line means that says why words are refused.
-fn of_refusal(
+/// Adds what a line means that says why words are refused.
+fn add_refusal<'a>(
     alloc: Global,
+    text: &mut String,
     words: &[String],
-    matches: &ArgMatches<'_>,
-    line: &str,
-) -> Result<Option<String>, AllocError> {
+    matches: &ArgMatches<'a>,
+    line: &'a str,
+) -> Result<(), AllocError> {
     if let Some(refused) = line.strip_prefix("refused 3 ") {
-        return malformed(alloc, matches, refused);
+        return add_malformed(text, matches, refused);
     }
     if let Some(fault) = line.strip_prefix("refused 4 ") {
-        return refused_run(alloc, matches, fault);
+        return add_refused_run(text, matches, fault);
     }
     if let Some(file) = line.strip_prefix("refused 5 load ") {
-        return not_loaded(alloc, words, matches, file);
+        return add_not_loaded(alloc, text, words, matches, file);
     }
-    if let Some(refused) = line.strip_prefix("refused 6 too-large ") {
-        return too_large(alloc, words, matches, refused);
+    match line.strip_prefix("refused 6 too-large ") {
+        Some(refused) => add_too_large(alloc, text, words, matches, refused),
+        None => Ok(()),
     }
-    Ok(None)
 }
 
-/// What the answer to words means, of a command line, by its status and the text that was put, or a beginning of it.
+/// Adds what the answer to a command line means, by its status and the text that was put, or a beginning of it.
+fn add_meaning<'a>(
+    alloc: Global,
+    text: &mut String,
+    status: u8,
+    words: &[String],
+    matches: &ArgMatches<'a>,
+    said: &'a str,
+) -> Result<(), AllocError> {
+    match matches.subcommand() {
+        Some((_, after)) if status == 1 => add_findings(alloc, text, after, said),
+        Some((_, after)) => add_refusal(alloc, text, words, after, said.trim_end()),
+        None => Ok(()),
+    }
+}
+
+/// Adds what the answer to words means, where they are a command line.
+fn add_answer(
+    alloc: Global,
+    text: &mut String,
+    status: u8,
+    words: &[String],
+    said: &str,
+) -> Result<(), AllocError> {
+    let ordered = options_last(alloc, words)?;
+    match named(alloc, ordered.as_slice())? {
+        Some(matches) => add_meaning(alloc, text, status, words, &matches, said),
+        None => Ok(()),
+    }
+}
+
+/// What the answer to words means, of a command line; None where there is nothing to say.
 fn of_command_line(
     alloc: Global,
     status: u8,
     words: &[String],
     said: &str,
 ) -> Result<Option<String>, AllocError> {
-    let ordered = options_last(alloc, words)?;
-    let Some(matches) = named(alloc, ordered.as_slice())? else {
+    let mut text = String::new(alloc);
+    add_answer(alloc, &mut text, status, words, said)?;
+    if text.is_empty() {
         return Ok(None);
-    };
-    if status == 1 {
-        return findings(alloc, &matches, said);
     }
-    of_refusal(alloc, words, &matches, said.trim_end())
+    Ok(Some(text))
 }
 
 /// What the answer to words means and what to change, by its status and by the text that was put, or a beginning of it;

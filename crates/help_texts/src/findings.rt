@@ -1,7 +1,8 @@
 //! What it means that secrets are rejected or unclear, that paths are unclear, or that a certificate is rejected.
 
+use crate::adding::{add_all, add_run_options, add_words};
 use crate::meanings::meaning_of;
-use crate::naming::{add_run_options, secret_of, word_for};
+use crate::naming::{secret_of, word_for};
 use crate::run_meanings::{FINDINGS, VERDICTS};
 use clap::ArgMatches;
 use std::alloc::{AllocError, Global};
@@ -46,49 +47,41 @@ fn add_secrets<'a>(
 ) -> Result<(), AllocError> {
     for line in said.lines() {
         if let Some((secret, cause)) = named_finding(matches, line) {
-            write!(text, "{secret}: {cause}\n")?;
+            add_all(text, &[secret, ": ", cause, "\n"])?;
         }
     }
     Ok(())
 }
 
-/// The meanings of the causes, each once.
-fn meanings<'a>(
-    alloc: Global,
-    matches: &ArgMatches<'a>,
-    said: &'a str,
-) -> Result<Vec<&'a str>, AllocError> {
-    let mut told: Vec<&'a str> = Vec::new(alloc);
-    for line in said.lines() {
-        if let Some((_, cause)) = named_finding(matches, line) {
-            let meaning = meaning_of(&FINDINGS, cause);
-            if !told.contains(&meaning) {
-                told.push(meaning)?;
-            }
-        }
+/// Adds the meaning of a cause where it does not stand there yet.
+fn add_meaning(meanings: &mut String, cause: &str) -> Result<(), AllocError> {
+    let meaning = meaning_of(FINDINGS, cause);
+    if meanings.as_str().contains(meaning) {
+        return Ok(());
     }
-    Ok(told)
+    add_all(meanings, &[meaning, "\n"])
 }
 
-/// Adds lines.
-fn add_lines(text: &mut String, lines: &[&str]) -> Result<(), AllocError> {
-    for line in lines {
-        text.push_str(*line)?;
-        text.push('\n')?;
+/// Adds the meanings of the causes, each once.
+fn add_meanings<'a>(
+    meanings: &mut String,
+    matches: &ArgMatches<'a>,
+    said: &'a str,
+) -> Result<(), AllocError> {
+    for line in said.lines() {
+        if let Some((_, cause)) = named_finding(matches, line) {
+            add_meaning(meanings, cause)?;
+        }
     }
     Ok(())
 }
 
 /// Adds the words by which a page of a finding is asked for, up to its secret.
 fn add_asking(text: &mut String, matches: &ArgMatches<'_>, option: &str) -> Result<(), AllocError> {
-    let program = word_for(matches, "PROG");
-    let public = word_for(matches, "PUBLIC");
-    let cut = word_for(matches, "CUT");
-    let budget = word_for(matches, "BUDGET");
-    write!(
-        text,
-        "python3 tools/explain.py {program} {public} --{option} {cut} {budget}"
-    )
+    text.push_str("python3")?;
+    add_words(text, matches, "tools/explain.py PROG PUBLIC")?;
+    add_all(text, &[" --", option])?;
+    add_words(text, matches, "CUT BUDGET")
 }
 
 /// Adds the options of that page.
@@ -106,23 +99,21 @@ fn option_for<'a>(said: &str) -> &'a str {
     }
 }
 
-/// Of secrets that are rejected or unclear, each by the name of its file; None where no line speaks of one.
-fn of_secrets<'a>(
+/// Adds what is known of secrets that are rejected or unclear, each by the name of its file; `first` is one of them.
+fn add_of_secrets<'a>(
     alloc: Global,
+    text: &mut String,
     matches: &ArgMatches<'a>,
     said: &'a str,
-) -> Result<Option<String>, AllocError> {
-    let Some(first) = first_secret(matches, said) else {
-        return Ok(None);
-    };
-    let meanings = meanings(alloc, matches, said)?;
-    let mut text = String::new(alloc);
-    add_secrets(&mut text, matches, said)?;
-    add_lines(&mut text, meanings.as_slice())?;
-    add_asking(&mut text, matches, option_for(said))?;
-    write!(text, " {first}")?;
-    add_options(&mut text, matches)?;
-    Ok(Some(text))
+    first: &'a str,
+) -> Result<(), AllocError> {
+    let mut meanings = String::new(alloc);
+    add_meanings(&mut meanings, matches, said)?;
+    add_secrets(text, matches, said)?;
+    text.push_str(meanings.as_str())?;
+    add_asking(text, matches, option_for(said))?;
+    add_all(text, &[" ", first])?;
+    add_options(text, matches)
 }
 
 /// Why the first path is unclear that a line speaks of; None where no line does.
@@ -137,59 +128,54 @@ fn first_path_cause<'a>(said: &'a str) -> Option<&'a str> {
 
 /// Adds the words by which a cut is looked for.
 fn add_looking(text: &mut String, matches: &ArgMatches<'_>) -> Result<(), AllocError> {
-    let program = word_for(matches, "PROG");
-    let public = word_for(matches, "PUBLIC");
-    write!(text, "python3 tools/bound.py {program} {public} LENGTH")?;
+    text.push_str("python3")?;
+    add_words(text, matches, "tools/bound.py PROG PUBLIC LENGTH")?;
     add_run_options(text, matches)?;
     text.push_str(" looks for a cut by itself; LENGTH is that of the secrets in bytes.\n")
 }
 
-/// Of paths that are unclear; None where no line speaks of one.
-fn of_paths(
-    alloc: Global,
-    matches: &ArgMatches<'_>,
-    said: &str,
-) -> Result<Option<String>, AllocError> {
-    let Some(cause) = first_path_cause(said) else {
-        return Ok(None);
-    };
-    let meaning = meaning_of(&FINDINGS, cause);
-    let mut text = format!(in alloc; "no answer: {cause}\n{meaning}\n")?;
-    add_asking(&mut text, matches, "bound")?;
-    add_options(&mut text, matches)?;
-    add_looking(&mut text, matches)?;
-    Ok(Some(text))
+/// Adds what is known of paths that are unclear, the first for this cause.
+fn add_of_paths<'a>(
+    text: &mut String,
+    matches: &ArgMatches<'a>,
+    cause: &'a str,
+) -> Result<(), AllocError> {
+    let meaning = meaning_of(FINDINGS, cause);
+    add_all(text, &["no answer: ", cause, "\n", meaning, "\n"])?;
+    add_asking(text, matches, "bound")?;
+    add_options(text, matches)?;
+    add_looking(text, matches)
 }
 
-/// Of a certificate that is rejected; None where no line says so.
-fn of_certificate(
-    alloc: Global,
-    matches: &ArgMatches<'_>,
-    said: &str,
-) -> Result<Option<String>, AllocError> {
-    let Some(cause) = said.trim_end().strip_prefix("rejected ") else {
-        return Ok(None);
-    };
+/// Adds what is known of a certificate that is rejected for this cause.
+fn add_of_certificate<'a>(
+    text: &mut String,
+    matches: &ArgMatches<'a>,
+    cause: &'a str,
+) -> Result<(), AllocError> {
     let file = word_for(matches, "CERT");
-    let meaning = meaning_of(&VERDICTS, cause);
-    let text = format!(in alloc;
-        "certificate {file}: {cause}\n{meaning} The file was changed, or whoever made it is \
-        wrong: make it again by flowcheck graph PROG PUBLIC SECRET.\n"
-    )?;
-    Ok(Some(text))
+    let meaning = meaning_of(VERDICTS, cause);
+    add_all(text, &["certificate ", file, ": ", cause, "\n", meaning])?;
+    text.push_str(
+        " The file was changed, or whoever made it is wrong: make it again by flowcheck graph PROG PUBLIC SECRET.\n",
+    )
 }
 
-/// What an answer with status 1 means; None where it says nothing that is known.
-pub fn findings<'a>(
+/// Adds what an answer with status 1 means, where it says something that is known.
+pub fn add_findings<'a>(
     alloc: Global,
+    text: &mut String,
     matches: &ArgMatches<'a>,
     said: &'a str,
-) -> Result<Option<String>, AllocError> {
-    if let Some(text) = of_secrets(alloc, matches, said)? {
-        return Ok(Some(text));
+) -> Result<(), AllocError> {
+    if let Some(first) = first_secret(matches, said) {
+        return add_of_secrets(alloc, text, matches, said, first);
     }
-    if let Some(text) = of_paths(alloc, matches, said)? {
-        return Ok(Some(text));
+    if let Some(cause) = first_path_cause(said) {
+        return add_of_paths(text, matches, cause);
     }
-    of_certificate(alloc, matches, said)
+    if let Some(cause) = said.trim_end().strip_prefix("rejected ") {
+        return add_of_certificate(text, matches, cause);
+    }
+    Ok(())
 }

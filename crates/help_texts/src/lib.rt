@@ -2,6 +2,7 @@
 //! command line, and what another answer than the plain one means and what to change.
 #![tactic(auto)]
 
+mod adding;
 mod asking;
 mod complaints;
 mod endings;

@@ -100,40 +100,42 @@ fn takes_next(form: &Form, word: &str) -> bool {
     false
 }
 
-/// The words of a command line, the options with their values last: `clap` takes no secret after an option.
-pub fn options_last<'a>(alloc: Global, words: &'a [String]) -> Result<Vec<&'a str>, AllocError> {
-    let mut ordered = Vec::new(alloc);
-    let Some(form) = form_of(words) else {
-        return Ok(ordered);
-    };
-    let mut options = Vec::new(alloc);
+/// Adds the options with their values among words, or the other words.
+fn add_of_words<'a>(
+    ordered: &mut Vec<&'a str>,
+    form: &Form,
+    words: &'a [String],
+    options: bool,
+) -> Result<(), AllocError> {
     let mut is_value = false;
     for word in words {
         let word = word.as_str();
-        if is_value || word.starts_with('-') {
-            is_value = !is_value && takes_next(form, word);
-            options.push(word)?;
-        } else {
+        let is_option = is_value || word.starts_with('-');
+        is_value = is_option && !is_value && takes_next(form, word);
+        if is_option == options {
             ordered.push(word)?;
         }
     }
-    ordered.extend_from_slice(options.as_slice())?;
+    Ok(())
+}
+
+/// The words of a command line, the options with their values last: `clap` takes no secret after an option.
+pub fn options_last<'a>(alloc: Global, words: &'a [String]) -> Result<Vec<&'a str>, AllocError> {
+    let mut ordered = Vec::new(alloc);
+    if let Some(form) = form_of(words) {
+        add_of_words(&mut ordered, form, words, false)?;
+        add_of_words(&mut ordered, form, words, true)?;
+    }
     Ok(ordered)
 }
 
-/// What stands after the command.
-fn after_command<'a>(mut matches: ArgMatches<'a>) -> Option<ArgMatches<'a>> {
-    let (_, after) = matches.remove_subcommand()?;
-    Some(after)
-}
-
-/// What stands after the command of a command line, by the names of its form; None where it is none.
+/// What the words of a command line are; None where they are none.
 pub fn named<'a>(
     alloc: Global,
     words: &'a [&'a str],
 ) -> Result<Option<ArgMatches<'a>>, AllocError> {
     match command_line(alloc)?.try_get_matches_from(words) {
-        Ok(matches) => Ok(after_command(matches)),
+        Ok(matches) => Ok(Some(matches)),
         Err(error) if error.kind() == ErrorKind::OutOfMemory => Err(AllocError),
         Err(_) => Ok(None),
     }
@@ -167,20 +169,4 @@ pub fn role_of<'a>(matches: &ArgMatches<'_>, file: &str) -> &'a Role {
         }
     }
     &ANY_FILE
-}
-
-/// Adds an option, with a space before it, as it stands in words, where it does.
-fn add_option(text: &mut String, matches: &ArgMatches<'_>, name: &str) -> Result<(), AllocError> {
-    match matches.get_str(name) {
-        Some(value) => write!(text, " --{name}={value}"),
-        None => Ok(()),
-    }
-}
-
-/// Adds the options that say how a run is made, with a space before each, as they stand in words.
-pub fn add_run_options(text: &mut String, matches: &ArgMatches<'_>) -> Result<(), AllocError> {
-    add_option(text, matches, "turns")?;
-    add_option(text, matches, "regions")?;
-    add_option(text, matches, "rules")?;
-    add_option(text, matches, "paths")
 }

@@ -79,3 +79,21 @@ pub fn command_line<'a>(alloc: Global) -> Result<Command<'a>, AllocError> {
         .subcommand_required(true)
         .subcommands(commands(alloc)?)
 }
+
+/// The command of a form, or a command line without a form.
+fn told<'a>(alloc: Global, form: Option<&'a Form>) -> Result<Command<'a>, AllocError> {
+    match form {
+        Some(form) => command(alloc, form),
+        None => command_line(alloc),
+    }
+}
+
+/// What `clap` tells of the command of a form, or of a command line.
+pub fn help_of(alloc: Global, form: Option<&Form>) -> Result<String, AllocError> {
+    told(alloc, form)?.render_help()
+}
+
+/// The line that `clap` has for the command of a form, or for a command line.
+pub fn usage_of(alloc: Global, form: Option<&Form>) -> Result<String, AllocError> {
+    told(alloc, form)?.render_usage()
+}

@@ -1,9 +1,10 @@
 //! What a refusal means, and what to change.
 
+use crate::adding::{add_all, add_run_options, add_words};
 use crate::complaints::add_form_line;
 use crate::file_meanings::{FileKind, file_kinds, meaning_of_file};
 use crate::meanings::meaning_of;
-use crate::naming::{add_run_options, role_of, secret_of, word_for};
+use crate::naming::{role_of, secret_of, word_for};
 use crate::run_meanings::RUNS;
 use clap::ArgMatches;
 use std::alloc::{AllocError, Global};
@@ -27,46 +28,45 @@ fn file_of<'a>(matches: &ArgMatches<'a>, kind: &FileKind) -> &'a str {
     }
 }
 
-/// Of a file that is malformed, as `KIND FAULT` says.
-pub fn malformed(
-    alloc: Global,
-    matches: &ArgMatches<'_>,
-    refused: &str,
-) -> Result<Option<String>, AllocError> {
+/// Adds what a file that is malformed means, of a line that goes on by `KIND FAULT`.
+pub fn add_malformed<'a>(
+    text: &mut String,
+    matches: &ArgMatches<'a>,
+    refused: &'a str,
+) -> Result<(), AllocError> {
     let Some((word, fault)) = refused.split_once(' ') else {
-        return Ok(None);
+        return Ok(());
     };
     let Some(kind) = kind_of(word) else {
-        return Ok(None);
+        return Ok(());
     };
     let file = file_of(matches, kind);
-    let noun = kind.noun;
-    let meaning = meaning_of_file(kind.word, fault);
-    Ok(Some(format!(in alloc; "error: {noun} {file}: {fault}\n{meaning}\n")?))
+    let meaning = meaning_of_file(word, fault);
+    add_all(text, &["error: ", kind.noun])?;
+    add_all(text, &[" ", file, ": ", fault, "\n", meaning, "\n"])
 }
 
 /// The number of a run of several and what stands after it, where a fault begins so.
 fn numbered<'a>(fault: &'a str) -> Option<(&'a str, &'a str)> {
-    let (word, rest) = fault.split_once(' ')?;
-    if word != "run" && word != "length" {
-        return None;
+    match fault.strip_prefix("run ") {
+        Some(rest) => rest.split_once(' '),
+        None => fault.strip_prefix("length ")?.split_once(' '),
     }
-    rest.split_once(' ')
 }
 
 /// Adds where tools tell more of a run that is refused.
-fn add_more_of_run(
+fn add_more_of_run<'a>(
     text: &mut String,
-    matches: &ArgMatches<'_>,
-    fault: &str,
-    secret: &str,
+    matches: &ArgMatches<'a>,
+    fault: &'a str,
+    secret: &'a str,
 ) -> Result<(), AllocError> {
     if !fault.contains("0x") || matches.get_str("FILE").is_some() {
         return Ok(());
     }
-    let program = word_for(matches, "PROG");
-    let public = word_for(matches, "PUBLIC");
-    write!(text, "python3 tools/explain.py {program} {public} {secret}")?;
+    text.push_str("python3")?;
+    add_words(text, matches, "tools/explain.py PROG PUBLIC")?;
+    add_all(text, &[" ", secret])?;
     add_run_options(text, matches)?;
     text.push_str(" --text says in which line that is.\n")
 }
@@ -87,19 +87,31 @@ fn fault_of_run<'a>(fault: &'a str) -> &'a str {
     }
 }
 
-/// Of a run, or several, that are refused for a fault.
-pub fn refused_run(
-    alloc: Global,
-    matches: &ArgMatches<'_>,
-    fault: &str,
-) -> Result<Option<String>, AllocError> {
+/// Adds what a run, or several, that are refused for a fault mean.
+pub fn add_refused_run<'a>(
+    text: &mut String,
+    matches: &ArgMatches<'a>,
+    fault: &'a str,
+) -> Result<(), AllocError> {
     let program = word_for(matches, "PROG");
     let secret = refused_secret(matches, fault).unwrap_or("SECRET");
     let cause = fault_of_run(fault);
-    let meaning = meaning_of(&RUNS, cause);
-    let mut text = format!(in alloc; "error: run of {program} on {secret}: {fault}\n{meaning}\n")?;
-    add_more_of_run(&mut text, matches, cause, secret)?;
-    Ok(Some(text))
+    let meaning = meaning_of(RUNS, cause);
+    add_all(
+        text,
+        &[
+            "error: run of ",
+            program,
+            " on ",
+            secret,
+            ": ",
+            fault,
+            "\n",
+            meaning,
+            "\n",
+        ],
+    )?;
+    add_more_of_run(text, matches, cause, secret)
 }
 
 const NO_NUMBER: &str =
@@ -108,41 +120,52 @@ const NO_NUMBER: &str =
 const NO_FILE: &str =
     "Is the name right, as seen from this folder? It is to be a file that you may read, no folder.";
 
-/// Of a file that could not be loaded.
-pub fn not_loaded(
-    alloc: Global,
-    words: &[String],
-    matches: &ArgMatches<'_>,
-    file: &str,
-) -> Result<Option<String>, AllocError> {
-    let what = role_of(matches, file).what;
-    let advice = if file.parse::<u64>().is_ok() {
+/// What to change where a file of this name could not be loaded.
+fn advice_on_file(file: &str) -> &'static str {
+    if file.parse::<u64>().is_ok() {
         NO_NUMBER
     } else {
         NO_FILE
-    };
-    let mut text = format!(in alloc; "error: cannot read {file} as {what}\n{advice}\n")?;
-    add_form_line(alloc, &mut text, words)?;
-    Ok(Some(text))
+    }
 }
 
-/// Of a file that has too many bytes, as `FILE NUMBER` says.
-pub fn too_large(
+/// Adds what a file that could not be loaded means.
+pub fn add_not_loaded(
     alloc: Global,
+    text: &mut String,
+    words: &[String],
+    matches: &ArgMatches<'_>,
+    file: &str,
+) -> Result<(), AllocError> {
+    add_all(text, &["error: cannot read ", file, " as "])?;
+    let role = role_of(matches, file);
+    add_all(text, &[role.what, "\n", advice_on_file(file), "\n"])?;
+    add_form_line(alloc, text, words)
+}
+
+/// Adds what a file that has too many bytes means, of a line that goes on by `FILE NUMBER`.
+pub fn add_too_large(
+    alloc: Global,
+    text: &mut String,
     words: &[String],
     matches: &ArgMatches<'_>,
     refused: &str,
-) -> Result<Option<String>, AllocError> {
+) -> Result<(), AllocError> {
     let Some((file, _)) = refused.rsplit_once(' ') else {
-        return Ok(None);
+        return Ok(());
     };
+    add_all(text, &["error: ", file, " is too large for "])?;
     let role = role_of(matches, file);
-    let what = role.what;
-    let limit = role.limit;
-    let advice = role.advice;
-    let mut text = format!(in alloc;
-        "error: {file} is too large for {what}, which may have {limit}\n{advice}\n"
+    add_all(
+        text,
+        &[
+            role.what,
+            ", which may have ",
+            role.limit,
+            "\n",
+            role.advice,
+            "\n",
+        ],
     )?;
-    add_form_line(alloc, &mut text, words)?;
-    Ok(Some(text))
+    add_form_line(alloc, text, words)
 }
