@@ -8,3 +8,4 @@ pub mod LabelSteps
 pub mod ProgramSteps
 pub mod Listings
 pub mod StatementForms
+pub mod PieceSizes

@@ -1,11 +1,13 @@
 -- What a mnemonic says of its operands, by their form.
-use Rattle.std.proofs.Common.{◌≡◌, ℕ, Bool, true, false, List, Option, Some, None, option_map, if◌then◌else◌, refl}
-use Rattle.rv32im_asm.specs.Private.Forms.{Found, form_of, found_in, of_none, of_place, of_register, of_registers}
+use Rattle.std.proofs.Common.{◌≡◌, ℕ, Bool, true, false, List, Option, Some, None, option_map, if◌then◌else◌, refl, sym, ap, ◌∙◌}
+use Rattle.rv32im_asm.specs.Private.Forms.{Found, form_of, found_in, found_of, of_none, of_place, of_register, of_registers}
 use Rattle.rv32im_asm.specs.Private.Forms.{of_three, of_two, of_value, said}
 use Rattle.rv32im_asm.specs.Statements.{Meaning, has_no_operand, one_value, register_and, register_and_place}
 use Rattle.rv32im_asm.specs.Statements.{registers_and, statement_of, three_registers, two_registers}
+use Rattle.rv32im_asm.specs.declared.statements.Form.{Form}
 use Rattle.rv32im_asm.specs.declared.statements.Mnemonic.{Mnemonic}
 use Rattle.rv32im_asm.specs.declared.statements.Mnemonic.TheVariants as the
+use Rattle.rv32im_asm.specs.declared.statements.Operands.{Operands}
 use Rattle.rv32im_asm.specs.declared.statements.Wanted.TheVariants.{Number, Target, Label}
 
 mapped-once : {A : Type 0} (first : A → Found) (second : Found → Meaning) (parts : Option A) →
@@ -41,3 +43,12 @@ statement_found the.La operands = mapped-once of_register (said the.La) (registe
 statement_found the.Word operands = mapped-once of_value (said the.Word) (one_value Number operands)
 statement_found the.Byte operands = mapped-once of_value (said the.Byte) (one_value Number operands)
 statement_found the.Zero operands = mapped-once of_value (said the.Zero) (one_value Number operands)
+
+-- what a mnemonic makes of operands of the code
+pub statement_given : (mnemonic : Mnemonic) (operands : List (List ℕ)) (form : Form) (given : Option Operands) →
+    form ≡ form_of mnemonic → option_map found_of given ≡ found_in form operands →
+    option_map (λ parts. said mnemonic (found_of parts)) given ≡ statement_of mnemonic operands
+statement_given mnemonic operands form None same found =
+    ap (option_map (said mnemonic)) (found ∙ ap (λ f. found_in f operands) same) ∙ sym (statement_found mnemonic operands)
+statement_given mnemonic operands form (Some parts) same found =
+    ap (option_map (said mnemonic)) (found ∙ ap (λ f. found_in f operands) same) ∙ sym (statement_found mnemonic operands)

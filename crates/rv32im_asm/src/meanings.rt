@@ -104,7 +104,6 @@ fn operation(mnemonic: Mnemonic, first: u8, second: u8, third: u8) -> Operation
 }
 
 /// What a mnemonic or directive says of its operands; None where they are not of its form.
-#[tactic(auto, using(crate::proofs::StatementForms::statement_found))]
 fn statement<'a>(mnemonic: Mnemonic, text: &'a [u8]) -> Option<Statement<'a>>
     ensures exact { option_map meaning_of result ≡ statement_of mnemonic (operands_in text.entry.now) }
     ensures registers { IfSome result (λ statement. HasRegisters statement.operation) }

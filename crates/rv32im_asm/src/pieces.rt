@@ -151,6 +151,14 @@ pub fn encode_operation(operation: Operation, number: i64) -> Option<Piece>
     ensures exact { option_map bytes_in result ≡ bytes_with operation number }
     ensures size { IfSome result (λ piece. size_with operation number ≡ Some (length (bytes_in piece))) }
 {
+    piece_of(operation, number)
+}
+
+/// What an operation puts into a program; None where its number does not fit.
+fn piece_of(operation: Operation, number: i64) -> Option<Piece>
+    requires { HasRegisters operation }
+    ensures { option_map bytes_in result ≡ bytes_with operation number }
+{
     match operation {
         Operation::Nothing => Some(Piece::Nothing),
         Operation::Op { kind, rd, rs1, rs2 } => one(Instr::Op { kind, rd, rs1, rs2 }),
