@@ -1,6 +1,7 @@
 //! The lines of a bound.
 
-ghost use Rattle.std.specs.Prelude.{◌≡◌, ◌++◌, ℕ, option_map, IfOk};
+ghost use Rattle.std.specs.Prelude.{◌≡◌, ◌++◌, ◌∷◌, ℕ, [], codes, option_map, IfOk};
+ghost use Rattle.hex.specs.Hex.{encode_lower};
 ghost use Rattle.every_secret.specs.Bounds.{IsLeastPower, found_of, halt_of, output_count as output_count_of};
 ghost use Rattle.task_answers.specs.BoundTexts.{bounded_line as bounded_line_of, count_text as count_text_of};
 ghost use Rattle.task_answers.specs.BoundTexts.{hex_bytes as hex_bytes_of, listing as listing_of};
@@ -9,7 +10,7 @@ ghost use Rattle.task_answers.specs.BoundTexts.{paths_text as paths_text_of, sta
 ghost use Rattle.task_answers.specs.BoundTexts.{pattern_line as pattern_line_of, pattern_lines as pattern_lines_of};
 ghost use Rattle.task_answers.specs.BoundTexts.{stop_line as stop_line_of, unclear_line as unclear_line_of};
 
-use crate::texts::next;
+use crate::texts::{joined, next};
 use crossing_bits::Bits;
 use every_secret::{
     Bounded, Pattern, StoppedPath, UnclearWhy, free_bits, output_bits, output_count,
@@ -34,12 +35,9 @@ fn path_text(alloc: Global, bits: &Bits) -> Result<Bytes, NoMemory>
 {
     let hex = bits.hex_text(alloc)?;
     let count = bits.count();
-    let head = format!(in alloc; " path ")?;
     let tail = format!(in alloc; " bits {count}")?;
-    let mut text = head.into_bytes();
-    text.extend_from_slice(hex.as_slice())?;
-    text.extend_from_slice(tail.as_bytes())?;
-    Ok(Bytes::from_vec(text))
+    let text = joined(alloc, b" path ", hex.as_slice(), tail.as_bytes())?;
+    Ok(text)
 }
 
 /// The line of the path that is unclear.
@@ -47,12 +45,9 @@ pub fn unclear_line(alloc: Global, bits: &Bits, why: UnclearWhy) -> Result<Bytes
     ensures { IfOk result (λ text. text ≡ unclear_line_of bits.now.bits why) }
 {
     let path = path_text(alloc, bits)?;
-    let head = format!(in alloc; "unclear")?;
     let tail = format!(in alloc; " {why}\n")?;
-    let mut text = head.into_bytes();
-    text.extend_from_slice(path.as_slice())?;
-    text.extend_from_slice(tail.as_bytes())?;
-    Ok(Bytes::from_vec(text))
+    let text = joined(alloc, b"unclear", path.as_slice(), tail.as_bytes())?;
+    Ok(text)
 }
 
 /// A number of bits in 64; the error is out of memory, which also comes where there are more.
@@ -65,6 +60,15 @@ fn counted(bits: u128) -> Result<u64, NoMemory>
     Ok(bits as u64)
 }
 
+/// The mask of the status of a pattern, after a space.
+fn status_mask_text(alloc: Global, pattern: &Pattern) -> Result<Bytes, NoMemory>
+    ensures { IfOk result (λ text. text ≡ codes " " ++ encode_lower (pattern.now.status_mask ∷ [])) }
+{
+    let status = hex_bytes(alloc, &[pattern.status_mask])?;
+    let text = joined(alloc, b"", b" ", status.as_slice())?;
+    Ok(text)
+}
+
 /// The masks of a pattern with so many free bits; nothing where it has none.
 fn mask_text(alloc: Global, free: u64, pattern: &Pattern) -> Result<Bytes, NoMemory>
     ensures { IfOk result (λ text. text ≡ mask_text_of free pattern.now) }
@@ -72,15 +76,10 @@ fn mask_text(alloc: Global, free: u64, pattern: &Pattern) -> Result<Bytes, NoMem
     if free == 0 {
         return Ok(Bytes::new(alloc));
     }
+    let tail = status_mask_text(alloc, pattern)?;
     let masks = hex_bytes(alloc, pattern.byte_masks.as_slice())?;
-    let status = hex_bytes(alloc, &[pattern.status_mask])?;
-    let head = format!(in alloc; " mask ")?;
-    let middle = format!(in alloc; " ")?;
-    let mut text = head.into_bytes();
-    text.extend_from_slice(masks.as_slice())?;
-    text.extend_from_slice(middle.as_bytes())?;
-    text.extend_from_slice(status.as_slice())?;
-    Ok(Bytes::from_vec(text))
+    let text = joined(alloc, b" mask ", masks.as_slice(), tail.as_slice())?;
+    Ok(text)
 }
 
 /// The end of the line of a pattern with so many free bits.
@@ -90,11 +89,8 @@ fn status_text(alloc: Global, free: u64, pattern: &Pattern) -> Result<Bytes, NoM
     let status = pattern.status;
     let masks = mask_text(alloc, free, pattern)?;
     let head = format!(in alloc; " status {status}")?;
-    let tail = format!(in alloc; "\n")?;
-    let mut text = head.into_bytes();
-    text.extend_from_slice(masks.as_slice())?;
-    text.extend_from_slice(tail.as_bytes())?;
-    Ok(Bytes::from_vec(text))
+    let text = joined(alloc, head.as_bytes(), masks.as_slice(), b"\n")?;
+    Ok(text)
 }
 
 /// The line of the pattern with a number.
@@ -105,10 +101,8 @@ fn pattern_line(alloc: Global, number: u32, pattern: &Pattern) -> Result<Bytes, 
     let bytes = hex_bytes(alloc, pattern.bytes.as_slice())?;
     let tail = status_text(alloc, free, pattern)?;
     let head = format!(in alloc; "output {number} free {free} bytes ")?;
-    let mut text = head.into_bytes();
-    text.extend_from_slice(bytes.as_slice())?;
-    text.extend_from_slice(tail.as_slice())?;
-    Ok(Bytes::from_vec(text))
+    let text = joined(alloc, head.as_bytes(), bytes.as_slice(), tail.as_slice())?;
+    Ok(text)
 }
 
 /// The lines of patterns, counted from 1.
@@ -131,12 +125,9 @@ fn halt_line(alloc: Global, stopped: &StoppedPath) -> Result<Bytes, NoMemory>
 {
     let path = path_text(alloc, &stopped.bits)?;
     let stop = stopped.stop;
-    let head = format!(in alloc; "stopped")?;
     let tail = format!(in alloc; " {stop}\n")?;
-    let mut text = head.into_bytes();
-    text.extend_from_slice(path.as_slice())?;
-    text.extend_from_slice(tail.as_bytes())?;
-    Ok(Bytes::from_vec(text))
+    let text = joined(alloc, b"stopped", path.as_slice(), tail.as_bytes())?;
+    Ok(text)
 }
 
 /// The line of the first path that stops, if one does.
@@ -183,9 +174,8 @@ fn paths_text(alloc: Global, found: &Bounded) -> Result<Bytes, NoMemory>
     let stopped = found.stopped;
     let outputs = count_text(alloc, found.patterns.as_slice())?;
     let head = format!(in alloc; " paths {paths} stopped {stopped} outputs ")?;
-    let mut text = head.into_bytes();
-    text.extend_from_slice(outputs.as_slice())?;
-    Ok(Bytes::from_vec(text))
+    let text = joined(alloc, b"", head.as_bytes(), outputs.as_slice())?;
+    Ok(text)
 }
 
 /// The line of a bound, where so many bits suffice for the outputs.
@@ -201,10 +191,8 @@ fn bounded_text(
     let paths = paths_text(alloc, found)?;
     let head = format!(in alloc; "bounded secret {secret_length} regions {regions}")?;
     let tail = format!(in alloc; " bits {bits}\n")?;
-    let mut text = head.into_bytes();
-    text.extend_from_slice(paths.as_slice())?;
-    text.extend_from_slice(tail.as_bytes())?;
-    Ok(Bytes::from_vec(text))
+    let text = joined(alloc, head.as_bytes(), paths.as_slice(), tail.as_bytes())?;
+    Ok(text)
 }
 
 /// The line of a bound.

@@ -5,14 +5,16 @@ ghost use Rattle.flow_base.specs.declared.outputs.Output.{Output as AnOutput};
 ghost use Rattle.lockstep_replay.specs.Judgements.{judgement_of};
 ghost use Rattle.lockstep_replay.specs.Verdicts.{Accepts};
 ghost use Rattle.trial_guests.specs.Secrets.{secret_of};
-ghost use Rattle.command_tasks.specs.ReadTasks.{guest_in};
+ghost use Rattle.command_tasks.specs.ReadTasks.{IsBoundedRun, guest_in, run_in};
 ghost use Rattle.command_tasks.specs.declared.refusals.Refusal.TheVariants.{Memory};
 ghost use Rattle.task_answers.specs.Runs.{AnswersRun, IsMeasured};
-ghost use Rattle.task_answers.specs.Trials.{TellsTrial, crossing_count, guest_of_number, run_of_number, trial_line};
+ghost use Rattle.task_answers.specs.Trials.{TellsTrial, crossing_count, guest_of_number, run_of_number};
+ghost use Rattle.task_answers.specs.Trials.{trial_head, trial_line, trial_tail};
 
 use crate::judging::judge;
 use crate::measured_runs::measured;
 use crate::replies::Reply;
+use crate::texts::joined;
 use command_line::Limits;
 use command_tasks::{Guest, Refusal, RunTask};
 use enclosure_regions::Regions;
@@ -62,6 +64,34 @@ fn crossing(
     Ok(crossing_of(&verdict))
 }
 
+/// The first part of the line of a trial.
+fn head_of_line(
+    alloc: Global,
+    number: u32,
+    secret: &Bytes,
+    measured: &Measured,
+) -> Result<Bytes, NoMemory>
+    requires secret { secret.now ≡ secret_of number }
+    ensures { IfOk result (λ text. text ≡ trial_head number measured.now) }
+{
+    let length = secret.len();
+    let bits = measured.value;
+    let points = measured.graph.points.len();
+    let text = format!(in alloc; "trial {number} secret {length} bits {bits} points {points} ")?;
+    Ok(Bytes::from_vec(text.into_bytes()))
+}
+
+/// The rest of the line of a trial.
+fn tail_of_line(alloc: Global, measured: &Measured, crossing: u32) -> Result<Bytes, NoMemory>
+    ensures { IfOk result (λ text. text ≡ trial_tail measured.now crossing) }
+{
+    let cut = measured.cut.points.len();
+    let turns = measured.turns;
+    let output = measured.output.bytes.len();
+    let text = format!(in alloc; "cut {cut} turns {turns} crossing {crossing} output {output}\n")?;
+    Ok(Bytes::from_vec(text.into_bytes()))
+}
+
 /// The line of a trial.
 fn line(
     alloc: Global,
@@ -73,17 +103,40 @@ fn line(
     requires secret { secret.now ≡ secret_of number }
     ensures { IfOk result (λ text. text ≡ trial_line number measured.now crossing) }
 {
-    let length = secret.len();
-    let bits = measured.value;
-    let points = measured.graph.points.len();
-    let cut = measured.cut.points.len();
-    let turns = measured.turns;
-    let output = measured.output.bytes.len();
-    let head = format!(in alloc; "trial {number} secret {length} bits {bits} points {points} ")?;
-    let tail = format!(in alloc; "cut {cut} turns {turns} crossing {crossing} output {output}\n")?;
-    let mut text = head.into_bytes();
-    text.extend_from_slice(tail.as_bytes())?;
-    Ok(Bytes::from_vec(text))
+    let head = head_of_line(alloc, number, secret, measured)?;
+    let tail = tail_of_line(alloc, measured, crossing)?;
+    let text = joined(alloc, b"", head.as_slice(), tail.as_slice())?;
+    Ok(text)
+}
+
+/// The line of the trial that a run is.
+fn line_of_run(
+    alloc: Global,
+    number: u32,
+    run: &RunTask,
+    measured: &Measured,
+) -> Result<Bytes, NoMemory>
+    requires run { run_in run.now ≡ run_of_number number }
+    requires short { length run.now.secret.now ≤ 2000 }
+    requires measured { IsMeasured (run_of_number number) measured.now }
+    ensures { IfOk result (λ text. text ≡ trial_line number measured.now (crossing_count number measured.now)) }
+{
+    let crossing = crossing(alloc, number, &run.guest, run.secret, measured)?;
+    let text = line(alloc, number, run.secret, measured, crossing)?;
+    Ok(text)
+}
+
+/// Measures the run of a trial, and judges it.
+fn try_run(alloc: Global, number: u32, run: &RunTask, books: &[RuleBook]) -> Result<Reply, Refusal>
+    requires books { map (λ book. book.table) books.now ≡ 1 ∷ 2 ∷ [] }
+    requires bounded { IsBoundedRun run.now }
+    requires run { run_in run.now ≡ run_of_number number }
+    requires short { length run.now.secret.now ≤ 2000 }
+    ensures { result ≢ Err Memory → AnswersRun (run_of_number number) (TellsTrial number) result }
+{
+    let measured = measured(alloc, run, books)?;
+    let text = line_of_run(alloc, number, run, &measured)?;
+    Ok(Reply::done(text))
 }
 
 /// Measures the guest of the number, and judges it by the lockstep with its own cut and number of bits.
@@ -104,8 +157,5 @@ pub fn try_number(alloc: Global, number: u32, books: &[RuleBook]) -> Result<Repl
         turns: TURNS,
         table: 1,
     };
-    let measured = measured(alloc, &run, books)?;
-    let crossing = crossing(alloc, number, &run.guest, &secret, &measured)?;
-    let text = line(alloc, number, &secret, &measured, crossing)?;
-    Ok(Reply::done(text))
+    try_run(alloc, number, &run, books)
 }
