@@ -1,4 +1,4 @@
-use Rattle.std.proofs.Common.{◌≡◌, ◌∙◌, ap}
+use Rattle.std.proofs.Common.{◌∙◌, ap}
 use Rattle.task_answers.specs.Trials.{trial_line}
 use Rattle.task_answers.proofs.trials.line_of_run.Goals as goal
 
