@@ -26,10 +26,11 @@ use Rattle.run_labels.specs.declared.faults.MeasureFault.TheVariants.{TurnLimit,
 use Rattle.run_labels.specs.declared.faults.MeasureFault.TheVariants.{SecretCode, BaseSecret, GraphLimit, Memory}
 use Rattle.tracked_run.specs.Runs.{Stands, AreAnswers, MakesTurn, RefusesTurn, Turns}
 use Rattle.tracked_run.specs.declared.outcomes.TrackedTurn.{TrackedTurn}
+use Rattle.measuring.specs.declared.following.RunEnd.TheVariants.{Refused}
 use Rattle.measuring.specs.declared.recordings.Recording.{Recording}
 use Rattle.measuring.specs.Recordings.{Records}
 use Rattle.measuring.specs.RunCauses.{IsUnrefusedRun, GoesOn, IsRefused}
-use Rattle.measuring.specs.Following.{StandsAfter, HasEnded, HasRunCause}
+use Rattle.measuring.specs.Following.{EndsAs, HasEnded, StandsAfter}
 use Rattle.std.specs.Option.{option_or}
 
 -- no turns are a run
@@ -185,11 +186,11 @@ faults_of_turn regions answers run =
 
 cause_of : (table : ℕ) (regions : List Region) (start : LabelledRun) (limit : ℕ) (fault : MeasureFault) →
     is_of_turn (Some fault) ≡ true → IsRefused table regions start limit fault →
-    HasRunCause table regions start limit fault
-cause_of table regions start limit (Guest fault) of refused = refused
-cause_of table regions start limit (RegionFault broken) of refused = refused
-cause_of table regions start limit (SecretCode pc) of refused = refused
-cause_of table regions start limit (BaseSecret region register) of refused = refused
+    EndsAs table regions start limit (Refused fault)
+cause_of table regions start limit (Guest fault) of refused = (refl, refused)
+cause_of table regions start limit (RegionFault broken) of refused = (refl, refused)
+cause_of table regions start limit (SecretCode pc) of refused = (refl, refused)
+cause_of table regions start limit (BaseSecret region register) of refused = (refl, refused)
 cause_of table regions start limit (TurnLimit turns) of refused = absurd (false≢true of)
 cause_of table regions start limit GraphLimit of refused = absurd (false≢true of)
 cause_of table regions start limit Memory of refused = absurd (false≢true of)
@@ -199,7 +200,7 @@ pub is_refused : (table : ℕ) (regions : List Region) (start : LabelledRun) (li
     (fault : MeasureFault) → turns < limit →
     (follows : StandsAfter table regions start turns before shadow recording) →
     RefusesTurn table regions (run_after regions follows.answers start) (Records recording) stands after left fault →
-    HasRunCause table regions start limit fault
+    EndsAs table regions start limit (Refused fault)
 unfolding goes_on
 is_refused table regions start limit turns before shadow recording stands after left fault within follows refuses =
     cause_of table regions start limit fault

@@ -8,7 +8,8 @@ use Rattle.run_labels.specs.declared.faults.MeasureFault.TheVariants.{TurnLimit,
 use Rattle.run_labels.specs.declared.faults.MeasureFault.TheVariants.{SecretCode, BaseSecret, GraphLimit, Memory}
 use Rattle.measuring.specs.declared.following.Exit.{Exit}
 use Rattle.measuring.specs.declared.measured.Measured.{Measured}
-use Rattle.measuring.specs.Following.{HasEnded, HasRunCause}
+use Rattle.measuring.specs.declared.following.RunEnd.TheVariants.{Refused}
+use Rattle.measuring.specs.Following.{EndsAs, HasEnded}
 use Rattle.measuring.specs.Measures.{HasCause, Measures}
 use Rattle.measuring.specs.Private.Weighing.{IsUnweighed, Weighs}
 
@@ -52,11 +53,5 @@ exit_cause table regions start limit exit (SecretCode pc) ended none = absurd no
 exit_cause table regions start limit exit (BaseSecret region register) ended none = absurd none
 
 pub run_cause : (table : ℕ) (regions : List Region) (start : LabelledRun) (limit : ℕ) (fault : MeasureFault) →
-    HasRunCause table regions start limit fault → HasCause table regions start limit fault
-run_cause table regions start limit (TurnLimit turns) cause = cause
-run_cause table regions start limit (Guest fault) cause = cause
-run_cause table regions start limit (RegionFault broken) cause = cause
-run_cause table regions start limit (SecretCode pc) cause = cause
-run_cause table regions start limit (BaseSecret region register) cause = cause
-run_cause table regions start limit GraphLimit cause = absurd cause
-run_cause table regions start limit Memory cause = absurd cause
+    EndsAs table regions start limit (Refused fault) → HasCause table regions start limit fault
+run_cause table regions start limit fault ends = ends.1

@@ -1,5 +1,5 @@
 -- A run that is followed turn by turn, and how it ends.
-use Rattle.std.specs.Prelude.{◌≡◌, ℕ, List, ◌∷◌, false}
+use Rattle.std.specs.Prelude.{◌≡◌, ℕ, List, ◌∷◌, Bool, true, false}
 use Rattle.enclosure_regions.specs.declared.region_parts.Region.{Region}
 use Rattle.region_machine.specs.Runs.{has_exited}
 use Rattle.rv32im_machine.specs.State.{State}
@@ -14,7 +14,8 @@ use Rattle.measuring.specs.declared.following.RunEnd.{RunEnd}
 use Rattle.measuring.specs.declared.following.RunEnd.TheVariants.{Exited, Refused}
 use Rattle.measuring.specs.declared.recordings.Recording.{Recording}
 use Rattle.measuring.specs.Recordings.{Records}
-use Rattle.measuring.specs.RunCauses.{IsUnrefusedRun, GoesOn, Exits, IsRefused}
+use Rattle.measuring.specs.Measures.{HasCause}
+use Rattle.measuring.specs.RunCauses.{IsUnrefusedRun, Exits}
 
 -- machine, shadow and recording stand where the run does after so many turns
 pub record StandsAfter (table : ℕ) (regions : List Region) (start : LabelledRun) (turns : ℕ) (machine : State)
@@ -30,18 +31,17 @@ pub record HasEnded (table : ℕ) (regions : List Region) (start : LabelledRun) 
   pub exits : Exits table regions start limit end.turns end.output
   pub records : Records end.recording (run_after regions (exits.last ∷ exits.earlier) start).events
 
--- the cause of a fault of a run: its turns, or one that is refused; a run by itself meets neither a limit of its graph
--- nor lack of memory
-abbrev pub HasRunCause : ℕ → List Region → LabelledRun → ℕ → MeasureFault → Type 0
-HasRunCause table regions start limit (TurnLimit turns) = (turns ≡ limit) × GoesOn table regions start limit
-HasRunCause table regions start limit (Guest fault) = IsRefused table regions start limit (Guest fault)
-HasRunCause table regions start limit (RegionFault broken) = IsRefused table regions start limit (RegionFault broken)
-HasRunCause table regions start limit (SecretCode pc) = IsRefused table regions start limit (SecretCode pc)
-HasRunCause table regions start limit (BaseSecret region register) =
-    IsRefused table regions start limit (BaseSecret region register)
-HasRunCause table regions start limit GraphLimit = ⊥
-HasRunCause table regions start limit Memory = ⊥
+-- what a run can be refused for by itself; limits of its graph and memory are looked at elsewhere
+abbrev pub is_of_run : MeasureFault → Bool
+is_of_run (TurnLimit turns) = true
+is_of_run (Guest fault) = true
+is_of_run (RegionFault broken) = true
+is_of_run (SecretCode pc) = true
+is_of_run (BaseSecret region register) = true
+is_of_run GraphLimit = false
+is_of_run Memory = false
 
 abbrev pub EndsAs : ℕ → List Region → LabelledRun → ℕ → RunEnd → Type 0
 EndsAs table regions start limit (Exited exit) = HasEnded table regions start limit exit
-EndsAs table regions start limit (Refused fault) = HasRunCause table regions start limit fault
+EndsAs table regions start limit (Refused fault) =
+    (is_of_run fault ≡ true) × HasCause table regions start limit fault

@@ -8,9 +8,9 @@ pub mod Splits
 pub mod CutRuns
 pub mod Cutting
 pub mod RunCauses
-pub mod Following
 pub mod Limits
 pub mod Measures
+pub mod Following
 pub mod Accepting
 pub mod Deciding
 pub mod Private

@@ -14,8 +14,7 @@ use Rattle.run_labels.specs.declared.faults.MeasureFault.{MeasureFault}
 use Rattle.run_labels.specs.declared.faults.MeasureFault.TheVariants.{TurnLimit, Guest, Region as RegionFault}
 use Rattle.run_labels.specs.declared.faults.MeasureFault.TheVariants.{SecretCode, BaseSecret, GraphLimit, Memory}
 use Rattle.measuring.specs.declared.measured.Measured.{Measured}
-use Rattle.measuring.specs.Following.{HasRunCause}
-use Rattle.measuring.specs.RunCauses.{Exits}
+use Rattle.measuring.specs.RunCauses.{Exits, GoesOn, IsRefused}
 use Rattle.flow_base.specs.declared.outputs.Output.{Output}
 
 -- the graph of the events, which exceeds no limit, a maximum flow of it, no part of which exceeds its value, its least
@@ -46,13 +45,14 @@ pub record IsTooLarge (table : ℕ) (regions : List Region) (start : LabelledRun
   pub exits : Exits table regions start limit turns output
   pub exceeds : ExceedsLimit (run_after regions (exits.last ∷ exits.earlier) start).events
 
--- why a run is not measured; of lack of memory nothing is said
+-- why a run is not measured, a row for each refusal: all its turns are made, a turn is refused, or its graph exceeds a
+-- limit; of lack of memory nothing is said
 abbrev pub HasCause : ℕ → List Region → LabelledRun → ℕ → MeasureFault → Type 0
-HasCause table regions start limit (TurnLimit turns) = HasRunCause table regions start limit (TurnLimit turns)
-HasCause table regions start limit (Guest fault) = HasRunCause table regions start limit (Guest fault)
-HasCause table regions start limit (RegionFault broken) = HasRunCause table regions start limit (RegionFault broken)
-HasCause table regions start limit (SecretCode pc) = HasRunCause table regions start limit (SecretCode pc)
+HasCause table regions start limit (TurnLimit turns) = (turns ≡ limit) × GoesOn table regions start limit
+HasCause table regions start limit (Guest fault) = IsRefused table regions start limit (Guest fault)
+HasCause table regions start limit (RegionFault broken) = IsRefused table regions start limit (RegionFault broken)
+HasCause table regions start limit (SecretCode pc) = IsRefused table regions start limit (SecretCode pc)
 HasCause table regions start limit (BaseSecret region register) =
-    HasRunCause table regions start limit (BaseSecret region register)
+    IsRefused table regions start limit (BaseSecret region register)
 HasCause table regions start limit GraphLimit = IsTooLarge table regions start limit
 HasCause table regions start limit Memory = Unit {0}
