@@ -10,10 +10,15 @@ mod tables;
 use std::io;
 use tables::Tables;
 
+/// Goes through the rows of all tables.
+fn follow_all(rt: &HostRuntime, tables: &mut Tables) -> io::Result<()> {
+    for line in rt.lines(rt.alloc()) {
+        tables.follow(rt, line?.as_str())?;
+    }
+    tables.end(rt)
+}
+
 fn main(rt: HostRuntime) -> io::Result<()> {
     let mut tables = Tables::new(rt.alloc());
-    for line in rt.lines(rt.alloc()) {
-        tables.follow(&rt, line?.as_str())?;
-    }
-    tables.end(&rt)
+    follow_all(&rt, &mut tables)
 }

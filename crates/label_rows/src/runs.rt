@@ -7,6 +7,7 @@ mod programs;
 mod texts;
 
 use elf32_loader::Image;
+use flow_base::NoMemory;
 use flow_graph::EventList;
 pub use guests::Guest;
 use lines::{Line, read_line};
@@ -25,6 +26,11 @@ fn print_events(rt: &HostRuntime, events: &EventList) -> io::Result<()> {
     Ok(())
 }
 
+/// Prints that memory is short.
+fn print_shortage(rt: &HostRuntime) -> io::Result<()> {
+    println!(rt; "memory is short")
+}
+
 /// Prints what a turn answers, and before it the turn's events where it is not refused.
 fn print_row(rt: &HostRuntime, events: &EventList, answer: TrackedTurn) -> io::Result<()> {
     if !matches!(answer, TrackedTurn::Refused(_)) {
@@ -32,6 +38,24 @@ fn print_row(rt: &HostRuntime, events: &EventList, answer: TrackedTurn) -> io::R
     }
     let answer = AnswerText(answer);
     println!(rt; "{answer}")
+}
+
+/// Prints what is told of a turn; whether the run goes on.
+fn print_turn(
+    rt: &HostRuntime,
+    events: &EventList,
+    told: Result<TrackedTurn, NoMemory>,
+) -> io::Result<bool> {
+    match told {
+        Ok(answer) => {
+            print_row(rt, events, answer)?;
+            Ok(matches!(answer, TrackedTurn::Ran))
+        }
+        Err(_) => {
+            print_shortage(rt)?;
+            Ok(false)
+        }
+    }
 }
 
 /// Makes the run of a guest, by the image of its program, and prints its first turns. The run is made and followed here:
@@ -46,16 +70,13 @@ fn print_run_of(rt: &HostRuntime, guest: &Guest, image: &Image, turns: u32) -> i
         guest.regions(),
         &book,
     ) else {
-        return println!(rt; "memory is short");
+        return print_shortage(rt);
     };
     for _ in 0..turns {
         let mut events = EventList::new(rt.alloc());
-        let Ok(answer) = tracked.turn(&mut events) else {
-            return println!(rt; "memory is short");
-        };
-        print_row(rt, &events, answer)?;
-        if !matches!(answer, TrackedTurn::Ran) {
-            return Ok(());
+        let told = tracked.turn(&mut events);
+        if !print_turn(rt, &events, told)? {
+            break;
         }
     }
     Ok(())
