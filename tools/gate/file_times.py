@@ -1,11 +1,13 @@
 #!/usr/bin/env python3
 """file_times.py CRATE [LEAST] [--kept]
+file_times.py --gate [LEAST]
 
 Prints how many seconds the prover takes for each function of a crate and for each file of its specs/ and proofs/,
 longest first, down to LEAST seconds (1 without the word), with the part of a function that took most. The crate is
 checked from nothing at one job; with `--kept` the last check is read instead, and then only what it proved anew is
 right. The prover keeps each module in a file of its own as soon as it is checked, so the time between two such files is
-that of the later one.
+that of the later one. With `--gate` nothing is checked: it reads the proofs that the edits of a running gate on this
+machine begin with, as far as they are made, each of one crate.
 
 Parts of a function: `Lts` is which values and loans live at each step, and grows faster than the function; `Proof` is
 the proof itself, dear where a tactic searches; `Tie` ties the two to the code. It works in the crate's out/ folder.
@@ -41,21 +43,14 @@ def place_of(module):
     return f"{folder}/{'/'.join(names)}", "whole"
 
 
-def main():
-    parser = argparse.ArgumentParser(description=__doc__, formatter_class=argparse.RawDescriptionHelpFormatter)
-    parser.add_argument("crate", metavar="CRATE", help="the name of a crate")
-    parser.add_argument("least", metavar="LEAST", type=float, nargs="?", default=1.0)
-    parser.add_argument("--kept", action="store_true", help="read the last check, and check nothing")
-    words = parser.parse_args()
-    folder = TOP / "crates" / words.crate
-    if not folder.is_dir():
-        parser.error(f"there is no crate {words.crate}")
-    kept = folder / "out/incremental"
-    if not words.kept:
-        shutil.rmtree(kept, ignore_errors=True)
-        done = subprocess.run(["rt", "check", "--jobs", "1"], cwd=folder, capture_output=True, text=True)
-        if done.returncode != 0:
-            sys.exit(done.stdout + done.stderr)
+def crate_of(kept):
+    """The crate most of whose modules a folder has."""
+    names = collections.Counter(path.name.split("-")[1].split(".")[0] for path in kept.rglob("Rattle-*-proofs*.oantt"))
+    return names.most_common(1)[0][0] if names else None
+
+
+def show(crate, kept, least):
+    """Prints the times of a crate, read off the folder in which its modules are kept."""
     times = collections.defaultdict(collections.Counter)
     parts = collections.Counter()
     for module, seconds in modules(kept):
@@ -63,11 +58,39 @@ def main():
         times[place][part] += seconds
         parts[part] += seconds
     dear = ", ".join(f"{part} {seconds:.0f}" for part, seconds in parts.most_common(5))
-    print(f"{words.crate}: {sum(parts.values()):.0f} s; by part: {dear}")
+    print(f"{crate}: {sum(parts.values()):.0f} s; by part: {dear}")
     for place, spent in sorted(times.items(), key=lambda item: -sum(item[1].values())):
-        if sum(spent.values()) >= words.least:
+        if sum(spent.values()) >= least:
             part, most = spent.most_common(1)[0]
             print(f"{sum(spent.values()):7.1f} s  {place}  ({part} {most:.1f})")
+
+
+def main():
+    parser = argparse.ArgumentParser(description=__doc__, formatter_class=argparse.RawDescriptionHelpFormatter)
+    parser.add_argument("words", metavar="CRATE [LEAST]", nargs="*", help="the name of a crate, and the least seconds")
+    parser.add_argument("--kept", action="store_true", help="read the last check, and check nothing")
+    parser.add_argument("--gate", action="store_true", help="read what a running gate has proved for its edits")
+    words = parser.parse_args()
+    if words.gate:
+        least = float(words.words[0]) if words.words else 1.0
+        for kept in sorted(pathlib.Path("/tmp").glob("rt-edits-*/seed")):
+            crate = crate_of(kept)
+            if crate:
+                show(crate, kept, least)
+        return
+    if not words.words:
+        parser.error("name a crate, or say --gate")
+    crate, least = words.words[0], float(words.words[1]) if len(words.words) > 1 else 1.0
+    folder = TOP / "crates" / crate
+    if not folder.is_dir():
+        parser.error(f"there is no crate {crate}")
+    kept = folder / "out/incremental"
+    if not words.kept:
+        shutil.rmtree(kept, ignore_errors=True)
+        done = subprocess.run(["rt", "check", "--jobs", "1"], cwd=folder, capture_output=True, text=True)
+        if done.returncode != 0:
+            sys.exit(done.stdout + done.stderr)
+    show(crate, kept, least)
 
 
 if __name__ == "__main__":
