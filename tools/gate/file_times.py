@@ -18,6 +18,7 @@ import pathlib
 import shutil
 import subprocess
 import sys
+import tempfile
 
 TOP = pathlib.Path(__file__).resolve().parents[2]
 ENDS = ".decls.oantt", ".oantt"
@@ -65,27 +66,43 @@ def show(crate, kept, least):
             print(f"{sum(spent.values()):7.1f} s  {place}  ({part} {most:.1f})")
 
 
+def show_running(least):
+    """Prints the times of the crates whose edits a running gate tries."""
+    for kept in sorted(pathlib.Path(tempfile.gettempdir()).glob("rt-edits-*/seed")):
+        crate = crate_of(kept)
+        if crate:
+            show(crate, kept, least)
+
+
+def words_of(parser):
+    """The crate, or None for those of a running gate, the least seconds, and whether the last check is read."""
+    parser.add_argument("words", metavar="CRATE [LEAST]", nargs="*", help="the name of a crate, and the least seconds")
+    way = parser.add_mutually_exclusive_group()
+    way.add_argument("--kept", action="store_true", help="read the last check, and check nothing")
+    way.add_argument("--gate", action="store_true", help="read what a running gate has proved for its edits")
+    given = parser.parse_args()
+    words = given.words
+    crate = None if given.gate else words.pop(0) if words else parser.error("name a crate, or say --gate")
+    if len(words) > 1:
+        parser.error(f"there are words too many: {' '.join(words[1:])}")
+    try:
+        least = float(words[0]) if words else 1.0
+    except ValueError:
+        parser.error(f"that is no number of seconds: {words[0]}")
+    return crate, least, given.kept
+
+
 def main():
     parser = argparse.ArgumentParser(description=__doc__, formatter_class=argparse.RawDescriptionHelpFormatter)
-    parser.add_argument("words", metavar="CRATE [LEAST]", nargs="*", help="the name of a crate, and the least seconds")
-    parser.add_argument("--kept", action="store_true", help="read the last check, and check nothing")
-    parser.add_argument("--gate", action="store_true", help="read what a running gate has proved for its edits")
-    words = parser.parse_args()
-    if words.gate:
-        least = float(words.words[0]) if words.words else 1.0
-        for kept in sorted(pathlib.Path("/tmp").glob("rt-edits-*/seed")):
-            crate = crate_of(kept)
-            if crate:
-                show(crate, kept, least)
+    crate, least, is_kept = words_of(parser)
+    if crate is None:
+        show_running(least)
         return
-    if not words.words:
-        parser.error("name a crate, or say --gate")
-    crate, least = words.words[0], float(words.words[1]) if len(words.words) > 1 else 1.0
     folder = TOP / "crates" / crate
     if not folder.is_dir():
         parser.error(f"there is no crate {crate}")
     kept = folder / "out/incremental"
-    if not words.kept:
+    if not is_kept:
         shutil.rmtree(kept, ignore_errors=True)
         done = subprocess.run(["rt", "check", "--jobs", "1"], cwd=folder, capture_output=True, text=True)
         if done.returncode != 0:
