@@ -26,16 +26,13 @@ use crossing_bits::Bits;
 use cut_file::Cut;
 use elf32_loader::Image;
 use flow_base::{Bytes, List, NoMemory};
-use region_machine::MarkedRegions;
+use region_machine::{MarkedRegions, OUTPUT_LIMIT};
 use replay_machine::VisitMasks;
 use rv32im_machine::{GuestMemory, Machine};
 use shadow_masks::Shadow;
 use std::alloc::Global;
 use tracked_run::Held;
 use transfer_rules::RuleBook;
-
-/// The output of a run has at most 1 MiB.
-const OUTPUT_LIMIT: u32 = 1_048_576;
 
 /// What is walked, and within which limits.
 #[derive(Clone, Copy)]

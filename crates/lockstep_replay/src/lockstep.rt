@@ -18,12 +18,10 @@ use cut_file::Cut;
 use elf32_loader::Image;
 use enclosure_regions::Regions;
 use flow_base::{Bytes, NoMemory, Output};
+use region_machine::OUTPUT_LIMIT;
 use replay_machine::Replay;
 use rv32im_machine::{Machine, Stepped};
 use std::alloc::Global;
-
-/// The output of a run has at most 1 MiB.
-const OUTPUT_LIMIT: u32 = 1_048_576;
 
 /// A check of one secret before its first turn: the real run on the secret beside the replay, with all the memory that
 /// the check takes.

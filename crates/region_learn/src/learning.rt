@@ -23,12 +23,9 @@ use crate::writing::write_regions;
 use elf32_loader::Image;
 use enclosure_regions::{Region, Regions};
 use flow_base::{Bytes, List, NoMemory};
-use region_machine::MarkedRegions;
+use region_machine::{MarkedRegions, OUTPUT_LIMIT};
 use rv32im_machine::Machine;
 use std::alloc::Global;
-
-/// The output of a run has at most 1 MiB.
-const OUTPUT_LIMIT: u32 = 1_048_576;
 
 /// A region by its number and its addresses alone.
 fn bare(alloc: Global, region: &Region) -> Region

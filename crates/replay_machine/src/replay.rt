@@ -29,13 +29,10 @@ use cut_file::Cut;
 use elf32_loader::Image;
 use enclosure_regions::{Regions, copy_regions};
 use flow_base::{Bytes, List, NoMemory};
-use region_machine::MarkedRegions;
+use region_machine::{MarkedRegions, OUTPUT_LIMIT};
 use rv32im_machine::{GuestMemory, Machine, Stepped};
 use std::alloc::Global;
 use std::marker::Model;
-
-/// The output of a run has at most 1 MiB.
-const OUTPUT_LIMIT: u32 = 1_048_576;
 
 /// A run of a program that never sees the secret: it starts on zeros, and the bits that cross are given to it.
 #[derive(Drop)]

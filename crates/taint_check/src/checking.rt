@@ -18,13 +18,10 @@ use elf32_loader::Image;
 use enclosure_regions::{Regions, copy_regions};
 use flow_base::{Bytes, NoMemory, Output};
 use lockstep_replay::Tallying;
-use region_machine::MarkedRegions;
+use region_machine::{MarkedRegions, OUTPUT_LIMIT};
 use rv32im_machine::{Machine, Stepped};
 use std::alloc::Global;
 use transfer_rules::RuleBook;
-
-/// The output of a run has at most 1 MiB.
-const OUTPUT_LIMIT: u32 = 1_048_576;
 
 /// The status with which a run has exited, if it has.
 fn exit_status(mode: Stepped) -> Option<u8>

@@ -7,14 +7,11 @@ use elf32_loader::Image;
 use enclosure_regions::{Regions, copy_regions};
 use flow_base::{Bytes, NoMemory};
 use flow_graph::Events;
-use region_machine::MarkedRegions;
+use region_machine::{MarkedRegions, OUTPUT_LIMIT};
 use rv32im_machine::Machine;
 use shadow_masks::Shadow;
 use std::alloc::Global;
 use transfer_rules::RuleBook;
-
-/// The output of a run has at most 1 MiB.
-const OUTPUT_LIMIT: u32 = 1_048_576;
 
 /// A measured run: the real run of a guest with regions, with a label for each of its registers and bytes.
 #[derive(Drop)]
