@@ -8,7 +8,7 @@ ghost use Rattle.rv32im_machine.specs.State.{joined, with_byte};
 ghost use Rattle.rv32im_machine.specs.Language.{shaped, part_of, turn_walk, walk, with_store, Held, Moved, Walk, bytes_at};
 ghost use Rattle.rv32im_machine.specs.Private.Stores.{high_half_at};
 ghost use Rattle.rv32im_machine.specs.Rows.{row_walk, load_checked, store_checked, stores, store_at, loaded_from};
-ghost use Rattle.rv32im_machine.specs.Playing.{Goes, Knows, outcome};
+ghost use Rattle.rv32im_machine.specs.Playing.{Goes, Knows, are_bytes, outcome};
 
 use crate::language::{Aim, Part, Passing, Place, Shape, Source, Sources, Work};
 use crate::machines::Machine;
@@ -75,7 +75,8 @@ fn load_from<P: Passer>(
 
 /// The bytes that a load reads.
 fn load_sources(kind: LoadKind, address: u32) -> Sources
-    ensures { result ≡ loaded_from kind address }
+    ensures sources { result ≡ loaded_from kind address }
+    ensures bytes { IsTrue (are_bytes result) }
 {
     match kind {
         LoadKind::Lb | LoadKind::Lbu => Sources::Byte(address),

@@ -4,7 +4,7 @@ ghost use Rattle.std.specs.Prelude.{◌≡◌, ℕ, ◌<◌, IsTrue};
 ghost use Rattle.flow_base.specs.Points.{is_slot, width_of};
 ghost use Rattle.rv32im_machine.specs.Language.{Walk, Passed, computed};
 ghost use Rattle.rv32im_machine.specs.Private.Passings.{address_of, copy_of};
-ghost use Rattle.rv32im_machine.specs.Playing.{Goes, IsAim};
+ghost use Rattle.rv32im_machine.specs.Playing.{Goes, FitsAim, IsAim};
 
 use crate::language::{Aim, Operation, Passing, Place, Shape, Source, Sources, Work};
 use crate::machines::Machine;
@@ -61,6 +61,7 @@ pub(crate) fn operand<P: Passer>(
     requires slot { IsTrue (is_slot slot) }
     requires width { width_of slot ≡ 4294967295 }
     requires aim { IsAim (P.memory passer.old) aim }
+    requires fits { FitsAim aim slot }
     requires register { register < 32 }
     ensures memory { P.memory passer.new ≡ P.memory passer.old }
     ensures goes { (go : ℕ → Walk) → Goes result (λ other. P.Plays passer.new (go other))

@@ -3,6 +3,7 @@ ghost use Rattle.flow_base.specs.Points.{is_slot, width_of};
 ghost use Rattle.rv32im_machine.specs.State.{State};
 ghost use Rattle.rv32im_machine.specs.Language.{Walk, Looked, Passed, Moved, Saved, Restored, Ended};
 ghost use Rattle.rv32im_machine.specs.Playing.{Played, Finished, Goes, restored_or, IsAim, IsPlace, IsSeen, IsSource, AreSources};
+ghost use Rattle.rv32im_machine.specs.Playing.{joins_bytes, FitsAim, FitsSlot, moves_bits, fits_place};
 
 use crate::language::{Passing, Place, Seen, Shape, Source};
 
@@ -29,18 +30,23 @@ pub trait Passer {
         ensures goes { (walk : Walk) → Goes result (λ done. Plays self.new walk)
             (Plays self.old (Looked seen value walk)) };
 
-    /// A value passes a point; the answer goes on from it in its place.
+    /// A value passes a point; the answer goes on from it in its place. Only bytes of memory are joined to a word, what
+    /// passes a slot of 8 bits is a byte, and what goes to a byte of memory passes such a slot.
     fn pass(&mut self, passing: Passing) -> Result<u32, Self::Stop>
         requires slot { IsTrue (is_slot passing.point.slot) }
         requires value { passing.value ≤ width_of passing.point.slot }
         requires aim { IsAim (memory self.old) passing.aim }
         requires sources { AreSources (memory self.old) passing.sources }
+        requires joins { IsTrue (joins_bytes passing.work passing.sources) }
+        requires byte { FitsSlot passing.point.slot passing.work passing.sources }
+        requires fits { FitsAim passing.aim passing.point.slot }
         ensures memory { memory self.new ≡ memory self.old }
         ensures width { IfOk result (λ other. other ≤ width_of passing.point.slot) }
         ensures goes { (go : ℕ → Walk) → Goes result (λ other. Plays self.new (go other))
             (Plays self.old (Passed passing go)) };
 
-    /// A value is written to a place without passing a point.
+    /// A value is written to a place without passing a point. It is not extended, and what goes to a byte of memory is a
+    /// byte.
     fn move_to(
         &mut self,
         place: Place,
@@ -50,6 +56,8 @@ pub trait Passer {
     ) -> Result<(), Self::Stop>
         requires place { IsPlace (memory self.old) place }
         requires source { IsSource (memory self.old) source }
+        requires moves { IsTrue (moves_bits shape) }
+        requires fits { IsTrue (fits_place place shape source) }
         ensures memory { memory self.new ≡ memory self.old }
         ensures goes { (walk : Walk) → Goes result (λ done. Plays self.new walk)
             (Plays self.old (Moved place shape source value walk)) };

@@ -14,7 +14,8 @@ use std::alloc::Global;
 /// The labels of `count` bytes of a page from a place on, at most 4; past them the clean label.
 pub fn labels_in(page: &Option<Page>, place: usize, count: usize) -> [Label; 4]
     requires { place + count ≤ page_size }
-    ensures { result ≡ labels_from (label_in page.now) place count }
+    ensures labels { result ≡ labels_from (label_in page.now) place count }
+    ensures are_of_bytes { All IsByteLabel result }
 {
     match page {
         Some(made) => made.labels(place, count),

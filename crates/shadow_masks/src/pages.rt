@@ -1,6 +1,6 @@
 //! The labels of a page of addresses.
 
-ghost use Rattle.std.specs.Prelude.{◌≡◌, ◌+◌, ◌<◌, ◌≤◌, ℕ, IfOk, OnOk, OnErr, true};
+ghost use Rattle.std.specs.Prelude.{◌≡◌, ◌+◌, ◌<◌, ◌≤◌, ℕ, All, IfOk, OnOk, OnErr, true};
 ghost use Rattle.shadow_masks.specs.Labels.{clean, IsByteLabel};
 ghost use Rattle.shadow_masks.specs.Points.{page_size};
 ghost use Rattle.shadow_masks.specs.Pages.{page_label, label_from, labels_from, AreClean, IsOneLabel, SetsLabel};
@@ -63,7 +63,8 @@ impl Page {
     /// The labels of `count` bytes from a place on, at most 4; past them the clean label.
     pub fn labels(&self, place: usize, count: usize) -> [Label; 4]
         requires { place + count ≤ page_size }
-        ensures { result ≡ labels_from (page_label self.now) place count }
+        ensures labels { result ≡ labels_from (page_label self.now) place count }
+        ensures are_of_bytes { All IsByteLabel result }
     {
         [
             self.label_of(place, 0, count),
@@ -75,7 +76,8 @@ impl Page {
 
     fn label_of(&self, place: usize, offset: usize, count: usize) -> Label
         requires { place + count ≤ page_size }
-        ensures { result ≡ label_from (page_label self.now) place count offset }
+        ensures label { result ≡ label_from (page_label self.now) place count offset }
+        ensures is_of_byte { IsByteLabel result }
     {
         if offset < count {
             self.label(place + offset)

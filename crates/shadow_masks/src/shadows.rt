@@ -146,7 +146,8 @@ impl Shadow {
         requires inside { IsTrue (is_inside self.now.base address count) }
         requires some { 0 < count }
         requires few { count ≤ 4 }
-        ensures { result ≡ labels_from (byte_label self.now) address count }
+        ensures labels { result ≡ labels_from (byte_label self.now) address count }
+        ensures are_of_bytes { All IsByteLabel result }
     {
         let first = (address - self.base) as usize;
         let place = first % 4096;
@@ -166,7 +167,8 @@ impl Shadow {
     /// The same, byte by byte.
     fn bytes_apart(&self, address: u32, count: u32) -> [Label; 4]
         requires inside { IsTrue (is_inside self.now.base address count) }
-        ensures { result ≡ labels_from (byte_label self.now) address count }
+        ensures labels { result ≡ labels_from (byte_label self.now) address count }
+        ensures are_of_bytes { All IsByteLabel result }
     {
         [
             self.byte_of(address, 0, count),
@@ -178,7 +180,8 @@ impl Shadow {
 
     fn byte_of(&self, address: u32, offset: u32, count: u32) -> Label
         requires inside { IsTrue (is_inside self.now.base address count) }
-        ensures { result ≡ label_from (byte_label self.now) address count offset }
+        ensures label { result ≡ label_from (byte_label self.now) address count offset }
+        ensures is_of_byte { IsByteLabel result }
     {
         if offset < count {
             self.byte(address + offset)
