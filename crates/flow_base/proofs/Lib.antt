@@ -5,3 +5,6 @@ pub mod NameTables
 pub mod NamePlaces
 pub mod JoinedPieces
 pub mod WantedTexts
+pub mod NumberTexts
+pub mod WordTexts
+pub mod SlotTexts

@@ -11,4 +11,5 @@ pub mod HexWords
 pub mod Listed
 pub mod RegisterNames
 pub mod TextPieces
+pub mod TextWords
 pub mod Private

@@ -1,5 +1,5 @@
 //! What the crates of Flowcheck speak of: lists and bytes, pieces of text, words in hexadecimal, the points of a run,
-//! registers and their names, what is inside guest memory, an output, and the outside: where files come from and where
+//! the words of texts that name numbers and slots, registers and their names, what is inside guest memory, an output, and the outside: where files come from and where
 //! text goes.
 #![tactic(auto)]
 
@@ -17,6 +17,7 @@ mod putting;
 mod register_file;
 mod register_names;
 mod text_pieces;
+mod text_words;
 
 pub use guests::{MEMORY_SIZE, is_inside};
 pub use hex_words::{HexWord, digit, hex_digits, hex_word};
@@ -32,3 +33,6 @@ pub use putting::{Sink, SinkFault};
 pub use register_file::Registers;
 pub use register_names::register_named;
 pub use text_pieces::{after, put, put_number, put_slot};
+pub use text_words::{
+    hex_word_named, number_in_front, number_named, slot_in_front, slot_named, word_in_front,
+};

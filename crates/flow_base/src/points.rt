@@ -109,7 +109,7 @@ impl Slot {
     }
 
     /// The word of the slot, with the number after it where it has one.
-    fn parts(self) -> (&'static str, Option<u8>)
+    pub(crate) fn parts(self) -> (&'static str, Option<u8>)
         ensures word { result.1 ≡ None → slot_text self ≡ result.0.now }
         ensures number { IfSome result.1 (λ number. slot_text self ≡ result.0.now ++ decimal number) }
     {
