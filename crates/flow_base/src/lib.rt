@@ -1,6 +1,6 @@
-//! What the crates of Flowcheck speak of: lists and bytes, pieces of text, words in hexadecimal, the points of a run,
-//! the words of texts that name numbers and slots, registers and their names, what is inside guest memory, an output, and the outside: where files come from and where
-//! text goes.
+//! What the crates of Flowcheck speak of: lists and bytes, pieces of text, words in hexadecimal, the points of a run, the
+//! words of texts that name numbers and slots, registers and their names, what is inside guest memory, an output, and the
+//! outside: where files come from and where text goes.
 #![tactic(auto)]
 
 mod guests;
