@@ -25,89 +25,89 @@ use Rattle.tracked_run.specs.Labels.{AreByteMasks, IsMaskAt, IsMaskFor, MayMake,
 
 -- ---- what may be joined
 
-pub may-make : (work : Work) (sources : Sources) (masks : SourceMasks) → IsTrue (joins_bytes work sources) →
+pub may_make : (work : Work) (sources : Sources) (masks : SourceMasks) → IsTrue (joins_bytes work sources) →
     (IsTrue (are_bytes sources) → AreByteMasks masks) → MayMake work masks
-may-make (Shaped Copied) sources masks joins bytes = tt
-may-make (Shaped (Extended kind)) sources masks joins bytes = bytes joins
-may-make (Shaped (PartShape part)) sources masks joins bytes = tt
-may-make (Computed operation first second) sources masks joins bytes = tt
+may_make (Shaped Copied) sources masks joins bytes = tt
+may_make (Shaped (Extended kind)) sources masks joins bytes = bytes joins
+may_make (Shaped (PartShape part)) sources masks joins bytes = tt
+may_make (Computed operation first second) sources masks joins bytes = tt
 
-pub may-move : (shape : Shape) (masks : SourceMasks) → IsTrue (moves_bits shape) → MayShape shape masks
-may-move Copied masks moves = tt
-may-move (Extended kind) masks moves = absurd (cc)
-may-move (PartShape part) masks moves = tt
+pub may_move : (shape : Shape) (masks : SourceMasks) → IsTrue (moves_bits shape) → MayShape shape masks
+may_move Copied masks moves = tt
+may_move (Extended kind) masks moves = absurd (cc)
+may_move (PartShape part) masks moves = tt
 
 -- ---- the mask of a byte
 
-part-byte : (part : Part) (word : ℕ) → part_of part word ≤ 255
-part-byte Byte0 word = omega arith
-part-byte Byte1 word = omega arith
-part-byte Byte2 word = omega arith
-part-byte Byte3 word = omega arith
+part_byte : (part : Part) (word : ℕ) → part_of part word ≤ 255
+part_byte Byte0 word = omega arith
+part_byte Byte1 word = omega arith
+part_byte Byte2 word = omega arith
+part_byte Byte3 word = omega arith
 
-made-byte : (work : Work) (sources : Sources) (masks : List ℕ) (answer : ℕ) → IsTrue (makes_byte work sources) →
+made_byte : (work : Work) (sources : Sources) (masks : List ℕ) (answer : ℕ) → IsTrue (makes_byte work sources) →
     (IsTrue (makes_byte (Shaped Copied) sources) → first_of masks ≤ 255) → work_mask work masks answer ≤ 255
-made-byte (Shaped Copied) sources masks answer makes first = first makes
-made-byte (Shaped (Extended kind)) (One source) masks answer makes first = absurd (cc)
-made-byte (Shaped (Extended kind)) (Two one other) masks answer makes first = absurd (cc)
-made-byte (Shaped (Extended kind)) (BytesOne address) masks answer makes first = absurd (cc)
-made-byte (Shaped (Extended kind)) (BytesTwo address) masks answer makes first = absurd (cc)
-made-byte (Shaped (Extended kind)) (BytesFour address) masks answer makes first = absurd (cc)
-made-byte (Shaped (PartShape part)) sources masks answer makes first = part-byte part (first_of masks)
-made-byte (Computed operation one other) sources masks answer makes first = absurd (cc)
+made_byte (Shaped Copied) sources masks answer makes first = first makes
+made_byte (Shaped (Extended kind)) (One source) masks answer makes first = absurd (cc)
+made_byte (Shaped (Extended kind)) (Two one other) masks answer makes first = absurd (cc)
+made_byte (Shaped (Extended kind)) (BytesOne address) masks answer makes first = absurd (cc)
+made_byte (Shaped (Extended kind)) (BytesTwo address) masks answer makes first = absurd (cc)
+made_byte (Shaped (Extended kind)) (BytesFour address) masks answer makes first = absurd (cc)
+made_byte (Shaped (PartShape part)) sources masks answer makes first = part_byte part (first_of masks)
+made_byte (Computed operation one other) sources masks answer makes first = absurd (cc)
 
 -- at a slot of 8 bits what is made has the mask of a byte
-pub worked-byte : (slot : Slot) (work : Work) (sources : Sources) (masks : List ℕ) (answer : ℕ) →
+pub worked_byte : (slot : Slot) (work : Work) (sources : Sources) (masks : List ℕ) (answer : ℕ) →
     FitsSlot slot work sources → (IsTrue (makes_byte (Shaped Copied) sources) → first_of masks ≤ 255) →
     width_of slot ≡ 255 → work_mask work masks answer ≤ 255
-worked-byte slot work sources masks answer fits first narrow =
-    made-byte work sources masks answer (fits narrow) first
+worked_byte slot work sources masks answer fits first narrow =
+    made_byte work sources masks answer (fits narrow) first
 
-pub aimed-byte : (aim : Aim) (slot : Slot) (mask : ℕ) → (width_of slot ≡ 255 → mask ≤ 255) → width_of slot ≡ 255 →
+pub aimed_byte : (aim : Aim) (slot : Slot) (mask : ℕ) → (width_of slot ≡ 255 → mask ≤ 255) → width_of slot ≡ 255 →
     aimed_mask aim slot mask ≤ 255
-aimed-byte (Put place) slot mask byte narrow = byte narrow
-aimed-byte Decide slot mask byte narrow = byte narrow
-aimed-byte (Give place) slot mask byte narrow = omega (arith, narrow)
+aimed_byte (Put place) slot mask byte narrow = byte narrow
+aimed_byte Decide slot mask byte narrow = byte narrow
+aimed_byte (Give place) slot mask byte narrow = omega (arith, narrow)
 
 -- ---- what a place may get
 
-pub mask-for : (aim : Aim) (slot : Slot) (mask : ℕ) → FitsAim aim slot → (width_of slot ≡ 255 → mask ≤ 255) →
+pub mask_for : (aim : Aim) (slot : Slot) (mask : ℕ) → FitsAim aim slot → (width_of slot ≡ 255 → mask ≤ 255) →
     IsMaskFor aim mask
-mask-for (Put (Register register)) slot mask fits byte = tt
-mask-for (Put (Byte address)) slot mask fits byte = byte fits
-mask-for (Put First) slot mask fits byte = tt
-mask-for (Put Second) slot mask fits byte = tt
-mask-for Decide slot mask fits byte = tt
-mask-for (Give (Register register)) slot mask fits byte = tt
-mask-for (Give (Byte address)) slot mask fits byte = byte fits
-mask-for (Give First) slot mask fits byte = tt
-mask-for (Give Second) slot mask fits byte = tt
+mask_for (Put (Register register)) slot mask fits byte = tt
+mask_for (Put (Byte address)) slot mask fits byte = byte fits
+mask_for (Put First) slot mask fits byte = tt
+mask_for (Put Second) slot mask fits byte = tt
+mask_for Decide slot mask fits byte = tt
+mask_for (Give (Register register)) slot mask fits byte = tt
+mask_for (Give (Byte address)) slot mask fits byte = byte fits
+mask_for (Give First) slot mask fits byte = tt
+mask_for (Give Second) slot mask fits byte = tt
 
-none-at : (place : Place) → IsMaskAt place 0
-none-at (Register register) = tt
-none-at (Byte address) = omega arith
-none-at First = tt
-none-at Second = tt
+none_at : (place : Place) → IsMaskAt place 0
+none_at (Register register) = tt
+none_at (Byte address) = omega arith
+none_at First = tt
+none_at Second = tt
 
-pub none-for : (aim : Aim) → IsMaskFor aim 0
-none-for (Put place) = none-at place
-none-for Decide = tt
-none-for (Give place) = none-at place
+pub none_for : (aim : Aim) → IsMaskFor aim 0
+none_for (Put place) = none_at place
+none_for Decide = tt
+none_for (Give place) = none_at place
 
 -- ---- moves
 
-pub moved-byte : (shape : Shape) (place : Place) (mask : ℕ) → IsMaskAt place mask →
+pub moved_byte : (shape : Shape) (place : Place) (mask : ℕ) → IsMaskAt place mask →
     IsTrue (shapes_byte shape (At place)) → shaped shape (mask ∷ []) ≤ 255
-moved-byte Copied (Register register) mask at byte = absurd (cc)
-moved-byte Copied (Byte address) mask at byte = at
-moved-byte Copied First mask at byte = absurd (cc)
-moved-byte Copied Second mask at byte = absurd (cc)
-moved-byte (Extended kind) place mask at byte = absurd (cc)
-moved-byte (PartShape part) place mask at byte = part-byte part mask
+moved_byte Copied (Register register) mask at byte = absurd (cc)
+moved_byte Copied (Byte address) mask at byte = at
+moved_byte Copied First mask at byte = absurd (cc)
+moved_byte Copied Second mask at byte = absurd (cc)
+moved_byte (Extended kind) place mask at byte = absurd (cc)
+moved_byte (PartShape part) place mask at byte = part_byte part mask
 
-pub mask-at : (place : Place) (shape : Shape) (source : Source) (mask : ℕ) → IsTrue (fits_place place shape source) →
+pub mask_at : (place : Place) (shape : Shape) (source : Source) (mask : ℕ) → IsTrue (fits_place place shape source) →
     (IsTrue (shapes_byte shape source) → mask ≤ 255) → IsMaskAt place mask
-mask-at (Register register) shape source mask fits byte = tt
-mask-at (Byte address) shape source mask fits byte = byte fits
-mask-at First shape source mask fits byte = tt
-mask-at Second shape source mask fits byte = tt
+mask_at (Register register) shape source mask fits byte = tt
+mask_at (Byte address) shape source mask fits byte = byte fits
+mask_at First shape source mask fits byte = tt
+mask_at Second shape source mask fits byte = tt
