@@ -1,6 +1,6 @@
 //! The points of the bytes of a page.
 
-ghost use Rattle.std.specs.Prelude.{◌≡◌, ◌<◌, ℕ, IfOk, OnOk, OnErr};
+ghost use Rattle.std.specs.Prelude.{◌≡◌, ◌<◌, ◌≢◌, ℕ, IfOk, OnOk, OnErr};
 ghost use Rattle.shadow_masks.specs.Points.{page_size, SetsPoint};
 ghost use Rattle.shadow_masks.specs.Pages.{point_of};
 
@@ -36,11 +36,12 @@ impl PagePoints {
     }
 
     /// Sets the point of a byte; where memory is short all stays as it was. A place of the program gives a byte much the
-    /// same point again and again, and one that it has is not written.
+    /// same point again and again, and one that it has is not written, which takes no memory.
     pub fn set(&mut self, alloc: Global, place: usize, point: Point) -> Result<(), NoMemory>
         requires { place < page_size }
         ensures ok { OnOk result (SetsPoint place point (point_of self.old) (point_of self.new)) }
         ensures err { OnErr result (self.new ≡ self.old) }
+        ensures other { OnErr result (point_of self.old place ≢ point) }
     {
         if self.at(place) == point {
             return Ok(());

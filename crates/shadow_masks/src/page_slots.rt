@@ -1,6 +1,6 @@
 //! The labels of a page that may not have been made.
 
-ghost use Rattle.std.specs.Prelude.{◌≡◌, ◌+◌, ◌<◌, ◌≤◌, All, OnOk, OnErr, length, true};
+ghost use Rattle.std.specs.Prelude.{◌≡◌, ◌+◌, ◌<◌, ◌≤◌, ◌≢◌, All, OnOk, OnErr, length, true};
 ghost use Rattle.shadow_masks.specs.Labels.{IsByteLabel};
 ghost use Rattle.shadow_masks.specs.Pages.{label_in, labels_from, listed_label, AreClean, SetsFewer, SetsLabel};
 ghost use Rattle.shadow_masks.specs.Pages.{SetsPlaces};
@@ -65,7 +65,8 @@ pub fn set_all_in(
     Ok(())
 }
 
-/// Sets the label of a byte of a page, which is made where need be; where memory is short all stays as it was.
+/// Sets the label of a byte of a page, which is made where need be; where memory is short all stays as it was. A label
+/// that it has takes no memory.
 pub fn set_in(
     page: &mut Option<Page>,
     alloc: Global,
@@ -76,6 +77,7 @@ pub fn set_in(
     requires label { IsByteLabel label }
     ensures ok { OnOk result (SetsLabel place label (label_in page.old) (label_in page.new)) }
     ensures err { OnErr result (page.new ≡ page.old) }
+    ensures other { OnErr result (label_in page.old place ≢ label) }
 {
     match page {
         Some(made) => made.set(alloc, place, label),

@@ -1,6 +1,6 @@
 //! The labels of a page of addresses.
 
-ghost use Rattle.std.specs.Prelude.{◌≡◌, ◌+◌, ◌<◌, ◌≤◌, ℕ, All, IfOk, OnOk, OnErr, true};
+ghost use Rattle.std.specs.Prelude.{◌≡◌, ◌+◌, ◌<◌, ◌≤◌, ◌≢◌, ℕ, All, IfOk, OnOk, OnErr, true};
 ghost use Rattle.shadow_masks.specs.Labels.{clean, IsByteLabel};
 ghost use Rattle.shadow_masks.specs.Points.{page_size};
 ghost use Rattle.shadow_masks.specs.Pages.{page_label, label_from, labels_from, AreClean, IsOneLabel, SetsLabel};
@@ -108,12 +108,13 @@ impl Page {
         self.masks[place] == 0
     }
 
-    /// Sets the label of a byte; where memory is short all stays as it was.
+    /// Sets the label of a byte; where memory is short all stays as it was. A label that it has takes no memory.
     pub fn set(&mut self, alloc: Global, place: usize, label: Label) -> Result<(), NoMemory>
         requires place { place < page_size }
         requires label { IsByteLabel label }
         ensures ok { OnOk result (SetsLabel place label (page_label self.old) (page_label self.new)) }
         ensures err { OnErr result (self.new ≡ self.old) }
+        ensures other { OnErr result (page_label self.old place ≢ label) }
     {
         if label.mask != 0 {
             self.points.set(alloc, place, label.point)?;

@@ -1,4 +1,4 @@
-ghost use Rattle.std.specs.Prelude.{◌≡◌, ◌+◌, ◌^◌, ◌<◌, ◌≤◌, All, IfOk, OnOk, OnErr, IsTrue, List as Seq, [], ◌∷◌};
+ghost use Rattle.std.specs.Prelude.{◌≡◌, ◌+◌, ◌^◌, ◌<◌, ◌≤◌, ◌≢◌, All, IfOk, OnOk, OnErr, IsTrue, List as Seq, [], ◌∷◌};
 ghost use Rattle.std.specs.Prelude.{length};
 ghost use Rattle.std.specs.Prelude.{replicate, ℕ, None, true};
 ghost use Rattle.shadow_masks.specs.Labels.{clean, IsLabel, IsByteLabel};
@@ -201,12 +201,14 @@ impl Shadow {
         }
     }
 
-    /// Sets the label of the byte at an address of memory; where memory of the host is short all stays as it was.
+    /// Sets the label of the byte at an address of memory; where memory of the host is short all stays as it was. A label
+    /// that the byte has takes no memory.
     pub fn set_byte(&mut self, address: u32, label: Label) -> Result<(), NoMemory>
         requires inside { IsTrue (is_inside self.old.base address 1) }
         requires label { IsByteLabel label }
         ensures ok { OnOk result (SetsByte address label self.old self.new) }
         ensures err { OnErr result (self.new ≡ self.old) }
+        ensures other { OnErr result (byte_label self.old address ≢ label) }
     {
         let place = (address - self.base) as usize;
         let alloc = self.alloc;

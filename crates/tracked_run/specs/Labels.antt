@@ -1,5 +1,13 @@
 -- The labels within a turn, of a shadow and the operands of the turn; and the masks of the sources of a passing.
-use Rattle.std.specs.Prelude.{◌≡◌, ℕ, List, [], ◌∷◌}
+use Rattle.std.specs.Prelude.{◌≡◌, ◌≤◌, ℕ, List, [], ◌∷◌}
+use Rattle.rv32im_machine.specs.declared.language.Aim.{Aim}
+use Rattle.rv32im_machine.specs.declared.language.Aim.TheVariants.{Put, Decide, Give}
+use Rattle.rv32im_machine.specs.declared.language.Place.{Place}
+use Rattle.rv32im_machine.specs.declared.language.Place.TheVariants.{Register, Byte, First, Second}
+use Rattle.rv32im_machine.specs.declared.language.Shape.{Shape}
+use Rattle.rv32im_machine.specs.declared.language.Shape.TheVariants.{Copied, Extended, Part}
+use Rattle.rv32im_machine.specs.declared.language.Work.{Work}
+use Rattle.rv32im_machine.specs.declared.language.Work.TheVariants.{Shaped, Computed}
 use Rattle.rv32im_machine.specs.Language.{first_of, second_of}
 use Rattle.rv32im_machine.specs.State.{joined}
 use Rattle.shadow_masks.specs.Labels.{clean}
@@ -27,3 +35,32 @@ pub record AreMasks (masks : SourceMasks) (list : List ℕ) : Type 0 where
   pub first : masks.first ≡ first_of list
   pub second : masks.second ≡ second_of list
   pub all : joined (masks_in_order masks) ≡ joined list
+
+-- each is the mask of a byte
+pub record AreByteMasks (masks : SourceMasks) : Type 0 where
+  pub first : masks.first ≤ 255
+  pub second : masks.second ≤ 255
+  pub third : masks.third ≤ 255
+  pub fourth : masks.fourth ≤ 255
+
+-- the masks that may be shaped so: only those of bytes are joined
+abbrev pub MayShape : Shape → SourceMasks → Type 0
+MayShape Copied masks = Unit {0}
+MayShape (Extended kind) masks = AreByteMasks masks
+MayShape (Part part) masks = Unit {0}
+
+abbrev pub MayMake : Work → SourceMasks → Type 0
+MayMake (Shaped shape) masks = MayShape shape masks
+MayMake (Computed operation first second) masks = Unit {0}
+
+-- a mask that a place may have: that of a byte has at most 8 bits
+abbrev pub IsMaskAt : Place → ℕ → Type 0
+IsMaskAt (Register register) mask = Unit {0}
+IsMaskAt (Byte address) mask = mask ≤ 255
+IsMaskAt First mask = Unit {0}
+IsMaskAt Second mask = Unit {0}
+
+abbrev pub IsMaskFor : Aim → ℕ → Type 0
+IsMaskFor (Put place) mask = IsMaskAt place mask
+IsMaskFor Decide mask = Unit {0}
+IsMaskFor (Give place) mask = IsMaskAt place mask

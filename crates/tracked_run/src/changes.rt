@@ -1,7 +1,7 @@
-ghost use Rattle.std.specs.Prelude.{◌≡◌, ◌<◌, ◌∷◌, [], ℕ, Some, All, OnOk, IfSome};
+ghost use Rattle.std.specs.Prelude.{◌≡◌, ◌<◌, ◌≤◌, ◌∷◌, [], ℕ, Some, All, OnOk, IsTrue};
 ghost use Rattle.rv32im_machine.specs.Language.{shaped};
 ghost use Rattle.shadow_masks.specs.Pages.{label_of};
-ghost use Rattle.rv32im_machine.specs.Playing.{IsPlace, IsSeen, IsSource};
+ghost use Rattle.rv32im_machine.specs.Playing.{IsPlace, IsSeen, IsSource, fits_place, moves_bits, shapes_byte};
 ghost use Rattle.shadow_masks.specs.Labels.{IsLabel};
 ghost use Rattle.run_labels.specs.Looking.{look_fault as fault_of_look};
 ghost use Rattle.run_labels.specs.Masks.{moved_label as label_moved};
@@ -80,10 +80,12 @@ pub(crate) fn note_fault(refused: &mut Option<MeasureFault>, fault: Option<Measu
     }
 }
 
-/// The label of what moves from a place with this label; none where its mask is no word, as in no turn of a guest.
-fn shaped_label(shape: Shape, label: Label) -> Option<Label>
-    ensures label { IfSome result (λ moved. moved ≡ label_of (shaped shape (label.mask ∷ [])) label.point) }
-    ensures is_label { IfSome result IsLabel }
+/// The label of what moves from a place with this label.
+fn shaped_label(shape: Shape, label: Label) -> Label
+    requires { IsTrue (moves_bits shape) }
+    ensures label { result ≡ label_of (shaped shape (label.mask ∷ [])) label.point }
+    ensures is_label { IsLabel result }
+    ensures mask { result.mask ≡ shaped shape (label.mask ∷ []) }
 {
     let masks = SourceMasks {
         first: label.mask,
@@ -91,20 +93,21 @@ fn shaped_label(shape: Shape, label: Label) -> Option<Label>
         third: 0,
         fourth: 0,
     };
-    let mask = shaped_mask(shape, masks)?;
-    Some(labelled(mask, label.point))
+    labelled(shaped_mask(shape, masks), label.point)
 }
 
-/// The label of what moves without a passing; none as in [`shaped_label`].
-fn moved_label(shadow: &Shadow, held: Held, shape: Shape, source: Source) -> Option<Label>
-    requires { IsSource (Some shadow.now.base) source }
-    ensures label { IfSome result (λ moved. moved ≡ label_moved (labels_of shadow.now held) shape source) }
-    ensures is_label { IfSome result IsLabel }
+/// The label of what moves without a passing.
+fn moved_label(shadow: &Shadow, held: Held, shape: Shape, source: Source) -> Label
+    requires source { IsSource (Some shadow.now.base) source }
+    requires moves { IsTrue (moves_bits shape) }
+    ensures label { result ≡ label_moved (labels_of shadow.now held) shape source }
+    ensures is_label { IsLabel result }
+    ensures byte { IsTrue (shapes_byte shape source) → result.mask ≤ 255 }
 {
     match source {
         Source::At(place) => shaped_label(shape, label_at(shadow, held, place)),
-        Source::Constant(_) => Some(Label::clean()),
-        Source::Secret(_) => Some(Label::clean()),
+        Source::Constant(_) => Label::clean(),
+        Source::Secret(_) => Label::clean(),
     }
 }
 
@@ -119,14 +122,14 @@ pub fn note_move(
 ) -> Result<(), NoMemory>
     requires place { IsPlace (Some shadow.old.base) place }
     requires source { IsSource (Some shadow.old.base) source }
+    requires moves { IsTrue (moves_bits shape) }
+    requires fits { IsTrue (fits_place place shape source) }
     ensures base { shadow.new.base ≡ shadow.old.base }
     ensures labels { OnOk result (labels_of shadow.new held.new ≡
         label_put place (label_moved (labels_of shadow.old held.old) shape source) (labels_of shadow.old held.old)) }
 {
-    match moved_label(shadow, *held, shape, source) {
-        Some(label) => put_label(shadow, held, place, label),
-        None => Err(NoMemory),
-    }
+    let label = moved_label(shadow, *held, shape, source);
+    put_label(shadow, held, place, label)
 }
 
 /// At the entry of a region the labels of all registers are kept.

@@ -1,8 +1,8 @@
-ghost use Rattle.std.specs.Prelude.{◌≡◌, IfSome, IsTrue};
+ghost use Rattle.std.specs.Prelude.{◌≡◌, IsTrue};
 ghost use Rattle.flow_base.specs.Points.{is_slot};
 ghost use Rattle.run_labels.specs.Masks.{answered_mask as mask_answered, aimed_mask as mask_aimed};
 ghost use Rattle.run_labels.specs.Masks.{work_mask as mask_worked};
-ghost use Rattle.tracked_run.specs.Labels.{masks_in_order};
+ghost use Rattle.tracked_run.specs.Labels.{MayMake, masks_in_order};
 
 use crate::source_masks::{SourceMasks, shaped_mask};
 use flow_base::Slot;
@@ -20,13 +20,14 @@ fn answered_mask(operation: Operation, answer: u32) -> u32
     }
 }
 
-/// The mask of what is made of sources of these masks, by the rule's answer; none as in [`shaped_mask`].
-pub fn work_mask(work: Work, masks: SourceMasks, answer: u32) -> Option<u32>
-    ensures { IfSome result (λ mask. mask ≡ mask_worked work (masks_in_order masks) answer) }
+/// The mask of what is made of sources of these masks, by the rule's answer.
+pub fn work_mask(work: Work, masks: SourceMasks, answer: u32) -> u32
+    requires { MayMake work masks }
+    ensures { result ≡ mask_worked work (masks_in_order masks) answer }
 {
     match work {
         Work::Shaped(shape) => shaped_mask(shape, masks),
-        Work::Computed(operation, _, _) => Some(answered_mask(operation, answer)),
+        Work::Computed(operation, _, _) => answered_mask(operation, answer),
     }
 }
 

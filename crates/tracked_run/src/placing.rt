@@ -1,10 +1,10 @@
-ghost use Rattle.std.specs.Prelude.{◌≡◌, ◌<◌, ◌^◌, Some, OnOk, IsTrue};
+ghost use Rattle.std.specs.Prelude.{◌≡◌, ◌<◌, ◌≤◌, ◌^◌, Some, OnOk, IsTrue};
 ghost use Rattle.flow_base.specs.Guests.{is_inside};
 ghost use Rattle.rv32im_machine.specs.Playing.{IsAim, IsPlace};
 ghost use Rattle.shadow_masks.specs.Labels.{IsLabel};
 ghost use Rattle.shadow_masks.specs.Pages.{label_of};
 ghost use Rattle.run_labels.specs.TurnLabels.{label_at as label_of_place, put_label as label_put, aim_label};
-ghost use Rattle.tracked_run.specs.Labels.{labels_of};
+ghost use Rattle.tracked_run.specs.Labels.{IsMaskAt, IsMaskFor, labels_of};
 
 use crate::held::Held;
 use flow_base::{NoMemory, Point};
@@ -15,7 +15,8 @@ use shadow_masks::{Label, Shadow};
 #[inline(always)]
 pub(crate) fn label_at(shadow: &Shadow, held: Held, place: Place) -> Label
     requires { IsPlace (Some shadow.now.base) place }
-    ensures { result ≡ label_of_place (labels_of shadow.now held) place }
+    ensures label { result ≡ label_of_place (labels_of shadow.now held) place }
+    ensures fits { IsMaskAt place result.mask }
 {
     match place {
         Place::Register(register) => shadow.reg(register),
@@ -30,6 +31,7 @@ pub(crate) fn label_at(shadow: &Shadow, held: Held, place: Place) -> Label
 pub fn labelled(mask: u32, point: Point) -> Label
     ensures label { result ≡ label_of mask point }
     ensures is_label { IsLabel result }
+    ensures mask { result.mask ≡ mask }
 {
     if mask == 0 {
         Label::clean()
@@ -49,21 +51,18 @@ fn put_register(shadow: &mut Shadow, held: Held, register: u8, label: Label)
     shadow.set_reg(register, label);
 }
 
-/// A byte gets a label. The label of a byte has at most 8 bits, and no turn of a guest gives it another; one that has
-/// more is not taken, as where memory is short.
+/// A byte gets a label, whose mask has at most 8 bits.
+/// `NoMemory` where there is not enough.
 #[inline(always)]
 fn put_byte(shadow: &mut Shadow, held: Held, address: u32, label: Label) -> Result<(), NoMemory>
     requires inside { IsTrue (is_inside shadow.old.base address 1) }
     requires label { IsLabel label }
+    requires mask { label.mask ≤ 255 }
     ensures base { shadow.new.base ≡ shadow.old.base }
     ensures put { OnOk result
         (labels_of shadow.new held ≡ label_put (Place.Byte address) label (labels_of shadow.old held)) }
 {
-    if label.mask <= 0xff {
-        shadow.set_byte(address, label)
-    } else {
-        Err(NoMemory)
-    }
+    shadow.set_byte(address, label)
 }
 
 /// A place gets a label.
@@ -77,6 +76,7 @@ pub(crate) fn put_label(
 ) -> Result<(), NoMemory>
     requires place { IsPlace (Some shadow.old.base) place }
     requires label { IsLabel label }
+    requires fits { IsMaskAt place label.mask }
     ensures base { shadow.new.base ≡ shadow.old.base }
     ensures put { OnOk result
         (labels_of shadow.new held.new ≡ label_put place label (labels_of shadow.old held.old)) }
@@ -109,6 +109,7 @@ pub fn put_aimed(
 ) -> Result<(), NoMemory>
     requires aim { IsAim (Some shadow.old.base) aim }
     requires label { IsLabel label }
+    requires fits { IsMaskFor aim label.mask }
     ensures base { shadow.new.base ≡ shadow.old.base }
     ensures put { OnOk result
         (labels_of shadow.new held.new ≡ aim_label aim label (labels_of shadow.old held.old)) }

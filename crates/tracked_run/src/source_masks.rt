@@ -1,16 +1,16 @@
-ghost use Rattle.std.specs.Prelude.{◌≡◌, ◌<◌, ◌≤◌, Some, IfSome, IsTrue};
+ghost use Rattle.std.specs.Prelude.{◌≡◌, ◌<◌, ◌≤◌, Some, IsTrue};
 ghost use Rattle.flow_base.specs.Guests.{is_inside};
-ghost use Rattle.rv32im_machine.specs.Playing.{IsSource, AreSources};
+ghost use Rattle.rv32im_machine.specs.Playing.{IsSource, AreSources, are_bytes, is_byte, makes_byte};
 ghost use Rattle.rv32im_machine.specs.State.{joined};
 ghost use Rattle.rv32im_machine.specs.Language.{part_of, shaped};
 ghost use Rattle.shadow_masks.specs.Pages.{label_from};
 ghost use Rattle.shadow_masks.specs.Shades.{byte_label};
 ghost use Rattle.run_labels.specs.Masks.{masks_of, source_mask as mask_of_source};
-ghost use Rattle.tracked_run.specs.Labels.{AreMasks, labels_of, masks_in_order};
+ghost use Rattle.tracked_run.specs.Labels.{AreByteMasks, AreMasks, MayShape, labels_of, masks_in_order};
 
 use crate::held::Held;
 use crate::placing::label_at;
-use rv32im_machine::{Part, Shape, Source, Sources};
+use rv32im_machine::{Part, Shape, Source, Sources, Work};
 use shadow_masks::Shadow;
 
 /// The masks of the sources of a passing, those of bytes by ascending address, and 0 where there are fewer than four.
@@ -26,7 +26,8 @@ pub struct SourceMasks {
 #[inline(always)]
 fn source_mask(shadow: &Shadow, held: Held, source: Source) -> u32
     requires { IsSource (Some shadow.now.base) source }
-    ensures { result ≡ mask_of_source (labels_of shadow.now held) source }
+    ensures mask { result ≡ mask_of_source (labels_of shadow.now held) source }
+    ensures byte { IsTrue (is_byte source) → result ≤ 255 }
 {
     match source {
         Source::At(place) => label_at(shadow, held, place).mask,
@@ -45,6 +46,7 @@ fn byte_masks(shadow: &Shadow, address: u32, count: u32) -> SourceMasks
     ensures second { result.second ≡ (label_from (byte_label shadow.now) address count 1).mask }
     ensures third { result.third ≡ (label_from (byte_label shadow.now) address count 2).mask }
     ensures fourth { result.fourth ≡ (label_from (byte_label shadow.now) address count 3).mask }
+    ensures bytes { AreByteMasks result }
 {
     let labels = shadow.bytes(address, count);
     SourceMasks {
@@ -55,11 +57,13 @@ fn byte_masks(shadow: &Shadow, address: u32, count: u32) -> SourceMasks
     }
 }
 
-/// The masks of the sources of a passing.
+/// The masks of the sources of a passing. Of bytes of memory they are masks of bytes, and so is the first of one byte.
 #[inline(always)]
 pub fn masks_of_sources(shadow: &Shadow, held: Held, sources: Sources) -> SourceMasks
     requires { AreSources (Some shadow.now.base) sources }
-    ensures { AreMasks result (masks_of (labels_of shadow.now held) sources) }
+    ensures masks { AreMasks result (masks_of (labels_of shadow.now held) sources) }
+    ensures bytes { IsTrue (are_bytes sources) → AreByteMasks result }
+    ensures byte { IsTrue (makes_byte (Work.Shaped Shape.Copied) sources) → result.first ≤ 255 }
 {
     match sources {
         Sources::One(source) => SourceMasks {
@@ -80,19 +84,12 @@ pub fn masks_of_sources(shadow: &Shadow, held: Held, sources: Sources) -> Source
     }
 }
 
-/// The masks of bytes as one mask, the lowest byte first; none where one is not the mask of a byte.
-fn joined_masks(masks: SourceMasks) -> Option<u32>
-    ensures { IfSome result (λ mask. mask ≡ joined (masks_in_order masks)) }
+/// The masks of bytes as one mask, the lowest byte first.
+fn joined_masks(masks: SourceMasks) -> u32
+    requires { AreByteMasks masks }
+    ensures { result ≡ joined (masks_in_order masks) }
 {
-    let bytes = masks.first <= 0xff
-        && masks.second <= 0xff
-        && masks.third <= 0xff
-        && masks.fourth <= 0xff;
-    if bytes {
-        Some(masks.first + 256 * (masks.second + 256 * (masks.third + 256 * masks.fourth)))
-    } else {
-        None
-    }
+    masks.first + 256 * (masks.second + 256 * (masks.third + 256 * masks.fourth))
 }
 
 /// One byte of a mask.
@@ -107,13 +104,14 @@ fn part_mask(part: Part, mask: u32) -> u32
     }
 }
 
-/// The mask of what moves bits of its sources about; none where that is no word, as in no turn of a guest.
-pub(crate) fn shaped_mask(shape: Shape, masks: SourceMasks) -> Option<u32>
-    ensures { IfSome result (λ mask. mask ≡ shaped shape (masks_in_order masks)) }
+/// The mask of what moves bits of its sources about.
+pub(crate) fn shaped_mask(shape: Shape, masks: SourceMasks) -> u32
+    requires { MayShape shape masks }
+    ensures { result ≡ shaped shape (masks_in_order masks) }
 {
     match shape {
-        Shape::Copied => Some(masks.first),
-        Shape::Extended(kind) => joined_masks(masks).map(|loaded| kind.extend(loaded)),
-        Shape::Part(part) => Some(part_mask(part, masks.first)),
+        Shape::Copied => masks.first,
+        Shape::Extended(kind) => kind.extend(joined_masks(masks)),
+        Shape::Part(part) => part_mask(part, masks.first),
     }
 }

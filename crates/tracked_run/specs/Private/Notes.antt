@@ -1,5 +1,5 @@
 -- What one passing leaves.
-use Rattle.std.specs.Prelude.{◌≡◌, ℕ, List, Option, Some, None}
+use Rattle.std.specs.Prelude.{◌≡◌, ℕ, List}
 use Rattle.flow_graph.specs.declared.events.Event.{Event}
 use Rattle.rv32im_machine.specs.declared.language.Passing.{Passing}
 use Rattle.run_labels.specs.Answers.{HoldsOfAnswer, IsSoundAnswer, IsTableAnswer}
@@ -18,10 +18,6 @@ pub record IsMask (table : ℕ) (labels : TurnLabels) (passing : Passing) (mask 
   pub answer : ℕ
   pub is_answer : IsAnswer table labels passing answer
   pub is_mask : mask ≡ mask_of labels answer passing
-
-abbrev pub Answers : ℕ → TurnLabels → Passing → Option ℕ → Type 0
-Answers table labels passing None = Unit {0}
-Answers table labels passing (Some mask) = IsMask table labels passing mask
 
 -- after a passing, by such an answer: the labels, and what the receiver of events stands for
 pub record Notes (table : ℕ) (before : TurnLabels) (stood : List Event → Type 0) (passing : Passing)
