@@ -20,19 +20,20 @@ use Rattle.cut_file.specs.Cuts.{are_runs, have_other_masks, is_cut_point, is_poi
 use Rattle.cut_file.specs.Cuts.{is_empty, is_single, is_word}
 use Rattle.flow_base.specs.HexWords.{hex_word}
 use Rattle.flow_base.specs.TextPieces.{after_text}
+use Rattle.flow_base.specs.TextWords.{number_in, slot_in, word_in}
+use Rattle.flow_base.proofs.NumberTexts.{number-found, number-own}
+use Rattle.flow_base.proofs.SlotTexts.{slot-found, slot-own}
 use Rattle.flow_base.proofs.WantedTexts.{after-found, after-own}
+use Rattle.flow_base.proofs.WordTexts.{word-found, word-own}
 use Rattle.cut_file.specs.declared.lines.Line.TheVariants as forms
 use Rattle.cut_file.specs.Texts.{separated, line_text, point_words, rest_text, run_text}
 use Rattle.cut_file.specs.Private.Reading.{◌>>=◌, divided, first_of, may_follow}
-use Rattle.cut_file.specs.Private.Reading.{number_in, others_of, parts}
+use Rattle.cut_file.specs.Private.Reading.{others_of, parts}
 use Rattle.cut_file.specs.Private.Reading.{only_mask_in, pattern_in, place_in, point_in, point_in_words, rest_in}
 use Rattle.cut_file.specs.Private.Reading.{run_in, runs_in, single_in}
-use Rattle.cut_file.specs.Private.Reading.{slot_in, word_in}
 use Rattle.cut_file.proofs.Parts.{clean_words, divided-found, divided-own, has_byte, joined-parts, parts-joined}
 use Rattle.cut_file.proofs.Following.{kept-step, list-push}
-use Rattle.cut_file.proofs.Numbers.{clean-append, clean-cons, decimal-clean, number-found, number-own}
-use Rattle.cut_file.proofs.Hexadecimal.{hex_word-clean, word-found, word-own}
-use Rattle.cut_file.proofs.Slots.{slot-clean, slot-found, slot-own}
+use Rattle.cut_file.proofs.NoSeparators.{clean-append, clean-cons, decimal-clean, hex_word-clean, slot-clean}
 use Rattle.cut_file.proofs.Steps.{below-word, kept-found, the-same, then-found, then-own, word-below}
 
 -- ---- runs
