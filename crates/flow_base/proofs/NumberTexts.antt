@@ -14,17 +14,17 @@ use Rattle.flow_base.specs.TextWords.{number_at, number_in}
 
 -- ---- what is written is read
 
-digit-step : (number digit : ℕ) (rest : List ℕ) → digit < 10 → number < 2 ^ 48 →
+digit_step : (number digit : ℕ) (rest : List ℕ) → digit < 10 → number < 2 ^ 48 →
     digits_at number ((48 + digit) ∷ rest) ≡ digits_at (number * 10 + digit) rest
 unfolding grown
-digit-step number digit rest small fits = grind arith
+digit_step number digit rest small fits = grind arith
 
 abbrev ReadsBack : ℕ → List ℕ → Type 0
 ReadsBack number digits = (rest : List ℕ) → number < 2 ^ 48 → digits_at 0 (digits ++ rest) ≡ digits_at number rest
 
 one_digit : (number : ℕ) → number < 10 → ReadsBack number ((48 + number) ∷ [])
 one_digit number small rest fits =
-    digit-step 0 number rest small (omega arith)
+    digit_step 0 number rest small (omega arith)
     ∙ ap (λ (n : ℕ). digits_at n rest) (let e : 0 * 10 + number ≡ number = omega arith in e)
 
 more_digits : (number : ℕ) (digits : List ℕ) → 10 ≤ number → ReadsBack (number / 10) digits →
@@ -32,37 +32,37 @@ more_digits : (number : ℕ) (digits : List ℕ) → 10 ≤ number → ReadsBack
 more_digits number digits large ih rest fits =
     let e : number / 10 * 10 + number % 10 ≡ number = omega arith in
     rw append_assoc (ih ((48 + number % 10) ∷ rest) (omega arith)
-    ∙ digit-step (number / 10) (number % 10) rest (omega arith) (omega arith) ∙ ap (λ (n : ℕ). digits_at n rest) e)
+    ∙ digit_step (number / 10) (number % 10) rest (omega arith) (omega arith) ∙ ap (λ (n : ℕ). digits_at n rest) e)
 
 stops : (number : ℕ) (rest : List ℕ) → begins_with_digit rest ≡ false → digits_at number rest ≡ (number, rest)
 stops number [] other = refl
 stops number (byte ∷ rest) other = rw other refl
 
-pub number-first : (number : ℕ) (rest : List ℕ) → number < 2 ^ 48 → begins_with_digit rest ≡ false →
+pub number_first : (number : ℕ) (rest : List ℕ) → number < 2 ^ 48 → begins_with_digit rest ≡ false →
     number_at (decimal number ++ rest) ≡ (number, rest)
 unfolding number_at
-number-first number rest small other =
+number_first number rest small other =
     decimal_by_steps ReadsBack one_digit more_digits number (omega arith) rest small ∙ stops number rest other
 
-no-leading_zero : (word : List ℕ) → 48 < get_or word 0 0 → has_no_leading_zero word ≡ true
-no-leading_zero [] above = absurd (omega (arith, above))
-no-leading_zero (byte ∷ []) above = refl
-no-leading_zero (byte ∷ (next ∷ bytes)) above = rw (ne_eqb byte 48 (λ e. omega (arith, e, above))) refl
+no_leading_zero : (word : List ℕ) → 48 < get_or word 0 0 → has_no_leading_zero word ≡ true
+no_leading_zero [] above = absurd (omega (arith, above))
+no_leading_zero (byte ∷ []) above = refl
+no_leading_zero (byte ∷ (next ∷ bytes)) above = rw (ne_eqb byte 48 (λ e. omega (arith, e, above))) refl
 
-decimal-leads : (number : ℕ) → number < 4294967296 → has_no_leading_zero (decimal number) ≡ true
-decimal-leads number small =
+decimal_leads : (number : ℕ) → number < 4294967296 → has_no_leading_zero (decimal number) ≡ true
+decimal_leads number small =
     elim (cases_eq number 0) [
       | inl zero ↦ ap (λ (n : ℕ). has_no_leading_zero (decimal n)) zero
           ∙ ap has_no_leading_zero (decimal_digit 0 (omega arith))
-      | inr other ↦ no-leading_zero (decimal number) (first_decimal number (omega (arith, other)) (omega arith))
+      | inr other ↦ no_leading_zero (decimal number) (first_decimal number (omega (arith, other)) (omega arith))
     ]
 
-pub number-own : (number : ℕ) → number < 4294967296 → number_in (decimal number) ≡ Some number
+pub number_own : (number : ℕ) → number < 4294967296 → number_in (decimal number) ≡ Some number
 unfolding number_in
-number-own number small =
+number_own number small =
     let front : number_at (decimal number) ≡ (number, []) =
-    ap number_at (sym (append-nil (decimal number))) ∙ number-first number [] (omega arith) refl in
-    rw (front, decimal-leads number small, lt-ltb number 4294967296 small) refl
+    ap number_at (sym (append-nil (decimal number))) ∙ number_first number [] (omega arith) refl in
+    rw (front, decimal_leads number small, lt-ltb number 4294967296 small) refl
 
 -- ---- what is read was written
 
@@ -74,15 +74,15 @@ own : IsNumeralModel (λ ds. all_ascii_digits ds ≡ true) (read_on 0)
 unfolding read_on
 own = numerals_by_fold _ (search rules) read_on (search rules)
 
-grown-more : (number byte : ℕ) → number ≤ grown number byte
+grown_more : (number byte : ℕ) → number ≤ grown number byte
 unfolding grown
-grown-more number byte = grind arith
+grown_more number byte = grind arith
 
-digits-more : (number : ℕ) (bytes : List ℕ) → number ≤ (digits_at number bytes).0
-digits-more number [] = omega arith
-digits-more number (byte ∷ bytes) =
+digits_more : (number : ℕ) (bytes : List ℕ) → number ≤ (digits_at number bytes).0
+digits_more number [] = omega arith
+digits_more number (byte ∷ bytes) =
     elim (cases_Bool (is_digit byte)) [
-      | inl digit ↦ rw digit (omega (arith, grown-more number byte, digits-more (grown number byte) bytes))
+      | inl digit ↦ rw digit (omega (arith, grown_more number byte, digits_more (grown number byte) bytes))
       | inr other ↦ rw other (omega arith)
     ]
 
@@ -92,19 +92,19 @@ IsRead number bytes =
     is_nothing (digits_at number bytes).1 ≡ true → (digits_at number bytes).0 < 2 ^ 48 →
     (all_ascii_digits bytes ≡ true) × (read_on number bytes ≡ (digits_at number bytes).0)
 
-grown-small : (number byte : ℕ) → number < 2 ^ 48 → grown number byte ≡ 10 * number + (byte - 48)
+grown_small : (number byte : ℕ) → number < 2 ^ 48 → grown number byte ≡ 10 * number + (byte - 48)
 unfolding grown
-grown-small number byte small = grind arith
+grown_small number byte small = grind arith
 
-digits-read : (number : ℕ) (bytes : List ℕ) → IsRead number bytes
+digits_read : (number : ℕ) (bytes : List ℕ) → IsRead number bytes
 unfolding read_on
-digits-read number [] = λ nothing. λ small. (refl, refl)
-digits-read number (byte ∷ bytes) =
+digits_read number [] = λ nothing. λ small. (refl, refl)
+digits_read number (byte ∷ bytes) =
     elim (cases_Bool (is_digit byte)) [
       | inl digit ↦ rw digit (λ nothing. λ small.
-          let fits : number < 2 ^ 48 = omega (arith, small, grown-more number byte, digits-more (grown number byte) bytes) in
-          let inner = digits-read (grown number byte) bytes nothing small in
-          (inner.0, ap (λ (n : ℕ). read_on n bytes) (sym (grown-small number byte fits)) ∙ inner.1))
+          let fits : number < 2 ^ 48 = omega (arith, small, grown_more number byte, digits_more (grown number byte) bytes) in
+          let inner = digits_read (grown number byte) bytes nothing small in
+          (inner.0, ap (λ (n : ℕ). read_on n bytes) (sym (grown_small number byte fits)) ∙ inner.1))
       | inr other ↦ rw other (λ nothing. λ small. absurd cc)
     ]
 
@@ -112,21 +112,21 @@ pub record IsNumberOf (word : List ℕ) (number : ℕ) : Type 0 where
   pub text : word ≡ decimal number
   pub small : number < 4294967296
 
-some-bytes : (word : List ℕ) → has_no_leading_zero word ≡ true → 0 < length word
-some-bytes [] plain = absurd cc
-some-bytes (byte ∷ bytes) plain = omega arith
+some_bytes : (word : List ℕ) → has_no_leading_zero word ≡ true → 0 < length word
+some_bytes [] plain = absurd cc
+some_bytes (byte ∷ bytes) plain = omega arith
 
-zero-alone : (word : List ℕ) → has_no_leading_zero word ≡ true → get_or word 0 0 ≡ 48 → length word ≡ 1
-zero-alone [] plain zero = absurd cc
-zero-alone (byte ∷ []) plain zero = refl
-zero-alone (byte ∷ (next ∷ bytes)) plain zero = absurd (grind (arith, zero))
+zero_alone : (word : List ℕ) → has_no_leading_zero word ≡ true → get_or word 0 0 ≡ 48 → length word ≡ 1
+zero_alone [] plain zero = absurd cc
+zero_alone (byte ∷ []) plain zero = refl
+zero_alone (byte ∷ (next ∷ bytes)) plain zero = absurd (grind (arith, zero))
 
-number-read : (word : List ℕ) → is_nothing (number_at word).1 ≡ true → has_no_leading_zero word ≡ true →
+number_read : (word : List ℕ) → is_nothing (number_at word).1 ≡ true → has_no_leading_zero word ≡ true →
     (number_at word).0 < 4294967296 → word ≡ decimal (number_at word).0
 unfolding number_at
-number-read word nothing plain small =
-    let read = digits-read 0 word nothing (omega (arith, small)) in
-    sym (decimal-digits_value own word read.0 (some-bytes word plain) (zero-alone word plain) (omega (arith, read.1, small)))
+number_read word nothing plain small =
+    let read = digits_read 0 word nothing (omega (arith, small)) in
+    sym (decimal-digits_value own word read.0 (some_bytes word plain) (zero_alone word plain) (omega (arith, read.1, small)))
     ∙ ap decimal read.1
 
 number_or : Option ℕ → ℕ
@@ -139,16 +139,16 @@ unfolding number_or
 gate true value answer e = (refl, ap number_or e)
 gate false value answer e = absurd cc
 
-pub number-found : (word : List ℕ) (number : ℕ) → number_in word ≡ Some number → IsNumberOf word number
+pub number_found : (word : List ℕ) (number : ℕ) → number_in word ≡ Some number → IsNumberOf word number
 unfolding number_in
-number-found word number e =
+number_found word number e =
     let passed = gate (is_nothing (number_at word).1 && (has_no_leading_zero word && nat_lt (number_at word).0 4294967296))
     (number_at word).0 number e in
     let tests = and_parts (is_nothing (number_at word).1) _ passed.0 in
     let more = and_parts (has_no_leading_zero word) _ tests.1 in
     let small : (number_at word).0 < 4294967296 = ltb-true (number_at word).0 4294967296 more.1 in
     record {
-      text = number-read word tests.0 more.0 small ∙ ap decimal passed.1;
+      text = number_read word tests.0 more.0 small ∙ ap decimal passed.1;
       small = subst (λ (n : ℕ). n < 4294967296) passed.1 small;
     }
 
@@ -156,10 +156,10 @@ number-found word number e =
 
 pub number_is : (word : List ℕ) (found : Option ℕ) → found ≡ number_in word → IfSome found (λ number. word ≡ decimal number)
 number_is word None e = search rules
-number_is word (Some number) e = (number-found word number (sym e)).text
+number_is word (Some number) e = (number_found word number (sym e)).text
 
 pub number_is_none : (word : List ℕ) (found : Option ℕ) → found ≡ number_in word → found ≡ None →
     (number : ℕ) → number < 2 ^ 32 → ¬ (word ≡ decimal number)
 number_is_none word found e none number small text =
-    let read : number_in word ≡ Some number = ap number_in text ∙ number-own number (omega (arith, small)) in
+    let read : number_in word ≡ Some number = ap number_in text ∙ number_own number (omega (arith, small)) in
     absurd (let never : Some number ≡ None = sym read ∙ (sym e ∙ none) in cc)

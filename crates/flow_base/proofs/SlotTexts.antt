@@ -14,8 +14,8 @@ use Rattle.flow_base.specs.declared.points.Slot.TheVariants.{Arg1, Arg2, SecretI
 use Rattle.flow_base.specs.Points.{is_slot, slot_text}
 use Rattle.flow_base.specs.TextPieces.{after_text}
 use Rattle.flow_base.specs.TextWords.{begins_with_digit, is_digit, short_number, slot_at, slot_in}
-use Rattle.flow_base.proofs.NumberTexts.{number-first}
-use Rattle.flow_base.proofs.WantedTexts.{after-found, after-own}
+use Rattle.flow_base.proofs.NumberTexts.{number_first}
+use Rattle.flow_base.proofs.WantedTexts.{after_found, after_own}
 
 -- a number begins with a digit
 record Begins (number : ℕ) (digits : List ℕ) : Type 0 where
@@ -30,51 +30,51 @@ more_begin : (number : ℕ) (digits : List ℕ) → 10 ≤ number → Begins (nu
 more_begin number [] large ih = absurd (let some = ih.some in omega (arith, some))
 more_begin number (digit ∷ digits) large ih = record { some = omega arith; digit = ih.digit }
 
-begins-before : (digits rest : List ℕ) → 0 < length digits → is_digit (get_or digits 0 0) ≡ true →
+begins_before : (digits rest : List ℕ) → 0 < length digits → is_digit (get_or digits 0 0) ≡ true →
     is_digit (get_or (digits ++ rest) 0 0) ≡ true
-begins-before [] rest some begins = absurd (omega arith)
-begins-before (digit ∷ digits) rest some begins = begins
+begins_before [] rest some begins = absurd (omega arith)
+begins_before (digit ∷ digits) rest some begins = begins
 
-pub decimal-begins : (number : ℕ) (rest : List ℕ) → number < 2 ^ 48 →
+pub decimal_begins : (number : ℕ) (rest : List ℕ) → number < 2 ^ 48 →
     is_digit (get_or (decimal number ++ rest) 0 0) ≡ true
-decimal-begins number rest small =
+decimal_begins number rest small =
     let begins = decimal_by_steps Begins one_begins more_begin number (omega arith) in
-    begins-before (decimal number) rest begins.some begins.digit
+    begins_before (decimal number) rest begins.some begins.digit
 
-short-own : (number : ℕ) → number < 256 → short_number number ≡ number
-short-own number small = rw (lt-ltb number 256 small) refl
+short_own : (number : ℕ) → number < 256 → short_number number ≡ number
+short_own number small = rw (lt-ltb number 256 small) refl
 
-pub slot-first : (slot : Slot) (rest : List ℕ) → is_slot slot ≡ true → begins_with_digit rest ≡ false →
+pub slot_first : (slot : Slot) (rest : List ℕ) → is_slot slot ≡ true → begins_with_digit rest ≡ false →
     slot_at (slot_text slot ++ rest) ≡ (slot, rest)
 unfolding slot_at
-slot-first First rest known other = refl
-slot-first Second rest known other = refl
-slot-first Address rest known other = refl
-slot-first Result rest known other = refl
-slot-first Decision rest known other = refl
-slot-first Number rest known other = refl
-slot-first Arg0 rest known other = refl
-slot-first Arg1 rest known other = refl
-slot-first Arg2 rest known other = refl
-slot-first SecretIn rest known other = refl
-slot-first ByteOut rest known other = refl
-slot-first Status rest known other = refl
-slot-first (OutReg register) rest known other =
+slot_first First rest known other = refl
+slot_first Second rest known other = refl
+slot_first Address rest known other = refl
+slot_first Result rest known other = refl
+slot_first Decision rest known other = refl
+slot_first Number rest known other = refl
+slot_first Arg0 rest known other = refl
+slot_first Arg1 rest known other = refl
+slot_first Arg2 rest known other = refl
+slot_first SecretIn rest known other = refl
+slot_first ByteOut rest known other = refl
+slot_first Status rest known other = refl
+slot_first (OutReg register) rest known other =
     let small : register < 256 = grind arith in
-    rw (number-first register rest (omega arith) other, short-own register small) refl
-slot-first (OutRange range) rest known other =
+    rw (number_first register rest (omega arith) other, short_own register small) refl
+slot_first (OutRange range) rest known other =
     let small : range < 64 = ltb-true range 64 known in
     rw (
-      decimal-begins range rest (omega arith),
-      number-first range rest (omega arith) other,
-      short-own range (omega arith),
+      decimal_begins range rest (omega arith),
+      number_first range rest (omega arith) other,
+      short_own range (omega arith),
     ) refl
 
-pub slot-own : (slot : Slot) → is_slot slot ≡ true → slot_in (slot_text slot) ≡ Some slot
+pub slot_own : (slot : Slot) → is_slot slot ≡ true → slot_in (slot_text slot) ≡ Some slot
 unfolding slot_in
-slot-own slot known =
+slot_own slot known =
     let front : slot_at (slot_text slot) ≡ (slot, []) =
-    ap slot_at (sym (append-nil (slot_text slot))) ∙ slot-first slot [] known refl in
+    ap slot_at (sym (append-nil (slot_text slot))) ∙ slot_first slot [] known refl in
     let equal : bytes_eq (slot_text slot) (slot_text slot) ≡ true = (bytes_eq-Decides (slot_text slot) (slot_text slot)).1 refl in
     rw (front, known, equal) refl
 
@@ -94,9 +94,9 @@ unfolding slot_or
 gate true value answer e = (refl, ap slot_or e)
 gate false value answer e = absurd cc
 
-pub slot-found : (bytes : List ℕ) (slot : Slot) → slot_in bytes ≡ Some slot → IsSlotOf bytes slot
+pub slot_found : (bytes : List ℕ) (slot : Slot) → slot_in bytes ≡ Some slot → IsSlotOf bytes slot
 unfolding slot_in
-slot-found bytes slot e =
+slot_found bytes slot e =
     let passed = gate (is_slot (slot_at bytes).0 && bytes_eq bytes (slot_text (slot_at bytes).0)) (slot_at bytes).0 slot e in
     let tests = and_parts (is_slot (slot_at bytes).0) _ passed.0 in
     let text : bytes ≡ slot_text (slot_at bytes).0 = (bytes_eq-Decides bytes (slot_text (slot_at bytes).0)).0 tests.1 in
@@ -109,16 +109,16 @@ slot-found bytes slot e =
 
 pub slot_is : (word : List ℕ) (found : Option Slot) → found ≡ slot_in word → IfSome found (λ slot. word ≡ slot_text slot)
 slot_is word None e = search rules
-slot_is word (Some slot) e = (slot-found word slot (sym e)).text
+slot_is word (Some slot) e = (slot_found word slot (sym e)).text
 
 pub slot_is_known : (word : List ℕ) (found : Option Slot) → found ≡ slot_in word → IfSome found (λ slot. is_slot slot ≡ true)
 slot_is_known word None e = search rules
-slot_is_known word (Some slot) e = (slot-found word slot (sym e)).known
+slot_is_known word (Some slot) e = (slot_found word slot (sym e)).known
 
 pub slot_is_none : (word : List ℕ) (found : Option Slot) → found ≡ slot_in word → found ≡ None →
     (slot : Slot) → is_slot slot ≡ true → ¬ (word ≡ slot_text slot)
 slot_is_none word found e none slot known text =
-    let read : slot_in word ≡ Some slot = ap slot_in text ∙ slot-own slot known in
+    let read : slot_in word ≡ Some slot = ap slot_in text ∙ slot_own slot known in
     absurd (let never : Some slot ≡ None = sym read ∙ (sym e ∙ none) in cc)
 
 -- ---- whether a word is the text of a slot
@@ -133,7 +133,7 @@ different xs ys never =
 pub after_same : (name word digits number : List ℕ) → after_text name word ≡ Some digits →
     bytes_eq digits number ≡ bytes_eq word (name ++ number)
 after_same name word digits number e =
-    let text = after-found name word digits e in
+    let text = after_found name word digits e in
     elim (cases_Bool (bytes_eq digits number)) [
       | inl equal ↦ equal ∙ sym ((bytes_eq-Decides word (name ++ number)).1
           (text ∙ ap (λ (l : List ℕ). name ++ l) ((bytes_eq-Decides digits number).0 equal)))
@@ -145,7 +145,7 @@ pub after_different : (name word number : List ℕ) → after_text name word ≡
     false ≡ bytes_eq word (name ++ number)
 after_different name word number e =
     sym (different word (name ++ number) (λ same. absurd (
-    let never : Some number ≡ None = sym (ap (after_text name) same ∙ after-own name number) ∙ e in cc)))
+    let never : Some number ≡ None = sym (ap (after_text name) same ∙ after_own name number) ∙ e in cc)))
 
 pub decimal_same : (number : ℕ) (digits : List ℕ) (found : ℕ) → number < 256 → found < 2 ^ 32 →
     digits ≡ decimal found → (found == number) ≡ bytes_eq digits (decimal number)
