@@ -4,9 +4,7 @@ pub mod Repeats
 pub mod Periods
 pub mod Following
 pub mod Pieces
-pub mod Numbers
-pub mod Hexadecimal
-pub mod Slots
+pub mod NoSeparators
 pub mod Steps
 pub mod PointLines
 pub mod LineTexts

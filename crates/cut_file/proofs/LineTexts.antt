@@ -9,13 +9,15 @@ use Rattle.std.proofs.lemmas.Slice.Eq.{bytes_eq-Decides}
 use Rattle.cut_file.specs.declared.lines.Line.{Line}
 use Rattle.cut_file.specs.declared.lines.Line.TheVariants as forms
 use Rattle.flow_base.specs.TextPieces.{after_text}
+use Rattle.flow_base.specs.TextWords.{number_in}
+use Rattle.flow_base.proofs.NumberTexts.{number_found, number_own}
 use Rattle.flow_base.proofs.WantedTexts.{after_found, after_own}
 use Rattle.cut_file.specs.declared.points.CutPoint.{CutPoint}
 use Rattle.cut_file.specs.Cuts.{is_version, is_word}
 use Rattle.cut_file.specs.Texts.{is_line, line_text}
-use Rattle.cut_file.specs.Private.Reading.{is_short, line_in, number_behind, number_in}
+use Rattle.cut_file.specs.Private.Reading.{is_short, line_in, number_behind}
 use Rattle.cut_file.specs.Private.Reading.{number_line_in, point_in, tested_number}
-use Rattle.cut_file.proofs.Numbers.{clean_append, decimal_clean, number_found, number_own}
+use Rattle.cut_file.proofs.NoSeparators.{clean_append, decimal_clean}
 use Rattle.cut_file.proofs.Parts.{has_byte}
 use Rattle.cut_file.proofs.PointLines.{point_found, point_own, point_line_clean}
 use Rattle.cut_file.proofs.Steps.{else_found, kept_found, map_found, then_found, then_own}

@@ -20,19 +20,20 @@ use Rattle.cut_file.specs.Cuts.{are_runs, have_other_masks, is_cut_point, is_poi
 use Rattle.cut_file.specs.Cuts.{is_empty, is_single, is_word}
 use Rattle.flow_base.specs.HexWords.{hex_word}
 use Rattle.flow_base.specs.TextPieces.{after_text}
+use Rattle.flow_base.specs.TextWords.{number_in, slot_in, word_in}
+use Rattle.flow_base.proofs.NumberTexts.{number_found, number_own}
+use Rattle.flow_base.proofs.SlotTexts.{slot_found, slot_own}
 use Rattle.flow_base.proofs.WantedTexts.{after_found, after_own}
+use Rattle.flow_base.proofs.WordTexts.{word_found, word_own}
 use Rattle.cut_file.specs.declared.lines.Line.TheVariants as forms
 use Rattle.cut_file.specs.Texts.{separated, line_text, point_words, rest_text, run_text}
 use Rattle.cut_file.specs.Private.Reading.{◌>>=◌, divided, first_of, may_follow}
-use Rattle.cut_file.specs.Private.Reading.{number_in, others_of, parts}
+use Rattle.cut_file.specs.Private.Reading.{others_of, parts}
 use Rattle.cut_file.specs.Private.Reading.{only_mask_in, pattern_in, place_in, point_in, point_in_words, rest_in}
 use Rattle.cut_file.specs.Private.Reading.{run_in, runs_in, single_in}
-use Rattle.cut_file.specs.Private.Reading.{slot_in, word_in}
 use Rattle.cut_file.proofs.Parts.{clean_words, divided_found, divided_own, has_byte, joined_parts, parts_joined}
 use Rattle.cut_file.proofs.Following.{kept_step, list_push}
-use Rattle.cut_file.proofs.Numbers.{clean_append, clean_cons, decimal_clean, number_found, number_own}
-use Rattle.cut_file.proofs.Hexadecimal.{hex_word_clean, word_found, word_own}
-use Rattle.cut_file.proofs.Slots.{slot_clean, slot_found, slot_own}
+use Rattle.cut_file.proofs.NoSeparators.{clean_append, clean_cons, decimal_clean, hex_word_clean, slot_clean}
 use Rattle.cut_file.proofs.Steps.{below_word, kept_found, the_same, then_found, then_own, word_below}
 
 -- ---- runs

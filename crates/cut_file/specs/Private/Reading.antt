@@ -1,13 +1,11 @@
 -- How the text of a cut is read, line by line and word by word.
-use Rattle.std.specs.Prelude.{ℕ, ◌+◌, ◌-◌, ◌*◌, ◌%◌, ◌==◌, ◌&&◌, nat_le, nat_lt, List, [], ◌∷◌, ◌++◌, codes, length}
-use Rattle.std.specs.Prelude.{slice_index, Bool, true, false, Option, Some, None, option_and_then, option_map}
+use Rattle.std.specs.Prelude.{ℕ, ◌+◌, ◌-◌, ◌==◌, nat_le, nat_lt, List, [], ◌∷◌, ◌++◌, codes, length}
+use Rattle.std.specs.Prelude.{Bool, true, Option, Some, None, option_and_then, option_map}
 use Rattle.std.specs.Prelude.{Result, Ok, Err}
 use Rattle.std.specs.Prelude.{if◌then◌else◌}
 use Rattle.std.specs.Borrow.{Bor}
 use Rattle.std.specs.Str.{bytes_eq}
 use Rattle.flow_base.specs.declared.points.Point.{Point}
-use Rattle.flow_base.specs.declared.points.Slot.{Slot}
-use Rattle.flow_base.specs.declared.points.Slot.TheVariants as slots
 use Rattle.cut_file.specs.declared.points.CutPoint.{CutPoint}
 use Rattle.cut_file.specs.declared.points.Run.{Run}
 use Rattle.cut_file.specs.declared.faults.CutFault.{CutFault}
@@ -17,8 +15,8 @@ use Rattle.cut_file.specs.declared.lines.Line.TheVariants as forms
 use Rattle.cut_file.specs.Cuts.{CutPicture, have_other_masks, is_empty, is_version, is_word, stands_before}
 use Rattle.cut_file.specs.Fronts.{Front, followed, version_of}
 use Rattle.cut_file.specs.Fronts.Front.{Nothing, Versioned, Sized, Listed, Whole}
-use Rattle.flow_base.specs.HexWords.{digit_of, hex_word}
 use Rattle.flow_base.specs.TextPieces.{after_text}
+use Rattle.flow_base.specs.TextWords.{number_in, slot_in, word_in}
 use Rattle.cut_file.specs.Texts.{separated}
 use Rattle.flow_base.specs.Points.{is_region_number}
 
@@ -60,82 +58,10 @@ words_left (Some rest) = parts 32 rest.now
 
 -- ---- words
 
--- the byte of a decimal digit
-abbrev pub is_digit : ℕ → Bool
-is_digit byte = nat_le 48 byte && nat_le byte 57
-
--- the number that digits give after those of a number; none past 32 bits
-abbrev pub digits_in : ℕ → List ℕ → Option ℕ
-digits_in number [] = Some number
-digits_in number (byte ∷ bytes) =
-    if is_digit byte
-    then (if nat_lt (number * 10 + (byte - 48)) 4294967296 then digits_in (number * 10 + (byte - 48)) bytes else None)
-    else None
-
-abbrev pub has_leading_zero : List ℕ → Bool
-has_leading_zero [] = false
-has_leading_zero (byte ∷ []) = false
-has_leading_zero (byte ∷ (next ∷ bytes)) = byte == 48
-
--- the number of a decimal word without leading zeros
-abbrev pub number_in : List ℕ → Option ℕ
-number_in [] = None
-number_in (byte ∷ bytes) = if has_leading_zero (byte ∷ bytes) then None else digits_in 0 (byte ∷ bytes)
-
--- the value of a hexadecimal digit; of another byte, 0
-abbrev pub nibble_of : ℕ → ℕ
-nibble_of byte = digit_of byte % 16
-
--- the word whose eight digits stand after two bytes
-abbrev pub word_of : List ℕ → ℕ
-word_of bytes =
-    nibble_of (slice_index bytes 2) * 268435456 + nibble_of (slice_index bytes 3) * 16777216
-    + nibble_of (slice_index bytes 4) * 1048576 + nibble_of (slice_index bytes 5) * 65536
-    + nibble_of (slice_index bytes 6) * 4096 + nibble_of (slice_index bytes 7) * 256
-    + nibble_of (slice_index bytes 8) * 16 + nibble_of (slice_index bytes 9)
-
--- the word that stands as 0x and eight digits
-unfoldable pub word_in : List ℕ → Option ℕ
-word_in bytes =
-    if length bytes == 10
-    then (if bytes_eq bytes (hex_word (word_of bytes)) then Some (word_of bytes) else None)
-    else None
-
--- the slot of a text of two letters
-unfoldable pub named_slot : List ℕ → Option Slot
-named_slot bytes =
-    if bytes_eq bytes (codes "u1") then Some slots.First
-    else if bytes_eq bytes (codes "u2") then Some slots.Second
-    else if bytes_eq bytes (codes "ad") then Some slots.Address
-    else if bytes_eq bytes (codes "rs") then Some slots.Result
-    else if bytes_eq bytes (codes "de") then Some slots.Decision
-    else if bytes_eq bytes (codes "nr") then Some slots.Number
-    else if bytes_eq bytes (codes "a0") then Some slots.Arg0
-    else if bytes_eq bytes (codes "a1") then Some slots.Arg1
-    else if bytes_eq bytes (codes "a2") then Some slots.Arg2
-    else if bytes_eq bytes (codes "in") then Some slots.SecretIn
-    else if bytes_eq bytes (codes "ou") then Some slots.ByteOut
-    else if bytes_eq bytes (codes "st") then Some slots.Status
-    else None
-
--- the slot of a letter and a number
-abbrev pub slot_of : ℕ → ℕ → Option Slot
-slot_of letter number =
-    if (letter == 120) && (nat_le 1 number && nat_le number 31) then Some (slots.OutReg number)
-    else if (letter == 114) && nat_lt number 64 then Some (slots.OutRange number)
-    else None
-
-unfoldable pub numbered_slot : List ℕ → Option Slot
-numbered_slot [] = None
-numbered_slot (letter ∷ digits) = option_and_then (λ number. slot_of letter number) (number_in digits)
-
 -- the first that there is
 abbrev pub or_else : {A : Type 0} → Option A → Option A → Option A
 or_else None other = other
 or_else (Some value) other = Some value
-
-unfoldable pub slot_in : List ℕ → Option Slot
-slot_in bytes = or_else (named_slot bytes) (numbered_slot bytes)
 
 -- what there is, where it passes a test
 infixl 10 ◌>>=◌
