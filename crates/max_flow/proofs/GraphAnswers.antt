@@ -14,11 +14,11 @@ use Rattle.max_flow.specs.Private.GraphNetworks.{network_of}
 use Rattle.max_flow.specs.Private.Networks.{IsFlow, IsSide, source_flow, capacity_of}
 use Rattle.max_flow.specs.Private.Rooms.{IsLeast}
 use Rattle.max_flow.specs.Private.Searching.{is_found}
-use Rattle.max_flow.proofs.Graphs.{all_map, edges-count, graph_net}
-use Rattle.max_flow.proofs.FoundNodesAreMembers.{IsMade, made_side, made-capacity, member_found}
-use Rattle.max_flow.proofs.Members.{member, member-first, member-relay, member-second}
-use Rattle.max_flow.proofs.NamedFlows.{AreFor, flow_value-same, graph_flow, network_flow, value-same}
-use Rattle.max_flow.proofs.NamedSides.{capacity-same, graph_side, network_side}
+use Rattle.max_flow.proofs.Graphs.{all_map, edges_count, graph_net}
+use Rattle.max_flow.proofs.FoundNodesAreMembers.{IsMade, made_side, made_capacity, member_found}
+use Rattle.max_flow.proofs.Members.{member, member_first, member_relay, member_second}
+use Rattle.max_flow.proofs.NamedFlows.{AreFor, flow_value_same, graph_flow, network_flow, value_same}
+use Rattle.max_flow.proofs.NamedSides.{capacity_same, graph_side, network_side}
 use Rattle.max_flow.proofs.Tightness.{weak}
 
 pub limits_fit : (graph : Graph) → IsWithinLimits graph → (i : ℕ) → slice_index (network_of graph).limits i < 2 ^ 64
@@ -40,7 +40,7 @@ parts_for : (graph : Graph) (flows points links : List ℕ) → length flows ≡
     points ≡ take (length graph.points) flows →
     links ≡ drop (length graph.points) flows → AreFor graph points links
 parts_for graph flows points links same front back =
-    let count : length flows ≡ length graph.points + length graph.links = same ∙ edges-count graph in
+    let count : length flows ≡ length graph.points + length graph.links = same ∙ edges_count graph in
     record {
       points_count = ap length front ∙ length-take-le (length graph.points) flows (omega (arith, count));
       links_count = ap length back ∙ (length-drop (length graph.points) flows ∙ omega (arith, count));
@@ -64,7 +64,7 @@ pub value_from : (graph : Graph) (flows points links : List ℕ) → IsFlow (net
     points ≡ take (length graph.points) flows →
     links ≡ drop (length graph.points) flows → flow_value graph points links ≡ source_flow (network_of graph) flows
 value_from graph flows points links flow front back =
-    sym (value-same graph points links (parts_for graph flows points links flow.count front back))
+    sym (value_same graph points links (parts_for graph flows points links flow.count front back))
     ∙ ap (source_flow (network_of graph)) (sym (whole graph flows points links front back))
 
 pub front_most : (most count : ℕ) (flows points : List ℕ) → points ≡ take count flows → AreAtMost most flows →
@@ -96,7 +96,7 @@ greatest_from graph value places side capacity points links flow =
     let below : source_flow (network_of graph) (points ++ links) ≤ capacity_of (network_of graph) (is_found places) =
     weak (network_of graph) (points ++ links) (is_found places) (graph_net graph)
     (network_flow graph points links flow) side in
-    let same = flow_value-same graph points links flow in
+    let same = flow_value_same graph points links flow in
     omega (arith, below, capacity, same)
 
 -- all of a least side is in another side, whose nodes these are
@@ -118,8 +118,8 @@ part_from graph places halves others answers passed made points_count places_cou
     λ v is. inside v (member_found graph places halves answers made v is) in
     record {
       firsts = λ i is. ⊎_elim
-          (λ (below : i < length graph.points). sym (member-first graph others passed i below)
-          ∙ both (2 + 2 * i) (member-first graph halves answers i below ∙ is))
+          (λ (below : i < length graph.points). sym (member_first graph others passed i below)
+          ∙ both (2 + 2 * i) (member_first graph halves answers i below ∙ is))
           (λ (past : length graph.points ≤ i). absurd (
           let none : first_in halves i ≡ false = ap has_first (get_or_past halves i Neither (omega (
             arith,
@@ -129,8 +129,8 @@ part_from graph places halves others answers passed made points_count places_cou
           cc))
           (cases_lt i (length graph.points));
       seconds = λ i is. ⊎_elim
-          (λ (below : i < length graph.points). sym (member-second graph others passed i below)
-          ∙ both (3 + 2 * i) (member-second graph halves answers i below ∙ is))
+          (λ (below : i < length graph.points). sym (member_second graph others passed i below)
+          ∙ both (3 + 2 * i) (member_second graph halves answers i below ∙ is))
           (λ (past : length graph.points ≤ i). absurd (
           let none : second_in halves i ≡ false = ap has_second (get_or_past halves i Neither (omega (
             arith,
@@ -139,16 +139,16 @@ part_from graph places halves others answers passed made points_count places_cou
           ))) in
           cc))
           (cases_lt i (length graph.points));
-      relays_too = λ r is. sym (member-relay graph others passed r)
-          ∙ both (2 + 2 * length graph.points + r) (member-relay graph halves answers r ∙ is);
+      relays_too = λ r is. sym (member_relay graph others passed r)
+          ∙ both (2 + 2 * length graph.points + r) (member_relay graph halves answers r ∙ is);
     }
 
 pub capacity_from : (graph : Graph) (value : ℕ) (places : List ℕ) (halves : List Half) (answers : List Bool) →
     IsMade graph places halves answers → length halves ≡ length graph.points →
     capacity_of (network_of graph) (is_found places) ≡ value → side_capacity graph halves answers ≡ value
 capacity_from graph value places halves answers made points_count capacity =
-    sym (capacity-same graph halves answers points_count)
-    ∙ (made-capacity graph places halves answers made ∙ capacity)
+    sym (capacity_same graph halves answers points_count)
+    ∙ (made_capacity graph places halves answers made ∙ capacity)
 
 pub least_from : (graph : Graph) (value : ℕ) (flows places : List ℕ) (halves : List Half) (answers : List Bool) →
     IsFlow (network_of graph) flows →
@@ -167,10 +167,10 @@ least_from graph value flows places halves answers flow value_is made points_cou
           let below : source_flow (network_of graph) flows ≤ capacity_of (network_of graph) (member graph others passed) =
           weak (network_of graph) flows (member graph others passed) (graph_net graph) flow
           (network_side graph others passed other) in
-          let named = capacity-same graph others passed other.points_count in
+          let named = capacity_same graph others passed other.points_count in
           omega (arith, below, mine, value_is, named);
       contained = λ others passed other same.
-          let named = capacity-same graph others passed other.points_count in
+          let named = capacity_same graph others passed other.points_count in
           part_from graph places halves others answers passed made points_count places_count
           (least.contained (member graph others passed) (network_side graph others passed other)
           (omega (arith, same, mine, named)));

@@ -14,96 +14,96 @@ use Rattle.max_flow.specs.Flows.{side_capacity}
 use Rattle.max_flow.specs.NodeNumbers.{tail_of, head_of}
 use Rattle.max_flow.specs.Private.GraphNetworks.{halves_from, network_of}
 use Rattle.max_flow.specs.Private.Networks.{IsSide, capacity_of, leaves, sum_below}
-use Rattle.max_flow.proofs.Graphs.{edges-count, graph_net, half-at, length-halves}
-use Rattle.max_flow.proofs.Members.{member, member-entered, member-first, member-left, member-second, member-sink}
-use Rattle.max_flow.proofs.Members.{member-source}
-use Rattle.max_flow.proofs.NamedFlows.{flow_value-same, network_flow, where-places}
+use Rattle.max_flow.proofs.Graphs.{edges_count, graph_net, half_at, length_halves}
+use Rattle.max_flow.proofs.Members.{member, member_entered, member_first, member_left, member_second, member_sink}
+use Rattle.max_flow.proofs.Members.{member_source}
+use Rattle.max_flow.proofs.NamedFlows.{flow_value_same, network_flow, where_places}
 use Rattle.max_flow.proofs.Sums.{sum_same}
 use Rattle.max_flow.proofs.Tightness.{weak}
 
 -- ---- the ends of a link by its place
 
-pub tail-link : (graph : Graph) (i : ℕ) → length graph.points ≤ i →
+pub tail_link : (graph : Graph) (i : ℕ) → length graph.points ≤ i →
     slice_index (network_of graph).tails i ≡ get_or (map (λ link. tail_of (length graph.points) link.source)
     graph.links) (i - length graph.points) 0
-tail-link graph i from = get_or-append_right (halves_from 2 (length graph.points)) _ (length graph.points) i 0
-    (length-halves 2 (length graph.points)) from
+tail_link graph i from = get_or-append_right (halves_from 2 (length graph.points)) _ (length graph.points) i 0
+    (length_halves 2 (length graph.points)) from
 
-pub head-link : (graph : Graph) (i : ℕ) → length graph.points ≤ i →
+pub head_link : (graph : Graph) (i : ℕ) → length graph.points ≤ i →
     slice_index (network_of graph).heads i ≡ get_or (map (λ link. head_of (length graph.points) link.target)
     graph.links) (i - length graph.points) 0
-head-link graph i from = get_or-append_right (halves_from 3 (length graph.points)) _ (length graph.points) i 0
-    (length-halves 3 (length graph.points)) from
+head_link graph i from = get_or-append_right (halves_from 3 (length graph.points)) _ (length graph.points) i 0
+    (length_halves 3 (length graph.points)) from
 
-pub tail-half : (graph : Graph) (i : ℕ) → i < length graph.points →
+pub tail_half : (graph : Graph) (i : ℕ) → i < length graph.points →
     slice_index (network_of graph).tails i ≡ 2 + 2 * i
-tail-half graph i below =
+tail_half graph i below =
     get_or_append_left (halves_from 2 (length graph.points)) _ 0 i
-    (let n = length-halves 2 (length graph.points) in omega (arith, n, below))
-    ∙ half-at 2 (length graph.points) i below
+    (let n = length_halves 2 (length graph.points) in omega (arith, n, below))
+    ∙ half_at 2 (length graph.points) i below
 
-pub head-half : (graph : Graph) (i : ℕ) → i < length graph.points →
+pub head_half : (graph : Graph) (i : ℕ) → i < length graph.points →
     slice_index (network_of graph).heads i ≡ 3 + 2 * i
-head-half graph i below =
+head_half graph i below =
     get_or_append_left (halves_from 3 (length graph.points)) _ 0 i
-    (let n = length-halves 3 (length graph.points) in omega (arith, n, below))
-    ∙ half-at 3 (length graph.points) i below
+    (let n = length_halves 3 (length graph.points) in omega (arith, n, below))
+    ∙ half_at 3 (length graph.points) i below
 
 -- ---- what leaves the side
 
-pub not-and : (a b : Bool) → (a && not b) ≡ false → a ≡ true → b ≡ true
-not-and true true e is = refl
-not-and true false e is = absurd cc
-not-and false b e is = absurd cc
+pub not_and : (a b : Bool) → (a && not b) ≡ false → a ≡ true → b ≡ true
+not_and true true e is = refl
+not_and true false e is = absurd cc
+not_and false b e is = absurd cc
 
-pub and-not : (a b : Bool) → (a ≡ true → b ≡ true) → (a && not b) ≡ false
-and-not true true h = refl
-and-not true false h = absurd (let e : false ≡ true = h refl in cc)
-and-not false b h = refl
+pub and_not : (a b : Bool) → (a ≡ true → b ≡ true) → (a && not b) ≡ false
+and_not true true h = refl
+and_not true false h = absurd (let e : false ≡ true = h refl in cc)
+and_not false b h = refl
 
-pub or-false : (a b : Bool) → a ≡ false → b ≡ false → (a || b) ≡ false
-or-false true b first second = absurd cc
-or-false false b first second = second
+pub or_false : (a b : Bool) → a ≡ false → b ≡ false → (a || b) ≡ false
+or_false true b first second = absurd cc
+or_false false b first second = second
 
 -- of a link between ends that there are
-link-left : (graph : Graph) (halves : List Half) (relays : List Bool) (link : Arc) →
+link_left : (graph : Graph) (halves : List Half) (relays : List Bool) (link : Arc) →
     is_link (length graph.points) graph.relays link ≡ true →
     member graph halves relays (tail_of (length graph.points) link.source) ≡ left_in graph halves relays link.source
-link-left graph halves relays link is = member-left graph halves relays link.source (and_parts _ _ is).0
+link_left graph halves relays link is = member_left graph halves relays link.source (and_parts _ _ is).0
 
-link-entered : (graph : Graph) (halves : List Half) (relays : List Bool) (link : Arc) →
+link_entered : (graph : Graph) (halves : List Half) (relays : List Bool) (link : Arc) →
     is_link (length graph.points) graph.relays link ≡ true →
     member graph halves relays (head_of (length graph.points) link.target) ≡ entered_in graph halves relays link.target
-link-entered graph halves relays link is =
-    member-entered graph halves relays link.target (and_parts _ _ (and_parts _ _ is).1).0
+link_entered graph halves relays link is =
+    member_entered graph halves relays link.target (and_parts _ _ (and_parts _ _ is).1).0
 
 -- what holds of a link among links
-places-closed : (graph : Graph) (halves : List Half) (relays : List Bool) (links : List Arc) →
+places_closed : (graph : Graph) (halves : List Half) (relays : List Bool) (links : List Arc) →
     list_all (is_link (length graph.points) graph.relays) links ≡ true →
     list_any (leads_out graph halves relays) links ≡ false → (i : ℕ) → i < length links →
     member graph halves relays (get_or (map (λ link. tail_of (length graph.points) link.source) links) i 0) ≡ true →
     member graph halves relays (get_or (map (λ link. head_of (length graph.points) link.target) links) i 0) ≡ true
-places-closed graph halves relays [] all none i below is = absurd (omega arith)
-places-closed graph halves relays (link ∷ links) all none zero below is =
+places_closed graph halves relays [] all none i below is = absurd (omega arith)
+places_closed graph halves relays (link ∷ links) all none zero below is =
     let valid = (and_parts _ _ all).0 in
-    link-entered graph halves relays link valid
-    ∙ not-and _ _ (or_parts _ _ none).0 (sym (link-left graph halves relays link valid) ∙ is)
-places-closed graph halves relays (link ∷ links) all none (suc i) below is =
-    places-closed graph halves relays links (and_parts _ _ all).1 (or_parts _ _ none).1 i (omega arith) is
+    link_entered graph halves relays link valid
+    ∙ not_and _ _ (or_parts _ _ none).0 (sym (link_left graph halves relays link valid) ∙ is)
+places_closed graph halves relays (link ∷ links) all none (suc i) below is =
+    places_closed graph halves relays links (and_parts _ _ all).1 (or_parts _ _ none).1 i (omega arith) is
 
-links-closed : (graph : Graph) (halves : List Half) (relays : List Bool) (links : List Arc) →
+links_closed : (graph : Graph) (halves : List Half) (relays : List Bool) (links : List Arc) →
     list_all (is_link (length graph.points) graph.relays) links ≡ true →
     ((i : ℕ) → i < length links →
     member graph halves relays (get_or (map (λ link. tail_of (length graph.points) link.source) links) i 0) ≡ true →
     member graph halves relays (get_or (map (λ link. head_of (length graph.points) link.target) links) i 0) ≡ true) →
     list_any (leads_out graph halves relays) links ≡ false
-links-closed graph halves relays [] all h = refl
-links-closed graph halves relays (link ∷ links) all h =
+links_closed graph halves relays [] all h = refl
+links_closed graph halves relays (link ∷ links) all h =
     let valid = (and_parts _ _ all).0 in
-    or-false _ _
-    (and-not _ _ (λ is. sym (link-entered graph halves relays link valid)
-    ∙ h 0 (omega arith) (link-left graph halves relays link valid ∙ is)))
-    (links-closed graph halves relays links (and_parts _ _ all).1 (λ i below. h (suc i) (omega (arith, below))))
+    or_false _ _
+    (and_not _ _ (λ is. sym (link_entered graph halves relays link valid)
+    ∙ h 0 (omega arith) (link_left graph halves relays link valid ∙ is)))
+    (links_closed graph halves relays links (and_parts _ _ all).1 (λ i below. h (suc i) (omega (arith, below))))
 
 -- a side of the graph is one of its network
 pub network_side : (graph : Graph) (halves : List Half) (relays : List Bool) → IsSideOf graph halves relays →
@@ -111,15 +111,15 @@ pub network_side : (graph : Graph) (halves : List Half) (relays : List Bool) →
 network_side graph halves relays side =
     let limits : length (network_of graph).limits ≡ length graph.points = length-map graph.points
     (λ node. node.capacity) in
-    let edges = edges-count graph in
+    let edges = edges_count graph in
     record {
-      source = member-source graph halves relays;
-      sink = member-sink graph halves relays;
+      source = member_source graph halves relays;
+      sink = member_sink graph halves relays;
       closed = λ i from below is.
           let past : length graph.points ≤ i = omega (arith, limits, from) in
-          ap (member graph halves relays) (head-link graph i past)
-          ∙ places-closed graph halves relays graph.links graph.links_are_valid side.closed (i - length graph.points)
-          (omega (arith, past, below, edges)) (ap (member graph halves relays) (sym (tail-link graph i past)) ∙ is);
+          ap (member graph halves relays) (head_link graph i past)
+          ∙ places_closed graph halves relays graph.links graph.links_are_valid side.closed (i - length graph.points)
+          (omega (arith, past, below, edges)) (ap (member graph halves relays) (sym (tail_link graph i past)) ∙ is);
     }
 
 -- a side of its network is one of the graph
@@ -129,16 +129,16 @@ pub graph_side : (graph : Graph) (halves : List Half) (relays : List Bool) → l
 graph_side graph halves relays points_count relays_count side =
     let limits : length (network_of graph).limits ≡ length graph.points = length-map graph.points
     (λ node. node.capacity) in
-    let edges = edges-count graph in
+    let edges = edges_count graph in
     record {
       points_count = points_count;
       relays_count = relays_count;
-      closed = links-closed graph halves relays graph.links graph.links_are_valid (λ i below is.
+      closed = links_closed graph halves relays graph.links graph.links_are_valid (λ i below is.
           let past : length graph.points ≤ length graph.points + i = omega arith in
           let back : length graph.points + i - length graph.points ≡ i = omega arith in
-          let tail = tail-link graph (length graph.points + i) past ∙ ap (λ k. get_or (map (λ link. tail_of
+          let tail = tail_link graph (length graph.points + i) past ∙ ap (λ k. get_or (map (λ link. tail_of
           (length graph.points) link.source) graph.links) k 0) back in
-          let head = head-link graph (length graph.points + i) past ∙ ap (λ k. get_or (map (λ link. head_of
+          let head = head_link graph (length graph.points + i) past ∙ ap (λ k. get_or (map (λ link. head_of
           (length graph.points) link.target) graph.links) k 0) back in
           ap (member graph halves relays) (sym head)
           ∙ side.closed (length graph.points + i) (omega (arith, limits)) (omega (arith, edges, below))
@@ -147,18 +147,18 @@ graph_side graph halves relays points_count relays_count side =
 
 -- ---- capacities
 
-pub leaves-cut : (graph : Graph) (halves : List Half) (relays : List Bool) (i : ℕ) → i < length graph.points →
+pub leaves_cut : (graph : Graph) (halves : List Half) (relays : List Bool) (i : ℕ) → i < length graph.points →
     leaves (network_of graph) (member graph halves relays) i ≡ is_cut (get_or halves i Neither)
-leaves-cut graph halves relays i below =
+leaves_cut graph halves relays i below =
     ap (λ (a : Bool). a && not (member graph halves relays (slice_index (network_of graph).heads i)))
-    (ap (member graph halves relays) (tail-half graph i below) ∙ member-first graph halves relays i below)
+    (ap (member graph halves relays) (tail_half graph i below) ∙ member_first graph halves relays i below)
     ∙ ap (λ (b : Bool). first_in halves i && not b)
-    (ap (member graph halves relays) (head-half graph i below) ∙ member-second graph halves relays i below)
+    (ap (member graph halves relays) (head_half graph i below) ∙ member_second graph halves relays i below)
 
-pub capacity-same : (graph : Graph) (halves : List Half) (relays : List Bool) → length halves ≡ length graph.points →
+pub capacity_same : (graph : Graph) (halves : List Half) (relays : List Bool) → length halves ≡ length graph.points →
     capacity_of (network_of graph) (member graph halves relays) ≡ side_capacity graph halves relays
 unfolding capacity_of
-capacity-same graph halves relays same =
+capacity_same graph halves relays same =
     let limits : length (network_of graph).limits ≡ length graph.points = length-map graph.points
     (λ node. node.capacity) in
     ap (λ n. sum_below n (λ i. cond (leaves (network_of graph) (member graph halves relays) i)
@@ -167,8 +167,8 @@ capacity-same graph halves relays same =
     (slice_index (network_of graph).limits i) 0)
     (λ i. cond (is_cut (get_or halves i Neither)) (slice_index (network_of graph).limits i) 0)
     (λ i below. ap (λ b. cond b (slice_index (network_of graph).limits i) 0)
-    (leaves-cut graph halves relays i (omega (arith, same, below))))
-    ∙ where-places is_cut halves (network_of graph).limits Neither (limits ∙ sym same))
+    (leaves_cut graph halves relays i (omega (arith, same, below))))
+    ∙ where_places is_cut halves (network_of graph).limits Neither (limits ∙ sym same))
 
 -- no flow has a greater value than the capacity of any side
 pub weak_duality : (graph : Graph) (points links : List ℕ) (halves : List Half) (relays : List Bool) →
@@ -177,6 +177,6 @@ pub weak_duality : (graph : Graph) (points links : List ℕ) (halves : List Half
 weak_duality graph points links halves relays flow side =
     let below = weak (network_of graph) (points ++ links) (member graph halves relays) (graph_net graph)
     (network_flow graph points links flow) (network_side graph halves relays side) in
-    let value = flow_value-same graph points links flow in
-    let capacity = capacity-same graph halves relays side.points_count in
+    let value = flow_value_same graph points links flow in
+    let capacity = capacity_same graph halves relays side.points_count in
     omega (arith, below, value, capacity)

@@ -1,15 +1,15 @@
 use Rattle.acceptance_law.specs.GraphLaws.{CutCoversLaw}
-use Rattle.acceptance_law.proofs.GraphSides.{side-closed, side-outside}
-use Rattle.acceptance_law.proofs.CutVisits.{cut-contains}
+use Rattle.acceptance_law.proofs.GraphSides.{side_closed, side_outside}
+use Rattle.acceptance_law.proofs.CutVisits.{cut_contains}
 use Rattle.acceptance_law.specs.Sides.{named_side}
 use Rattle.acceptance_law.proofs.graph_laws.cuts_of_runs_cover.Goals as goal
 
 covers_law : CutCoversLaw
 covers_law events graph halves relays secret_len capacity cut is side proper cut_is slots = record {
-  closed = side-closed events graph halves relays is side;
-  outside = side-outside events graph halves relays is;
+  closed = side_closed events graph halves relays is side;
+  outside = side_outside events graph halves relays is;
   skips = cut_is.skip;
-  contains = cut-contains (named_side graph halves relays) cut secret_len capacity events cut_is slots proper;
+  contains = cut_contains (named_side graph halves relays) cut secret_len capacity events cut_is slots proper;
 }
 
 pub returns : goal.returns

@@ -7,7 +7,7 @@ use Rattle.max_flow.specs.Private.Searching.{is_found}
 use Rattle.max_flow.specs.Private.Solving.{net_of}
 use Rattle.max_flow.proofs.SmallSides.{small_side}
 use Rattle.max_flow.proofs.FoundNodesAreMembers.{IsMade}
-use Rattle.max_flow.proofs.Graphs.{edges-count}
+use Rattle.max_flow.proofs.Graphs.{edges_count}
 use Rattle.max_flow.proofs.GraphAnswers.{back_most, capacity_from, flow_from, front_most, greatest_from, least_from}
 use Rattle.max_flow.proofs.GraphAnswers.{value_from}
 use Rattle.max_flow.proofs.solving.solve.Goals as goal
@@ -21,7 +21,7 @@ flow_of-requires c =
     let e : net_of c.in_ok-network.network ≡ network_of c.args.graph.now = c.in_ok-network.ensures.net in
     let flow : IsFlow (network_of c.args.graph.now) c.in_ok-value.field-0.flows.items =
     subst (λ n. IsFlow n c.in_ok-value.field-0.flows.items) e c.in_ok-value.ensures.flow in
-    flow.count ∙ edges-count c.args.graph.now
+    flow.count ∙ edges_count c.args.graph.now
 
 pub returns-clause-flow : goal.returns-clause-flow
 returns-clause-flow c =
