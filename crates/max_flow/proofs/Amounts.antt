@@ -3,7 +3,8 @@ use Rattle.std.proofs.Common.{◌≡◌, ◌≢◌, ℕ, ◌+◌, ◌-◌, ◌�
 use Rattle.std.proofs.Common.{length, set, slice_index, ap, subst, ⊎_elim, arith}
 use Rattle.std.proofs.lemmas.Bool.{cases_eq, eq-eqb, ne_eqb, cond-true, cond-false, cases_Bool}
 use Rattle.std.proofs.lemmas.List.{get_or-set_same, get_or-set_other}
-use Rattle.max_flow.specs.Networks.{Net, AreAtMost}
+use Rattle.max_flow.specs.Private.Networks.{Net}
+use Rattle.max_flow.specs.Flows.{AreAtMost}
 use Rattle.max_flow.specs.Private.Rooms.{other_end, pushed}
 use Rattle.max_flow.specs.Private.Searching.{IsWalking, IsRaising}
 use Rattle.max_flow.proofs.WalksBack.{walk_arrives}

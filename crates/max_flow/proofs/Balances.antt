@@ -3,7 +3,8 @@ use Rattle.std.proofs.Common.{◌≡◌, ◌≢◌, ℕ, ◌+◌, ◌-◌, ◌^�
 use Rattle.std.proofs.Common.{length, set, slice_index, sym, ap, ◌∙◌, ⊎_elim, arith}
 use Rattle.std.proofs.lemmas.Bool.{cases_eq, cases_Bool, eq-eqb, ne_eqb, cond-true, cond-false, ltb-true}
 use Rattle.std.proofs.lemmas.List.{length-set, get_or-set_same, get_or-set_other}
-use Rattle.max_flow.specs.Networks.{Net, IsNet, IsFlow, AreAtMost, at_node, source_flow}
+use Rattle.max_flow.specs.Private.Networks.{Net, IsNet, IsFlow, at_node, source_flow}
+use Rattle.max_flow.specs.Flows.{AreAtMost}
 use Rattle.max_flow.specs.Private.Rooms.{bound}
 use Rattle.max_flow.specs.Private.Balances.{AreBalanced, AreSums, IsFlowOfValue, sum_at}
 use Rattle.max_flow.proofs.Sums.{sum_none, sum_suc}

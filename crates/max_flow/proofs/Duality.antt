@@ -3,7 +3,7 @@ use Rattle.std.proofs.Common.{◌≡◌, ◌≢◌, ◌⊎◌, ℕ, zero, suc, �
 use Rattle.std.proofs.Common.{true, false, List, length, slice_index, refl, sym, ap, ◌∙◌, ⊎_elim, arith}
 use Rattle.std.proofs.lemmas.Bool.{cases_eq, cases_Bool, cases_order, lt-ltb, le-ltb, eq-eqb, ne_eqb}
 use Rattle.std.proofs.lemmas.Bool.{and_right, cond-false}
-use Rattle.max_flow.specs.Networks.{Net, sum_below, at_node, IsNet, IsFlow, source_flow}
+use Rattle.max_flow.specs.Private.Networks.{Net, sum_below, at_node, IsNet, IsFlow, source_flow}
 use Rattle.max_flow.proofs.Sums.{sum_same, sum_add, sum_zero}
 
 -- the flow at the nodes of a set

@@ -2,7 +2,8 @@
 use Rattle.std.proofs.Common.{◌≡◌, ℕ, ◌-◌, ◌^◌, ◌≤◌, ◌<◌, cond, eqb, true, false, List}
 use Rattle.std.proofs.Common.{length, slice_index, refl, sym, ◌∙◌, ⊎_elim, arith}
 use Rattle.std.proofs.lemmas.Bool.{cases_Bool, ltb-true, lt-ltb, le-ltb}
-use Rattle.max_flow.specs.Networks.{Net, at_node, IsNet, IsFlow, IsSide, AreAtMost, source_flow, capacity_of}
+use Rattle.max_flow.specs.Private.Networks.{Net, at_node, IsNet, IsFlow, IsSide, source_flow, capacity_of}
+use Rattle.max_flow.specs.Flows.{AreAtMost}
 use Rattle.max_flow.specs.Private.Balances.{IsFlowOfValue}
 use Rattle.max_flow.specs.Private.Rooms.{IsBounded, IsClosed, HasSmallSide, IsLeast}
 use Rattle.max_flow.specs.Private.Searching.{IsFound, is_found}

@@ -10,9 +10,10 @@ use Rattle.flow_graph.specs.declared.ends.End.{End}
 use Rattle.flow_graph.specs.declared.ends.End.TheVariants.{Source, Point, Relay, Sink}
 use Rattle.flow_graph.specs.declared.graphs.Graph.{Graph}
 use Rattle.flow_graph.specs.Graphs.{is_origin, is_target, is_link}
-use Rattle.max_flow.specs.Networks.{IsNet}
+use Rattle.max_flow.specs.Private.Networks.{IsNet}
 use Rattle.max_flow.specs.Private.Rooms.{AreFew}
-use Rattle.max_flow.specs.Flows.{halves_from, tail_of, head_of, network_of}
+use Rattle.max_flow.specs.Private.GraphNetworks.{halves_from, network_of}
+use Rattle.max_flow.specs.NodeNumbers.{tail_of, head_of}
 
 pub length_halves : (start n : ℕ) → length (halves_from start n) ≡ n
 unfolding halves_from
@@ -117,6 +118,16 @@ heads_few graph few i below =
     (head_inside (length graph.points) graph.relays link.target (and_parts _ _ (and_parts _ _ is).1).0).0 in
     omega (arith, inside, few))
     graph.links graph.links_are_valid i (omega (arith, count, below))
+
+pub edges_count : (graph : Graph) → length (network_of graph).tails ≡ length graph.points + length graph.links
+edges_count graph =
+    length-append (halves_from 2 (length graph.points)) _
+    ∙ omega (
+      arith,
+      length_halves 2 (length graph.points),
+      length-map graph.links
+          (λ link. tail_of (length graph.points) link.source),
+    )
 
 pub graph_net : (graph : Graph) → IsNet (network_of graph)
 graph_net graph =

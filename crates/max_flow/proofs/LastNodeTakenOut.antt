@@ -3,7 +3,7 @@ use Rattle.std.proofs.Common.{◌≡◌, ◌≢◌, ℕ, ◌+◌, ◌-◌, ◌�
 use Rattle.std.proofs.Common.{set, take, slice_index, get_or, sym, ap, ◌∙◌, subst, ⊎_elim, arith}
 use Rattle.std.proofs.lemmas.Bool.{cases_eq, cases_lt, eq-eqb, ne_eqb, cond-true, cond-false}
 use Rattle.std.proofs.lemmas.List.{length-set, get_or-set_same, get_or-set_other, length-take, get_or-take, get_or_past}
-use Rattle.max_flow.specs.Networks.{Net, sum_below}
+use Rattle.max_flow.specs.Private.Networks.{Net, sum_below}
 use Rattle.max_flow.specs.Private.Rooms.{other_end}
 use Rattle.max_flow.specs.Private.Adjacency.{IsLast, AreChains}
 use Rattle.max_flow.specs.Private.Searching.{IsFound, IsStart, unfound}

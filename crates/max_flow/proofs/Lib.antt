@@ -2,6 +2,9 @@ pub mod Sums
 pub mod Duality
 pub mod Tightness
 pub mod Graphs
+pub mod Members
+pub mod NamedFlows
+pub mod NamedSides
 pub mod SearchSteps
 pub mod ScannedQueueIsClosed
 pub mod WalksBack

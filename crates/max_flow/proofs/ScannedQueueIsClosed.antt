@@ -2,7 +2,7 @@
 use Rattle.std.proofs.Common.{◌≡◌, ◌≢◌, ℕ, ◌+◌, ◌-◌, ◌≤◌, ◌<◌, eqb, true, false, List, length}
 use Rattle.std.proofs.Common.{slice_index, refl, sym, ap, ◌∙◌, subst, ⊎_elim, arith}
 use Rattle.std.proofs.lemmas.Bool.{cases_eq, cases_lt, ltb-true, lt-ltb, eq-eqb, ne_eqb, cond-true, cond-false}
-use Rattle.max_flow.specs.Networks.{Net, IsNet}
+use Rattle.max_flow.specs.Private.Networks.{Net, IsNet}
 use Rattle.max_flow.specs.Private.Rooms.{bound, IsClosed}
 use Rattle.max_flow.specs.Private.Adjacency.{IsLast, AreChains}
 use Rattle.max_flow.specs.Private.Searching.{IsFound, HasGrown, HasLeft, HasEntered, IsScanned, Reaches, is_found}

@@ -6,7 +6,7 @@ use Rattle.std.proofs.lemmas.Bool.{cases_eq, cases_lt, eq-eqb, ne_eqb, cond-true
 use Rattle.std.proofs.lemmas.Bool.{cond-false}
 use Rattle.std.proofs.lemmas.List.{length-set, get_or-set_same, get_or-set_other, get_or_append_left, get_or_push}
 use Rattle.std.proofs.lemmas.List.{length_push}
-use Rattle.max_flow.specs.Networks.{Net, sum_below, IsNet}
+use Rattle.max_flow.specs.Private.Networks.{Net, sum_below, IsNet}
 use Rattle.max_flow.specs.Private.Rooms.{bound, room_into, other_end, IsClosed}
 use Rattle.max_flow.specs.Private.Searching.{Arrives, IsFound, IsStart, unfound, HasGrown, Reaches}
 use Rattle.max_flow.proofs.Sums.{sum_changed}

@@ -2,7 +2,7 @@
 use Rattle.std.proofs.Common.{◌≡◌, ◌≢◌, ℕ, zero, suc, ◌+◌, ◌≤◌, ◌<◌, refl, sym, ap, ◌∙◌, ⊎_elim, arith}
 use Rattle.std.proofs.Common.{add-one}
 use Rattle.std.proofs.lemmas.Bool.{cases_eq}
-use Rattle.max_flow.specs.Networks.{sum_below}
+use Rattle.max_flow.specs.Private.Networks.{sum_below}
 
 pub sum_none : (f : ℕ → ℕ) → sum_below 0 f ≡ 0
 unfolding sum_below

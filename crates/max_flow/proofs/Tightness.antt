@@ -4,7 +4,7 @@ use Rattle.std.proofs.Common.{◌≡◌, ◌≢◌, ℕ, ◌+◌, ◌-◌, ◌^�
 use Rattle.std.proofs.Common.{true, false, List, length, slice_index, refl, sym, ap, ◌∙◌, ⊎_elim, arith}
 use Rattle.std.proofs.lemmas.Bool.{cases_eq, cases_lt, cases_Bool, lt-ltb, le-ltb, eq-eqb, ne_eqb, cond-true}
 use Rattle.std.proofs.lemmas.Bool.{cond-false}
-use Rattle.max_flow.specs.Networks.{Net, sum_below, IsNet, IsFlow, IsSide, source_flow, leaves, capacity_of}
+use Rattle.max_flow.specs.Private.Networks.{Net, sum_below, IsNet, IsFlow, IsSide, source_flow, leaves, capacity_of}
 use Rattle.max_flow.specs.Private.Rooms.{bound, IsClosed}
 use Rattle.max_flow.proofs.Sums.{sum_same, sum_add, sum_le, sum_tight, sum_item, sum_front}
 use Rattle.max_flow.proofs.Duality.{at_set, conserved}

@@ -4,7 +4,7 @@ use Rattle.std.proofs.Common.{length, set, slice_index, refl, sym, ap, ◌∙◌
 use Rattle.std.proofs.lemmas.Bool.{cases_eq, cases_lt, eq-eqb, ne_eqb, lt-ltb, le-ltb, cond-true, cond-false}
 use Rattle.std.proofs.lemmas.Bool.{cases_Bool}
 use Rattle.std.proofs.lemmas.List.{length-set, get_or-set_same, get_or-set_other}
-use Rattle.max_flow.specs.Networks.{Net, sum_below, at_node, IsNet, IsFlow, source_flow}
+use Rattle.max_flow.specs.Private.Networks.{Net, sum_below, at_node, IsNet, IsFlow, source_flow}
 use Rattle.max_flow.specs.Private.Rooms.{bound, IsBounded, room_into, other_end, pushed}
 use Rattle.max_flow.specs.Private.Searching.{Arrives, Carries, IsWalking, IsFound}
 use Rattle.max_flow.proofs.Sums.{sum_changed}

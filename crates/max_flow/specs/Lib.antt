@@ -1,4 +1,4 @@
-pub mod Networks
 pub mod Flows
+pub mod NodeNumbers
 pub mod Laws
 pub mod Private

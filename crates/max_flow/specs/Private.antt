@@ -1,4 +1,6 @@
 -- Definitions that only functions of this crate have in their contracts; no public contract stands on them.
+pub mod Networks
+pub mod GraphNetworks
 pub mod Rooms
 pub mod Adjacency
 pub mod Searching

@@ -1,5 +1,6 @@
 ghost use Rattle.std.specs.Prelude.{◌≡◌, ◌+◌, ◌<◌, ◌≤◌, length, slice_index, slice_set};
-ghost use Rattle.max_flow.specs.Networks.{AreAtMost, IsFlow, source_flow};
+ghost use Rattle.max_flow.specs.Flows.{AreAtMost};
+ghost use Rattle.max_flow.specs.Private.Networks.{IsFlow, source_flow};
 ghost use Rattle.max_flow.specs.Private.Rooms.{IsBounded, bound, other_end, pushed, room_into};
 ghost use Rattle.max_flow.specs.Private.Solving.{net_of, IsNetwork, IsTree};
 

@@ -1,6 +1,8 @@
 ghost use Rattle.std.specs.Prelude.{◌≡◌, ◌+◌, ◌*◌, ◌^◌, ◌<◌, ◌≤◌, ◌++◌, map, length, IfOk, OnOk, IsTrue};
 ghost use Rattle.std.specs.List.{list_all};
-ghost use Rattle.max_flow.specs.Flows.{IsWithinLimits, halves_from, head_of, is_small, network_of, tail_of};
+ghost use Rattle.max_flow.specs.Flows.{IsWithinLimits, is_small};
+ghost use Rattle.max_flow.specs.Private.GraphNetworks.{halves_from, network_of};
+ghost use Rattle.max_flow.specs.NodeNumbers.{head_of, tail_of};
 ghost use Rattle.max_flow.specs.Private.Rooms.{AreFew};
 ghost use Rattle.max_flow.specs.Private.Solving.{net_of, IsNetwork};
 

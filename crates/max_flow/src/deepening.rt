@@ -1,5 +1,6 @@
 ghost use Rattle.std.specs.Prelude.{◌≡◌, ◌+◌, ◌-◌, ◌<◌, ◌≤◌, length, slice_index, false, IfOk, OnOk};
-ghost use Rattle.max_flow.specs.Networks.{AreAtMost, IsFlow, source_flow};
+ghost use Rattle.max_flow.specs.Flows.{AreAtMost};
+ghost use Rattle.max_flow.specs.Private.Networks.{IsFlow, source_flow};
 ghost use Rattle.max_flow.specs.Private.Rooms.{HasSmallSide, IsBounded};
 ghost use Rattle.max_flow.specs.Private.Searching.{IsStart};
 ghost use Rattle.max_flow.specs.Private.Solving.{net_of, IsNetwork, IsRoomy, IsTree};

@@ -1,5 +1,5 @@
 ghost use Rattle.std.specs.Prelude.{◌≡◌, ℕ, ◌≤◌, ◌<◌, length, slice_index, IfOk, IfSome, true};
-ghost use Rattle.max_flow.specs.Networks.{AreAtMost};
+ghost use Rattle.max_flow.specs.Flows.{AreAtMost};
 ghost use Rattle.max_flow.specs.Private.Balances.{AreBalanced, AreSums, IsFlowOfValue};
 ghost use Rattle.max_flow.specs.Private.Solving.{net_of, IsNetwork};
 

@@ -1,5 +1,6 @@
 ghost use Rattle.std.specs.Prelude.{◌≡◌, ◌+◌, ◌<◌, ◌≤◌, length, slice_index, IfOk};
-ghost use Rattle.max_flow.specs.Networks.{AreAtMost, IsFlow, IsSide, source_flow, capacity_of};
+ghost use Rattle.max_flow.specs.Flows.{AreAtMost};
+ghost use Rattle.max_flow.specs.Private.Networks.{IsFlow, IsSide, source_flow, capacity_of};
 ghost use Rattle.max_flow.specs.Private.Rooms.{IsBounded, IsClosed, HasSmallSide, IsLeast};
 ghost use Rattle.max_flow.specs.Private.Searching.{is_found};
 ghost use Rattle.max_flow.specs.Private.Solving.{net_of, IsNetwork, IsTree, IsSearched, IsRaised};

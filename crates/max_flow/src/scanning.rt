@@ -1,5 +1,5 @@
 ghost use Rattle.std.specs.Prelude.{◌≡◌, ℕ, ◌+◌, ◌<◌, ◌≤◌, length, slice_index, true, OnOk};
-ghost use Rattle.max_flow.specs.Networks.{IsFlow};
+ghost use Rattle.max_flow.specs.Private.Networks.{IsFlow};
 ghost use Rattle.max_flow.specs.Private.Searching.{HasGrown, HasLeft, HasEntered, HasNoInflow, IsScanned};
 ghost use Rattle.max_flow.specs.Private.Solving.{net_of, IsNetwork, IsTree};
 

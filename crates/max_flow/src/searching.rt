@@ -1,6 +1,6 @@
 ghost use Rattle.std.specs.Prelude.{◌≡◌, ◌+◌, ◌-◌, ◌^◌, ◌<◌, ◌≤◌, ◌++◌, ◌∷◌, [], length, slice_index, slice_set, take, IfOk};
 ghost use Rattle.std.specs.Prelude.{OnOk};
-ghost use Rattle.max_flow.specs.Networks.{IsFlow};
+ghost use Rattle.max_flow.specs.Private.Networks.{IsFlow};
 ghost use Rattle.max_flow.specs.Private.Rooms.{IsClosed};
 ghost use Rattle.max_flow.specs.Private.Searching.{Reaches, HasGrown, is_found, IsStart};
 ghost use Rattle.max_flow.specs.Private.Solving.{net_of, IsNetwork, IsRoomy, IsTree};

@@ -1,5 +1,6 @@
 ghost use Rattle.std.specs.Prelude.{◌≡◌, ◌+◌, ◌*◌, ◌≤◌, map, length, IfOk, take, drop};
-ghost use Rattle.max_flow.specs.Flows.{has_first, has_second, marks};
+ghost use Rattle.max_flow.specs.Flows.{has_first, has_second};
+ghost use Rattle.max_flow.specs.Private.Marks.{marks};
 ghost use Rattle.max_flow.specs.Private.Searching.{is_found};
 ghost use Rattle.max_flow.specs.Private.Marks.{found_marks};
 

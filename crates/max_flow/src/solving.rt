@@ -1,5 +1,5 @@
 ghost use Rattle.std.specs.Prelude.{◌≡◌, IfOk};
-ghost use Rattle.max_flow.specs.Networks.{AreAtMost};
+ghost use Rattle.max_flow.specs.Flows.{AreAtMost};
 ghost use Rattle.max_flow.specs.Flows.{HasNoGreater, IsFlowOf, IsWithinLimits, Least, flow_value, side_capacity};
 
 use crate::answers::Solved;

@@ -1,6 +1,7 @@
 -- What a look over a flow finds.
 use Rattle.std.specs.Prelude.{◌≡◌, ℕ, ◌≤◌, ◌<◌, ◌==◌, cond, List, length, slice_index}
-use Rattle.max_flow.specs.Networks.{Net, IsFlow, AreAtMost, sum_below, source_flow}
+use Rattle.max_flow.specs.Private.Networks.{Net, IsFlow, sum_below, source_flow}
+use Rattle.max_flow.specs.Flows.{AreAtMost}
 use Rattle.max_flow.specs.Private.Rooms.{IsBounded}
 
 -- the sum of those of the first n numbers whose key is this node

@@ -1,7 +1,7 @@
 -- How much more an edge can bring, and what sets no more flow leaves.
 use Rattle.std.specs.Prelude.{◌≡◌, ℕ, ◌+◌, ◌-◌, ◌^◌, ◌≤◌, ◌<◌, ◌==◌, nat_lt, cond, Bool, true}
 use Rattle.std.specs.Prelude.{List, length, slice_index}
-use Rattle.max_flow.specs.Networks.{Net, IsSide, capacity_of}
+use Rattle.max_flow.specs.Private.Networks.{Net, IsSide, capacity_of}
 
 -- how much an edge can hold at most: an open one as much as a number can
 unfoldable pub bound : List ℕ → ℕ → ℕ

@@ -1,7 +1,8 @@
 -- A search from the source over edges with room: which nodes are found, in which order, and over which edges.
 use Rattle.std.specs.Prelude.{◌≡◌, ℕ, ◌+◌, ◌-◌, ◌≤◌, ◌<◌, ◌≢◌, ◌==◌, nat_lt, cond, Bool, true}
 use Rattle.std.specs.Prelude.{List, [], ◌∷◌, length, slice_index}
-use Rattle.max_flow.specs.Networks.{Net, at_node, sum_below, AreAtMost}
+use Rattle.max_flow.specs.Private.Networks.{Net, at_node, sum_below}
+use Rattle.max_flow.specs.Flows.{AreAtMost}
 use Rattle.max_flow.specs.Private.Rooms.{bound, room_into, other_end, IsBounded, IsClosed}
 
 -- how a node other than the source was found

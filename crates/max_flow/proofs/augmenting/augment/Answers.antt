@@ -1,5 +1,5 @@
 use Rattle.std.proofs.Common.{◌≡◌, ◌≢◌, ◌+◌}
-use Rattle.max_flow.specs.Networks.{source_flow}
+use Rattle.max_flow.specs.Private.Networks.{source_flow}
 use Rattle.max_flow.specs.Private.Solving.{net_of}
 use Rattle.max_flow.proofs.WalksBack.{walking_first, walking_on, walked_flow, walked_value}
 use Rattle.max_flow.proofs.Amounts.{raising_first, raising_on, raised_most}

@@ -1,6 +1,6 @@
 use Rattle.std.proofs.Common.{arith}
 use Rattle.std.proofs.lemmas.Grind.{common_steps}
-use Rattle.max_flow.specs.Flows.{halves_from}
+use Rattle.max_flow.specs.Private.GraphNetworks.{halves_from}
 use Rattle.max_flow.proofs.Graphs.{halves_more}
 use Rattle.max_flow.proofs.building.halves.Goals as goal
 

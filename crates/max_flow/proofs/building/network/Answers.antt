@@ -1,7 +1,7 @@
 use Rattle.std.proofs.Common.{◌≡◌, ◌+◌, ◌∙◌, length, refl, arith}
-use Rattle.max_flow.specs.Flows.{network_of}
-use Rattle.max_flow.proofs.Graphs.{graph_net}
-use Rattle.max_flow.proofs.GraphAnswers.{edges_count, limits_fit}
+use Rattle.max_flow.specs.Private.GraphNetworks.{network_of}
+use Rattle.max_flow.proofs.Graphs.{edges_count, graph_net}
+use Rattle.max_flow.proofs.GraphAnswers.{limits_fit}
 use Rattle.max_flow.proofs.building.network.Goals as goal
 
 pub chains_of-requires-clause-few : goal.chains_of-requires-clause-few

@@ -1,5 +1,5 @@
 use Rattle.std.proofs.Common.{◌<◌, ◌-◌, ◌^◌, arith, subst}
-use Rattle.max_flow.specs.Networks.{source_flow}
+use Rattle.max_flow.specs.Private.Networks.{source_flow}
 use Rattle.max_flow.specs.Private.Searching.{IsStart}
 use Rattle.max_flow.specs.Private.Solving.{net_of}
 use Rattle.max_flow.proofs.SearchSteps.{found_first}

@@ -1,5 +1,5 @@
 use Rattle.std.proofs.Common.{◌<◌, ◌-◌, ◌^◌, arith}
-use Rattle.max_flow.specs.Networks.{source_flow}
+use Rattle.max_flow.specs.Private.Networks.{source_flow}
 use Rattle.max_flow.specs.Private.Solving.{net_of}
 use Rattle.max_flow.proofs.FirstAndLastFlows.{value_small}
 use Rattle.max_flow.proofs.raising.raise.Goals as goal

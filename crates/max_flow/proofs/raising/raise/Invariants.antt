@@ -1,5 +1,6 @@
 use Rattle.std.proofs.Common.{◌≡◌, ◌-◌, ◌^◌, slice_index}
-use Rattle.max_flow.specs.Networks.{AreAtMost, IsFlow, source_flow}
+use Rattle.max_flow.specs.Flows.{AreAtMost}
+use Rattle.max_flow.specs.Private.Networks.{IsFlow, source_flow}
 use Rattle.max_flow.specs.Private.Rooms.{IsBounded, IsClosed}
 use Rattle.max_flow.specs.Private.Searching.{is_found}
 use Rattle.max_flow.specs.Private.Solving.{net_of, IsTree}

@@ -1,5 +1,5 @@
 use Rattle.std.proofs.Common.{◌≡◌, length}
-use Rattle.max_flow.specs.Flows.{marks}
+use Rattle.max_flow.specs.Private.Marks.{marks}
 use Rattle.max_flow.specs.Private.Marks.{found_marks}
 use Rattle.max_flow.proofs.sides.found_halves.Given as goal
 

@@ -1,13 +1,15 @@
 use Rattle.std.proofs.Common.{◌≡◌, length, sym, ap, ◌∙◌, subst}
 use Rattle.std.proofs.lemmas.List.{length-map}
-use Rattle.max_flow.specs.Networks.{IsFlow, IsSide, source_flow, capacity_of}
+use Rattle.max_flow.specs.Private.Networks.{IsFlow, IsSide, source_flow, capacity_of}
 use Rattle.max_flow.specs.Private.Rooms.{HasSmallSide, IsLeast}
-use Rattle.max_flow.specs.Flows.{network_of}
+use Rattle.max_flow.specs.Private.GraphNetworks.{network_of}
 use Rattle.max_flow.specs.Private.Searching.{is_found}
 use Rattle.max_flow.specs.Private.Solving.{net_of}
 use Rattle.max_flow.proofs.SmallSides.{small_side}
-use Rattle.max_flow.proofs.FoundNodesAreMembers.{IsMade, made_capacity}
-use Rattle.max_flow.proofs.GraphAnswers.{edges_count, flow_from, front_most, back_most, least_from, greatest_from}
+use Rattle.max_flow.proofs.FoundNodesAreMembers.{IsMade}
+use Rattle.max_flow.proofs.Graphs.{edges_count}
+use Rattle.max_flow.proofs.GraphAnswers.{back_most, capacity_from, flow_from, front_most, greatest_from, least_from}
+use Rattle.max_flow.proofs.GraphAnswers.{value_from}
 use Rattle.max_flow.proofs.solving.solve.Goals as goal
 
 pub solve_network-requires-clause-small : goal.solve_network-requires-clause-small
@@ -28,6 +30,17 @@ returns-clause-flow c =
     subst (λ n. IsFlow n c.in_ok-value.field-0.flows.items) e c.in_ok-value.ensures.flow in
     flow_from c.args.graph.now c.in_ok-value.field-0.flows.items _ _ flow c.in_ok-flow.ensures.points
     c.in_ok-flow.ensures.links
+
+pub returns-clause-value : goal.returns-clause-value
+returns-clause-value c =
+    let e : net_of c.in_ok-network.network ≡ network_of c.args.graph.now = c.in_ok-network.ensures.net in
+    let flow : IsFlow (network_of c.args.graph.now) c.in_ok-value.field-0.flows.items =
+    subst (λ n. IsFlow n c.in_ok-value.field-0.flows.items) e c.in_ok-value.ensures.flow in
+    let value : source_flow (network_of c.args.graph.now) c.in_ok-value.field-0.flows.items ≡ c.in_ok-value.field-0.value
+    = subst (λ n. source_flow n c.in_ok-value.field-0.flows.items ≡ c.in_ok-value.field-0.value) e
+    c.in_ok-value.ensures.value in
+    value_from c.args.graph.now c.in_ok-value.field-0.flows.items _ _ flow c.in_ok-flow.ensures.points
+    c.in_ok-flow.ensures.links ∙ value
 
 pub returns-clause-points : goal.returns-clause-points
 returns-clause-points c = front_most c.in_ok-value.field-0.value (length c.args.graph.now.points)
@@ -65,7 +78,8 @@ returns-clause-side c =
     } in
     least_from c.args.graph.now c.in_ok-value.field-0.value c.in_ok-value.field-0.flows.items
     c.in_ok-value.field-0.places.items c.in_ok-side.side.points c.in_ok-side.side.relays flow value made
-    c.in_ok-side.ensures.points_count (ap length made.relays ∙ length-map c.args.graph.now.relays _) side capacity least
+    c.in_ok-side.ensures.points_count (ap length made.relays ∙ length-map c.args.graph.now.relays _)
+    (c.in_ok-value.ensures.count ∙ ap (λ n. n.nodes) e) side capacity least
 
 pub returns-clause-capacity : goal.returns-clause-capacity
 returns-clause-capacity c =
@@ -82,8 +96,8 @@ returns-clause-capacity c =
       source = side.source;
       sink = side.sink;
     } in
-    made_capacity c.args.graph.now c.in_ok-value.field-0.places.items c.in_ok-side.side.points
-    c.in_ok-side.side.relays made ∙ capacity
+    capacity_from c.args.graph.now c.in_ok-value.field-0.value c.in_ok-value.field-0.places.items
+    c.in_ok-side.side.points c.in_ok-side.side.relays made c.in_ok-side.ensures.points_count capacity
 
 pub returns-clause-greatest : goal.returns-clause-greatest
 returns-clause-greatest c =

@@ -1,6 +1,5 @@
--- A network: nodes by number, 0 the source and 1 the sink, and edges between them by index. The first edges have
--- limits;
--- the others are open, which means without a bound.
+-- A network: nodes by number, 0 the source and 1 the sink, and edges between them by index. The first edges have limits,
+-- and the others are open, which means without a bound.
 use Rattle.std.specs.Prelude.{◌≡◌, ℕ, zero, suc, ◌+◌, ◌≤◌, ◌<◌, ◌≢◌, ◌==◌, ◌&&◌, cond, not, Bool, true, false}
 use Rattle.std.specs.Prelude.{List, length, slice_index}
 
@@ -34,10 +33,6 @@ pub record IsFlow (net : Net) (flow : List ℕ) : Type 0 where
   pub count : length flow ≡ length net.tails
   pub within : (i : ℕ) → i < length net.limits → slice_index flow i ≤ slice_index net.limits i
   pub balanced : (v : ℕ) → 2 ≤ v → v < net.nodes → at_node net.heads flow v ≡ at_node net.tails flow v
-
--- no number of a list exceeds this one
-abbrev pub AreAtMost : ℕ → List ℕ → Type 0
-AreAtMost most numbers = (i : ℕ) → slice_index numbers i ≤ most
 
 -- what flows out of the source
 abbrev pub source_flow : Net → List ℕ → ℕ
