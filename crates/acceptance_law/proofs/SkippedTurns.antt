@@ -43,6 +43,7 @@ use Rattle.acceptance_law.proofs.StepsKeepStanding.{proper_turn}
 use Rattle.acceptance_law.proofs.SkipsKeepRelation.{SkippedTo, skip_kept}
 use Rattle.acceptance_law.proofs.Unchanged.{declared, SamePlace}
 use Rattle.acceptance_law.proofs.QuietInsideRegions.{SameInside, step_quiet}
+use Rattle.acceptance_law.proofs.SlotsInsideRegions.{step_slots}
 use Rattle.std.proofs.lemmas.Bool.{eqb-true}
 use Rattle.flow_base.specs.Listed.{is_listed}
 
@@ -264,6 +265,7 @@ module _ (side : NamedSide) (skip : List ℕ) (regions : List Region) (masks : M
       at.to.limits at.to.label_limits sound in
       let on : has_exited control.mode ≡ false = ap (λ m. has_exited m) at.ran in
       let quiet = step_quiet region real.kept control.pc (state_of setting secret control real) on unbroken in
+      let slots = step_slots region real.kept control.pc (state_of setting secret control real) unbroken in
       let here : control.region ≡ region.id = at.quiet.region ∙ region_of_entered region.id entered_by in
       let stands : is_listed skip control.region ≡ true = subst (λ r. is_listed skip r ≡ true) (sym here) at.skipped in
       record {
@@ -271,7 +273,7 @@ module _ (side : NamedSide) (skip : List ℕ) (regions : List Region) (masks : M
         before = at.before;
         entry = at.entry;
         beside = at.beside;
-        counts = λ p never. at.counts p never ∙ sym (alone.inner skip stands all p never);
+        counts = λ p never. at.counts p never ∙ sym (alone.inner skip stands slots all p never);
         skipped = at.skipped;
         numbered = subst (λ r. region_numbered regions r ≡ Some region) (sym alone.ends.same_region) at.numbered;
         to = record {
