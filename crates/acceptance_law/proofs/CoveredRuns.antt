@@ -16,7 +16,7 @@ use Rattle.lockstep_replay.proofs.RunsGrow.{cross_grows}
 use Rattle.run_labels.specs.Runs.{run_after, unlabelled}
 use Rattle.acceptance_law.specs.Laws.{CoveredLaw}
 use Rattle.acceptance_law.proofs.CoveredRunAccepted.{zero_bytes, length_zeros, follows_at, exits_alike}
-use Rattle.acceptance_law.proofs.GraphEvents.{named-closed}
+use Rattle.acceptance_law.proofs.GraphEvents.{named_closed}
 use Rattle.acceptance_law.proofs.GraphTurns.{run_named}
 use Rattle.acceptance_law.proofs.ProperRows.{proper_law}
 use Rattle.acceptance_law.proofs.ProperRuns.{proper_events_law}
@@ -40,7 +40,7 @@ covered_law program public_input regions secret cut side answers budget turns ou
     let known : Premises side cut.skip regions masks setting secret first store answers = record {
       sound = measured.sound;
       unrefused = measured.unrefused;
-      closed = named-closed side [] events (run_named regions answers place orderly).0 covers.closed;
+      closed = named_closed side [] events (run_named regions answers place orderly).0 covers.closed;
       contained = covers.contains;
     } in
     let facts = run_facts side cut.skip regions masks setting secret first store answers known in

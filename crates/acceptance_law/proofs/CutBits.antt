@@ -14,7 +14,7 @@ use Rattle.cut_file.specs.Cuts.{CutPicture, has_slot}
 use Rattle.flow_base.specs.PointOrders.{is_same}
 use Rattle.flow_graph.specs.declared.events.Event.{Event}
 use Rattle.flow_graph.specs.declared.events.Event.TheVariants.{Pass, Link, FromSecret, Implicit, Out}
-use Rattle.flow_graph.proofs.MaskBitCounts.{bit_count-zero}
+use Rattle.flow_graph.proofs.MaskBitCounts.{bit_count_zero}
 use Rattle.lockstep_replay.specs.Crossing.{crossing}
 use Rattle.region_machine.specs.Runs.{passed}
 use Rattle.replay_machine.specs.Runs.{Masks, times_passed, mask_at}
@@ -26,9 +26,9 @@ use Rattle.acceptance_law.specs.Sides.{NamedSide, is_split}
 use Rattle.acceptance_law.specs.RunCuts.{is_inner, names_point, mask_at_event, visit_masks, HasVisitMasks}
 use Rattle.acceptance_law.specs.ClosedEvents.{IsProperEvent, AreProperEvents}
 use Rattle.acceptance_law.specs.GraphLaws.{split_bits}
-use Rattle.acceptance_law.proofs.CutInner.{AreInnerEvents, events-elsewhere, flows-none}
-use Rattle.acceptance_law.proofs.CutVisits.{IsLike, visit_masks-append, visit_more, like-exact}
-use Rattle.acceptance_law.proofs.GraphEvents.{all-parts}
+use Rattle.acceptance_law.proofs.CutInner.{AreInnerEvents, events_elsewhere, flows_none}
+use Rattle.acceptance_law.proofs.CutVisits.{IsLike, visit_masks_append, visit_more, like_exact}
+use Rattle.acceptance_law.proofs.GraphEvents.{all_parts}
 use Rattle.acceptance_law.proofs.Turns.{NoPass, NoPasses}
 
 -- ---- the visits of the points that are no inner ones
@@ -38,50 +38,50 @@ CountsOutside skip past seen =
     (point : Point) → is_inner skip point ≡ false → is_slot point.slot ≡ true →
     times_passed point past ≡ length (visit_masks point seen)
 
-no-mask : (point : Point) (event : Event) → NoPass event → mask_at_event point event ≡ []
-no-mask point (Pass other mask) none = absurd none
-no-mask point (Link source target) none = refl
-no-mask point (FromSecret other) none = refl
-no-mask point (Implicit other region) none = refl
-no-mask point (Out region other) none = refl
+no_mask : (point : Point) (event : Event) → NoPass event → mask_at_event point event ≡ []
+no_mask point (Pass other mask) none = absurd none
+no_mask point (Link source target) none = refl
+no_mask point (FromSecret other) none = refl
+no_mask point (Implicit other region) none = refl
+no_mask point (Out region other) none = refl
 
-no-visits : (point : Point) (events : List Event) → NoPasses events → visit_masks point events ≡ []
+no_visits : (point : Point) (events : List Event) → NoPasses events → visit_masks point events ≡ []
 unfolding visit_masks
-no-visits point [] none = refl
-no-visits point (event ∷ events) none =
-    ap (λ masks. masks ++ visit_masks point events) (no-mask point event none.0) ∙ no-visits point events none.1
+no_visits point [] none = refl
+no_visits point (event ∷ events) none =
+    ap (λ masks. masks ++ visit_masks point events) (no_mask point event none.0) ∙ no_visits point events none.1
 
-no-split : (side : NamedSide) (event : Event) → NoPass event → split_bits side event ≡ 0
-no-split side (Pass point mask) none = absurd none
-no-split side (Link source target) none = refl
-no-split side (FromSecret point) none = refl
-no-split side (Implicit point region) none = refl
-no-split side (Out region point) none = refl
+no_split : (side : NamedSide) (event : Event) → NoPass event → split_bits side event ≡ 0
+no_split side (Pass point mask) none = absurd none
+no_split side (Link source target) none = refl
+no_split side (FromSecret point) none = refl
+no_split side (Implicit point region) none = refl
+no_split side (Out region point) none = refl
 
 -- the visits of a passing with its flows
-visits-of : (point other : Point) (mask : ℕ) (flows : List Event) → NoPasses flows →
+visits_of : (point other : Point) (mask : ℕ) (flows : List Event) → NoPasses flows →
     visit_masks point (Pass other mask ∷ flows) ≡ cond (is_same point other) (mask ∷ []) []
 unfolding visit_masks
-visits-of point other mask flows none =
-    ap (λ masks. cond (is_same point other) (mask ∷ []) [] ++ masks) (no-visits point flows none)
+visits_of point other mask flows none =
+    ap (λ masks. cond (is_same point other) (mask ∷ []) [] ++ masks) (no_visits point flows none)
     ∙ append-nil (cond (is_same point other) (mask ∷ []) [])
 
-counts-passing : (skip : List ℕ) (past : List Point) (seen flows : List Event) (other : Point) (mask : ℕ) →
+counts_passing : (skip : List ℕ) (past : List Point) (seen flows : List Event) (other : Point) (mask : ℕ) →
     is_slot other.slot ≡ true → NoPasses flows → CountsOutside skip past seen →
     CountsOutside skip (other ∷ past) (seen ++ (Pass other mask ∷ flows))
-counts-passing skip past seen flows other mask known none counts =
+counts_passing skip past seen flows other mask known none counts =
     λ point outside slot.
     visit_more other point mask (times_passed point past) (visit_masks point seen) known slot
     (counts point outside slot)
-    ∙ ap length (sym (visit_masks-append point seen (Pass other mask ∷ flows)
-    ∙ ap (λ masks. visit_masks point seen ++ masks) (visits-of point other mask flows none)))
+    ∙ ap length (sym (visit_masks_append point seen (Pass other mask ∷ flows)
+    ∙ ap (λ masks. visit_masks point seen ++ masks) (visits_of point other mask flows none)))
 
-pub counts-inner : (skip : List ℕ) (past : List Point) (seen more : List Event) → AreInnerEvents skip more →
+pub counts_inner : (skip : List ℕ) (past : List Point) (seen more : List Event) → AreInnerEvents skip more →
     CountsOutside skip past seen → CountsOutside skip past (seen ++ more)
-counts-inner skip past seen more inner counts =
+counts_inner skip past seen more inner counts =
     λ point outside slot. counts point outside slot
-    ∙ ap length (sym (visit_masks-append point seen more
-    ∙ ap (λ masks. visit_masks point seen ++ masks) (events-elsewhere skip point more outside slot inner)
+    ∙ ap length (sym (visit_masks_append point seen more
+    ∙ ap (λ masks. visit_masks point seen ++ masks) (events_elsewhere skip point more outside slot inner)
     ∙ append-nil (visit_masks point seen)))
 
 -- ---- one turn
@@ -90,16 +90,16 @@ module _ (side : NamedSide) (cut : CutPicture)
     (points : (point : Point) → names_point cut.points point ≡ (is_split side point && not (is_inner cut.skip point)))
     (slots : list_all has_slot cut.points ≡ true) (masks : Masks) (like : IsLike cut.points masks) where
   -- the bits that cross at one visit
-  visit-bits : (seen rest : List Event) (past : List Point) (point : Point) (mask value : ℕ) →
+  visit_bits : (seen rest : List Event) (past : List Point) (point : Point) (mask value : ℕ) →
       AllByRecursion (HasVisitMasks (seen ++ (Pass point mask ∷ rest))) cut.points → IsProperEvent (Pass point mask) →
       CountsOutside cut.skip past seen →
       length (bits_under value (mask_at masks past point)) ≤ split_bits side (Pass point mask)
-  visit-bits seen rest past point mask value have proper counts = elim (cases_Bool (names_point cut.points point)) [
+  visit_bits seen rest past point mask value have proper counts = elim (cases_Bool (names_point cut.points point)) [
     | inl named ↦
         let both = and_parts (is_split side point) (not (is_inner cut.skip point)) (sym (points point) ∙ named) in
-        let outside : is_inner cut.skip point ≡ false = not-true (is_inner cut.skip point) both.1 in
+        let outside : is_inner cut.skip point ≡ false = false_if_not (is_inner cut.skip point) both.1 in
         let exact : mask_at masks past point ≡ mask =
-        like-exact cut.points masks like seen rest past point mask have slots proper (counts point outside proper.1) named in
+        like_exact cut.points masks like seen rest past point mask have slots proper (counts point outside proper.1) named in
         let bits : length (bits_under value (mask_at masks past point)) ≡ bit_count mask =
         length_bits_under value (mask_at masks past point) ∙ ap (λ m. bit_count m) exact in
         let all : cond (is_split side point) (bit_count mask) 0 ≡ bit_count mask =
@@ -110,19 +110,19 @@ module _ (side : NamedSide) (cut : CutPicture)
         like.missing point (suc (times_passed point past)) proper.1 other in
         let bits : length (bits_under value (mask_at masks past point)) ≡ 0 =
         length_bits_under value (mask_at masks past point) ∙ ap (λ m. bit_count m) none
-        ∙ bit_count-zero in
+        ∙ bit_count_zero in
         omega (arith, bits)
   ]
     where
-      not-true : (b : Bool) → not b ≡ true → b ≡ false
-      not-true true e = absurd (cc)
-      not-true false e = refl
+      false_if_not : (b : Bool) → not b ≡ true → b ≡ false
+      false_if_not true e = absurd (cc)
+      false_if_not false e = refl
 
   split-flows : (events : List Event) → NoPasses events → sum_by (split_bits side) events ≡ 0
   split-flows [] none = omega arith
   split-flows (event ∷ events) none =
       let all = sum_by-cons (split_bits side) event events in
-      let here = no-split side event none.0 in
+      let here = no_split side event none.0 in
       let rest = split-flows events none.1 in omega (arith, all, here, rest)
 
   -- what holds of a turn, walked after these points and events
@@ -143,21 +143,21 @@ module _ (side : NamedSide) (cut : CutPicture)
       let point = passing.point in
       let mask = mask_of labels (first_of answers) passing in
       let flows : List Event = if mask == 0 then [] else flow_events labels passing in
-      let none = flows-none labels passing (mask == 0) in
+      let none = flows_none labels passing (mask == 0) in
       let next = labels_after labels (first_of answers) passing in
       let later = answers_after passing.work answers in
       let here = passing_events labels (first_of answers) passing in
       let others = events_in next later (go passing.value) in
-      let parts = all-parts IsProperEvent here others proper in
+      let parts = all_parts IsProperEvent here others proper in
       let whole : seen ++ ((here ++ others) ++ more) ≡ (seen ++ here) ++ (others ++ more) =
       ap (λ es. seen ++ es) (append_assoc here others more) ∙ sym (append_assoc seen here (others ++ more)) in
       let first : seen ++ ((here ++ others) ++ more) ≡ seen ++ (Pass point mask ∷ (flows ++ (others ++ more))) =
       ap (λ es. seen ++ es) (append_assoc here others more) in
-      let bits = visit-bits seen (flows ++ (others ++ more)) past point mask passing.value
+      let bits = visit_bits seen (flows ++ (others ++ more)) past point mask passing.value
       (subst (λ es. AllByRecursion (HasVisitMasks es) cut.points) first have) parts.0.0 counts in
       let rest = turn-crosses (seen ++ here) more (point ∷ past) next later (go passing.value)
       (subst (λ es. AllByRecursion (HasVisitMasks es) cut.points) whole have) parts.1
-      (counts-passing cut.skip past seen flows point mask parts.0.0.1 none counts) in
+      (counts_passing cut.skip past seen flows point mask parts.0.0.1 none counts) in
       let sum : sum_by (split_bits side) (here ++ others)
       ≡ sum_by (split_bits side) here + sum_by (split_bits side) others =
       sum_by-append (split_bits side) here others in

@@ -7,7 +7,7 @@ use Rattle.std.proofs.lemmas.Bool.{and_from, cases_Bool, cond-false}
 use Rattle.flow_base.specs.declared.points.Point.{Point}
 use Rattle.flow_base.specs.Points.{is_slot}
 use Rattle.flow_base.specs.PointOrders.{is_same}
-use Rattle.flow_base.proofs.PointOrders.{same-one}
+use Rattle.flow_base.proofs.PointOrders.{one_if_same}
 use Rattle.flow_graph.specs.declared.events.Event.{Event}
 use Rattle.flow_graph.specs.declared.events.Event.TheVariants.{Pass, Link, FromSecret, Implicit, Out}
 use Rattle.rv32im_machine.specs.declared.language.Aim.TheVariants.{Put, Decide}
@@ -22,9 +22,9 @@ use Rattle.run_labels.specs.Masks.{masks_of, work_mask, mask_of, answers_after, 
 use Rattle.run_labels.specs.Flowing.{flow_events, passing_events, events_in, sources_events, aim_events}
 use Rattle.acceptance_law.specs.RunCuts.{is_inner, is_instruction_slot, mask_at_event, visit_masks}
 use Rattle.acceptance_law.specs.Proper.{AreBytes, IsProper}
-use Rattle.acceptance_law.proofs.GraphEvents.{all-append, all_more}
+use Rattle.acceptance_law.proofs.GraphEvents.{all_append, all_more}
 use Rattle.acceptance_law.proofs.Passings.{made_fits, slot_word}
-use Rattle.acceptance_law.proofs.ProperTurns.{HasLimits, put-limits, moved-value, inner-slot}
+use Rattle.acceptance_law.proofs.ProperTurns.{HasLimits, limits_put, moved-value, inner_slot}
 use Rattle.acceptance_law.proofs.SlotsInsideRegions.{WalkSlots}
 use Rattle.acceptance_law.proofs.Turns.{NoPass, NoPasses, none_append, none_sources, none_aim, seen_word}
 use Rattle.flow_base.specs.Listed.{is_listed}
@@ -41,32 +41,32 @@ IsInnerEvent skip (Out region point) = Unit {0}
 abbrev pub AreInnerEvents : List ℕ → List Event → Type 0
 AreInnerEvents skip events = AllByRecursion (IsInnerEvent skip) events
 
-none-inner : (skip : List ℕ) (event : Event) → NoPass event → IsInnerEvent skip event
-none-inner skip (Pass point mask) none = absurd none
-none-inner skip (Link source target) none = tt
-none-inner skip (FromSecret point) none = tt
-none-inner skip (Implicit point region) none = tt
-none-inner skip (Out region point) none = tt
+none_inner : (skip : List ℕ) (event : Event) → NoPass event → IsInnerEvent skip event
+none_inner skip (Pass point mask) none = absurd none
+none_inner skip (Link source target) none = tt
+none_inner skip (FromSecret point) none = tt
+none_inner skip (Implicit point region) none = tt
+none_inner skip (Out region point) none = tt
 
-pub flows-none : (labels : TurnLabels) (passing : Passing) (test : Bool) →
+pub flows_none : (labels : TurnLabels) (passing : Passing) (test : Bool) →
     NoPasses (if test then [] else flow_events labels passing)
-flows-none labels passing true = tt
-flows-none labels passing false =
+flows_none labels passing true = tt
+flows_none labels passing false =
     none_append (sources_events labels passing.point passing.sources) (aim_events passing.point passing.aim)
     (none_sources labels passing.point passing.sources) (none_aim passing.point passing.aim)
 
-passing-inner : (skip : List ℕ) (labels : TurnLabels) (answer : ℕ) (passing : Passing) →
+passing_inner : (skip : List ℕ) (labels : TurnLabels) (answer : ℕ) (passing : Passing) →
     is_inner skip passing.point ≡ true → is_slot passing.point.slot ≡ true →
     AreInnerEvents skip (passing_events labels answer passing)
-passing-inner skip labels answer passing inner slot = (
+passing_inner skip labels answer passing inner slot = (
   (inner, slot),
-  all_more NoPass (IsInnerEvent skip) (λ event none. none-inner skip event none) _
-      (flows-none labels passing (mask_of labels answer passing == 0)),
+  all_more NoPass (IsInnerEvent skip) (λ event none. none_inner skip event none) _
+      (flows_none labels passing (mask_of labels answer passing == 0)),
 )
 
-point-inner : (skip : List ℕ) (region : ℕ) (point : Point) → is_listed skip region ≡ true → point.region ≡ region →
+point_inner : (skip : List ℕ) (region : ℕ) (point : Point) → is_listed skip region ≡ true → point.region ≡ region →
     is_instruction_slot point.slot ≡ true → is_inner skip point ≡ true
-point-inner skip region point stands inside slot =
+point_inner skip region point stands inside slot =
     and_from (is_listed skip point.region) (is_instruction_slot point.slot) (ap (is_listed skip) inside ∙ stands) slot
 
 -- the turn of an instruction in a skipped region passes such points alone, where it is no call
@@ -86,23 +86,23 @@ module _ (setting : Setting) (secret : List ℕ) (bytes : AreBytes secret) (skip
       let value = made_fits setting secret bytes store held has.places point making sources proper.0.named
       proper.0.fits in
       let width = proper.1.1 in
-      all-append (IsInnerEvent skip)
+      all_append (IsInnerEvent skip)
       (passing_events labels (first_of answers) (passing point (Put place) making sources values)) _
-      (passing-inner skip labels (first_of answers) (passing point (Put place) making sources values)
-      (point-inner skip region point stands proper.0.inside slots.0)
-      (inner-slot point.slot proper.0.no_output))
+      (passing_inner skip labels (first_of answers) (passing point (Put place) making sources values)
+      (point_inner skip region point stands proper.0.inside slots.0)
+      (inner_slot point.slot proper.0.no_output))
       (turn-inner turn (put_label place (label_of mask point) labels) (answers_after (work_of making values) answers)
       (put setting.base place (made making values) store) (hold place (made making values) held) proper.2
-      (put-limits setting.base place (made making values) store held (omega (arith, value, width)) has) slots.1)
+      (limits_put setting.base place (made making values) store held (omega (arith, value, width)) has) slots.1)
   turn-inner (Decides point making sources go) labels answers store held proper has slots =
       let values = values_of setting secret store held sources in
       let value = made_fits setting secret bytes store held has.places point making sources proper.0.named
       proper.0.fits in
-      all-append (IsInnerEvent skip)
+      all_append (IsInnerEvent skip)
       (passing_events labels (first_of answers) (passing point Decide making sources values)) _
-      (passing-inner skip labels (first_of answers) (passing point Decide making sources values)
-      (point-inner skip region point stands proper.0.inside slots.0)
-      (inner-slot point.slot proper.0.no_output))
+      (passing_inner skip labels (first_of answers) (passing point Decide making sources values)
+      (point_inner skip region point stands proper.0.inside slots.0)
+      (inner_slot point.slot proper.0.no_output))
       (turn-inner (go (made making values)) labels (answers_after (work_of making values) answers) store held
       (proper.1 (made making values) (slot_word point.slot (made making values) value)) has slots.1)
   turn-inner (Gives point place turn) labels answers store held proper has slots = absurd proper
@@ -110,7 +110,7 @@ module _ (setting : Setting) (secret : List ℕ) (bytes : AreBytes secret) (skip
       let value = shaped shape (value_of setting secret store held source ∷ []) in
       turn-inner turn (put_label place (moved_label labels shape source) labels) answers
       (put setting.base place value store) (hold place value held) proper.1
-      (put-limits setting.base place value store held
+      (limits_put setting.base place value store held
       (moved-value setting secret bytes store held place shape source has proper.0) has) slots
   turn-inner (Saves turn) labels answers store held proper has slots = absurd proper
   turn-inner (Restores registers turn) labels answers store held proper has slots = absurd proper
@@ -118,26 +118,26 @@ module _ (setting : Setting) (secret : List ℕ) (bytes : AreBytes secret) (skip
 
 -- ---- they are no visits of other points
 
-same-inner : (skip : List ℕ) (p q : Point) → is_same p q ≡ true → is_inner skip p ≡ is_inner skip q
-same-inner skip p q same = ap (is_inner skip) (same-one p q same)
+same_inner : (skip : List ℕ) (p q : Point) → is_same p q ≡ true → is_inner skip p ≡ is_inner skip q
+same_inner skip p q same = ap (is_inner skip) (one_if_same p q same)
 
-event-elsewhere : (skip : List ℕ) (point : Point) (event : Event) → is_inner skip point ≡ false →
+event_elsewhere : (skip : List ℕ) (point : Point) (event : Event) → is_inner skip point ≡ false →
     is_slot point.slot ≡ true → IsInnerEvent skip event → mask_at_event point event ≡ []
-event-elsewhere skip point (Pass other mask) outside slot inner = elim (cases_Bool (is_same point other)) [
+event_elsewhere skip point (Pass other mask) outside slot inner = elim (cases_Bool (is_same point other)) [
   | inl same ↦
-      let alike = same-inner skip point other same in
+      let alike = same_inner skip point other same in
       let no : false ≡ true = sym outside ∙ alike ∙ inner.0 in absurd (cc)
   | inr apart ↦ cond-false (is_same point other) (mask ∷ []) [] apart
 ]
-event-elsewhere skip point (Link source target) outside slot inner = refl
-event-elsewhere skip point (FromSecret other) outside slot inner = refl
-event-elsewhere skip point (Implicit other region) outside slot inner = refl
-event-elsewhere skip point (Out region other) outside slot inner = refl
+event_elsewhere skip point (Link source target) outside slot inner = refl
+event_elsewhere skip point (FromSecret other) outside slot inner = refl
+event_elsewhere skip point (Implicit other region) outside slot inner = refl
+event_elsewhere skip point (Out region other) outside slot inner = refl
 
-pub events-elsewhere : (skip : List ℕ) (point : Point) (events : List Event) → is_inner skip point ≡ false →
+pub events_elsewhere : (skip : List ℕ) (point : Point) (events : List Event) → is_inner skip point ≡ false →
     is_slot point.slot ≡ true → AreInnerEvents skip events → visit_masks point events ≡ []
 unfolding visit_masks
-events-elsewhere skip point [] outside slot inner = refl
-events-elsewhere skip point (event ∷ events) outside slot inner =
-    ap (λ masks. masks ++ visit_masks point events) (event-elsewhere skip point event outside slot inner.0)
-    ∙ events-elsewhere skip point events outside slot inner.1
+events_elsewhere skip point [] outside slot inner = refl
+events_elsewhere skip point (event ∷ events) outside slot inner =
+    ap (λ masks. masks ++ visit_masks point events) (event_elsewhere skip point event outside slot inner.0)
+    ∙ events_elsewhere skip point events outside slot inner.1

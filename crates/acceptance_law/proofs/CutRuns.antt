@@ -50,27 +50,27 @@ use Rattle.max_flow.specs.Flows.{IsSideOf, side_capacity}
 use Rattle.replay_machine.specs.Runs.{Masks}
 use Rattle.acceptance_law.specs.GraphLaws.{split_bits}
 use Rattle.acceptance_law.specs.Proper.{IsProperGuest}
-use Rattle.acceptance_law.proofs.CutBits.{CountsOutside, counts-inner, turn-crosses}
-use Rattle.acceptance_law.proofs.CutVisits.{IsLike, like-itself}
+use Rattle.acceptance_law.proofs.CutBits.{CountsOutside, counts_inner, turn-crosses}
+use Rattle.acceptance_law.proofs.CutVisits.{IsLike, like_itself}
 use Rattle.acceptance_law.proofs.CutInner.{AreInnerEvents, turn-inner}
-use Rattle.acceptance_law.proofs.GraphCapacities.{split-bits-within}
-use Rattle.acceptance_law.proofs.GraphEvents.{all-parts}
+use Rattle.acceptance_law.proofs.GraphCapacities.{split_bits_within}
+use Rattle.acceptance_law.proofs.GraphEvents.{all_parts}
 use Rattle.acceptance_law.proofs.ProperRows.{proper_law}
-use Rattle.acceptance_law.proofs.ProperRuns.{guest-limits, run-proper}
+use Rattle.acceptance_law.proofs.ProperRuns.{guest_limits, run_proper}
 use Rattle.acceptance_law.proofs.SlotsInsideRegions.{WalkSlots, step_slots}
-use Rattle.acceptance_law.proofs.Turns.{first-none}
+use Rattle.acceptance_law.proofs.Turns.{first_none}
 use Rattle.flow_base.specs.Listed.{is_listed}
 
 -- ---- a turn of a skipped region other than its leave passes inner points alone, where it breaks nothing
 
-entry-inner : (skip : List ℕ) (setting : Setting) (secret : List ℕ) (ranges : List Range) (turn : Turn)
+entry_inner : (skip : List ℕ) (setting : Setting) (secret : List ℕ) (ranges : List Range) (turn : Turn)
     (labels : TurnLabels) (answers : List ℕ) (store : Store) (held : Held) →
     AreInnerEvents skip (events_in labels answers (walked setting secret turn store held)) →
     AreInnerEvents skip (events_in labels answers (walked setting secret (looks ranges turn) store held))
 unfolding looks walked events_in
-entry-inner skip setting secret [] turn labels answers store held inner = inner
-entry-inner skip setting secret (range ∷ ranges) turn labels answers store held inner =
-    look range.base (entry-inner skip setting secret ranges turn labels answers store held inner)
+entry_inner skip setting secret [] turn labels answers store held inner = inner
+entry_inner skip setting secret (range ∷ ranges) turn labels answers store held inner =
+    look range.base (entry_inner skip setting secret ranges turn labels answers store held inner)
   where
     look : (register : Option ℕ) →
         AreInnerEvents skip (events_in labels answers (walked setting secret (looks ranges turn) store held)) →
@@ -79,18 +79,18 @@ entry-inner skip setting secret (range ∷ ranges) turn labels answers store hel
     look None rest = rest
     look (Some register) rest = rest
 
-step-inner : (mode : Stepped) (skip : List ℕ) (state : State) (labels : TurnLabels) (answers : List ℕ) →
+step_inner : (mode : Stepped) (skip : List ℕ) (state : State) (labels : TurnLabels) (answers : List ℕ) →
     IsProperGuest state → is_listed skip state.control.region ≡ true →
     WalkSlots (walked state.setting state.secret (turn_in mode state.setting state.control) state.store none_held) →
     AreInnerEvents skip (events_in labels answers
     (walked state.setting state.secret (turn_in mode state.setting state.control) state.store none_held))
 unfolding walked events_in
-step-inner Ran skip state labels answers guest stands slots =
+step_inner Ran skip state labels answers guest stands slots =
     turn-inner state.setting state.secret guest.secret skip state.control.region stands
     (running state.setting state.control) labels answers state.store none_held (proper_law state guest)
-    (guest-limits state guest) slots
-step-inner (Exited status) skip state labels answers guest stands slots = tt
-step-inner (Stopped fault) skip state labels answers guest stands slots = tt
+    (guest_limits state guest) slots
+step_inner (Exited status) skip state labels answers guest stands slots = tt
+step_inner (Stopped fault) skip state labels answers guest stands slots = tt
 
 -- a step inside a region is one inside the entered region
 abbrev IsEntered : ℕ → Kind → Type 0
@@ -99,63 +99,63 @@ IsEntered number (Leaves region) = Unit {0}
 IsEntered number (Steps None) = Unit {0}
 IsEntered number (Steps (Some region)) = region.id ≡ number
 
-found-number : (number : ℕ) (regions : List Region) (region : Region) →
+found_number : (number : ℕ) (regions : List Region) (region : Region) →
     find (λ other. other.id == number) regions ≡ Some region → region.id ≡ number
-found-number number [] region e = absurd (cc)
-found-number number (first ∷ regions) region e = elim (cases_Bool (first.id == number)) [
+found_number number [] region e = absurd (cc)
+found_number number (first ∷ regions) region e = elim (cases_Bool (first.id == number)) [
   | inl passes ↦
       let here : Some first ≡ Some region =
       sym (cond-true (first.id == number) (Some first) (find (λ other. other.id == number) regions) passes) ∙ e in
       let same : first ≡ region = cc in
       ap (λ (r : Region). r.id) (sym same) ∙ eqb-true first.id number passes
   | inr fails ↦
-      found-number number regions region
+      found_number number regions region
       (sym (cond-false (first.id == number) (Some first) (find (λ other. other.id == number) regions) fails) ∙ e)
 ]
 
-entered-number : (number : ℕ) (regions : List Region) (region : Region) →
+entered_number : (number : ℕ) (regions : List Region) (region : Region) →
     region_numbered regions number ≡ Some region → region.id ≡ number
-entered-number number regions region e = elim (cases_Bool (number == 0)) [
+entered_number number regions region e = elim (cases_Bool (number == 0)) [
   | inl none ↦
       let no : None ≡ Some region =
       sym (cond-true (number == 0) None (find (λ other. other.id == number) regions) none) ∙ e in absurd (cc)
   | inr some ↦
-      found-number number regions region
+      found_number number regions region
       (sym (cond-false (number == 0) None (find (λ other. other.id == number) regions) some) ∙ e)
 ]
 
-outside-entered : (number : ℕ) (found : Option Region) → IsEntered number (kind_outside found)
-outside-entered number None = tt
-outside-entered number (Some region) = tt
+outside_entered : (number : ℕ) (found : Option Region) → IsEntered number (kind_outside found)
+outside_entered number None = tt
+outside_entered number (Some region) = tt
 
-within-entered : (number : ℕ) (regions : List Region) (inside : Option Region) (pc : ℕ) →
+within_entered : (number : ℕ) (regions : List Region) (inside : Option Region) (pc : ℕ) →
     ((region : Region) → inside ≡ Some region → region.id ≡ number) → IsEntered number (kind_within regions inside pc)
-within-entered number regions None pc known = outside-entered number (region_entered_at regions pc)
-within-entered number regions (Some region) pc known = pick (region.leave == pc)
+within_entered number regions None pc known = outside_entered number (region_entered_at regions pc)
+within_entered number regions (Some region) pc known = pick (region.leave == pc)
   where
     pick : (test : Bool) → IsEntered number (if test then Leaves region else Steps (Some region))
     pick true = tt
     pick false = known region refl
 
-kind-entered : (mode : Stepped) (regions : List Region) (control : Control) →
+kind_entered : (mode : Stepped) (regions : List Region) (control : Control) →
     IsEntered control.region (kind_in mode regions control)
-kind-entered Ran regions control =
-    within-entered control.region regions (region_numbered regions control.region) control.pc
-    (λ region e. entered-number control.region regions region e)
-kind-entered (Exited status) regions control = tt
-kind-entered (Stopped fault) regions control = tt
+kind_entered Ran regions control =
+    within_entered control.region regions (region_numbered regions control.region) control.pc
+    (λ region e. entered_number control.region regions region e)
+kind_entered (Exited status) regions control = tt
+kind_entered (Stopped fault) regions control = tt
 
-kind-inner : (enclosures : Enclosures) (kind : Kind) (state : State) (labels : TurnLabels) (answers : List ℕ) →
+kind_inner : (enclosures : Enclosures) (kind : Kind) (state : State) (labels : TurnLabels) (answers : List ℕ) →
     IsProperGuest state → IsEntered state.control.region kind → is_enclosed_kind enclosures kind ≡ true →
     kind_break kind state ≡ None → AreInnerEvents enclosures.skip (events_in labels answers (kind_walk kind state))
 unfolding walked events_in
-kind-inner enclosures (Enters region) state labels answers guest known enclosed unbroken =
-    entry-inner enclosures.skip state.setting state.secret region.ranges
+kind_inner enclosures (Enters region) state labels answers guest known enclosed unbroken =
+    entry_inner enclosures.skip state.setting state.secret region.ranges
     (Saves (Ends (entered region.id state.control))) labels answers state.store none_held tt
-kind-inner enclosures (Leaves region) state labels answers guest known enclosed unbroken = absurd (cc)
-kind-inner enclosures (Steps None) state labels answers guest known enclosed unbroken = absurd (cc)
-kind-inner enclosures (Steps (Some region)) state labels answers guest known enclosed unbroken =
-    step-inner state.control.mode enclosures.skip state labels answers guest
+kind_inner enclosures (Leaves region) state labels answers guest known enclosed unbroken = absurd (cc)
+kind_inner enclosures (Steps None) state labels answers guest known enclosed unbroken = absurd (cc)
+kind_inner enclosures (Steps (Some region)) state labels answers guest known enclosed unbroken =
+    step_inner state.control.mode enclosures.skip state labels answers guest
     (ap (is_listed enclosures.skip) (sym known) ∙ enclosed)
     (step_slots region state.store.kept state.control.pc state unbroken)
 
@@ -173,7 +173,7 @@ module _ (side : NamedSide) (cut : CutPicture)
       ≤ sum_by (split_bits side) (events_in labels answers walk))
       × CountsOutside cut.skip (visited enclosed past walk) (seen ++ events_in labels answers walk)
   either-crosses true seen more past labels answers walk have proper counts inner =
-      (omega arith, counts-inner cut.skip past seen (events_in labels answers walk) (inner refl) counts)
+      (omega arith, counts_inner cut.skip past seen (events_in labels answers walk) (inner refl) counts)
   either-crosses false seen more past labels answers walk have proper counts inner =
       let turn = turn-crosses side cut points slots masks like seen more past labels answers walk have proper counts in
       (turn.bits, turn.counts)
@@ -190,9 +190,9 @@ module _ (side : NamedSide) (cut : CutPicture)
     pub bits : length (cross_after (record { regions = regions; skip = cut.skip }) masks (length answers)
         start) ≤ sum_by (split_bits side) (run_after regions answers (unlabelled start)).events
 
-  fault-none : (broken : Option Break) → broken_fault broken ≡ None → broken ≡ None
-  fault-none None e = refl
-  fault-none (Some broken) e = absurd (cc)
+  fault_none : (broken : Option Break) → broken_fault broken ≡ None → broken ≡ None
+  fault_none None e = refl
+  fault_none (Some broken) e = absurd (cc)
 
   start-counts : CountsOutside cut.skip [] []
   unfolding visit_masks
@@ -220,11 +220,11 @@ module _ (side : NamedSide) (cut : CutPicture)
       let turn = turn_events regions last run in
       let before = run-crosses regions earlier start (turn ++ more) rules is none unbroken sound.0 unrefused.0
       (subst (λ es. AllByRecursion (HasVisitMasks es) cut.points) (append_assoc run.events turn more) have) in
-      let guest = (run-proper regions earlier start rules is sound.0).guest in
-      let proper = all-parts IsProperEvent run.events turn
-      (run-proper regions (last ∷ earlier) start rules is sound).events in
-      let parts = first-none _ _ (first-none _ _ unrefused.1).1 in
-      let whole : Breaks regions run.place.state ≡ None = fault-none (Breaks regions run.place.state) parts.0 in
+      let guest = (run_proper regions earlier start rules is sound.0).guest in
+      let proper = all_parts IsProperEvent run.events turn
+      (run_proper regions (last ∷ earlier) start rules is sound).events in
+      let parts = first_none _ _ (first_none _ _ unrefused.1).1 in
+      let whole : Breaks regions run.place.state ≡ None = fault_none (Breaks regions run.place.state) parts.0 in
       let goes : real_turn enclosures place ≡ unbroken_turn enclosures place =
       ap (λ b. turn_unless b enclosures place) before.unbroken in
       let run_goes : real_turn (enclosing regions) run.place ≡ unbroken_turn (enclosing regions) run.place =
@@ -233,8 +233,8 @@ module _ (side : NamedSide) (cut : CutPicture)
       (at_start run.labels) last walk
       (subst (λ es. AllByRecursion (HasVisitMasks es) cut.points) (append_assoc run.events turn more) have) proper.1
       before.counts
-      (λ enclosed. kind-inner enclosures (kind_of regions run.place.state.control) run.place.state (at_start run.labels)
-      last guest (kind-entered run.place.state.control.mode regions run.place.state.control) enclosed whole) in
+      (λ enclosed. kind_inner enclosures (kind_of regions run.place.state.control) run.place.state (at_start run.labels)
+      last guest (kind_entered run.place.state.control.mode regions run.place.state.control) enclosed whole) in
       let cross : crossing_of enclosures masks place
       ≡ crossing_unless (is_enclosed enclosures run.place.state.control) masks place.past walk =
       ap (λ b. crossing_unbroken b enclosures masks place) before.unbroken
@@ -299,11 +299,11 @@ crossing_by program public_input regions secret cut masks graph halves relays an
     ended in
     let count = ap length same in
     let bits = run.bits in
-    let within = split-bits-within events graph halves relays is_graph is_side in
+    let within = split_bits_within events graph halves relays is_graph is_side in
     omega (arith, count, bits, within)
 
 pub crossing_law : CrossingLaw
 crossing_law program public_input regions secret cut graph halves relays answers secret_len capacity turns output rules
     measured enough is_graph is_side is_cut slots =
     crossing_by program public_input regions secret cut (MaskAt cut.points) graph halves relays answers secret_len
-    capacity turns output rules measured enough is_graph is_side is_cut slots (like-itself cut.points slots)
+    capacity turns output rules measured enough is_graph is_side is_cut slots (like_itself cut.points slots)

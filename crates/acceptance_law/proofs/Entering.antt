@@ -25,7 +25,7 @@ use Rattle.run_labels.specs.Flowing.{labels_in, events_in}
 use Rattle.run_labels.specs.Looking.{secret_look}
 use Rattle.acceptance_law.specs.Sides.{NamedSide}
 use Rattle.acceptance_law.proofs.WritesKeepRelation.{Beside}
-use Rattle.acceptance_law.proofs.Turns.{first-none, look_equal}
+use Rattle.acceptance_law.proofs.Turns.{first_none, look_equal}
 
 -- the ranges start at the same addresses
 abbrev pub SameStarts : List Range → List ℕ → List ℕ → Type 0
@@ -68,7 +68,7 @@ same_starts side setting secret number labels answers real held copy taken besid
         × (secret_look number labels answers (walked setting secret rest real held) ≡ None)
     one None rest none = (refl, none)
     one (Some register) rest none =
-        let both = first-none _ _ none in
+        let both = first_none _ _ none in
         (look_equal side setting.base number labels real held copy taken beside (Base register) tt both.0, both.1)
 
 -- ---- the entry as it is folded

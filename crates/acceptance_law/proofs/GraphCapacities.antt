@@ -20,13 +20,13 @@ use Rattle.max_flow.specs.declared.answers.Half.{Half}
 use Rattle.max_flow.specs.Flows.{tail_of, head_of, halves_from, network_of, member, has_first, has_second, IsSideOf}
 use Rattle.max_flow.specs.Flows.{side_capacity}
 use Rattle.max_flow.specs.Networks.{sum_below, leaves, capacity_of}
-use Rattle.max_flow.proofs.Graphs.{length-halves, half-at}
+use Rattle.max_flow.proofs.Graphs.{length_halves, half_at}
 use Rattle.max_flow.proofs.Sums.{sum_same, sum_add, sum_item}
 use Rattle.acceptance_law.specs.Sides.{NamedSide, halves_at, named_side, is_split}
 use Rattle.acceptance_law.specs.GraphLaws.{split_bits, CapacityLaw}
-use Rattle.acceptance_law.proofs.GraphEvents.{same-itself}
-use Rattle.acceptance_law.proofs.GraphSides.{points_of, graph_sorted, name-later, less-apart, halves-alike}
-use Rattle.acceptance_law.proofs.GraphSides.{member-first, member-second}
+use Rattle.acceptance_law.proofs.GraphEvents.{same_itself}
+use Rattle.acceptance_law.proofs.GraphSides.{points_of, graph_sorted, name_later, less_apart, halves_alike}
+use Rattle.acceptance_law.proofs.GraphSides.{member_first, member_second}
 use Rattle.flow_base.specs.Points.{nowhere}
 
 -- the name of the point with an index
@@ -35,52 +35,52 @@ name_at graph i = get_or (points_of graph.points) i nowhere
 
 -- ---- the capacity of a point
 
-capacity-at : (nodes : List Node) (i : ℕ) → IsStrictlySortedBy point_cmp (points_of nodes) → i < length nodes →
+capacity_is_at : (nodes : List Node) (i : ℕ) → IsStrictlySortedBy point_cmp (points_of nodes) → i < length nodes →
     capacity_at nodes (get_or (points_of nodes) i nowhere) ≡ get_or (map (λ node. node.capacity) nodes) i 0
 unfolding IsStrictlySortedBy
-capacity-at [] i sorted below = absurd (omega arith)
-capacity-at (node ∷ nodes) zero sorted below =
-    cond-true (is_same node.point node.point) node.capacity (capacity_at nodes node.point) (same-itself node.point)
-capacity-at (node ∷ nodes) (suc i) sorted below =
+capacity_is_at [] i sorted below = absurd (omega arith)
+capacity_is_at (node ∷ nodes) zero sorted below =
+    cond-true (is_same node.point node.point) node.capacity (capacity_at nodes node.point) (same_itself node.point)
+capacity_is_at (node ∷ nodes) (suc i) sorted below =
     let point = get_or (points_of nodes) i nowhere in
     cond-false (is_same point node.point) node.capacity (capacity_at nodes point)
-    (less-apart point node.point (name-later node.point (points_of nodes) i sorted.0
+    (less_apart point node.point (name_later node.point (points_of nodes) i sorted.0
     (let c : length (points_of nodes) ≡ length nodes = length-map nodes (λ n. n.point) in omega (arith, c))))
-    ∙ capacity-at nodes i sorted.1 (omega arith)
+    ∙ capacity_is_at nodes i sorted.1 (omega arith)
 
 -- ---- the capacity of a side
 
 abbrev pub split_at : Graph → NamedSide → List Event → ℕ → ℕ
 split_at graph side events i = cond (is_split side (name_at graph i)) (passed events (name_at graph i)) 0
 
-tail-at : (graph : Graph) (i : ℕ) → i < length graph.points → slice_index (network_of graph).tails i ≡ 2 + 2 * i
-tail-at graph i below =
+tail_at : (graph : Graph) (i : ℕ) → i < length graph.points → slice_index (network_of graph).tails i ≡ 2 + 2 * i
+tail_at graph i below =
     get_or_append_left (halves_from 2 (length graph.points)) (map (λ link. tail_of (length graph.points) link.source)
-    graph.links) 0 i (let c = length-halves 2 (length graph.points) in omega (arith, c))
-    ∙ half-at 2 (length graph.points) i below
+    graph.links) 0 i (let c = length_halves 2 (length graph.points) in omega (arith, c))
+    ∙ half_at 2 (length graph.points) i below
 
-head-at : (graph : Graph) (i : ℕ) → i < length graph.points → slice_index (network_of graph).heads i ≡ 3 + 2 * i
-head-at graph i below =
+head_at : (graph : Graph) (i : ℕ) → i < length graph.points → slice_index (network_of graph).heads i ≡ 3 + 2 * i
+head_at graph i below =
     get_or_append_left (halves_from 3 (length graph.points)) (map (λ link. head_of (length graph.points) link.target)
-    graph.links) 0 i (let c = length-halves 3 (length graph.points) in omega (arith, c))
-    ∙ half-at 3 (length graph.points) i below
+    graph.links) 0 i (let c = length_halves 3 (length graph.points) in omega (arith, c))
+    ∙ half_at 3 (length graph.points) i below
 
-leaves-at : (graph : Graph) (halves : List Half) (relays : List Bool) (i : ℕ) → i < length graph.points →
+leaves_at : (graph : Graph) (halves : List Half) (relays : List Bool) (i : ℕ) → i < length graph.points →
     length halves ≡ length graph.points →
     leaves (network_of graph) (member graph halves relays) i
     ≡ is_split (named_side graph halves relays) (name_at graph i)
-leaves-at graph halves relays i below same =
+leaves_at graph halves relays i below same =
     ap (λ a. a && not (member graph halves relays (slice_index (network_of graph).heads i)))
-    (ap (member graph halves relays) (tail-at graph i below) ∙ member-first graph halves relays i below same)
+    (ap (member graph halves relays) (tail_at graph i below) ∙ member_first graph halves relays i below same)
     ∙ ap (λ b. (named_side graph halves relays).first (name_at graph i) && not b)
-    (ap (member graph halves relays) (head-at graph i below) ∙ member-second graph halves relays i below same)
+    (ap (member graph halves relays) (head_at graph i below) ∙ member_second graph halves relays i below same)
 
-pub side-capacity : (events : List Event) (graph : Graph) (halves : List Half) (relays : List Bool) →
+pub sum_of_side_capacity : (events : List Event) (graph : Graph) (halves : List Half) (relays : List Bool) →
     IsGraphOf events graph → IsSideOf graph halves relays →
     side_capacity graph halves relays
     ≡ sum_below (length graph.points) (split_at graph (named_side graph halves relays) events)
 unfolding capacity_of
-side-capacity events graph halves relays is side =
+sum_of_side_capacity events graph halves relays is side =
     let count : length (network_of graph).limits ≡ length graph.points =
     length-map graph.points (λ node. node.capacity) in
     ap (λ n. sum_below n (λ i. cond (leaves (network_of graph) (member graph halves relays) i)
@@ -90,37 +90,37 @@ side-capacity events graph halves relays is side =
     (split_at graph (named_side graph halves relays) events)
     (λ i below.
     ap (λ b. cond b (slice_index (network_of graph).limits i) 0)
-    (leaves-at graph halves relays i below side.points_count)
+    (leaves_at graph halves relays i below side.points_count)
     ∙ ap (λ n. cond (is_split (named_side graph halves relays) (name_at graph i)) n 0)
-    (sym (capacity-at graph.points i (graph_sorted graph) below) ∙ is.points (name_at graph i)))
+    (sym (capacity_is_at graph.points i (graph_sorted graph) below) ∙ is.points (name_at graph i)))
 
 -- the same over the list of the points
-sum-front : (n : ℕ) (f : ℕ → ℕ) → sum_below (suc n) f ≡ f 0 + sum_below n (λ i. f (suc i))
+sum_front : (n : ℕ) (f : ℕ → ℕ) → sum_below (suc n) f ≡ f 0 + sum_below n (λ i. f (suc i))
 unfolding sum_below
-sum-front zero f = omega arith
-sum-front (suc n) f = let earlier = sum-front n f in omega (arith, earlier)
+sum_front zero f = omega arith
+sum_front (suc n) f = let earlier = sum_front n f in omega (arith, earlier)
 
-sum-listed : (f : Point → ℕ) (nodes : List Node) →
+sum_listed : (f : Point → ℕ) (nodes : List Node) →
     sum_below (length nodes) (λ i. f (get_or (points_of nodes) i nowhere)) ≡ sum_by (λ node. f node.point) nodes
 unfolding sum_below
-sum-listed f [] = refl
-sum-listed f (node ∷ nodes) =
-    let first = sum-front (length nodes) (λ i. f (get_or (points_of (node ∷ nodes)) i nowhere)) in
-    let rest = sum-listed f nodes in
+sum_listed f [] = refl
+sum_listed f (node ∷ nodes) =
+    let first = sum_front (length nodes) (λ i. f (get_or (points_of (node ∷ nodes)) i nowhere)) in
+    let rest = sum_listed f nodes in
     let all = sum_by-cons (λ (n : Node). f n.point) node nodes in
     first ∙ ap (λ n. f node.point + n) rest ∙ sym all
 
 pub capacity_law : CapacityLaw
 capacity_law events graph halves relays is side =
-    side-capacity events graph halves relays is side
-    ∙ sum-listed (λ point. cond (is_split (named_side graph halves relays) point) (passed events point) 0) graph.points
+    sum_of_side_capacity events graph halves relays is side
+    ∙ sum_listed (λ point. cond (is_split (named_side graph halves relays) point) (passed events point) 0) graph.points
 
 -- ---- one event
 
-pub split-more : (graph : Graph) (side : NamedSide) (event : Event) (events : List Event) (i : ℕ) →
+pub split_more : (graph : Graph) (side : NamedSide) (event : Event) (events : List Event) (i : ℕ) →
     split_at graph side (event ∷ events) i
     ≡ cond (is_split side (name_at graph i)) (bits_at (name_at graph i) event) 0 + split_at graph side events i
-split-more graph side event events i =
+split_more graph side event events i =
     both (is_split side (name_at graph i)) (bits_at (name_at graph i) event) (passed events (name_at graph i))
     (passed (event ∷ events) (name_at graph i)) (sum_by-cons (bits_at (name_at graph i)) event events)
   where
@@ -129,40 +129,40 @@ split-more graph side event events i =
     both false m n k e = omega arith
 
 -- a point with a half in the side is one of the graph's
-found-half : (nodes : List Node) (halves : List Half) (point : Point) →
+found_half : (nodes : List Node) (halves : List Half) (point : Point) →
     has_first (halves_at nodes halves point) ≡ true →
     (i : ℕ) × ((i < length nodes) × (is_same point (get_or (points_of nodes) i nowhere) ≡ true))
-found-half [] halves point inside = absurd (cc)
-found-half (node ∷ nodes) [] point inside = absurd (cc)
-found-half (node ∷ nodes) (half ∷ halves) point inside = elim (cases_Bool (is_same point node.point)) [
+found_half [] halves point inside = absurd (cc)
+found_half (node ∷ nodes) [] point inside = absurd (cc)
+found_half (node ∷ nodes) (half ∷ halves) point inside = elim (cases_Bool (is_same point node.point)) [
   | inl same ↦ (0, (omega arith, same))
   | inr other ↦
-      let later = found-half nodes halves point
+      let later = found_half nodes halves point
       (ap has_first (sym (cond-false (is_same point node.point) half (halves_at nodes halves point) other)) ∙ inside) in
       (suc later.0, (let below : later.0 < length nodes = later.1.0 in omega (arith, below), later.1.1))
 ]
 
-split-alike : (graph : Graph) (halves : List Half) (relays : List Bool) (p q : Point) → is_same p q ≡ true →
+split_alike : (graph : Graph) (halves : List Half) (relays : List Bool) (p q : Point) → is_same p q ≡ true →
     is_split (named_side graph halves relays) p ≡ is_split (named_side graph halves relays) q
-split-alike graph halves relays p q same =
-    let alike = halves-alike p q (is_equal (point_cmp p q) same) graph.points halves in
+split_alike graph halves relays p q same =
+    let alike = halves_alike p q (is_equal (point_cmp p q) same) graph.points halves in
     ap (λ half. has_first half && not (has_second half)) alike
 
-event-within : (graph : Graph) (halves : List Half) (relays : List Bool) (event : Event) →
+event_within : (graph : Graph) (halves : List Half) (relays : List Bool) (event : Event) →
     split_bits (named_side graph halves relays) event
     ≤ sum_below (length graph.points) (λ i. cond (is_split (named_side graph halves relays) (name_at graph i))
     (bits_at (name_at graph i) event) 0)
-event-within graph halves relays (Pass point mask) =
+event_within graph halves relays (Pass point mask) =
     elim (cases_Bool (is_split (named_side graph halves relays) point)) [
       | inl split ↦
-          let found = found-half graph.points halves point (and_parts _ _ split).0 in
+          let found = found_half graph.points halves point (and_parts _ _ split).0 in
           let here : cond (is_split (named_side graph halves relays) point) (bit_count mask) 0 ≡ bit_count mask =
           cond-true (is_split (named_side graph halves relays) point) (bit_count mask) 0 split in
           let there : cond (is_split (named_side graph halves relays) (name_at graph found.0))
           (cond (is_same point (name_at graph found.0)) (bit_count mask) 0) 0 ≡ bit_count mask =
           cond-true (is_split (named_side graph halves relays) (name_at graph found.0))
           (cond (is_same point (name_at graph found.0)) (bit_count mask) 0) 0
-          (sym (split-alike graph halves relays point (name_at graph found.0) found.1.1) ∙ split)
+          (sym (split_alike graph halves relays point (name_at graph found.0) found.1.1) ∙ split)
           ∙ cond-true (is_same point (name_at graph found.0)) (bit_count mask) 0 found.1.1 in
           let item = sum_item (length graph.points)
           (λ i. cond (is_split (named_side graph halves relays) (name_at graph i))
@@ -173,23 +173,23 @@ event-within graph halves relays (Pass point mask) =
           cond-false (is_split (named_side graph halves relays) point) (bit_count mask) 0 whole in
           omega (arith, none)
     ]
-event-within graph halves relays (Link source target) = omega arith
-event-within graph halves relays (FromSecret point) = omega arith
-event-within graph halves relays (Implicit point region) = omega arith
-event-within graph halves relays (Out region point) = omega arith
+event_within graph halves relays (Link source target) = omega arith
+event_within graph halves relays (FromSecret point) = omega arith
+event_within graph halves relays (Implicit point region) = omega arith
+event_within graph halves relays (Out region point) = omega arith
 
 -- ---- all events
 
-split-within : (graph : Graph) (halves : List Half) (relays : List Bool) (events : List Event) →
+split_within : (graph : Graph) (halves : List Half) (relays : List Bool) (events : List Event) →
     sum_by (split_bits (named_side graph halves relays)) events
     ≤ sum_below (length graph.points) (split_at graph (named_side graph halves relays) events)
-split-within graph halves relays [] = omega arith
-split-within graph halves relays (event ∷ events) =
+split_within graph halves relays [] = omega arith
+split_within graph halves relays (event ∷ events) =
     let all : sum_by (split_bits (named_side graph halves relays)) (event ∷ events)
     ≡ split_bits (named_side graph halves relays) event + sum_by (split_bits (named_side graph halves relays)) events =
     sum_by-cons (split_bits (named_side graph halves relays)) event events in
-    let one = event-within graph halves relays event in
-    let rest = split-within graph halves relays events in
+    let one = event_within graph halves relays event in
+    let rest = split_within graph halves relays events in
     let sums : sum_below (length graph.points) (split_at graph (named_side graph halves relays) (event ∷ events))
     ≡ sum_below (length graph.points) (λ i. cond (is_split (named_side graph halves relays) (name_at graph i))
     (bits_at (name_at graph i) event) 0)
@@ -197,16 +197,16 @@ split-within graph halves relays (event ∷ events) =
     sum_same (length graph.points) (split_at graph (named_side graph halves relays) (event ∷ events))
     (λ i. cond (is_split (named_side graph halves relays) (name_at graph i)) (bits_at (name_at graph i) event) 0
     + split_at graph (named_side graph halves relays) events i)
-    (λ i below. split-more graph (named_side graph halves relays) event events i)
+    (λ i below. split_more graph (named_side graph halves relays) event events i)
     ∙ sum_add (length graph.points)
     (λ i. cond (is_split (named_side graph halves relays) (name_at graph i)) (bits_at (name_at graph i) event) 0)
     (split_at graph (named_side graph halves relays) events) in
     omega (arith, all, one, rest, sums)
 
-pub split-bits-within : (events : List Event) (graph : Graph) (halves : List Half) (relays : List Bool) →
+pub split_bits_within : (events : List Event) (graph : Graph) (halves : List Half) (relays : List Bool) →
     IsGraphOf events graph → IsSideOf graph halves relays →
     sum_by (split_bits (named_side graph halves relays)) events ≤ side_capacity graph halves relays
-split-bits-within events graph halves relays is side =
-    let whole = side-capacity events graph halves relays is side in
-    let part = split-within graph halves relays events in
+split_bits_within events graph halves relays is side =
+    let whole = sum_of_side_capacity events graph halves relays is side in
+    let part = split_within graph halves relays events in
     omega (arith, whole, part)

@@ -35,10 +35,10 @@ use Rattle.max_flow.specs.Flows.{tail_of, head_of, halves_from, network_of, mark
 use Rattle.max_flow.specs.Flows.{has_second}
 use Rattle.max_flow.specs.Flows.{IsSideOf}
 use Rattle.max_flow.specs.Networks.{IsSide}
-use Rattle.max_flow.proofs.Graphs.{length-halves}
+use Rattle.max_flow.proofs.Graphs.{length_halves}
 use Rattle.acceptance_law.specs.Sides.{halves_at, named_side}
 use Rattle.acceptance_law.specs.ClosedEvents.{starts_in, ends_in, IsClosedLink, IsClosedFor}
-use Rattle.acceptance_law.proofs.GraphEvents.{itself, same-itself, all_more}
+use Rattle.acceptance_law.proofs.GraphEvents.{itself, same_itself, all_more}
 use Rattle.flow_base.specs.Points.{nowhere}
 
 -- ---- ascending points are apart
@@ -71,14 +71,14 @@ graph_sorted graph =
     points_sorted graph.points
     (and_parts (list_all has_capacity graph.points) (ascend node_cmp graph.points) graph.points_ascend).1
 
-pub name-later : (p : Point) (points : List Point) (i : ℕ) → AllByRecursion (λ x. point_cmp p x ≡ Less) points →
+pub name_later : (p : Point) (points : List Point) (i : ℕ) → AllByRecursion (λ x. point_cmp p x ≡ Less) points →
     i < length points → point_cmp p (get_or points i nowhere) ≡ Less
-name-later p [] i all below = absurd (omega arith)
-name-later p (x ∷ points) zero all below = all.0
-name-later p (x ∷ points) (suc i) all below = name-later p points i all.1 (omega arith)
+name_later p [] i all below = absurd (omega arith)
+name_later p (x ∷ points) zero all below = all.0
+name_later p (x ∷ points) (suc i) all below = name_later p points i all.1 (omega arith)
 
-pub less-apart : (p q : Point) → point_cmp q p ≡ Less → is_same p q ≡ false
-less-apart p q less =
+pub less_apart : (p q : Point) → point_cmp q p ≡ Less → is_same p q ≡ false
+less_apart p q less =
     ap is_eq (point_total.antisymm p q ∙ ap ordering_reverse less)
 
 -- ---- the halves of the point with an index
@@ -86,58 +86,58 @@ less-apart p q less =
 double : (i : ℕ) → 2 * suc i ≡ suc (suc (2 * i))
 double i = omega arith
 
-pub first-at : (nodes : List Node) (halves : List Half) (i : ℕ) → IsStrictlySortedBy point_cmp (points_of nodes) →
+pub first_at : (nodes : List Node) (halves : List Half) (i : ℕ) → IsStrictlySortedBy point_cmp (points_of nodes) →
     i < length nodes → length halves ≡ length nodes →
     get_or (marks halves) (2 * i) false ≡ has_first (halves_at nodes halves (get_or (points_of nodes) i nowhere))
 unfolding IsStrictlySortedBy
-first-at [] halves i sorted below same = absurd (omega arith)
-first-at (node ∷ nodes) [] i sorted below same = absurd (omega arith)
-first-at (node ∷ nodes) (half ∷ halves) zero sorted below same =
+first_at [] halves i sorted below same = absurd (omega arith)
+first_at (node ∷ nodes) [] i sorted below same = absurd (omega arith)
+first_at (node ∷ nodes) (half ∷ halves) zero sorted below same =
     ap has_first (sym (cond-true (is_same node.point node.point) half (halves_at nodes halves node.point)
-    (same-itself node.point)))
-first-at (node ∷ nodes) (half ∷ halves) (suc i) sorted below same =
+    (same_itself node.point)))
+first_at (node ∷ nodes) (half ∷ halves) (suc i) sorted below same =
     let point = get_or (points_of nodes) i nowhere in
     let later : point_cmp node.point point ≡ Less =
-    name-later node.point (points_of nodes) i sorted.0
+    name_later node.point (points_of nodes) i sorted.0
     (let c : length (points_of nodes) ≡ length nodes = length-map nodes (λ n. n.point) in omega (arith, c)) in
     ap (λ j. get_or (has_first half ∷ has_second half ∷ marks halves) j false) (double i)
-    ∙ first-at nodes halves i sorted.1 (omega arith) (omega arith)
+    ∙ first_at nodes halves i sorted.1 (omega arith) (omega arith)
     ∙ ap has_first (sym (cond-false (is_same point node.point) half (halves_at nodes halves point)
-    (less-apart point node.point later)))
+    (less_apart point node.point later)))
 
-pub second-at : (nodes : List Node) (halves : List Half) (i : ℕ) → IsStrictlySortedBy point_cmp (points_of nodes) →
+pub second_at : (nodes : List Node) (halves : List Half) (i : ℕ) → IsStrictlySortedBy point_cmp (points_of nodes) →
     i < length nodes → length halves ≡ length nodes →
     get_or (marks halves) (1 + 2 * i) false ≡ has_second (halves_at nodes halves (get_or (points_of nodes) i nowhere))
 unfolding IsStrictlySortedBy
-second-at [] halves i sorted below same = absurd (omega arith)
-second-at (node ∷ nodes) [] i sorted below same = absurd (omega arith)
-second-at (node ∷ nodes) (half ∷ halves) zero sorted below same =
+second_at [] halves i sorted below same = absurd (omega arith)
+second_at (node ∷ nodes) [] i sorted below same = absurd (omega arith)
+second_at (node ∷ nodes) (half ∷ halves) zero sorted below same =
     ap has_second (sym (cond-true (is_same node.point node.point) half (halves_at nodes halves node.point)
-    (same-itself node.point)))
-second-at (node ∷ nodes) (half ∷ halves) (suc i) sorted below same =
+    (same_itself node.point)))
+second_at (node ∷ nodes) (half ∷ halves) (suc i) sorted below same =
     let point = get_or (points_of nodes) i nowhere in
     let later : point_cmp node.point point ≡ Less =
-    name-later node.point (points_of nodes) i sorted.0
+    name_later node.point (points_of nodes) i sorted.0
     (let c : length (points_of nodes) ≡ length nodes = length-map nodes (λ n. n.point) in omega (arith, c)) in
     ap (λ j. get_or (has_first half ∷ has_second half ∷ marks halves) j false)
     (let d : 1 + 2 * suc i ≡ suc (suc (1 + 2 * i)) = omega arith in d)
-    ∙ second-at nodes halves i sorted.1 (omega arith) (omega arith)
+    ∙ second_at nodes halves i sorted.1 (omega arith) (omega arith)
     ∙ ap has_second (sym (cond-false (is_same point node.point) half (halves_at nodes halves point)
-    (less-apart point node.point later)))
+    (less_apart point node.point later)))
 
 -- ---- members by their names
 
 -- a node below the relays
-pub member-low : (graph : Graph) (halves : List Half) (relays : List Bool) (node : ℕ) →
+pub member_low : (graph : Graph) (halves : List Half) (relays : List Bool) (node : ℕ) →
     node < 2 + 2 * length graph.points →
     member graph halves relays node ≡ get_or (true ∷ false ∷ marks halves) node false
-member-low graph halves relays node below =
+member_low graph halves relays node below =
     cond-true (nat_lt node (2 + 2 * length graph.points)) (get_or (true ∷ false ∷ marks halves) node false)
     (relay_in graph.relays relays (node - (2 + 2 * length graph.points))) (lt-ltb _ _ below)
 
-member-relay : (graph : Graph) (halves : List Half) (relays : List Bool) (region : ℕ) →
+member_relay : (graph : Graph) (halves : List Half) (relays : List Bool) (region : ℕ) →
     member graph halves relays (2 + 2 * length graph.points + region) ≡ relay_in graph.relays relays region
-member-relay graph halves relays region =
+member_relay graph halves relays region =
     cond-false (nat_lt (2 + 2 * length graph.points + region) (2 + 2 * length graph.points))
     (get_or (true ∷ false ∷ marks halves) (2 + 2 * length graph.points + region) false)
     (relay_in graph.relays relays (2 + 2 * length graph.points + region - (2 + 2 * length graph.points)))
@@ -145,45 +145,45 @@ member-relay graph halves relays region =
     ∙ ap (relay_in graph.relays relays)
     (let d : 2 + 2 * length graph.points + region - (2 + 2 * length graph.points) ≡ region = omega arith in d)
 
-pub member-first : (graph : Graph) (halves : List Half) (relays : List Bool) (i : ℕ) → i < length graph.points →
+pub member_first : (graph : Graph) (halves : List Half) (relays : List Bool) (i : ℕ) → i < length graph.points →
     length halves ≡ length graph.points →
     member graph halves relays (2 + 2 * i)
     ≡ (named_side graph halves relays).first (get_or (points_of graph.points) i nowhere)
-member-first graph halves relays i below same =
-    member-low graph halves relays (2 + 2 * i) (omega arith)
+member_first graph halves relays i below same =
+    member_low graph halves relays (2 + 2 * i) (omega arith)
     ∙ ap (λ j. get_or (true ∷ false ∷ marks halves) j false)
     (let d : 2 + 2 * i ≡ suc (suc (2 * i)) = omega arith in d)
-    ∙ first-at graph.points halves i (graph_sorted graph) below same
+    ∙ first_at graph.points halves i (graph_sorted graph) below same
 
-pub member-second : (graph : Graph) (halves : List Half) (relays : List Bool) (i : ℕ) → i < length graph.points →
+pub member_second : (graph : Graph) (halves : List Half) (relays : List Bool) (i : ℕ) → i < length graph.points →
     length halves ≡ length graph.points →
     member graph halves relays (3 + 2 * i)
     ≡ (named_side graph halves relays).second (get_or (points_of graph.points) i nowhere)
-member-second graph halves relays i below same =
-    member-low graph halves relays (3 + 2 * i) (omega arith)
+member_second graph halves relays i below same =
+    member_low graph halves relays (3 + 2 * i) (omega arith)
     ∙ ap (λ j. get_or (true ∷ false ∷ marks halves) j false)
     (let d : 3 + 2 * i ≡ suc (suc (1 + 2 * i)) = omega arith in d)
-    ∙ second-at graph.points halves i (graph_sorted graph) below same
+    ∙ second_at graph.points halves i (graph_sorted graph) below same
 
-pub tail-named : (graph : Graph) (halves : List Half) (relays : List Bool) → length halves ≡ length graph.points →
+pub tail_named : (graph : Graph) (halves : List Half) (relays : List Bool) → length halves ≡ length graph.points →
     (end : End) → is_origin (length graph.points) graph.relays end ≡ true →
     member graph halves relays (tail_of (length graph.points) end)
     ≡ starts_in (named_side graph halves relays) (named_end graph.points end)
-tail-named graph halves relays same SourceEnd is = member-low graph halves relays 0 (omega arith)
-tail-named graph halves relays same (PointEnd i) is =
-    member-second graph halves relays i (ltb-true i (length graph.points) is) same
-tail-named graph halves relays same (RelayEnd region) is = member-relay graph halves relays region
-tail-named graph halves relays same SinkEnd is = member-low graph halves relays 1 (omega arith)
+tail_named graph halves relays same SourceEnd is = member_low graph halves relays 0 (omega arith)
+tail_named graph halves relays same (PointEnd i) is =
+    member_second graph halves relays i (ltb-true i (length graph.points) is) same
+tail_named graph halves relays same (RelayEnd region) is = member_relay graph halves relays region
+tail_named graph halves relays same SinkEnd is = member_low graph halves relays 1 (omega arith)
 
-pub head-named : (graph : Graph) (halves : List Half) (relays : List Bool) → length halves ≡ length graph.points →
+pub head_named : (graph : Graph) (halves : List Half) (relays : List Bool) → length halves ≡ length graph.points →
     (end : End) → is_target (length graph.points) graph.relays end ≡ true →
     member graph halves relays (head_of (length graph.points) end)
     ≡ ends_in (named_side graph halves relays) (named_end graph.points end)
-head-named graph halves relays same SourceEnd is = absurd (cc)
-head-named graph halves relays same (PointEnd i) is =
-    member-first graph halves relays i (ltb-true i (length graph.points) is) same
-head-named graph halves relays same (RelayEnd region) is = member-relay graph halves relays region
-head-named graph halves relays same SinkEnd is = member-low graph halves relays 1 (omega arith)
+head_named graph halves relays same SourceEnd is = absurd (cc)
+head_named graph halves relays same (PointEnd i) is =
+    member_first graph halves relays i (ltb-true i (length graph.points) is) same
+head_named graph halves relays same (RelayEnd region) is = member_relay graph halves relays region
+head_named graph halves relays same SinkEnd is = member_low graph halves relays 1 (omega arith)
 
 -- ---- the links of a graph
 
@@ -194,13 +194,13 @@ each_link side f g [] closed = tt
 each_link side f g (link ∷ links) closed =
     (closed 0 (omega arith), each_link side f g links (λ j below. closed (suc j) (omega arith)))
 
-pub length-tails : (graph : Graph) → length (network_of graph).tails ≡ length graph.points + length graph.links
-length-tails graph =
+pub length_tails : (graph : Graph) → length (network_of graph).tails ≡ length graph.points + length graph.links
+length_tails graph =
     length-append (halves_from 2 (length graph.points)) (map (λ link. tail_of (length graph.points) link.source)
     graph.links)
     ∙ omega (
       arith,
-      length-halves 2 (length graph.points),
+      length_halves 2 (length graph.points),
       length-map graph.links (λ link. tail_of (length graph.points) link.source),
     )
 
@@ -211,7 +211,7 @@ links_stay graph side is =
     let f : Arc → ℕ = λ link. tail_of (length graph.points) link.source in
     let g : Arc → ℕ = λ link. head_of (length graph.points) link.target in
     let tails : length (network_of graph).tails ≡ length graph.points + length graph.links =
-    length-tails graph in
+    length_tails graph in
     let limits : length (network_of graph).limits ≡ length graph.points =
     length-map graph.points (λ node. node.capacity) in
     each_link side f g graph.links
@@ -219,11 +219,11 @@ links_stay graph side is =
     let back : length graph.points + j - length graph.points ≡ j = omega arith in
     let tail : slice_index (network_of graph).tails (length graph.points + j) ≡ get_or (map f graph.links) j 0 =
     get_or-append_right (halves_from 2 (length graph.points)) (map f graph.links) (length graph.points)
-    (length graph.points + j) 0 (length-halves 2 (length graph.points)) (omega arith)
+    (length graph.points + j) 0 (length_halves 2 (length graph.points)) (omega arith)
     ∙ ap (λ k. get_or (map f graph.links) k 0) back in
     let head : slice_index (network_of graph).heads (length graph.points + j) ≡ get_or (map g graph.links) j 0 =
     get_or-append_right (halves_from 3 (length graph.points)) (map g graph.links) (length graph.points)
-    (length graph.points + j) 0 (length-halves 3 (length graph.points)) (omega arith)
+    (length graph.points + j) 0 (length_halves 3 (length graph.points)) (omega arith)
     ∙ ap (λ k. get_or (map g graph.links) k 0) back in
     ap side (sym head)
     ∙ is.closed (length graph.points + j) (omega (arith, limits)) (omega (arith, tails, below)) (ap side tail ∙ inside))
@@ -240,15 +240,15 @@ named_stay graph halves relays same (link ∷ links) valid stay =
     (list_all (is_link (length graph.points) graph.relays) links) valid in
     let origin = and_parts (is_origin (length graph.points) graph.relays link.source) _ both.0 in
     let target = and_parts (is_target (length graph.points) graph.relays link.target) _ origin.1 in (
-      (λ inside. sym (head-named graph halves relays same link.target target.0)
-          ∙ stay.0 (tail-named graph halves relays same link.source origin.0 ∙ inside)),
+      (λ inside. sym (head_named graph halves relays same link.target target.0)
+          ∙ stay.0 (tail_named graph halves relays same link.source origin.0 ∙ inside)),
       named_stay graph halves relays same links both.1 stay.1,
     )
 
 -- ---- links that are the same
 
-nat_cmp-same : (a b : ℕ) → nat_cmp a b ≡ Equal → a ≡ b
-nat_cmp-same a b e = elim (cases_order a b) [
+nat_cmp_same : (a b : ℕ) → nat_cmp a b ≡ Equal → a ≡ b
+nat_cmp_same a b e = elim (cases_order a b) [
   | inl same ↦ same
   | inr (inl less) ↦
       let no : nat_cmp a b ≡ Less = cond-true (nat_lt a b) Less _ (lt-ltb a b less) in absurd (cc)
@@ -257,131 +257,131 @@ nat_cmp-same a b e = elim (cases_order a b) [
       ∙ cond-false (nat_eq a b) Equal Greater (ne_eqb a b (λ s. omega (arith, s, more))) in absurd (cc)
 ]
 
-pub halves-alike : (p q : Point) → point_cmp p q ≡ Equal → (nodes : List Node) (halves : List Half) →
+pub halves_alike : (p q : Point) → point_cmp p q ≡ Equal → (nodes : List Node) (halves : List Half) →
     halves_at nodes halves p ≡ halves_at nodes halves q
-halves-alike p q e [] halves = refl
-halves-alike p q e (node ∷ nodes) [] = refl
-halves-alike p q e (node ∷ nodes) (half ∷ halves) =
+halves_alike p q e [] halves = refl
+halves_alike p q e (node ∷ nodes) [] = refl
+halves_alike p q e (node ∷ nodes) (half ∷ halves) =
     ap (λ o. cond (is_eq o) half (halves_at nodes halves p)) (point_total.congr p q node.point e)
-    ∙ ap (λ h. cond (is_same q node.point) half h) (halves-alike p q e nodes halves)
+    ∙ ap (λ h. cond (is_same q node.point) half h) (halves_alike p q e nodes halves)
 
-alike-end : (graph : Graph) (halves : List Half) (relays : List Bool) → (s t : NamedEnd) → named_end_cmp s t ≡ Equal →
+alike_end : (graph : Graph) (halves : List Half) (relays : List Bool) → (s t : NamedEnd) → named_end_cmp s t ≡ Equal →
     (starts_in (named_side graph halves relays) s ≡ starts_in (named_side graph halves relays) t)
     × (ends_in (named_side graph halves relays) s ≡ ends_in (named_side graph halves relays) t)
-alike-end graph halves relays Source Source e = (refl, refl)
-alike-end graph halves relays Source (At q) e = absurd (cc)
-alike-end graph halves relays Source (Relay r) e = absurd (cc)
-alike-end graph halves relays Source Sink e = absurd (cc)
-alike-end graph halves relays (At p) Source e = absurd (cc)
-alike-end graph halves relays (At p) (At q) e =
-    let same = halves-alike p q e graph.points halves in (ap has_second same, ap has_first same)
-alike-end graph halves relays (At p) (Relay r) e = absurd (cc)
-alike-end graph halves relays (At p) Sink e = absurd (cc)
-alike-end graph halves relays (Relay r) Source e = absurd (cc)
-alike-end graph halves relays (Relay r) (At q) e = absurd (cc)
-alike-end graph halves relays (Relay r) (Relay s) e =
-    let same = ap (relay_in graph.relays relays) (nat_cmp-same r s e) in (same, same)
-alike-end graph halves relays (Relay r) Sink e = absurd (cc)
-alike-end graph halves relays Sink Source e = absurd (cc)
-alike-end graph halves relays Sink (At q) e = absurd (cc)
-alike-end graph halves relays Sink (Relay r) e = absurd (cc)
-alike-end graph halves relays Sink Sink e = (refl, refl)
+alike_end graph halves relays Source Source e = (refl, refl)
+alike_end graph halves relays Source (At q) e = absurd (cc)
+alike_end graph halves relays Source (Relay r) e = absurd (cc)
+alike_end graph halves relays Source Sink e = absurd (cc)
+alike_end graph halves relays (At p) Source e = absurd (cc)
+alike_end graph halves relays (At p) (At q) e =
+    let same = halves_alike p q e graph.points halves in (ap has_second same, ap has_first same)
+alike_end graph halves relays (At p) (Relay r) e = absurd (cc)
+alike_end graph halves relays (At p) Sink e = absurd (cc)
+alike_end graph halves relays (Relay r) Source e = absurd (cc)
+alike_end graph halves relays (Relay r) (At q) e = absurd (cc)
+alike_end graph halves relays (Relay r) (Relay s) e =
+    let same = ap (relay_in graph.relays relays) (nat_cmp_same r s e) in (same, same)
+alike_end graph halves relays (Relay r) Sink e = absurd (cc)
+alike_end graph halves relays Sink Source e = absurd (cc)
+alike_end graph halves relays Sink (At q) e = absurd (cc)
+alike_end graph halves relays Sink (Relay r) e = absurd (cc)
+alike_end graph halves relays Sink Sink e = (refl, refl)
 
-then-parts : (o r : Ordering) → ordering_then o r ≡ Equal → (o ≡ Equal) × (r ≡ Equal)
-then-parts Less r e = absurd (cc)
-then-parts Equal r e = (refl, e)
-then-parts Greater r e = absurd (cc)
+then_parts : (o r : Ordering) → ordering_then o r ≡ Equal → (o ≡ Equal) × (r ≡ Equal)
+then_parts Less r e = absurd (cc)
+then_parts Equal r e = (refl, e)
+then_parts Greater r e = absurd (cc)
 
-alike-closed : (graph : Graph) (halves : List Half) (relays : List Bool) (j k : NamedLink) → link_cmp j k ≡ Equal →
+alike_closed : (graph : Graph) (halves : List Half) (relays : List Bool) (j k : NamedLink) → link_cmp j k ≡ Equal →
     IsClosedLink (named_side graph halves relays) j → IsClosedLink (named_side graph halves relays) k
-alike-closed graph halves relays j k e closed =
-    let both = then-parts (named_end_cmp j.source k.source) (named_end_cmp j.target k.target) e in
-    let source = alike-end graph halves relays j.source k.source both.0 in
-    let target = alike-end graph halves relays j.target k.target both.1 in
+alike_closed graph halves relays j k e closed =
+    let both = then_parts (named_end_cmp j.source k.source) (named_end_cmp j.target k.target) e in
+    let source = alike_end graph halves relays j.source k.source both.0 in
+    let target = alike_end graph halves relays j.target k.target both.1 in
     λ inside. sym target.1 ∙ closed (source.0 ∙ inside)
 
-among-closed : (graph : Graph) (halves : List Half) (relays : List Bool) (links : List NamedLink) (k : NamedLink) →
+among_closed : (graph : Graph) (halves : List Half) (relays : List Bool) (links : List NamedLink) (k : NamedLink) →
     IsClosedFor (named_side graph halves relays) links → is_among links k ≡ true →
     IsClosedLink (named_side graph halves relays) k
-among-closed graph halves relays [] k closed among = absurd (cc)
-among-closed graph halves relays (j ∷ links) k closed among =
+among_closed graph halves relays [] k closed among = absurd (cc)
+among_closed graph halves relays (j ∷ links) k closed among =
     elim (or_cases (is_eq (link_cmp j k)) (is_among links k) among) [
-      | inl same ↦ alike-closed graph halves relays j k (is_equal (link_cmp j k) same) closed.0
-      | inr later ↦ among-closed graph halves relays links k closed.1 later
+      | inl same ↦ alike_closed graph halves relays j k (is_equal (link_cmp j k) same) closed.0
+      | inr later ↦ among_closed graph halves relays links k closed.1 later
     ]
 
-pub link-itself : (j : NamedLink) → is_eq (link_cmp j j) ≡ true
-link-itself j = ap is_eq (itself (link_cmp j j) (link_total.antisymm j j))
+pub link_itself : (j : NamedLink) → is_eq (link_cmp j j) ≡ true
+link_itself j = ap is_eq (itself (link_cmp j j) (link_total.antisymm j j))
 
 each_among : (P : NamedLink → Type 0) (links : List NamedLink) →
     ((k : NamedLink) → is_among links k ≡ true → P k) → AllByRecursion P links
 each_among P [] holds = tt
 each_among P (j ∷ links) holds = (
-  holds j (or_left (is_eq (link_cmp j j)) (is_among links j) (link-itself j)),
+  holds j (or_left (is_eq (link_cmp j j)) (is_among links j) (link_itself j)),
   each_among P links (λ k among. holds k (or_right (is_eq (link_cmp j k)) (is_among links k) among)),
 )
 
-pub side-closed : (events : List Event) (graph : Graph) (halves : List Half) (relays : List Bool) →
+pub side_closed : (events : List Event) (graph : Graph) (halves : List Half) (relays : List Bool) →
     IsGraphOf events graph → IsSideOf graph halves relays →
     IsClosedFor (named_side graph halves relays) (named_links events)
-side-closed events graph halves relays is side =
+side_closed events graph halves relays is side =
     let closed = named_stay graph halves relays side.points_count graph.links graph.links_are_valid
     (links_stay graph (member graph halves relays) side.side) in
     each_among (IsClosedLink (named_side graph halves relays)) (named_links events)
-    (λ k among. among-closed graph halves relays (map (named graph.points) graph.links) k closed (is.links k ∙ among))
+    (λ k among. among_closed graph halves relays (map (named graph.points) graph.links) k closed (is.links k ∙ among))
 
 -- ---- there is no relay of what is outside regions
 
-or-none : (a b : Bool) → a ≡ false → b ≡ false → (a || b) ≡ false
-or-none true b first second = absurd (cc)
-or-none false b first second = second
+or_none : (a b : Bool) → a ≡ false → b ≡ false → (a || b) ≡ false
+or_none true b first second = absurd (cc)
+or_none false b first second = second
 
-or-later : (a b : Bool) → (a || b) ≡ false → b ≡ false
-or-later true b none = absurd (cc)
-or-later false b none = none
+or_later : (a b : Bool) → (a || b) ≡ false → b ≡ false
+or_later true b none = absurd (cc)
+or_later false b none = none
 
-one-unnamed : (region : ℕ) (there : Bool) (s t : NamedEnd) (rest : List NamedLink) → is_relay_of region s ≡ false →
+one_unnamed : (region : ℕ) (there : Bool) (s t : NamedEnd) (rest : List NamedLink) → is_relay_of region s ≡ false →
     is_relay_of region t ≡ false → list_any (names_relay region) rest ≡ false →
     list_any (names_relay region) (one_if there s t ++ rest) ≡ false
-one-unnamed region true s t rest none also later = or-none _ _ (or-none _ _ none also) later
-one-unnamed region false s t rest none also later = later
+one_unnamed region true s t rest none also later = or_none _ _ (or_none _ _ none also) later
+one_unnamed region false s t rest none also later = later
 
-outlet-unnamed : (region : ℕ) (outside : Bool) → (region == 0) ≡ outside →
+outlet_unnamed : (region : ℕ) (outside : Bool) → (region == 0) ≡ outside →
     is_relay_of 0 (cond outside Sink (Relay region)) ≡ false
-outlet-unnamed region true is = refl
-outlet-unnamed region false is = ne_eqb 0 region (λ e. eqb-false region 0 is (sym e))
+outlet_unnamed region true is = refl
+outlet_unnamed region false is = ne_eqb 0 region (λ e. eqb-false region 0 is (sym e))
 
-out-unnamed : (region : ℕ) (there outside : Bool) (t : NamedEnd) (rest : List NamedLink) → (region == 0) ≡ outside →
+out_unnamed : (region : ℕ) (there outside : Bool) (t : NamedEnd) (rest : List NamedLink) → (region == 0) ≡ outside →
     is_relay_of 0 t ≡ false → list_any (names_relay 0) rest ≡ false →
     list_any (names_relay 0) (one_if (there && not outside) (Relay region) t ++ rest) ≡ false
-out-unnamed region true true t rest is none later = later
-out-unnamed region false true t rest is none later = later
-out-unnamed region there false t rest is none later =
-    one-unnamed 0 (there && true) (Relay region) t rest (ne_eqb 0 region (λ e. eqb-false region 0 is (sym e))) none
+out_unnamed region true true t rest is none later = later
+out_unnamed region false true t rest is none later = later
+out_unnamed region there false t rest is none later =
+    one_unnamed 0 (there && true) (Relay region) t rest (ne_eqb 0 region (λ e. eqb-false region 0 is (sym e))) none
     later
 
-none-named : (before events : List Event) → list_any (names_relay 0) (links_after before events) ≡ false
-none-named before [] = refl
-none-named before (Pass point mask ∷ events) = none-named (before ++ Pass point mask ∷ []) events
-none-named before (Link source target ∷ events) =
-    one-unnamed 0 (has_passed before source && has_passed before target) (At source) (At target) _ refl refl
-    (none-named (before ++ Link source target ∷ []) events)
-none-named before (FromSecret point ∷ events) =
-    one-unnamed 0 (has_passed before point) Source (At point) _ refl refl
-    (none-named (before ++ FromSecret point ∷ []) events)
-none-named before (Implicit point region ∷ events) =
-    one-unnamed 0 (has_passed before point) (At point) (outlet_of region) _ refl
-    (outlet-unnamed region (region == 0) refl)
-    (none-named (before ++ Implicit point region ∷ []) events)
-none-named before (Out region point ∷ events) =
-    out-unnamed region (has_passed before point) (region == 0) (At point) _ refl refl
-    (none-named (before ++ Out region point ∷ []) events)
+none_named : (before events : List Event) → list_any (names_relay 0) (links_after before events) ≡ false
+none_named before [] = refl
+none_named before (Pass point mask ∷ events) = none_named (before ++ Pass point mask ∷ []) events
+none_named before (Link source target ∷ events) =
+    one_unnamed 0 (has_passed before source && has_passed before target) (At source) (At target) _ refl refl
+    (none_named (before ++ Link source target ∷ []) events)
+none_named before (FromSecret point ∷ events) =
+    one_unnamed 0 (has_passed before point) Source (At point) _ refl refl
+    (none_named (before ++ FromSecret point ∷ []) events)
+none_named before (Implicit point region ∷ events) =
+    one_unnamed 0 (has_passed before point) (At point) (outlet_of region) _ refl
+    (outlet_unnamed region (region == 0) refl)
+    (none_named (before ++ Implicit point region ∷ []) events)
+none_named before (Out region point ∷ events) =
+    out_unnamed region (has_passed before point) (region == 0) (At point) _ refl refl
+    (none_named (before ++ Out region point ∷ []) events)
 
-missing-relay : (regions : List ℕ) (answers : List Bool) (region : ℕ) → list_any (nat_eq region) regions ≡ false →
+missing_relay : (regions : List ℕ) (answers : List Bool) (region : ℕ) → list_any (nat_eq region) regions ≡ false →
     relay_in regions answers region ≡ false
-missing-relay [] answers region none = refl
-missing-relay (other ∷ regions) [] region none = refl
-missing-relay (other ∷ regions) (answer ∷ answers) region none = elim (cases_Bool (nat_eq other region)) [
+missing_relay [] answers region none = refl
+missing_relay (other ∷ regions) [] region none = refl
+missing_relay (other ∷ regions) (answer ∷ answers) region none = elim (cases_Bool (nat_eq other region)) [
   | inl same ↦
       let here : nat_eq region other ≡ true = eq-eqb region other (sym (eqb-true other region same)) in
       let there : list_any (nat_eq region) (other ∷ regions) ≡ true =
@@ -389,10 +389,10 @@ missing-relay (other ∷ regions) (answer ∷ answers) region none = elim (cases
       absurd (cc)
   | inr different ↦
       cond-false (nat_eq other region) answer (relay_in regions answers region) different
-      ∙ missing-relay regions answers region (or-later (nat_eq region other) (list_any (nat_eq region) regions) none)
+      ∙ missing_relay regions answers region (or_later (nat_eq region other) (list_any (nat_eq region) regions) none)
 ]
 
-pub side-outside : (events : List Event) (graph : Graph) (halves : List Half) (relays : List Bool) →
+pub side_outside : (events : List Event) (graph : Graph) (halves : List Half) (relays : List Bool) →
     IsGraphOf events graph → (named_side graph halves relays).relay 0 ≡ false
-side-outside events graph halves relays is =
-    missing-relay graph.relays relays 0 (is.relays 0 ∙ none-named [] events)
+side_outside events graph halves relays is =
+    missing_relay graph.relays relays 0 (is.relays 0 ∙ none_named [] events)

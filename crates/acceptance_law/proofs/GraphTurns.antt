@@ -42,8 +42,8 @@ use Rattle.run_labels.specs.Flowing.{link_from, source_events, byte_events, sour
 use Rattle.run_labels.specs.Flowing.{passing_events, labels_in, events_in}
 use Rattle.run_labels.specs.Runs.{unlabelled, next_walk, turn_events, run_after}
 use Rattle.acceptance_law.specs.ClosedEvents.{IsProperEvent, AreProperEvents}
-use Rattle.acceptance_law.proofs.GraphEvents.{Knows, knows_more, knows_pass, Names, AreNamed, all_named, named-append}
-use Rattle.acceptance_law.proofs.GraphEvents.{all-append, all-parts}
+use Rattle.acceptance_law.proofs.GraphEvents.{Knows, knows_more, knows_pass, Names, AreNamed, all_named, named_append}
+use Rattle.acceptance_law.proofs.GraphEvents.{all_append, all_parts}
 use Rattle.flow_base.specs.Listed.{is_listed}
 
 -- ---- labels
@@ -218,17 +218,17 @@ sources_named : (before : List Event) (labels : TurnLabels) (point : Point) → 
     Knows before point → (sources : Sources) → AllByRecursion (Names before) (sources_events labels point sources)
 sources_named before labels point known here (One source) = source_named before labels point known here source
 sources_named before labels point known here (Two first second) =
-    all-append (Names before) (source_events labels point first) (source_events labels point second)
+    all_append (Names before) (source_events labels point first) (source_events labels point second)
     (source_named before labels point known here first) (source_named before labels point known here second)
 sources_named before labels point known here (BytesOne address) = byte_named before labels point known here address
 sources_named before labels point known here (BytesTwo address) =
-    all-append (Names before) (byte_events labels point address) (byte_events labels point (address + 1))
+    all_append (Names before) (byte_events labels point address) (byte_events labels point (address + 1))
     (byte_named before labels point known here address) (byte_named before labels point known here (address + 1))
 sources_named before labels point known here (BytesFour address) =
     let byte = byte_named before labels point known here in
-    all-append (Names before) (byte_events labels point address) _ (byte address)
-    (all-append (Names before) (byte_events labels point (address + 1)) _ (byte (address + 1))
-    (all-append (Names before) (byte_events labels point (address + 2)) (byte_events labels point (address + 3))
+    all_append (Names before) (byte_events labels point address) _ (byte address)
+    (all_append (Names before) (byte_events labels point (address + 1)) _ (byte (address + 1))
+    (all_append (Names before) (byte_events labels point (address + 2)) (byte_events labels point (address + 3))
     (byte (address + 2)) (byte (address + 3))))
 
 aim_named : (before : List Event) (point : Point) → Knows before point → (aim : Aim) →
@@ -241,32 +241,32 @@ flow_named : (before : List Event) (labels : TurnLabels) (passing : Passing) →
     Knows before passing.point → AreProperEvents (flow_events labels passing) →
     AllByRecursion (Names before) (flow_events labels passing)
 flow_named before labels passing known here proper =
-    all-append (Names before) (sources_events labels passing.point passing.sources)
+    all_append (Names before) (sources_events labels passing.point passing.sources)
     (aim_events passing.point passing.aim) (sources_named before labels passing.point known here passing.sources)
     (aim_named before passing.point here passing.aim
-    (all-parts IsProperEvent (sources_events labels passing.point passing.sources)
+    (all_parts IsProperEvent (sources_events labels passing.point passing.sources)
     (aim_events passing.point passing.aim) proper).1)
 
-width-word : (slot : Slot) → width_of slot < 2 ^ 32
-width-word FirstSlot = omega arith
-width-word SecondSlot = omega arith
-width-word Address = omega arith
-width-word ResultSlot = omega arith
-width-word DecisionSlot = omega arith
-width-word Number = omega arith
-width-word Arg0 = omega arith
-width-word Arg1 = omega arith
-width-word Arg2 = omega arith
-width-word SecretIn = omega arith
-width-word ByteOut = omega arith
-width-word Status = omega arith
-width-word (OutReg register) = omega arith
-width-word (OutRange range) = omega arith
+width_word : (slot : Slot) → width_of slot < 2 ^ 32
+width_word FirstSlot = omega arith
+width_word SecondSlot = omega arith
+width_word Address = omega arith
+width_word ResultSlot = omega arith
+width_word DecisionSlot = omega arith
+width_word Number = omega arith
+width_word Arg0 = omega arith
+width_word Arg1 = omega arith
+width_word Arg2 = omega arith
+width_word SecretIn = omega arith
+width_word ByteOut = omega arith
+width_word Status = omega arith
+width_word (OutReg register) = omega arith
+width_word (OutRange range) = omega arith
 
 knows_here : (before : List Event) (point : Point) (mask : ℕ) → mask ≤ width_of point.slot → 0 < mask →
     Knows (before ++ Pass point mask ∷ []) point
 knows_here before point mask fits some =
-    let word : width_of point.slot < 2 ^ 32 = width-word point.slot in
+    let word : width_of point.slot < 2 ^ 32 = width_word point.slot in
     knows_pass before point mask some (omega (arith, fits, word))
 
 tested_events : (before : List Event) (labels : TurnLabels) (passing : Passing) (mask : ℕ) (test : Bool) →
@@ -315,11 +315,11 @@ turn_named before labels answers (Passed passing go) known proper =
     let here = passing_events labels (first_of answers) passing in
     let next = labels_after labels (first_of answers) passing in
     let later = answers_after passing.work answers in
-    let parts = all-parts IsProperEvent here (events_in next later (go passing.value)) proper in
+    let parts = all_parts IsProperEvent here (events_in next later (go passing.value)) proper in
     let rest = turn_named (before ++ here) next later (go passing.value)
     (passing_known before _ labels passing.aim passing.point (mask_of labels (first_of answers) passing) parts.0.0.0
     known) parts.1 in (
-      named-append before here (events_in next later (go passing.value))
+      named_append before here (events_in next later (go passing.value))
           (passing_named before labels (first_of answers) passing known parts.0) rest.0,
       subst (λ events. AreKnown events (labels_in next later (go passing.value)))
           (append_assoc before here (events_in next later (go passing.value))) rest.1,
@@ -353,8 +353,8 @@ unfolding run_after
 run_named regions [] start proper = (tt, default_known)
 run_named regions (last ∷ earlier) start proper =
     let run = run_after regions earlier (unlabelled start) in
-    let parts = all-parts IsProperEvent run.events (turn_events regions last run) proper in
+    let parts = all_parts IsProperEvent run.events (turn_events regions last run) proper in
     let before = run_named regions earlier start parts.0 in
     let turn = turn_named run.events (at_start run.labels) last (next_walk regions run)
     (start_known run.events run.labels before.1) parts.1 in
-    (named-append [] run.events (turn_events regions last run) before.0 turn.0, turn.1)
+    (named_append [] run.events (turn_events regions last run) before.0 turn.0, turn.1)

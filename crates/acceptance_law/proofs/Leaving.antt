@@ -111,9 +111,9 @@ zero_unlisted (register ∷ registers) h =
 
 -- ---- kept registers
 
-pub none-mapped : {A B : Type 0} (f : A → B) (found : Option A) → option_map f found ≡ None → found ≡ None
-none-mapped f None e = refl
-none-mapped f (Some x) e = absurd (cc)
+pub none_mapped : {A B : Type 0} (f : A → B) (found : Option A) → option_map f found ≡ None → found ≡ None
+none_mapped f None e = refl
+none_mapped f (Some x) e = absurd (cc)
 
 unchanged_found : (before after : List ℕ) (keep : List ℕ) (q : ℕ) →
     find (λ register. has_changed before after register) keep ≡ None → is_listed keep q ≡ true →
@@ -151,7 +151,7 @@ pub kept_same : (region : Region) (before after : List ℕ) (q : ℕ) → keep_b
     is_listed region.keep q ≡ true → slice_index before q ≡ slice_index after q
 kept_same region before after q none listed =
     unchanged_found before after region.keep q
-    (none-mapped (register_changed region before after) (changed_register region before after) none) listed
+    (none_mapped (register_changed region before after) (changed_register region before after) none) listed
 
 -- ---- what is put back
 

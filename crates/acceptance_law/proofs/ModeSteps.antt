@@ -16,7 +16,7 @@ use Rattle.region_machine.specs.Enclosures.{is_enclosed_kind}
 use Rattle.region_machine.specs.Guests.{kind_walk}
 use Rattle.region_machine.specs.Breaking.{kind_break}
 use Rattle.region_machine.specs.Runs.{passed, has_exited}
-use Rattle.region_machine.proofs.RangesStayInside.{numbered, entered-found}
+use Rattle.region_machine.proofs.RangesStayInside.{numbered, entered_found}
 use Rattle.region_machine.proofs.NoExitInside.{enclosed_runs_on}
 use Rattle.replay_machine.specs.Runs.{Masks}
 use Rattle.shadow_masks.specs.Writes.{LabelMap}
@@ -137,13 +137,13 @@ module _ (side : NamedSide) (skip : List ℕ) (regions : List Region) (masks : M
           IsLater last answers
       enters region e false unskipped =
           let found = numbered regions (λ other. other.enter == here.pc) region rules
-          (entered-found here.mode regions here region e) in
+          (entered_found here.mode regions here region e) in
           stood_as (Enters region) here at.copy e unskipped at.comes
           (entry_stands side skip regions masks setting secret other here tags last values at.copy past all region e
           unskipped found (unbroken_as (Enters region) e) at.stands (covered_as (Enters region) e))
       enters region e true skipped =
           let found = numbered regions (λ other. other.enter == here.pc) region rules
-          (entered-found here.mode regions here region e) in
+          (entered_found here.mode regions here region e) in
           let out = enters_outside here.mode regions here region e in
           skips_as (Enters region) here at.copy e skipped at.comes
           (skip_enters side skip regions masks setting secret other bytes others public_bytes small_start skips proper

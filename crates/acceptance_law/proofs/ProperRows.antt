@@ -56,7 +56,7 @@ use Rattle.acceptance_law.specs.Proper.{AreBytes, IsPassing, AreProperSources, A
 use Rattle.acceptance_law.specs.ProperLaws.{ProperTurnsLaw}
 use Rattle.acceptance_law.proofs.InsideMemory.{inside_begins}
 use Rattle.acceptance_law.proofs.ProperValues.{computed_fits, part_fits, byte_fits, half_fits, whole_fits}
-use Rattle.acceptance_law.proofs.ProperValues.{fits-12, fits-immediate}
+use Rattle.acceptance_law.proofs.ProperValues.{fits_12, fits_immediate}
 
 -- ---- the control
 
@@ -75,13 +75,13 @@ over : (region : ℕ) (mode : _) (control : Control) → IsControl region contro
 unfolding ended
 over region mode control is = is
 
-next-public : (region : ℕ) (control : Control) → IsControl region control → IsControl region (public_taken control)
+next_public : (region : ℕ) (control : Control) → IsControl region control → IsControl region (public_taken control)
 unfolding public_taken
-next-public region control is = is
+next_public region control is = is
 
-next-secret : (region : ℕ) (control : Control) → IsControl region control → IsControl region (secret_taken control)
+next_secret : (region : ℕ) (control : Control) → IsControl region control → IsControl region (secret_taken control)
 unfolding secret_taken
-next-secret region control is = is
+next_secret region control is = is
 
 moved : (region value : ℕ) (control : Control) → value < 2 ^ 32 → IsControl region control →
     IsControl region (break_moved value control)
@@ -169,9 +169,9 @@ module _ (base region : ℕ) where
   unfolding IsProper
   put-register register value turn word rest = ((tt, omega arith), rest)
 
-  link-proper : (rd target : ℕ) (control : Control) → IsControl region control →
+  link_proper : (rd target : ℕ) (control : Control) → IsControl region control →
       IsProper base region (links rd target control)
-  link-proper rd target control is =
+  link_proper rd target control is =
       either (target % 4 == 0) _ _
       (λ aligned. put-register rd ((control.pc + 4) % 2 ^ 32) (Ends (moved_to target control)) (omega arith)
       (ends (moved_to target control) (jumped region target control is)))
@@ -261,7 +261,7 @@ module _ (base region : ℕ) where
   public-proper (suc count) to answer input control word bytes low is = (
     (low, (let byte = bytes control.public_at in omega (arith, byte))),
     public-proper count (to + 1) answer input (public_taken control) word bytes (omega arith)
-        (next-public region control is),
+        (next_public region control is),
   )
 
   secret-proper : (count to answer : ℕ) (control : Control) → answer < 2 ^ 32 → base ≤ to → IsControl region control →
@@ -271,7 +271,7 @@ module _ (base region : ℕ) where
   secret-proper (suc count) to answer control word low is = (
     record { inside = is.1; no_output = refl; named = tt; fits = λ value h. h },
     (low, omega arith),
-    secret-proper count (to + 1) answer (secret_taken control) word (omega arith) (next-secret region control is),
+    secret-proper count (to + 1) answer (secret_taken control) word (omega arith) (next_secret region control is),
   )
 
   write-proper : (count from answer : ℕ) (control : Control) → answer < 2 ^ 32 → base ≤ from →
@@ -440,7 +440,7 @@ module _ (base region : ℕ) where
   unfolding IsProper
   target-proper rd immediate control word is = (
     computes control Address Target (Two (At First) (Constant immediate)) is.1 refl (tt, word) tt refl,
-    λ target h. link-proper rd target control is,
+    λ target h. link_proper rd target control is,
   )
 
   decision-proper : (kind : BranchKind) (offset : ℕ) (control : Control) → IsControl region control →
@@ -471,23 +471,23 @@ module _ (base region : ℕ) where
       put-register rd ((control.pc + upper_of imm) % 2 ^ 32) (Ends (onward control)) (omega arith)
       (ends (onward control) (goes region control is))
   row-proper (Jal rd offset) setting control range same bytes is =
-      link-proper rd ((control.pc + word_of offset) % 2 ^ 32) control is
+      link_proper rd ((control.pc + word_of offset) % 2 ^ 32) control is
   row-proper (Jalr rd rs1 imm) setting control range same bytes is =
-      first-used rs1 control _ is.1 (target-proper rd (word_of imm) control (fits-12 imm range.2) is)
+      first-used rs1 control _ is.1 (target-proper rd (word_of imm) control (fits_12 imm range.2) is)
   row-proper (Branch kind rs1 rs2 offset) setting control range same bytes is =
       first-used rs1 control _ is.1 (second-used rs2 control _ is.1
       (decision-proper kind (word_of offset) control is))
   row-proper (Load kind rd rs1 imm) setting control range same bytes is =
-      first-used rs1 control _ is.1 (addresses (word_of imm) control _ is.1 (fits-12 imm range.2)
+      first-used rs1 control _ is.1 (addresses (word_of imm) control _ is.1 (fits_12 imm range.2)
       (λ address. load-proper kind rd address setting control same is))
   row-proper (StoreInstr kind rs1 rs2 imm) setting control range same bytes is =
       first-used rs1 control _ is.1 (second-used rs2 control _ is.1 (addresses (word_of imm) control _ is.1
-      (fits-12 imm range.2) (λ address. store-proper kind address setting control same is)))
+      (fits_12 imm range.2) (λ address. store-proper kind address setting control same is)))
   row-proper (OpImm kind rd rs1 imm) setting control range same bytes is =
       first-used rs1 control _ is.1 (put-result control rd (Computed (Result (operation_of kind)))
       (Two (At First) (Constant (word_of imm)))
       (computes control ResultSlot (Result (operation_of kind)) (Two (At First) (Constant (word_of imm))) is.1 refl
-      (tt, fits-immediate kind imm range.2) tt refl) is)
+      (tt, fits_immediate kind imm range.2) tt refl) is)
   row-proper (Op kind rd rs1 rs2) setting control range same bytes is =
       first-used rs1 control _ is.1 (second-used rs2 control _ is.1 (put-result control rd (Computed (Result kind))
       (Two (At First) (At Second))

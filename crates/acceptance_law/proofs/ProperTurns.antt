@@ -41,7 +41,7 @@ use Rattle.acceptance_law.specs.Proper.{AreAllWords, AreBytes, IsProperGuest, Is
 use Rattle.acceptance_law.proofs.WritesKeepRelation.{put_limits, put_label_limits, put_kept, put_label_kept}
 use Rattle.acceptance_law.proofs.Passings.{made_fits, mask_fits, slot_word}
 use Rattle.acceptance_law.proofs.Turns.{label_of_limit, seen_word}
-use Rattle.acceptance_law.proofs.GraphEvents.{all-append}
+use Rattle.acceptance_law.proofs.GraphEvents.{all_append}
 use Rattle.flow_base.specs.Listed.{is_listed}
 
 -- ---- what is asked of a turn
@@ -63,46 +63,46 @@ IsOrderly base (Saves turn) = IsOrderly base turn
 IsOrderly base (Restores registers turn) = IsOrderly base turn
 IsOrderly base (Ends control) = control.current_break < 2 ^ 32
 
-pub inner-slot : (slot : Slot) → is_output_slot slot ≡ false → is_slot slot ≡ true
-inner-slot FirstSlot inner = refl
-inner-slot SecondSlot inner = refl
-inner-slot Address inner = refl
-inner-slot ResultSlot inner = refl
-inner-slot DecisionSlot inner = refl
-inner-slot Number inner = refl
-inner-slot Arg0 inner = refl
-inner-slot Arg1 inner = refl
-inner-slot Arg2 inner = refl
-inner-slot SecretIn inner = refl
-inner-slot ByteOut inner = refl
-inner-slot Status inner = refl
-inner-slot (OutReg register) inner = absurd (cc)
-inner-slot (OutRange range) inner = absurd (cc)
+pub inner_slot : (slot : Slot) → is_output_slot slot ≡ false → is_slot slot ≡ true
+inner_slot FirstSlot inner = refl
+inner_slot SecondSlot inner = refl
+inner_slot Address inner = refl
+inner_slot ResultSlot inner = refl
+inner_slot DecisionSlot inner = refl
+inner_slot Number inner = refl
+inner_slot Arg0 inner = refl
+inner_slot Arg1 inner = refl
+inner_slot Arg2 inner = refl
+inner_slot SecretIn inner = refl
+inner_slot ByteOut inner = refl
+inner_slot Status inner = refl
+inner_slot (OutReg register) inner = absurd (cc)
+inner_slot (OutRange range) inner = absurd (cc)
 
 -- the turns of instructions are so
-pub proper-orderly : (base region : ℕ) (turn : Turn) → IsProper base region turn → IsOrderly base turn
+pub proper_orderly : (base region : ℕ) (turn : Turn) → IsProper base region turn → IsOrderly base turn
 unfolding IsProper IsOrderly
-proper-orderly base region (Looks seen go) proper =
-    λ value word. proper-orderly base region (go value) (proper.1 value word)
-proper-orderly base region (Passes point place making sources turn) proper = (
-  inner-slot point.slot proper.0.no_output,
+proper_orderly base region (Looks seen go) proper =
+    λ value word. proper_orderly base region (go value) (proper.1 value word)
+proper_orderly base region (Passes point place making sources turn) proper = (
+  inner_slot point.slot proper.0.no_output,
   proper.0.named,
   proper.0.fits,
   proper.1.1,
-  proper-orderly base region turn proper.2,
+  proper_orderly base region turn proper.2,
 )
-proper-orderly base region (Decides point making sources go) proper = (
-  inner-slot point.slot proper.0.no_output,
+proper_orderly base region (Decides point making sources go) proper = (
+  inner_slot point.slot proper.0.no_output,
   proper.0.named,
   proper.0.fits,
-  λ value word. proper-orderly base region (go value) (proper.1 value word),
+  λ value word. proper_orderly base region (go value) (proper.1 value word),
 )
-proper-orderly base region (Gives point place turn) proper = absurd proper
-proper-orderly base region (Moves place shape source turn) proper =
-    (proper.0, proper-orderly base region turn proper.1)
-proper-orderly base region (Saves turn) proper = absurd proper
-proper-orderly base region (Restores registers turn) proper = absurd proper
-proper-orderly base region (Ends control) proper = proper.0
+proper_orderly base region (Gives point place turn) proper = absurd proper
+proper_orderly base region (Moves place shape source turn) proper =
+    (proper.0, proper_orderly base region turn proper.1)
+proper_orderly base region (Saves turn) proper = absurd proper
+proper_orderly base region (Restores registers turn) proper = absurd proper
+proper_orderly base region (Ends control) proper = proper.0
 
 -- ---- limits
 
@@ -115,8 +115,8 @@ pub record AreLimitedLabels (map : LabelMap) : Type 0 where
   pub kept : (register : ℕ) → (map.kept register).mask ≤ 4294967295
   pub bytes : (address : ℕ) → (map.bytes address).mask ≤ 255
 
-pub at-start : (map : LabelMap) → AreLimitedLabels map → AreLimited (at_start map)
-at-start map limited = record { places = place; kept = limited.kept }
+pub starts_so : (map : LabelMap) → AreLimitedLabels map → AreLimited (at_start map)
+starts_so map limited = record { places = place; kept = limited.kept }
   where
     place : (place : Place) → (label_at (at_start map) place).mask ≤ place_limit place
     place (Register register) = limited.registers register
@@ -124,23 +124,23 @@ at-start map limited = record { places = place; kept = limited.kept }
     place First = omega arith
     place Second = omega arith
 
-at-end : (labels : TurnLabels) → AreLimited labels → AreLimitedLabels labels.map
-at-end labels limited = record {
+at_end : (labels : TurnLabels) → AreLimited labels → AreLimitedLabels labels.map
+at_end labels limited = record {
   registers = λ register. limited.places (Register register);
   kept = limited.kept;
   bytes = λ address. limited.places (Byte address);
 }
 
-put-limited : (place : Place) (label : Label) (labels : TurnLabels) → label.mask ≤ place_limit place →
+put_limited : (place : Place) (label : Label) (labels : TurnLabels) → label.mask ≤ place_limit place →
     AreLimited labels → AreLimited (put_label place label labels)
-put-limited place label labels new limited = record {
+put_limited place label labels new limited = record {
   places = λ other. put_label_limits place label labels new other (limited.places other);
   kept = λ register. subst (λ kept. (kept register).mask ≤ 4294967295) (sym (put_label_kept place label labels))
       (limited.kept register);
 }
 
-saved-limited : (labels : TurnLabels) → AreLimited labels → AreLimited (save_labels labels)
-saved-limited labels limited = record {
+saved_limited : (labels : TurnLabels) → AreLimited labels → AreLimited (save_labels labels)
+saved_limited labels limited = record {
   places = place;
   kept = λ register. limited.places (Register register);
 }
@@ -151,9 +151,9 @@ saved-limited labels limited = record {
     place First = limited.places First
     place Second = limited.places Second
 
-restored-limited : (registers : List ℕ) (labels : TurnLabels) → AreLimited labels →
+restored_limited : (registers : List ℕ) (labels : TurnLabels) → AreLimited labels →
     AreLimited (restore_labels registers labels)
-restored-limited registers labels limited = record { places = place; kept = limited.kept }
+restored_limited registers labels limited = record { places = place; kept = limited.kept }
   where
     pick : (test : Bool) (label other : Label) → label.mask ≤ 4294967295 → other.mask ≤ 4294967295 →
         (if test then label else other).mask ≤ 4294967295
@@ -168,29 +168,29 @@ restored-limited registers labels limited = record { places = place; kept = limi
     place First = limited.places First
     place Second = limited.places Second
 
-moved-limited : (base : ℕ) (labels : TurnLabels) (place : Place) (shape : Shape) (source : Source) →
+moved_limited : (base : ℕ) (labels : TurnLabels) (place : Place) (shape : Shape) (source : Source) →
     IsMove base place shape source → AreLimited labels → (moved_label labels shape source).mask ≤ place_limit place
-moved-limited base labels place shape (At from) move limited =
+moved_limited base labels place shape (At from) move limited =
     label_of_limit (shaped shape ((label_at labels from).mask ∷ [])) (label_at labels from).point (place_limit place)
     (move.2 (label_at labels from).mask (limited.places from))
-moved-limited base labels place shape (Constant value) move limited = omega arith
-moved-limited base labels place shape (Secret index) move limited = absurd move
+moved_limited base labels place shape (Constant value) move limited = omega arith
+moved_limited base labels place shape (Secret index) move limited = absurd move
 
 -- the values of a store and the operands held
 pub record HasLimits (base : ℕ) (store : Store) (held : Held) : Type 0 where
   pub places : (place : Place) → at_place base store held place ≤ place_limit place
   pub kept : AreAllWords store.kept
 
-pub put-limits : (base : ℕ) (place : Place) (value : ℕ) (store : Store) (held : Held) → value ≤ place_limit place →
+pub limits_put : (base : ℕ) (place : Place) (value : ℕ) (store : Store) (held : Held) → value ≤ place_limit place →
     HasLimits base store held → HasLimits base (put base place value store) (hold place value held)
-put-limits base place value store held new has = record {
+limits_put base place value store held new has = record {
   places = λ other. put_limits base place value store held new other (has.places other);
   kept = subst AreAllWords (sym (put_kept base place value store)) has.kept;
 }
 
-saved-limits : (base : ℕ) (store : Store) (held : Held) → HasLimits base store held → HasLimits base (saved store) held
+saved_limits : (base : ℕ) (store : Store) (held : Held) → HasLimits base store held → HasLimits base (saved store) held
 unfolding saved
-saved-limits base store held has = record {
+saved_limits base store held has = record {
   places = place;
   kept = λ register. let limit = has.places (Register register) in omega (arith, limit);
 }
@@ -203,59 +203,59 @@ saved-limits base store held has = record {
 
 -- ---- events
 
-link-proper : (label : Label) (point : Point) → AreProperEvents (link_from label point)
-link-proper label point = pick (label.mask == 0)
+link_proper : (label : Label) (point : Point) → AreProperEvents (link_from label point)
+link_proper label point = pick (label.mask == 0)
   where
     pick : (test : Bool) → AreProperEvents (if test then [] else Link label.point point ∷ [])
     pick true = tt
     pick false = (tt, tt)
 
-source-proper : (labels : TurnLabels) (point : Point) (source : Source) →
+source_proper : (labels : TurnLabels) (point : Point) (source : Source) →
     AreProperEvents (source_events labels point source)
-source-proper labels point (At place) = link-proper (label_at labels place) point
-source-proper labels point (Constant value) = tt
-source-proper labels point (Secret index) = (tt, tt)
+source_proper labels point (At place) = link_proper (label_at labels place) point
+source_proper labels point (Constant value) = tt
+source_proper labels point (Secret index) = (tt, tt)
 
-sources-proper : (labels : TurnLabels) (point : Point) (sources : Sources) →
+sources_proper : (labels : TurnLabels) (point : Point) (sources : Sources) →
     AreProperEvents (sources_events labels point sources)
-sources-proper labels point (One source) = source-proper labels point source
-sources-proper labels point (Two first second) =
-    all-append IsProperEvent (source_events labels point first) (source_events labels point second)
-    (source-proper labels point first) (source-proper labels point second)
-sources-proper labels point (BytesOne address) = link-proper (labels.map.bytes address) point
-sources-proper labels point (BytesTwo address) =
-    all-append IsProperEvent (byte_events labels point address) (byte_events labels point (address + 1))
-    (link-proper (labels.map.bytes address) point) (link-proper (labels.map.bytes (address + 1)) point)
-sources-proper labels point (BytesFour address) =
-    let byte = λ (a : ℕ). link-proper (labels.map.bytes a) point in
-    all-append IsProperEvent (byte_events labels point address) _ (byte address)
-    (all-append IsProperEvent (byte_events labels point (address + 1)) _ (byte (address + 1))
-    (all-append IsProperEvent (byte_events labels point (address + 2)) (byte_events labels point (address + 3))
+sources_proper labels point (One source) = source_proper labels point source
+sources_proper labels point (Two first second) =
+    all_append IsProperEvent (source_events labels point first) (source_events labels point second)
+    (source_proper labels point first) (source_proper labels point second)
+sources_proper labels point (BytesOne address) = link_proper (labels.map.bytes address) point
+sources_proper labels point (BytesTwo address) =
+    all_append IsProperEvent (byte_events labels point address) (byte_events labels point (address + 1))
+    (link_proper (labels.map.bytes address) point) (link_proper (labels.map.bytes (address + 1)) point)
+sources_proper labels point (BytesFour address) =
+    let byte = λ (a : ℕ). link_proper (labels.map.bytes a) point in
+    all_append IsProperEvent (byte_events labels point address) _ (byte address)
+    (all_append IsProperEvent (byte_events labels point (address + 1)) _ (byte (address + 1))
+    (all_append IsProperEvent (byte_events labels point (address + 2)) (byte_events labels point (address + 3))
     (byte (address + 2)) (byte (address + 3))))
 
-aim-proper : (point : Point) (aim : Aim) → ((place : Place) → aim ≡ Give place → (point.region == 0) ≡ false) →
+aim_proper : (point : Point) (aim : Aim) → ((place : Place) → aim ≡ Give place → (point.region == 0) ≡ false) →
     AreProperEvents (aim_events point aim)
-aim-proper point (Put place) outside = tt
-aim-proper point Decide outside = (tt, tt)
-aim-proper point (Give place) outside = (outside place refl, tt)
+aim_proper point (Put place) outside = tt
+aim_proper point Decide outside = (tt, tt)
+aim_proper point (Give place) outside = (outside place refl, tt)
 
-passing-proper : (labels : TurnLabels) (answer : ℕ) (passing : Passing) → is_slot passing.point.slot ≡ true →
+passing_proper : (labels : TurnLabels) (answer : ℕ) (passing : Passing) → is_slot passing.point.slot ≡ true →
     mask_of labels answer passing ≤ width_of passing.point.slot →
     ((place : Place) → passing.aim ≡ Give place → (passing.point.region == 0) ≡ false) →
     AreProperEvents (passing_events labels answer passing)
-passing-proper labels answer passing slot fits outside = ((fits, slot), pick (mask_of labels answer passing == 0))
+passing_proper labels answer passing slot fits outside = ((fits, slot), pick (mask_of labels answer passing == 0))
   where
     pick : (test : Bool) → AreProperEvents (if test then [] else flow_events labels passing)
     pick true = tt
     pick false =
-        all-append IsProperEvent (sources_events labels passing.point passing.sources)
-        (aim_events passing.point passing.aim) (sources-proper labels passing.point passing.sources)
-        (aim-proper passing.point passing.aim outside)
+        all_append IsProperEvent (sources_events labels passing.point passing.sources)
+        (aim_events passing.point passing.aim) (sources_proper labels passing.point passing.sources)
+        (aim_proper passing.point passing.aim outside)
 
 -- ---- one turn
 
-memory-bytes : (base : ℕ) (store : Store) (held : Held) → HasLimits base store held → AreBytes store.memory
-memory-bytes base store held has =
+memory_bytes : (base : ℕ) (store : Store) (held : Held) → HasLimits base store held → AreBytes store.memory
+memory_bytes base store held has =
     λ index.
     let limit : slice_index store.memory (base + index - base) ≤ 255 = has.places (Byte (base + index)) in
     let here : base + index - base ≡ index = omega arith in
@@ -292,12 +292,12 @@ module _ (setting : Setting) (secret : List ℕ) (bytes : AreBytes secret) where
       let rest = turn-events turn (put_label place (label_of mask point) labels)
       (answers_after (work_of making values) answers) (put setting.base place (made making values) store)
       (hold place (made making values) held) orderly.4
-      (put-limited place (label_of mask point) labels
+      (put_limited place (label_of mask point) labels
       (label_of_limit mask point (place_limit place) (let m = fits in omega (arith, m, width))) limited)
-      (put-limits setting.base place (made making values) store held (omega (arith, value, width)) has) sound.1 in (
-        all-append IsProperEvent
+      (limits_put setting.base place (made making values) store held (omega (arith, value, width)) has) sound.1 in (
+        all_append IsProperEvent
             (passing_events labels (first_of answers) (passing point (Put place) making sources values)) _
-            (passing-proper labels (first_of answers) (passing point (Put place) making sources values) orderly.0 fits
+            (passing_proper labels (first_of answers) (passing point (Put place) making sources values) orderly.0 fits
             (λ other e. absurd (cc))) rest.0,
         rest.1,
       )
@@ -308,9 +308,9 @@ module _ (setting : Setting) (secret : List ℕ) (bytes : AreBytes secret) where
       let value = made_fits setting secret bytes store held has.places point making sources orderly.1 orderly.2 in
       let rest = turn-events (go (made making values)) labels (answers_after (work_of making values) answers) store held
       (orderly.3 (made making values) (slot_word point.slot (made making values) value)) limited has sound.1 in (
-        all-append IsProperEvent
+        all_append IsProperEvent
             (passing_events labels (first_of answers) (passing point Decide making sources values)) _
-            (passing-proper labels (first_of answers) (passing point Decide making sources values) orderly.0 fits
+            (passing_proper labels (first_of answers) (passing point Decide making sources values) orderly.0 fits
             (λ other e. absurd (cc))) rest.0,
         rest.1,
       )
@@ -319,12 +319,12 @@ module _ (setting : Setting) (secret : List ℕ) (bytes : AreBytes secret) where
       let width = orderly.2 in
       let rest = turn-events turn (put_label place (label_of (width_of point.slot) point) labels) answers
       (put setting.base place value store) (hold place value held) orderly.3
-      (put-limited place (label_of (width_of point.slot) point) labels
+      (put_limited place (label_of (width_of point.slot) point) labels
       (label_of_limit (width_of point.slot) point (place_limit place) (omega (arith, width))) limited)
-      (put-limits setting.base place value store held (has.places place) has) sound.1 in (
-        all-append IsProperEvent (passing_events labels (first_of answers)
+      (limits_put setting.base place value store held (has.places place) has) sound.1 in (
+        all_append IsProperEvent (passing_events labels (first_of answers)
             (passing point (Give place) (Shaped Copied) (One (At place)) (value ∷ []))) _
-            (passing-proper labels (first_of answers)
+            (passing_proper labels (first_of answers)
             (passing point (Give place) (Shaped Copied) (One (At place)) (value ∷ [])) orderly.0
             (let same : width_of point.slot ≤ width_of point.slot = omega arith in same) (λ other e. orderly.1)) rest.0,
         rest.1,
@@ -333,17 +333,17 @@ module _ (setting : Setting) (secret : List ℕ) (bytes : AreBytes secret) where
       let value = shaped shape (value_of setting secret store held source ∷ []) in
       turn-events turn (put_label place (moved_label labels shape source) labels) answers
       (put setting.base place value store) (hold place value held) orderly.1
-      (put-limited place (moved_label labels shape source) labels
-      (moved-limited setting.base labels place shape source orderly.0 limited) limited)
-      (put-limits setting.base place value store held (moved-value store held place shape source has orderly.0) has)
+      (put_limited place (moved_label labels shape source) labels
+      (moved_limited setting.base labels place shape source orderly.0 limited) limited)
+      (limits_put setting.base place value store held (moved-value store held place shape source has orderly.0) has)
       sound
   turn-events (Saves turn) labels answers store held orderly limited has sound =
-      turn-events turn (save_labels labels) answers (saved store) held orderly (saved-limited labels limited)
-      (saved-limits setting.base store held has) sound
+      turn-events turn (save_labels labels) answers (saved store) held orderly (saved_limited labels limited)
+      (saved_limits setting.base store held has) sound
   turn-events (Restores registers turn) labels answers store held orderly limited has sound =
       turn-events turn (restore_labels registers labels) answers store held orderly
-      (restored-limited registers labels limited) has sound
-  turn-events (Ends control) labels answers store held orderly limited has sound = (tt, at-end labels limited)
+      (restored_limited registers labels limited) has sound
+  turn-events (Ends control) labels answers store held orderly limited has sound = (tt, at_end labels limited)
 
   -- the values at its end are a guest's
   pub turn-guest : (turn : Turn) (store : Store) (held : Held) → IsOrderly setting.base turn →
@@ -358,7 +358,7 @@ module _ (setting : Setting) (secret : List ℕ) (bytes : AreBytes secret) where
       let value = made_fits setting secret bytes store held has.places point making sources orderly.1 orderly.2 in
       let width = orderly.3 in
       turn-guest turn (put setting.base place (made making values) store) (hold place (made making values) held)
-      orderly.4 (put-limits setting.base place (made making values) store held (omega (arith, value, width)) has) input
+      orderly.4 (limits_put setting.base place (made making values) store held (omega (arith, value, width)) has) input
       break
   turn-guest (Decides point making sources go) store held orderly has input break =
       let values = values_of setting secret store held sources in
@@ -368,21 +368,21 @@ module _ (setting : Setting) (secret : List ℕ) (bytes : AreBytes secret) where
   turn-guest (Gives point place turn) store held orderly has input break =
       let value = at_place setting.base store held place in
       turn-guest turn (put setting.base place value store) (hold place value held) orderly.3
-      (put-limits setting.base place value store held (has.places place) has) input break
+      (limits_put setting.base place value store held (has.places place) has) input break
   turn-guest (Moves place shape source turn) store held orderly has input break =
       let value = shaped shape (value_of setting secret store held source ∷ []) in
       turn-guest turn (put setting.base place value store) (hold place value held) orderly.1
-      (put-limits setting.base place value store held (moved-value store held place shape source has orderly.0) has)
+      (limits_put setting.base place value store held (moved-value store held place shape source has orderly.0) has)
       input break
   turn-guest (Saves turn) store held orderly has input break =
-      turn-guest turn (saved store) held orderly (saved-limits setting.base store held has) input break
+      turn-guest turn (saved store) held orderly (saved_limits setting.base store held has) input break
   turn-guest (Restores registers turn) store held orderly has input break =
       turn-guest turn store held orderly has input break
   turn-guest (Ends control) store held orderly has input break = record {
     store = record {
       registers = λ register. let limit = has.places (Register register) in omega (arith, limit);
       kept = has.kept;
-      memory = memory-bytes setting.base store held has;
+      memory = memory_bytes setting.base store held has;
     };
     secret = bytes;
     public_input = input;

@@ -29,29 +29,29 @@ use Rattle.acceptance_law.specs.Proper.{operation_limit}
 
 -- ---- the immediates of instructions, as words
 
-pub fits-12 : (number : ℤ) → IsWithin (2 ^ 11) number → word_of number < 2 ^ 32
-fits-12 (pos n) (low, high) = grind (arith, ints)
-fits-12 (negsuc n) (low, high) = grind (arith, ints)
+pub fits_12 : (number : ℤ) → IsWithin (2 ^ 11) number → word_of number < 2 ^ 32
+fits_12 (pos n) (low, high) = grind (arith, ints)
+fits_12 (negsuc n) (low, high) = grind (arith, ints)
 
-pub fits-13 : (number : ℤ) → IsWithin (2 ^ 12) number → word_of number < 2 ^ 32
-fits-13 (pos n) (low, high) = grind (arith, ints)
-fits-13 (negsuc n) (low, high) = grind (arith, ints)
+pub fits_13 : (number : ℤ) → IsWithin (2 ^ 12) number → word_of number < 2 ^ 32
+fits_13 (pos n) (low, high) = grind (arith, ints)
+fits_13 (negsuc n) (low, high) = grind (arith, ints)
 
-pub fits-21 : (number : ℤ) → IsWithin (2 ^ 20) number → word_of number < 2 ^ 32
-fits-21 (pos n) (low, high) = grind (arith, ints)
-fits-21 (negsuc n) (low, high) = grind (arith, ints)
+pub fits_21 : (number : ℤ) → IsWithin (2 ^ 20) number → word_of number < 2 ^ 32
+fits_21 (pos n) (low, high) = grind (arith, ints)
+fits_21 (negsuc n) (low, high) = grind (arith, ints)
 
-fits-shift : (number : ℤ) → pos 0 ≤ℤ number → number <ℤ pos 32 → word_of number < 2 ^ 32
-fits-shift (pos n) low high = grind (arith, ints)
-fits-shift (negsuc n) low high = grind (arith, ints)
+fits_shift : (number : ℤ) → pos 0 ≤ℤ number → number <ℤ pos 32 → word_of number < 2 ^ 32
+fits_shift (pos n) low high = grind (arith, ints)
+fits_shift (negsuc n) low high = grind (arith, ints)
 
-fits-either : (shift : Bool) (number : ℤ) →
+fits_either : (shift : Bool) (number : ℤ) →
     MatchBool shift ((pos 0 ≤ℤ number) × (number <ℤ pos 32)) (IsWithin (2 ^ 11) number) → word_of number < 2 ^ 32
-fits-either true number known = fits-shift number known.0 known.1
-fits-either false number known = fits-12 number known
+fits_either true number known = fits_shift number known.0 known.1
+fits_either false number known = fits_12 number known
 
-pub fits-immediate : (kind : ImmKind) (number : ℤ) → IsImmediate kind number → word_of number < 2 ^ 32
-fits-immediate kind number known = fits-either (is_shift kind) number known
+pub fits_immediate : (kind : ImmKind) (number : ℤ) → IsImmediate kind number → word_of number < 2 ^ 32
+fits_immediate kind number known = fits_either (is_shift kind) number known
 
 -- ---- operations
 

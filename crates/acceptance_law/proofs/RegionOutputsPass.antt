@@ -11,7 +11,7 @@ use Rattle.flow_base.specs.declared.points.Slot.TheVariants.{OutRange}
 use Rattle.flow_base.specs.declared.points.Point.{Point}
 use Rattle.flow_base.specs.Points.{width_of, slot_number}
 use Rattle.flow_base.specs.Words.{Agree, bits_under, patched}
-use Rattle.flow_base.proofs.PointOrders.{same-one}
+use Rattle.flow_base.proofs.PointOrders.{one_if_same}
 use Rattle.flow_base.specs.PointOrders.{is_same}
 use Rattle.flow_graph.specs.declared.events.Event.{Event}
 use Rattle.flow_graph.specs.declared.events.Event.TheVariants.{Pass, Out}
@@ -97,7 +97,7 @@ never_same skip base region o is other inner = pick (is_same (output_point regio
     pick false e = refl
     pick true e =
         let same : slot_number (output_slot o) ≡ slot_number other.slot =
-        ap (λ (p : Point). slot_number p.slot) (same-one (output_point region (output_slot o)) other e) in
+        ap (λ (p : Point). slot_number p.slot) (one_if_same (output_point region (output_slot o)) other e) in
         let low = low_number other.slot
         (and_parts (is_listed skip other.region) (is_instruction_slot other.slot) inner).1 in
         let high = high_number base o is in

@@ -31,7 +31,7 @@ use Rattle.acceptance_law.proofs.Outputs.{Output, output_place, given}
 use Rattle.acceptance_law.proofs.RegionOutputsPass.{outputs_of, gives_given}
 use Rattle.acceptance_law.proofs.Entering.{SameStarts, same_starts, outside_same, entry_end, entry_passed}
 use Rattle.acceptance_law.proofs.Entering.{entry_crossing, entry_replayed, entry_labels}
-use Rattle.acceptance_law.proofs.Leaving.{leave_kept, none-mapped}
+use Rattle.acceptance_law.proofs.Leaving.{leave_kept, none_mapped}
 use Rattle.acceptance_law.proofs.StepsKeepStanding.{state_of, placed, InsideBeside, Stands, Stood, HasRules}
 use Rattle.flow_base.specs.Listed.{is_listed}
 
@@ -147,7 +147,7 @@ saved_inside side base region labels real copy beside starts inside = record {
 pub ranges_unbroken : (region : Region) (registers : List ℕ) (base : ℕ) → range_break region registers base ≡ None →
     outside_range region registers base ≡ None
 ranges_unbroken region registers base e =
-    none-mapped (λ range. RangeOutside region.id range) (outside_range region registers base) e
+    none_mapped (λ range. RangeOutside region.id range) (outside_range region registers base) e
 
 module _ (side : NamedSide) (skip : List ℕ) (regions : List Region) (masks : Masks) (setting : Setting)
     (secret other : List ℕ) where

@@ -25,7 +25,7 @@ use Rattle.run_labels.specs.TurnLabels.{at_start}
 use Rattle.acceptance_law.specs.Sides.{NamedSide}
 use Rattle.acceptance_law.specs.ClosedEvents.{AreClosedEvents}
 use Rattle.acceptance_law.specs.Covers.{AreContained}
-use Rattle.acceptance_law.proofs.Turns.{first-none}
+use Rattle.acceptance_law.proofs.Turns.{first_none}
 use Rattle.acceptance_law.proofs.Passings.{closed_append}
 use Rattle.acceptance_law.proofs.TurnsKeepRelation.{CoveredTurn}
 use Rattle.acceptance_law.proofs.StepsKeepStanding.{state_of}
@@ -195,10 +195,10 @@ module _ (side : NamedSide) (skip : List ℕ) (regions : List Region) (masks : M
       let parts : here ≡ state_of setting secret (control_of answers) (store_of answers) =
       state_parts here setting secret facts.same_setting in
       let walk = guest_walk regions here in
-      let one = first-none (secret_look (entered_number (kind_of regions here.control)) labels last walk)
+      let one = first_none (secret_look (entered_number (kind_of regions here.control)) labels last walk)
       (option_or (broken_fault (Breaks regions here)) (stopped_fault (real_end walk).control.mode))
       premises.unrefused.1 in
-      let two = first-none (broken_fault (Breaks regions here)) (stopped_fault (real_end walk).control.mode) one.1 in
+      let two = first_none (broken_fault (Breaks regions here)) (stopped_fault (real_end walk).control.mode) one.1 in
       let closed = closed_append side (run answers).events (events_in labels last walk) premises.closed in
       let contained = contained_parts side skip masks (run answers).events (events_in labels last walk) []
       premises.contained in

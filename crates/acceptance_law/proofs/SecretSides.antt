@@ -13,7 +13,7 @@ use Rattle.std.proofs.lemmas.List.Sums.{sum_by-cons}
 use Rattle.flow_base.specs.declared.points.Point.{Point}
 use Rattle.flow_base.specs.Words.{bit_count}
 use Rattle.flow_base.specs.PointOrders.{point_cmp, is_same}
-use Rattle.flow_base.proofs.PointOrders.{point_total, is_equal, same-one}
+use Rattle.flow_base.proofs.PointOrders.{point_total, is_equal, one_if_same}
 use Rattle.flow_graph.specs.declared.ends.Arc.{Arc}
 use Rattle.flow_graph.specs.declared.ends.End.{End}
 use Rattle.flow_graph.specs.declared.ends.End.TheVariants.{Source as SourceEnd, Point as PointEnd, Relay as RelayEnd, Sink as SinkEnd}
@@ -30,19 +30,19 @@ use Rattle.max_flow.specs.declared.answers.Half.{Half}
 use Rattle.max_flow.specs.declared.answers.Half.TheVariants.{FirstOnly, Neither}
 use Rattle.max_flow.specs.Flows.{IsSideOf, halves_from, has_first, has_second, head_of, member, network_of, relay_in, tail_of}
 use Rattle.max_flow.specs.Networks.{sum_below}
-use Rattle.max_flow.proofs.Graphs.{length-halves}
+use Rattle.max_flow.proofs.Graphs.{length_halves}
 use Rattle.max_flow.proofs.Sums.{sum_add, sum_same, sum_zero}
 use Rattle.acceptance_law.specs.Sides.{NamedSide, halves_at, is_split, named_side}
 use Rattle.acceptance_law.specs.ClosedEvents.{ends_in, starts_in}
 use Rattle.acceptance_law.specs.SecretBits.{is_from_secret, is_secret_slot, secret_bits, secret_bits_of}
 use Rattle.acceptance_law.specs.SecretSides.{LeastBitsLaw}
-use Rattle.acceptance_law.proofs.GraphEvents.{same-itself}
-use Rattle.acceptance_law.proofs.GraphSides.{graph_sorted, head-named, length-tails, link-itself, member-low, name-later, points_of, tail-named}
-use Rattle.acceptance_law.proofs.GraphCapacities.{name_at, side-capacity, split-more, split_at}
+use Rattle.acceptance_law.proofs.GraphEvents.{same_itself}
+use Rattle.acceptance_law.proofs.GraphSides.{graph_sorted, head_named, length_tails, link_itself, member_low, name_later, points_of, tail_named}
+use Rattle.acceptance_law.proofs.GraphCapacities.{name_at, sum_of_side_capacity, split_more, split_at}
 use Rattle.flow_base.specs.Points.{nowhere}
 
 pub secret_alike : (p q : Point) → is_same p q ≡ true → is_secret_slot p.slot ≡ is_secret_slot q.slot
-secret_alike p q same = ap (λ (x : Point). is_secret_slot x.slot) (same-one p q same)
+secret_alike p q same = ap (λ (x : Point). is_secret_slot x.slot) (one_if_same p q same)
 
 -- ---- the side of the points that read the secret
 
@@ -101,7 +101,7 @@ reads_first : (nodes : List Node) (i : ℕ) → i < length nodes →
 reads_first [] i below e = absurd (omega arith)
 reads_first (node ∷ nodes) zero below e =
     ap has_first (cond-true (is_same node.point node.point) (chosen (is_secret_slot node.point.slot))
-    (halves_at nodes (reading nodes) node.point) (same-itself node.point)) ∙ ap (λ b. has_first (chosen b)) e
+    (halves_at nodes (reading nodes) node.point) (same_itself node.point)) ∙ ap (λ b. has_first (chosen b)) e
 reads_first (node ∷ nodes) (suc i) below e =
     let point = get_or (points_of nodes) i nowhere in
     elim (cases_Bool (is_same point node.point)) [
@@ -214,7 +214,7 @@ all_named : (points : List Node) (links more : List Arc) →
     AllByRecursion (λ link. is_among (map (named points) more) (named points link) ≡ true) links
 all_named points [] more h = tt
 all_named points (link ∷ links) more h = (
-  h link (or_left (is_eq (link_cmp (named points link) (named points link))) _ (link-itself (named points link))),
+  h link (or_left (is_eq (link_cmp (named points link) (named points link))) _ (link_itself (named points link))),
   all_named points links more
       (λ other e. h other (or_right (is_eq (link_cmp (named points link) (named points other))) _ e)),
 )
@@ -235,9 +235,9 @@ all_stay events graph is all (link ∷ links) valid among zero below h =
     let target = and_parts (is_target (length graph.points) graph.relays link.target) _ origin.1 in
     let same : length (reading graph.points) ≡ length graph.points =
     length-map graph.points (λ node. chosen (is_secret_slot node.point.slot)) in
-    head-named graph (reading graph.points) (no_relays graph.relays) same link.target target.0
+    head_named graph (reading graph.points) (no_relays graph.relays) same link.target target.0
     ∙ link_stays events graph is all link both.0 among.0
-    (sym (tail-named graph (reading graph.points) (no_relays graph.relays) same link.source origin.0) ∙ h)
+    (sym (tail_named graph (reading graph.points) (no_relays graph.relays) same link.source origin.0) ∙ h)
 all_stay events graph is all (link ∷ links) valid among (suc j) below h =
     let both = and_parts (is_link (length graph.points) graph.relays link)
     (list_all (is_link (length graph.points) graph.relays) links) valid in
@@ -249,7 +249,7 @@ reading_is_side : (events : List Event) (graph : Graph) → IsGraphOf events gra
 reading_is_side events graph is all =
     let f : Arc → ℕ = λ link. tail_of (length graph.points) link.source in
     let g : Arc → ℕ = λ link. head_of (length graph.points) link.target in
-    let tails : length (network_of graph).tails ≡ length graph.points + length graph.links = length-tails graph in
+    let tails : length (network_of graph).tails ≡ length graph.points + length graph.links = length_tails graph in
     let limits : length (network_of graph).limits ≡ length graph.points =
     length-map graph.points (λ node. node.capacity) in
     let among = all_named graph.points graph.links graph.links (λ link e. e) in
@@ -257,15 +257,15 @@ reading_is_side events graph is all =
       points_count = length-map graph.points (λ node. chosen (is_secret_slot node.point.slot));
       relays_count = length-map graph.relays (λ relay. false);
       side = record {
-        source = member-low graph (reading graph.points) (no_relays graph.relays) 0 (omega arith);
-        sink = member-low graph (reading graph.points) (no_relays graph.relays) 1 (omega arith);
+        source = member_low graph (reading graph.points) (no_relays graph.relays) 0 (omega arith);
+        sink = member_low graph (reading graph.points) (no_relays graph.relays) 1 (omega arith);
         closed = λ i from below inside.
             let tail : slice_index (network_of graph).tails i ≡ get_or (map f graph.links) (i - length graph.points) 0 =
             get_or-append_right (halves_from 2 (length graph.points)) (map f graph.links) (length graph.points) i 0
-            (length-halves 2 (length graph.points)) (omega (arith, limits, from)) in
+            (length_halves 2 (length graph.points)) (omega (arith, limits, from)) in
             let head : slice_index (network_of graph).heads i ≡ get_or (map g graph.links) (i - length graph.points) 0 =
             get_or-append_right (halves_from 3 (length graph.points)) (map g graph.links) (length graph.points) i 0
-            (length-halves 3 (length graph.points)) (omega (arith, limits, from)) in
+            (length_halves 3 (length graph.points)) (omega (arith, limits, from)) in
             let side = member graph (reading graph.points) (no_relays graph.relays) in
             ap side head
             ∙ all_stay events graph is all graph.links graph.links_are_valid among (i - length graph.points)
@@ -294,7 +294,7 @@ names_apart : (points : List Point) (i j : ℕ) → IsStrictlySortedBy point_cmp
 unfolding IsStrictlySortedBy
 names_apart [] i j sorted less below = absurd (omega arith)
 names_apart (p ∷ points) zero zero sorted less below = absurd (omega arith)
-names_apart (p ∷ points) zero (suc j) sorted less below = name-later p points j sorted.0 (omega arith)
+names_apart (p ∷ points) zero (suc j) sorted less below = name_later p points j sorted.0 (omega arith)
 names_apart (p ∷ points) (suc i) zero sorted less below = absurd (omega arith)
 names_apart (p ∷ points) (suc i) (suc j) sorted less below = names_apart points i j sorted.1 (omega arith) (omega arith)
 
@@ -391,7 +391,7 @@ all_bits graph [] =
 all_bits graph (event ∷ events) =
     let sums = sum_same (length graph.points) (split_at graph (reading_side graph) (event ∷ events))
     (λ i. bits_of graph event i + split_at graph (reading_side graph) events i)
-    (λ i below. split-more graph (reading_side graph) event events i)
+    (λ i below. split_more graph (reading_side graph) event events i)
     ∙ sum_add (length graph.points) (bits_of graph event) (split_at graph (reading_side graph) events) in
     let one = event_bits graph event in
     let rest = all_bits graph events in
@@ -402,6 +402,6 @@ pub least_bits_law : LeastBitsLaw
 least_bits_law events graph halves relays is least all =
     let side = reading_is_side events graph is all in
     let smallest = least.smallest (reading graph.points) (no_relays graph.relays) side in
-    let capacity = side-capacity events graph (reading graph.points) (no_relays graph.relays) is side in
+    let capacity = sum_of_side_capacity events graph (reading graph.points) (no_relays graph.relays) is side in
     let bits = all_bits graph events in
     omega (arith, smallest, capacity, bits)

@@ -12,7 +12,7 @@ use Rattle.flow_base.specs.Words.{Agree, bits_under, bit_count, patched}
 use Rattle.crossing_bits.specs.Askers.{Asker, Asks, feed}
 use Rattle.crossing_bits.proofs.Feeding.{feed_enough}
 use Rattle.crossing_bits.proofs.Places.{length_bits_under}
-use Rattle.flow_base.proofs.PointOrders.{same-one}
+use Rattle.flow_base.proofs.PointOrders.{one_if_same}
 use Rattle.flow_base.specs.PointOrders.{is_same}
 use Rattle.flow_graph.specs.declared.events.Event.{Event}
 use Rattle.flow_graph.specs.declared.events.Event.TheVariants.{Pass, Link, FromSecret, Implicit, Out}
@@ -96,7 +96,7 @@ outside_never skip point out other inner = pick (is_same point other) refl
     pick false e = refl
     pick true e =
         let region : point.region ≡ other.region =
-        ap (λ (p : Point). p.region) (same-one point other e) in
+        ap (λ (p : Point). p.region) (one_if_same point other e) in
         let stands : is_listed skip other.region ≡ true = (and_parts (is_listed skip other.region) _ inner).0 in
         absurd (not_both (subst (λ r. is_listed skip r ≡ true) (sym region) stands) out)
 
@@ -208,9 +208,9 @@ label_of_limit mask point limit h = pick (mask == 0)
 
 -- ---- looks
 
-pub first-none : (first later : Option MeasureFault) → option_or first later ≡ None → (first ≡ None) × (later ≡ None)
-first-none None later e = (refl, e)
-first-none (Some fault) later e = absurd (cc)
+pub first_none : (first later : Option MeasureFault) → option_or first later ≡ None → (first ≡ None) × (later ≡ None)
+first_none None later e = (refl, e)
+first_none (Some fault) later e = absurd (cc)
 
 -- what is looked at without a refusal may not depend on the secret
 word_clean : (a b c d : ℕ) (address : ℕ) →

@@ -44,7 +44,7 @@ use Rattle.acceptance_law.proofs.Passings.{slot_word, patched_slot, made_fits, m
 use Rattle.acceptance_law.proofs.Passings.{closed_append}
 use Rattle.acceptance_law.proofs.Turns.{none_if, feed_bits, SameCounts, counts_step, mask_same, outside_never, NoPasses}
 use Rattle.acceptance_law.proofs.Turns.{none_append, none_sources, none_aim, contained_after, CloseAt, patched_close}
-use Rattle.acceptance_law.proofs.Turns.{closed_if, label_of_limit, first-none, look_equal, seen_word}
+use Rattle.acceptance_law.proofs.Turns.{closed_if, label_of_limit, first_none, look_equal, seen_word}
 use Rattle.flow_base.specs.Listed.{is_listed}
 
 -- what may move into a place and what it is made of
@@ -244,7 +244,7 @@ module _ (side : NamedSide) (skip : List ℕ) (masks : Masks) (setting : Setting
       Kept turn labels answers real held copy taken past all
   unfolding walked replayed crossing passed real_end labels_in events_in secret_look EachAnswer AreContained IsProper
   turn_kept (Looks seen go) labels answers real held copy taken past all proper beside counts covered =
-      let parts = first-none _ _ covered.looks in
+      let parts = first_none _ _ covered.looks in
       let e : seen_value setting.base real seen ≡ seen_value setting.base copy seen =
       look_equal side setting.base number labels real held copy taken beside seen proper.0 parts.0 in
       let rest = turn_kept (go (seen_value setting.base real seen)) labels answers real held copy taken past all

@@ -123,9 +123,9 @@ put_other base region registers p Second label value labels store held ip iq dp 
 
 -- ---- breaks
 
-pub first-unbroken : (first later : Option Break) → option_or first later ≡ None → (first ≡ None) × (later ≡ None)
-first-unbroken None later e = (refl, e)
-first-unbroken (Some broken) later e = absurd (cc)
+pub first_unbroken : (first later : Option Break) → option_or first later ≡ None → (first ≡ None) × (later ≡ None)
+first_unbroken None later e = (refl, e)
+first_unbroken (Some broken) later e = absurd (cc)
 
 declared_if : (t : Bool) (broken : Break) → (if t then None else Some broken) ≡ None → t ≡ true
 declared_if true broken e = refl
@@ -188,7 +188,7 @@ module _ (setting : Setting) (secret : List ℕ) (bytes : AreBytes secret) (numb
     memory = ap (λ (s : State). length s.store.memory) end ∙ rest.memory ∙ put_memory setting.base p value store;
     kept = ap (λ (m : LabelMap). m.kept) tags ∙ rest.kept ∙ put_label_kept p label labels;
     same = λ region registers pc none q iq dq.
-        let parts = first-unbroken _ _ (sym (breaks region registers pc) ∙ none) in
+        let parts = first_unbroken _ _ (sym (breaks region registers pc) ∙ none) in
         let later_same = rest.same region registers pc parts.1 q iq dq in
         let here = put_other setting.base region registers p q label value labels store held ip iq
         (may_write region registers pc p parts.0) dq in (
@@ -301,7 +301,7 @@ module _ (setting : Setting) (secret : List ℕ) (bytes : AreBytes secret) (numb
         memory = rest.memory;
         kept = rest.kept;
         same = λ region registers pc none q iq dq.
-            rest.same region registers pc (first-unbroken _ _ none).1 q iq dq;
+            rest.same region registers pc (first_unbroken _ _ none).1 q iq dq;
         inner = λ skip ins slots past q never. rest.inner skip ins slots.1 (point ∷ past) q never
             ∙ inner_step skip point q past (inner_is skip point is.inside slots.0 ins) never;
       }

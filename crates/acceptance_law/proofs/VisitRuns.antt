@@ -20,7 +20,7 @@ use Rattle.flow_graph.specs.declared.events.Event.{Event}
 use Rattle.flow_graph.specs.declared.events.Event.TheVariants.{Pass, Link, FromSecret, Implicit, Out}
 use Rattle.flow_graph.specs.EventGraphs.{bits_at, passed}
 use Rattle.flow_base.specs.PointOrders.{point_cmp, is_same}
-use Rattle.flow_base.proofs.PointOrders.{point_total, is_equal, same-one}
+use Rattle.flow_base.proofs.PointOrders.{point_total, is_equal, one_if_same}
 use Rattle.rv32im_machine.specs.State.{State}
 use Rattle.rv32im_machine.specs.Language.{none_held}
 use Rattle.rv32im_machine.specs.Folds.{real_end}
@@ -36,8 +36,8 @@ use Rattle.run_labels.specs.Runs.{stopped_fault, turn_events, turn_fault, unlabe
 use Rattle.region_machine.specs.Breaking.{Breaks}
 use Rattle.acceptance_law.specs.RunCuts.{mask_at_event, visit_masks}
 use Rattle.acceptance_law.specs.VisitLaws.{FewVisitsLaw, KnownSlotsLaw, OutputVisitsLaw, is_at_slot}
-use Rattle.acceptance_law.proofs.GraphEvents.{same-itself}
-use Rattle.acceptance_law.proofs.ProperRuns.{LeavesRegion, kind-leaves}
+use Rattle.acceptance_law.proofs.GraphEvents.{same_itself}
+use Rattle.acceptance_law.proofs.ProperRuns.{LeavesRegion, kind_leaves}
 use Rattle.acceptance_law.proofs.SecretRuns.{next_broken, next_state, unbroken}
 use Rattle.acceptance_law.proofs.TurnKinds.{all_rules, rules_of}
 use Rattle.acceptance_law.proofs.RowCounts.{Has, Limits}
@@ -49,7 +49,7 @@ use Rattle.acceptance_law.proofs.CountedRows.{counts_entry, counts_leave, counts
 
 -- an output's slot comes after those of every other kind
 output_alike : (p q : Point) → is_same p q ≡ true → is_output_slot p.slot ≡ is_output_slot q.slot
-output_alike p q same = ap (λ (x : Point). is_output_slot x.slot) (same-one p q same)
+output_alike p q same = ap (λ (x : Point). is_output_slot x.slot) (one_if_same p q same)
 
 -- ---- the visits of a point
 
@@ -112,7 +112,7 @@ output_event point (Pass other mask) e whole = elim (cases_Bool (is_same point o
   where
     same-back : (p q : Point) → is_same p q ≡ true → is_same q p ≡ true
     same-back p q same =
-        ap is_eq (sym (point_total.congr p q p (is_equal (point_cmp p q) same))) ∙ same-itself p
+        ap is_eq (sym (point_total.congr p q p (is_equal (point_cmp p q) same))) ∙ same_itself p
 output_event point (Link source target) e whole = omega arith
 output_event point (FromSecret other) e whole = omega arith
 output_event point (Implicit other region) e whole = omega arith
@@ -198,7 +198,7 @@ module _ (secret : List ℕ) (regions : List Region) where
       (real_end (next_walk regions run)) =
       kind_tallied AreKnown limits (inner_visits run.events) (kind_of regions run.place.state.control) run.place.state
       (at_start run.labels) answers
-      (λ k. kind-leaves run.place.state.control.mode regions run.place.state.control (all_rules regions k))
+      (λ k. kind_leaves run.place.state.control.mode regions run.place.state.control (all_rules regions k))
       r.long (omega (arith, r.most)) room in
       let s : (real_turn (enclosing regions) run.place).state ≡ real_end (next_walk regions run) =
       next_state regions run.place r.unbroken in

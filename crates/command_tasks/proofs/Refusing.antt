@@ -30,9 +30,9 @@ pub known_refusal : {A : Type 0} (refusal : Refusal) (result : Result A Refusal)
     result ≢ Err Memory → refusal ≢ Memory
 known_refusal refusal result is known = λ e. known (is ∙ ap (λ r. Err r) e)
 
-same-refusal : {A : Type 0} (a b : Refusal) (result : Result A Refusal) → result ≡ Err a → result ≡ Err b → a ≡ b
-same-refusal a b result e f = cc
+same_refusal : {A : Type 0} (a b : Refusal) (result : Result A Refusal) → result ≡ Err a → result ≡ Err b → a ≡ b
+same_refusal a b result e f = cc
 
 pub err_apart : {A : Type 0} (refusal : Refusal) (result : Result A Refusal) → result ≡ Err refusal →
     refusal ≢ Memory → result ≢ Err Memory
-err_apart refusal result is apart = λ e. apart (same-refusal refusal Memory result is e)
+err_apart refusal result is apart = λ e. apart (same_refusal refusal Memory result is e)

@@ -7,34 +7,34 @@ use Rattle.command_tasks.specs.Refusals.{IsCutRefusal, IsRegionsRefusal}
 use Rattle.command_tasks.specs.Tasks.{IsFormRefusal}
 use Rattle.commands.proofs.Readings.{status_of}
 
-regions-status : (file : Option (List ℕ)) (refusal : Refusal) → IsRegionsRefusal file refusal →
+regions_status : (file : Option (List ℕ)) (refusal : Refusal) → IsRegionsRefusal file refusal →
     status_of (Err refusal) ≡ 3
-regions-status None refusal is = absurd is
-regions-status (Some file) refusal (fault, first, e) = ap (λ r. status_of (Err r)) e
+regions_status None refusal is = absurd is
+regions_status (Some file) refusal (fault, first, e) = ap (λ r. status_of (Err r)) e
 
-guest-status : (files : GuestFiles) (refusal : Refusal) → IsGuestRefusal files refusal →
+guest_status : (files : GuestFiles) (refusal : Refusal) → IsGuestRefusal files refusal →
     status_of (Err refusal) ≡ 3
-guest-status files refusal (inl (fault, first, e)) = ap (λ r. status_of (Err r)) e
-guest-status files refusal (inr (picture, image, first)) = regions-status files.region_file refusal first
+guest_status files refusal (inl (fault, first, e)) = ap (λ r. status_of (Err r)) e
+guest_status files refusal (inr (picture, image, first)) = regions_status files.region_file refusal first
 
 -- what is wrong with the files of a guest and a cut
 abbrev pub FirstRefusal : GuestFiles → List ℕ → Refusal → Type 0
 FirstRefusal guest_files cut_file refusal =
     IsGuestRefusal guest_files refusal ⊎ ((guest : Guest) × IsGuest guest_files guest × IsCutRefusal cut_file refusal)
 
-first-status : (guest_files : GuestFiles) (cut_file : List ℕ) (refusal : Refusal) →
+first_status : (guest_files : GuestFiles) (cut_file : List ℕ) (refusal : Refusal) →
     FirstRefusal guest_files cut_file refusal → status_of (Err refusal) ≡ 3
-first-status guest_files cut_file refusal (inl first) = guest-status guest_files refusal first
-first-status guest_files cut_file refusal (inr (guest, also, (fault, first, e))) = ap (λ r. status_of (Err r)) e
+first_status guest_files cut_file refusal (inl first) = guest_status guest_files refusal first
+first_status guest_files cut_file refusal (inr (guest, also, (fault, first, e))) = ap (λ r. status_of (Err r)) e
 
-pub form-status : (command : Command) (files : List (List ℕ)) (refusal : Refusal) →
+pub form_status : (command : Command) (files : List (List ℕ)) (refusal : Refusal) →
     IsFormRefusal command files refusal → status_of (Err refusal) ≡ 3
-form-status (Checks check) files refusal is = first-status is.guest_files is.cut_file refusal is.first
-form-status (Bounds all) files refusal is = first-status is.guest_files is.cut_file refusal is.first
-form-status (Tells telling run) files refusal is = guest-status is.guest_files refusal is.first
-form-status (MeasuresAll version runs) files refusal is = guest-status is.guest_files refusal is.first
-form-status (Assembles source) files refusal (file, are, (fault, first, e)) = ap (λ r. status_of (Err r)) e
-form-status (Lists program) files refusal (file, are, (fault, first, e)) = ap (λ r. status_of (Err r)) e
-form-status (Verifies certificate) files refusal (file, are, (fault, first, e)) = ap (λ r. status_of (Err r)) e
-form-status (Migrates cut) files refusal (file, are, (fault, first, e)) = ap (λ r. status_of (Err r)) e
-form-status (Tries number) files refusal is = absurd is
+form_status (Checks check) files refusal is = first_status is.guest_files is.cut_file refusal is.first
+form_status (Bounds all) files refusal is = first_status is.guest_files is.cut_file refusal is.first
+form_status (Tells telling run) files refusal is = guest_status is.guest_files refusal is.first
+form_status (MeasuresAll version runs) files refusal is = guest_status is.guest_files refusal is.first
+form_status (Assembles source) files refusal (file, are, (fault, first, e)) = ap (λ r. status_of (Err r)) e
+form_status (Lists program) files refusal (file, are, (fault, first, e)) = ap (λ r. status_of (Err r)) e
+form_status (Verifies certificate) files refusal (file, are, (fault, first, e)) = ap (λ r. status_of (Err r)) e
+form_status (Migrates cut) files refusal (file, are, (fault, first, e)) = ap (λ r. status_of (Err r)) e
+form_status (Tries number) files refusal is = absurd is

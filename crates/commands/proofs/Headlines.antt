@@ -55,9 +55,9 @@ use Rattle.commands.specs.LearntHeadline.{LearntHeadline}
 use Rattle.commands.specs.Headline.{Says, AllSay, IsAmong, AreFewOfAll, AreFew, Headline, limits_of}
 use Rattle.commands.specs.MeasuredHeadline.{HasAccepted, IsGraphOfRun, IsGraphOfRuns, MeasuredHeadline}
 use Rattle.commands.specs.Replies.{AnswersCommand, AnswersWords, IsUsage, reply_of, AnswersFiles}
-use Rattle.commands.proofs.HeldFiles.{all-held, guest_held, secret_short}
+use Rattle.commands.proofs.HeldFiles.{all_held, guest_held, secret_short}
 use Rattle.commands.proofs.Readings.{words_reading, reads_it, reads_low, status_of}
-use Rattle.commands.proofs.FormStatuses.{form-status}
+use Rattle.commands.proofs.FormStatuses.{form_status}
 
 -- ---- each judgement says what it means
 
@@ -78,66 +78,66 @@ says task limits secret (Rejects why) e = record {
   first = e;
 }
 
-all-say : (task : JudgedTask) (limits : Limits) (secrets : List (List ℕ)) →
+all_say : (task : JudgedTask) (limits : Limits) (secrets : List (List ℕ)) →
     AllSay task limits secrets (judgements_of task limits secrets)
-all-say task limits [] = tt
-all-say task limits (secret ∷ secrets) =
-    (says task limits secret (First task limits secret) refl, all-say task limits secrets)
+all_say task limits [] = tt
+all_say task limits (secret ∷ secrets) =
+    (says task limits secret (First task limits secret) refl, all_say task limits secrets)
 
 -- ---- the bound
 
-among-output : (task : JudgedTask) (limits : Limits) (secrets : List (List ℕ)) (judgements : List Judgement) (output : Output) →
+among_output : (task : JudgedTask) (limits : Limits) (secrets : List (List ℕ)) (judgements : List Judgement) (output : Output) →
     AllSay task limits secrets judgements → IsAmong judgements output →
     IsOutput task limits output
-among-output task limits [] [] output say among = absurd among
-among-output task limits [] (judgement ∷ judgements) output say among = absurd say
-among-output task limits (secret ∷ secrets) [] output say among = absurd say
-among-output task limits (secret ∷ secrets) (Accepts bits other ∷ judgements) output say (inl same) =
+among_output task limits [] [] output say among = absurd among
+among_output task limits [] (judgement ∷ judgements) output say among = absurd say
+among_output task limits (secret ∷ secrets) [] output say among = absurd say
+among_output task limits (secret ∷ secrets) (Accepts bits other ∷ judgements) output say (inl same) =
     (secret, subst (λ o. Accept task limits secret o) same say.0.accept)
-among-output task limits (secret ∷ secrets) (Accepts bits other ∷ judgements) output say (inr among) =
-    among-output task limits secrets judgements output say.1 among
-among-output task limits (secret ∷ secrets) (Rejects why ∷ judgements) output say among =
-    among-output task limits secrets judgements output say.1 among
+among_output task limits (secret ∷ secrets) (Accepts bits other ∷ judgements) output say (inr among) =
+    among_output task limits secrets judgements output say.1 among
+among_output task limits (secret ∷ secrets) (Rejects why ∷ judgements) output say among =
+    among_output task limits secrets judgements output say.1 among
 
-all-outputs : (task : JudgedTask) (limits : Limits) (secrets : List (List ℕ)) (judgements : List Judgement) (outputs : List Output) →
+all_outputs : (task : JudgedTask) (limits : Limits) (secrets : List (List ℕ)) (judgements : List Judgement) (outputs : List Output) →
     AllSay task limits secrets judgements → AllByRecursion (IsAmong judgements) outputs →
     AllByRecursion (IsOutput task limits) outputs
-all-outputs task limits secrets judgements [] say among = tt
-all-outputs task limits secrets judgements (output ∷ outputs) say among = (
-  among-output task limits secrets judgements output say among.0,
-  all-outputs task limits secrets judgements outputs say among.1,
+all_outputs task limits secrets judgements [] say among = tt
+all_outputs task limits secrets judgements (output ∷ outputs) say among = (
+  among_output task limits secrets judgements output say among.0,
+  all_outputs task limits secrets judgements outputs say among.1,
 )
 
-are-few : (task : JudgedTask) (limits : Limits) (secrets : List (List ℕ)) (judgements : List Judgement) →
+are_few : (task : JudgedTask) (limits : Limits) (secrets : List (List ℕ)) (judgements : List Judgement) →
     AllSay task limits secrets judgements → AreFew judgements limits.budget
-are-few task limits secrets judgements say outputs different among =
+are_few task limits secrets judgements say outputs different among =
     bound_law task limits outputs
-    (all-outputs task limits secrets judgements outputs say among) different
+    (all_outputs task limits secrets judgements outputs say among) different
 
-are-few-of-all : (task : JudgedTask) (limits : Limits) → AreFewOfAll task limits
-are-few-of-all task limits outputs different each = bound_law task limits outputs each different
+are_few_of_all : (task : JudgedTask) (limits : Limits) → AreFewOfAll task limits
+are_few_of_all task limits outputs different each = bound_law task limits outputs each different
 
 -- ---- a check
 
-status-number : (b : Bool) → status_number (if b then Done else Rejected) ≡ (if b then 0 else 1)
-status-number true = refl
-status-number false = refl
+number_of_status : (b : Bool) → status_number (if b then Done else Rejected) ≡ (if b then 0 else 1)
+number_of_status true = refl
+number_of_status false = refl
 
-check-headline : (source : Option Told) (check : Check) (files : List (List ℕ)) (task : CheckTask) (answer : Answer) →
+check_headline : (source : Option Told) (check : Check) (files : List (List ℕ)) (task : CheckTask) (answer : Answer) →
     Loads source (wants_of (Checks check)) (Ok files) → IsCheckTask check files task →
     AnswersBy Replay task answer → Headline source check (reply_of answer)
-check-headline source check files task answer loads is e =
+check_headline source check files task answer loads is e =
     let judged = judged_by task.guest task.cut in
     let judgements : List Judgement = judgements_of judged task.limits task.secrets in
     let budget : task.limits.budget ≡ check.budget = ap (λ (l : Limits). l.budget) is.limits in
-    let say = all-say judged task.limits task.secrets in
+    let say = all_say judged task.limits task.secrets in
     record {
       guest_files = is.guest_files;
       cut_file = is.cut_file;
       secrets = task.secrets;
       held =
           guest_held source check.guest (want check.cut kinds.Cut ∷ []) check.secrets files is.guest_files
-          (is.cut_file ∷ []) task.secrets refl is.are (all-held source (wants_of (Checks check)) files loads);
+          (is.cut_file ∷ []) task.secrets refl is.are (all_held source (wants_of (Checks check)) files loads);
       guest = task.guest;
       is_guest = is.guest;
       cut = task.cut;
@@ -145,35 +145,35 @@ check-headline source check files task answer loads is e =
       judgements = judgements;
       lines = ap (λ a. (told a).text) e ∙ ap (λ b. check_text judgements b) budget;
       say = subst (λ l. AllSay judged l task.secrets judgements) is.limits say;
-      bound = are-few-of-all judged (limits_of check);
-      lines_bound = subst (λ b. AreFew judgements b) budget (are-few judged task.limits task.secrets judgements say);
-      status_is = ap status_of e ∙ status-number (accepted_count judgements == length judgements);
+      bound = are_few_of_all judged (limits_of check);
+      lines_bound = subst (λ b. AreFew judgements b) budget (are_few judged task.limits task.secrets judgements say);
+      status_is = ap status_of e ∙ number_of_status (accepted_count judgements == length judgements);
     }
 
 -- ---- a check with one machine
 
-accepted-then : (task : JudgedTask) (limits : Limits) (secret : List ℕ) (finding : Finding) →
+accepted_then : (task : JudgedTask) (limits : Limits) (secret : List ℕ) (finding : Finding) →
     IsAcceptedIfClean task limits secret finding → IsAcceptedThen task limits secret finding
-accepted-then task limits secret (IsClean bits output) e = says task limits secret (Accepts bits output) e
-accepted-then task limits secret (IsUnclear why) e = tt
+accepted_then task limits secret (IsClean bits output) e = says task limits secret (Accepts bits output) e
+accepted_then task limits secret (IsUnclear why) e = tt
 
-all-found : (table : ℕ) (task : JudgedTask) (limits : Limits) (secrets : List (List ℕ)) (findings : List Finding) →
+all_found : (table : ℕ) (task : JudgedTask) (limits : Limits) (secrets : List (List ℕ)) (findings : List Finding) →
     AreFindings table task limits secrets findings → AllFound table task limits secrets findings
-all-found table task limits [] [] are = tt
-all-found table task limits [] (finding ∷ findings) are = absurd are
-all-found table task limits (secret ∷ secrets) [] are = absurd are
-all-found table task limits (secret ∷ secrets) (finding ∷ findings) are = (
+all_found table task limits [] [] are = tt
+all_found table task limits [] (finding ∷ findings) are = absurd are
+all_found table task limits (secret ∷ secrets) [] are = absurd are
+all_found table task limits (secret ∷ secrets) (finding ∷ findings) are = (
   are.0.verdict,
-  accepted-then task limits secret finding are.0.accepted,
-  all-found table task limits secrets findings are.1,
+  accepted_then task limits secret finding are.0.accepted,
+  all_found table task limits secrets findings are.1,
 )
 
-clean-headline : (source : Option Told) (table : ℕ) (check : Check) (files : List (List ℕ)) (task : CheckTask)
+clean_headline : (source : Option Told) (table : ℕ) (check : Check) (files : List (List ℕ)) (task : CheckTask)
     (findings : List Finding) (answer : Answer) → Loads source (wants_of (Checks check)) (Ok files) →
     IsCheckTask check files task →
     AreFindings table (judged_by task.guest task.cut) task.limits task.secrets findings →
     answer ≡ Ok (findings_reply findings task.limits.budget) → CleanHeadline source table check (reply_of answer)
-clean-headline source table check files task findings answer loads is are e =
+clean_headline source table check files task findings answer loads is are e =
     let judged = judged_by task.guest task.cut in
     let budget : task.limits.budget ≡ check.budget = ap (λ (l : Limits). l.budget) is.limits in
     record {
@@ -182,7 +182,7 @@ clean-headline source table check files task findings answer loads is are e =
       secrets = task.secrets;
       held =
           guest_held source check.guest (want check.cut kinds.Cut ∷ []) check.secrets files is.guest_files
-          (is.cut_file ∷ []) task.secrets refl is.are (all-held source (wants_of (Checks check)) files loads);
+          (is.cut_file ∷ []) task.secrets refl is.are (all_held source (wants_of (Checks check)) files loads);
       guest = task.guest;
       is_guest = is.guest;
       cut = task.cut;
@@ -191,24 +191,24 @@ clean-headline source table check files task findings answer loads is are e =
       lines = ap (λ a. (told a).text) e ∙ ap (λ b. findings_text findings b) budget;
       found =
           subst (λ l. AllFound table judged l task.secrets findings) is.limits
-          (all-found table judged task.limits task.secrets findings are);
-      bound = are-few-of-all judged (limits_of check);
-      status_is = ap status_of e ∙ status-number (clean_count findings == length findings);
+          (all_found table judged task.limits task.secrets findings are);
+      bound = are_few_of_all judged (limits_of check);
+      status_is = ap status_of e ∙ number_of_status (clean_count findings == length findings);
     }
 
-judged-headline : (source : Option Told) (judging : Judging) (check : Check) (files : List (List ℕ)) (task : CheckTask)
+judged_headline : (source : Option Told) (judging : Judging) (check : Check) (files : List (List ℕ)) (task : CheckTask)
     (answer : Answer) → Loads source (wants_of (Checks check)) (Ok files) → IsCheckTask check files task →
     AnswersBy judging task answer → JudgingCarries source judging check (reply_of answer)
-judged-headline source Replay check files task answer loads is e = check-headline source check files task answer loads is e
-judged-headline source (Masks table) check files task answer loads is (findings, are, e) =
-    clean-headline source table check files task findings answer loads is are e
+judged_headline source Replay check files task answer loads is e = check_headline source check files task answer loads is e
+judged_headline source (Masks table) check files task answer loads is (findings, are, e) =
+    clean_headline source table check files task findings answer loads is are e
 
 -- ---- a bound
 
 -- the task of the words and the files
-same-named : (all : AllSecrets) (files : List (List ℕ)) (task : AllSecretsTask) → IsAllSecretsTask all files task →
+same_named : (all : AllSecrets) (files : List (List ℕ)) (task : AllSecretsTask) → IsAllSecretsTask all files task →
     task ≡ named_task all task.guest task.cut
-same-named all files task is =
+same_named all files task is =
     let made : Limits → ℕ → ℕ → Bool → AllSecretsTask = λ limits table paths listed. record {
       guest = task.guest;
       cut = task.cut;
@@ -233,64 +233,64 @@ shows task (IsBounded found) answer (all, (bits, least, e)) = record {
 }
 shows task (IsUnclear bits why) answer e = (ap (λ a. (told a).text) e, ap status_of e)
 
-bound-headline : (source : Option Told) (all : AllSecrets) (files : List (List ℕ)) (task : AllSecretsTask)
+bound_headline : (source : Option Told) (all : AllSecrets) (files : List (List ℕ)) (task : AllSecretsTask)
     (answer : Answer) → Loads source (wants_of (Bounds all)) (Ok files) → IsAllSecretsTask all files task →
     AnswersBound task (bound_of task) answer → BoundHeadline source all (reply_of answer)
-bound-headline source all files task answer loads is h = record {
+bound_headline source all files task answer loads is h = record {
   guest_files = is.guest_files;
   cut_file = is.cut_file;
   held =
       guest_held source all.guest (want all.cut kinds.Cut ∷ []) [] files is.guest_files (is.cut_file ∷ []) [] refl is.are
-      (all-held source (wants_of (Bounds all)) files loads);
+      (all_held source (wants_of (Bounds all)) files loads);
   guest = task.guest;
   is_guest = is.guest;
   cut = task.cut;
   is_cut = is.cut;
   shows =
-      subst (λ t. Shows t (bound_of t) (reply_of answer)) (same-named all files task is)
+      subst (λ t. Shows t (bound_of t) (reply_of answer)) (same_named all files task is)
       (shows task (bound_of task) answer h);
 }
 
 -- ---- a measured run
 
-accepted-in : (run : RunTask) (measured : Measured) (version : ℕ) (cut : CutPicture) → IsMeasured run measured →
+accepted_in : (run : RunTask) (measured : Measured) (version : ℕ) (cut : CutPicture) → IsMeasured run measured →
     IsInVersion version (cut_picture measured.cut) cut → (b : Bool) → (version == 2) ≡ b →
     HasAccepted (judged_by run.guest cut) (record { budget = measured.value; turns = run.turns }) run.secret
-accepted-in run measured version cut is in_version true e =
+accepted_in run measured version cut is in_version true e =
     (measured.output, is.folds cut (rw e at in_version))
-accepted-in run measured version cut is in_version false e =
+accepted_in run measured version cut is in_version false e =
     let same : cut ≡ cut_picture measured.cut = rw e at in_version in
     subst (λ c. HasAccepted (judged_by run.guest c) (record { budget = measured.value; turns = run.turns }) run.secret)
     (sym same) (measured.output, is.accepted)
 
-bits-in : (run : RunTask) (measured : Measured) (version : ℕ) (cut : CutPicture) → IsMeasured run measured →
+bits_in : (run : RunTask) (measured : Measured) (version : ℕ) (cut : CutPicture) → IsMeasured run measured →
     IsInVersion version (cut_picture measured.cut) cut → (b : Bool) → (version == 2) ≡ b → cut.bits ≡ measured.value
-bits-in run measured version cut is in_version true e =
+bits_in run measured version cut is in_version true e =
     let fold : IsFold (cut_picture measured.cut) cut = rw e at in_version in fold.bits ∙ is.measures.measure.cut.bits
-bits-in run measured version cut is in_version false e =
+bits_in run measured version cut is in_version false e =
     let same : cut ≡ cut_picture measured.cut = rw e at in_version in
     ap (λ (c : CutPicture). c.bits) same ∙ is.measures.measure.cut.bits
 
-short-in : (run : RunTask) (measured : Measured) (version : ℕ) (text : List ℕ) (cut : CutPicture) →
+short_in : (run : RunTask) (measured : Measured) (version : ℕ) (text : List ℕ) (cut : CutPicture) →
     IsMeasured run measured → IsInVersion version (cut_picture measured.cut) cut → IsTextOfCut text cut → (b : Bool) →
     (version == 2) ≡ b → length text ≤ 67108864
-short-in run measured version text cut is in_version spells true e =
+short_in run measured version text cut is in_version spells true e =
     let fold : IsFold (cut_picture measured.cut) cut = rw e at in_version in
     rw spells.text (is.short.fold cut spells.valid fold)
-short-in run measured version text cut is in_version spells false e =
+short_in run measured version text cut is in_version spells false e =
     let same : cut ≡ cut_picture measured.cut = rw e at in_version in
     rw spells.text (subst (λ c. length (cut_text c) ≤ 67108864) (sym same) is.short.text)
 
-low-bits : (bits value secret : ℕ) → bits ≡ value → value ≤ 8 * secret → secret ≤ 65536 → bits ≤ 1048576
-low-bits bits value secret e few short = omega arith
+low_bits : (bits value secret : ℕ) → bits ≡ value → value ≤ 8 * secret → secret ≤ 65536 → bits ≤ 1048576
+low_bits bits value secret e few short = omega arith
 
-cut-headline : (source : Option Told) (version : ℕ) (run : Run) (files : List (List ℕ)) (task : RunTask)
+cut_headline : (source : Option Told) (version : ℕ) (run : Run) (files : List (List ℕ)) (task : RunTask)
     (measured : Measured) (text : List ℕ) (answer : Answer) → Loads source (wants_of (Tells (CutText version) run)) (Ok files) →
     IsRunTask run files task → IsMeasured task measured → IsCutText version (cut_picture measured.cut) text → answer ≡ done_by text →
     MeasuredHeadline IsGraphOfRun source run.guest (run.secret ∷ []) (record { turns = run.turns; table = run.table })
     (reply_of answer)
-cut-headline source version run files task measured text answer loads is measure told e =
-    let bits = bits-in task measured version told.cut measure told.in_version (version == 2) refl in
+cut_headline source version run files task measured text answer loads is measure told e =
+    let bits = bits_in task measured version told.cut measure told.in_version (version == 2) refl in
     let same : text ≡ (reply_of answer).text = sym (ap (λ a. (reply_of a).text) e) in
     let by_measure = measure.measures.measure in
     record {
@@ -299,22 +299,22 @@ cut-headline source version run files task measured text answer loads is measure
       secrets = task.secret ∷ [];
       held =
           guest_held source run.guest [] (run.secret ∷ []) files is.guest_files [] (task.secret ∷ []) refl is.are
-          (all-held source (wants_of (Tells (CutText version) run)) files loads);
+          (all_held source (wants_of (Tells (CutText version) run)) files loads);
       guest = task.guest;
       is_guest = is.guest;
       cut = told.cut;
       is_cut = subst (λ t. IsTextOfCut t told.cut) same told.is_text;
       budget =
-          low-bits told.cut.bits measured.value (length task.secret) bits measure.few
+          low_bits told.cut.bits measured.value (length task.secret) bits measure.few
           (secret_short run.guest run.secret task.secret files is.guest_files is.are loads.0);
       short =
           subst (λ t. length t ≤ 67108864) same
-          (short-in task measured version text told.cut measure told.in_version told.is_text (version == 2) refl);
+          (short_in task measured version text told.cut measure told.in_version told.is_text (version == 2) refl);
       accepted = (
         subst (λ n. HasAccepted (judged_by task.guest told.cut) (record { budget = told.cut.bits; turns = n })
             task.secret) is.turns
             (subst (λ v. HasAccepted (judged_by task.guest told.cut) (record { budget = v; turns = task.turns })
-            task.secret) (sym bits) (accepted-in task measured version told.cut measure told.in_version (version == 2) refl)),
+            task.secret) (sym bits) (accepted_in task measured version told.cut measure told.in_version (version == 2) refl)),
         tt,
       );
       graph = measured.graph;
@@ -340,44 +340,44 @@ cut-headline source version run files task measured text answer loads is measure
 
 -- ---- several runs
 
-accepted-all-in : (runs : ManyRunsTask) (many : Many) (version : ℕ) (cut : CutPicture) → AreMeasured runs many →
+accepted_all_in : (runs : ManyRunsTask) (many : Many) (version : ℕ) (cut : CutPicture) → AreMeasured runs many →
     IsInVersion version (cut_picture many.cut) cut → (b : Bool) → (version == 2) ≡ b →
     AllByRecursion (HasAccepted (judged_by runs.guest cut) (record { budget = many.value; turns = runs.turns })) runs.secrets
-accepted-all-in runs many version cut are in_version true e = are.folds cut (rw e at in_version)
-accepted-all-in runs many version cut are in_version false e =
+accepted_all_in runs many version cut are in_version true e = are.folds cut (rw e at in_version)
+accepted_all_in runs many version cut are in_version false e =
     let same : cut ≡ cut_picture many.cut = rw e at in_version in
     subst (λ c. AllByRecursion (HasAccepted (judged_by runs.guest c) (record { budget = many.value; turns = runs.turns }))
     runs.secrets) (sym same) are.accepted
 
-bits-all-in : (runs : ManyRunsTask) (many : Many) (version : ℕ) (cut : CutPicture) → AreMeasured runs many →
+bits_all_in : (runs : ManyRunsTask) (many : Many) (version : ℕ) (cut : CutPicture) → AreMeasured runs many →
     IsInVersion version (cut_picture many.cut) cut → (b : Bool) → (version == 2) ≡ b → cut.bits ≡ many.value
-bits-all-in runs many version cut are in_version true e =
+bits_all_in runs many version cut are in_version true e =
     let fold : IsFold (cut_picture many.cut) cut = rw e at in_version in fold.bits ∙ are.measures.measure.cut.bits
-bits-all-in runs many version cut are in_version false e =
+bits_all_in runs many version cut are in_version false e =
     let same : cut ≡ cut_picture many.cut = rw e at in_version in
     ap (λ (c : CutPicture). c.bits) same ∙ are.measures.measure.cut.bits
 
-short-all-in : (runs : ManyRunsTask) (many : Many) (version : ℕ) (text : List ℕ) (cut : CutPicture) →
+short_all_in : (runs : ManyRunsTask) (many : Many) (version : ℕ) (text : List ℕ) (cut : CutPicture) →
     AreMeasured runs many → IsInVersion version (cut_picture many.cut) cut → IsTextOfCut text cut → (b : Bool) →
     (version == 2) ≡ b → length text ≤ 67108864
-short-all-in runs many version text cut are in_version spells true e =
+short_all_in runs many version text cut are in_version spells true e =
     let fold : IsFold (cut_picture many.cut) cut = rw e at in_version in
     rw spells.text (are.short.fold cut spells.valid fold)
-short-all-in runs many version text cut are in_version spells false e =
+short_all_in runs many version text cut are in_version spells false e =
     let same : cut ≡ cut_picture many.cut = rw e at in_version in
     rw spells.text (subst (λ c. length (cut_text c) ≤ 67108864) (sym same) are.short.text)
 
-low-as-budget : (bits value : ℕ) → bits ≡ value → value ≤ 1048576 → bits ≤ 1048576
-low-as-budget bits value e low = omega arith
+low_as_budget : (bits value : ℕ) → bits ≡ value → value ≤ 1048576 → bits ≤ 1048576
+low_as_budget bits value e low = omega arith
 
-many-headline : (source : Option Told) (version : ℕ) (runs : ManyRuns) (files : List (List ℕ)) (task : ManyRunsTask)
+many_headline : (source : Option Told) (version : ℕ) (runs : ManyRuns) (files : List (List ℕ)) (task : ManyRunsTask)
     (many : Many) (text : List ℕ) (answer : Answer) → Loads source (wants_of (MeasuresAll version runs)) (Ok files) →
     IsManyRunsTask runs files task → AreMeasured task many → IsCutText version (cut_picture many.cut) text →
     answer ≡ done_by text →
     MeasuredHeadline IsGraphOfRuns source runs.guest runs.secrets (record { turns = runs.turns; table = runs.table })
     (reply_of answer)
-many-headline source version runs files task many text answer loads is are told e =
-    let bits = bits-all-in task many version told.cut are told.in_version (version == 2) refl in
+many_headline source version runs files task many text answer loads is are told e =
+    let bits = bits_all_in task many version told.cut are told.in_version (version == 2) refl in
     let same : text ≡ (reply_of answer).text = sym (ap (λ a. (reply_of a).text) e) in
     let by_measure = are.measures.measure in
     record {
@@ -386,21 +386,21 @@ many-headline source version runs files task many text answer loads is are told 
       secrets = task.secrets;
       held =
           guest_held source runs.guest [] runs.secrets files is.guest_files [] task.secrets refl is.are
-          (all-held source (wants_of (MeasuresAll version runs)) files loads);
+          (all_held source (wants_of (MeasuresAll version runs)) files loads);
       guest = task.guest;
       is_guest = is.guest;
       cut = told.cut;
       is_cut = subst (λ t. IsTextOfCut t told.cut) same told.is_text;
-      budget = low-as-budget told.cut.bits many.value bits are.measures.budget;
+      budget = low_as_budget told.cut.bits many.value bits are.measures.budget;
       short =
           subst (λ t. length t ≤ 67108864) same
-          (short-all-in task many version text told.cut are told.in_version told.is_text (version == 2) refl);
+          (short_all_in task many version text told.cut are told.in_version told.is_text (version == 2) refl);
       accepted =
           subst (λ n. AllByRecursion (HasAccepted (judged_by task.guest told.cut)
           (record { budget = told.cut.bits; turns = n })) task.secrets) is.turns
           (subst (λ v. AllByRecursion (HasAccepted (judged_by task.guest told.cut)
           (record { budget = v; turns = task.turns })) task.secrets) (sym bits)
-          (accepted-all-in task many version told.cut are told.in_version (version == 2) refl));
+          (accepted_all_in task many version told.cut are told.in_version (version == 2) refl));
       graph = many.graph;
       flow = many.flow;
       side = many.side;
@@ -422,25 +422,25 @@ many-headline source version runs files task many text answer loads is are told 
       };
     }
 
-runs-high : (task : ManyRunsTask) (refusal : Refusal) → IsRunsRefusal task refusal → 1 < status_of (Err refusal)
-runs-high task refusal (fault, cause, e) = let four = ap (λ r. status_of (Err r)) e in omega (arith, four)
+runs_high : (task : ManyRunsTask) (refusal : Refusal) → IsRunsRefusal task refusal → 1 < status_of (Err refusal)
+runs_high task refusal (fault, cause, e) = let four = ap (λ r. status_of (Err r)) e in omega (arith, four)
 
-runs-headline : (source : Option Told) (version : ℕ) (runs : ManyRuns) (files : List (List ℕ)) (task : ManyRunsTask)
+runs_headline : (source : Option Told) (version : ℕ) (runs : ManyRuns) (files : List (List ℕ)) (task : ManyRunsTask)
     (answer : Answer) → Loads source (wants_of (MeasuresAll version runs)) (Ok files) → IsManyRunsTask runs files task →
     status_of answer ≤ 1 → AnswersTask (MeasureAll version task) answer →
     Carries source (MeasuresAll version runs) (reply_of answer)
-runs-headline source version runs files task answer loads is low h =
+runs_headline source version runs files task answer loads is low h =
     let (many, are, (text, told, e)) =
-    reads_low Many (AreMeasured task) (IsRunsRefusal task) (TellsAll version) (runs-high task) answer low h in
-    many-headline source version runs files task many text answer loads is are told e
+    reads_low Many (AreMeasured task) (IsRunsRefusal task) (TellsAll version) (runs_high task) answer low h in
+    many_headline source version runs files task many text answer loads is are told e
 
 -- ---- a learnt declaration
 
-learnt-headline : (source : Option Told) (run : Run) (files : List (List ℕ)) (task : RunTask) (regions : List Region)
+learnt_headline : (source : Option Told) (run : Run) (files : List (List ℕ)) (task : RunTask) (regions : List Region)
     (text : List ℕ) (answer : Answer) → Loads source (wants_of (Tells Declaration run)) (Ok files) →
     IsRunTask run files task → IsDeclaration task.guest task.secret task.turns regions → Spells text regions →
     answer ≡ done_by text → LearntHeadline source run (reply_of answer)
-learnt-headline source run files task regions text answer loads is declaration spells e =
+learnt_headline source run files task regions text answer loads is declaration spells e =
     let same : text ≡ (reply_of answer).text = sym (ap (λ a. (reply_of a).text) e) in
     record {
       done = ap status_of e;
@@ -448,7 +448,7 @@ learnt-headline source run files task regions text answer loads is declaration s
       secret = task.secret;
       held =
           guest_held source run.guest [] (run.secret ∷ []) files is.guest_files [] (task.secret ∷ []) refl is.are
-          (all-held source (wants_of (Tells Declaration run)) files loads);
+          (all_held source (wants_of (Tells Declaration run)) files loads);
       guest = task.guest;
       is_guest = is.guest;
       regions = regions;
@@ -456,57 +456,57 @@ learnt-headline source run files task regions text answer loads is declaration s
       declaration = subst (λ n. IsDeclaration task.guest task.secret n regions) is.turns declaration;
     }
 
-learn-high : (task : RunTask) (refusal : Refusal) → IsLearnRefusal task.guest task.secret task.turns refusal →
+learn_high : (task : RunTask) (refusal : Refusal) → IsLearnRefusal task.guest task.secret task.turns refusal →
     1 < status_of (Err refusal)
-learn-high task refusal (fault, cause, e) = let four = ap (λ r. status_of (Err r)) e in omega (arith, four)
+learn_high task refusal (fault, cause, e) = let four = ap (λ r. status_of (Err r)) e in omega (arith, four)
 
 -- ---- every command
 
-run-high : (run : RunTask) (refusal : Refusal) → IsRunRefusal run refusal → 1 < status_of (Err refusal)
-run-high run refusal (fault, cause, e) = let four = ap (λ r. status_of (Err r)) e in omega (arith, four)
+run_high : (run : RunTask) (refusal : Refusal) → IsRunRefusal run refusal → 1 < status_of (Err refusal)
+run_high run refusal (fault, cause, e) = let four = ap (λ r. status_of (Err r)) e in omega (arith, four)
 
-told-headline : (source : Option Told) (telling : Telling) (run : Run) (files : List (List ℕ)) (task : RunTask)
+told_headline : (source : Option Told) (telling : Telling) (run : Run) (files : List (List ℕ)) (task : RunTask)
     (answer : Answer) → Loads source (wants_of (Tells telling run)) (Ok files) → IsRunTask run files task →
     status_of answer ≤ 1 → AnswersTask (TellRun telling task) answer → TellingCarries source telling run (reply_of answer)
-told-headline source (CutText version) run files task answer loads is low h =
+told_headline source (CutText version) run files task answer loads is low h =
     let (measured, measure, (text, told, e)) =
-    reads_low Measured (IsMeasured task) (IsRunRefusal task) (TellsOf (IsCutOfRun version)) (run-high task) answer low h in
-    cut-headline source version run files task measured text answer loads is measure told e
-told-headline source Certificate run files task answer loads is low h = tt
-told-headline source (Report json) run files task answer loads is low h = tt
-told-headline source Declaration run files task answer loads is low h =
+    reads_low Measured (IsMeasured task) (IsRunRefusal task) (TellsOf (IsCutOfRun version)) (run_high task) answer low h in
+    cut_headline source version run files task measured text answer loads is measure told e
+told_headline source Certificate run files task answer loads is low h = tt
+told_headline source (Report json) run files task answer loads is low h = tt
+told_headline source Declaration run files task answer loads is low h =
     let (regions, declaration, (text, texts, spells, e)) =
     reads_low (List Region) (IsDeclaration task.guest task.secret task.turns)
-    (IsLearnRefusal task.guest task.secret task.turns) TellsRegions (learn-high task) answer low h in
-    learnt-headline source run files task regions text answer loads is declaration spells e
+    (IsLearnRefusal task.guest task.secret task.turns) TellsRegions (learn_high task) answer low h in
+    learnt_headline source run files task regions text answer loads is declaration spells e
 
-task-headline : (source : Option Told) (command : Command) (files : List (List ℕ)) (task : Task) (answer : Answer) →
+task_headline : (source : Option Told) (command : Command) (files : List (List ℕ)) (task : Task) (answer : Answer) →
     Loads source (wants_of command) (Ok files) → IsTaskOf command files task → status_of answer ≤ 1 →
     AnswersTask task answer → Carries source command (reply_of answer)
-task-headline source (Checks check) files task answer loads (x, is, e) low h =
-    judged-headline source check.judging check files x answer loads is
+task_headline source (Checks check) files task answer loads (x, is, e) low h =
+    judged_headline source check.judging check files x answer loads is
     (subst (λ j. AnswersBy j x answer) is.judging (subst (λ t. AnswersTask t answer) e h))
-task-headline source (Bounds all) files task answer loads (x, is, e) low h =
-    bound-headline source all files x answer loads is (subst (λ t. AnswersTask t answer) e h)
-task-headline source (Tells telling run) files task answer loads (x, is, e) low h =
-    told-headline source telling run files x answer loads is low (subst (λ t. AnswersTask t answer) e h)
-task-headline source (MeasuresAll version runs) files task answer loads (x, is, e) low h =
-    runs-headline source version runs files x answer loads is low (subst (λ t. AnswersTask t answer) e h)
-task-headline source (Assembles file) files task answer loads is low h = tt
-task-headline source (Lists file) files task answer loads is low h = tt
-task-headline source (Verifies file) files task answer loads is low h = tt
-task-headline source (Migrates file) files task answer loads is low h = tt
-task-headline source (Tries number) files task answer loads is low h = tt
+task_headline source (Bounds all) files task answer loads (x, is, e) low h =
+    bound_headline source all files x answer loads is (subst (λ t. AnswersTask t answer) e h)
+task_headline source (Tells telling run) files task answer loads (x, is, e) low h =
+    told_headline source telling run files x answer loads is low (subst (λ t. AnswersTask t answer) e h)
+task_headline source (MeasuresAll version runs) files task answer loads (x, is, e) low h =
+    runs_headline source version runs files x answer loads is low (subst (λ t. AnswersTask t answer) e h)
+task_headline source (Assembles file) files task answer loads is low h = tt
+task_headline source (Lists file) files task answer loads is low h = tt
+task_headline source (Verifies file) files task answer loads is low h = tt
+task_headline source (Migrates file) files task answer loads is low h = tt
+task_headline source (Tries number) files task answer loads is low h = tt
 
-load-high : (wants : List Want) (refusal : Refusal) → IsLoadRefusal wants refusal → 1 < status_of (Err refusal)
-load-high [] refusal is = absurd is
-load-high (w ∷ wants) refusal (inl is) = let five = ap (λ r. status_of (Err r)) is in omega (arith, five)
-load-high (w ∷ wants) refusal (inr (inl is)) = let six = ap (λ r. status_of (Err r)) is in omega (arith, six)
-load-high (w ∷ wants) refusal (inr (inr is)) = load-high wants refusal is
+load_high : (wants : List Want) (refusal : Refusal) → IsLoadRefusal wants refusal → 1 < status_of (Err refusal)
+load_high [] refusal is = absurd is
+load_high (w ∷ wants) refusal (inl is) = let five = ap (λ r. status_of (Err r)) is in omega (arith, five)
+load_high (w ∷ wants) refusal (inr (inl is)) = let six = ap (λ r. status_of (Err r)) is in omega (arith, six)
+load_high (w ∷ wants) refusal (inr (inr is)) = load_high wants refusal is
 
-form-high : (command : Command) (files : List (List ℕ)) (refusal : Refusal) → IsFormRefusal command files refusal →
+form_high : (command : Command) (files : List (List ℕ)) (refusal : Refusal) → IsFormRefusal command files refusal →
     1 < status_of (Err refusal)
-form-high command files refusal is = let three = form-status command files refusal is in omega (arith, three)
+form_high command files refusal is = let three = form_status command files refusal is in omega (arith, three)
 
 pub headline_of : (source : Option Told) (words : List (List ℕ)) (command : Command) (answer : Answer) →
     IsCommand words command → AnswersWords source words answer → status_of answer ≤ 1 →
@@ -516,7 +516,7 @@ headline_of source words command answer named answers low =
     command answer named answers in
     let (files, loads, of_files) = reads_low (List (List ℕ)) (λ files. Loads source (wants_of command) (Ok files))
     (λ refusal. Loads source (wants_of command) (Err refusal)) (AnswersFiles command)
-    (λ refusal is. load-high (wants_of command) refusal is.0) answer low of_command in
+    (λ refusal is. load_high (wants_of command) refusal is.0) answer low of_command in
     let (task, is, h) = reads_low Task (IsTaskOf command files) (IsFormRefusal command files) AnswersTask
-    (form-high command files) answer low of_files in
-    task-headline source command files task answer loads is low h
+    (form_high command files) answer low of_files in
+    task_headline source command files task answer loads is low h

@@ -20,78 +20,78 @@ use Rattle.commands.proofs.Readings.{status_of}
 
 -- ---- the reply
 
-usage-answer : (answer : Answer) (refusal : Refusal) → answer ≡ Err refusal → refusal ≡ Usage → answer ≡ Err Usage
-usage-answer answer refusal e u = e ∙ ap (λ r. Err r) u
+usage_answer : (answer : Answer) (refusal : Refusal) → answer ≡ Err refusal → refusal ≡ Usage → answer ≡ Err Usage
+usage_answer answer refusal e u = e ∙ ap (λ r. Err r) u
 
-two-low : (n : ℕ) → n ≡ 2 → n ≤ 6
-two-low n e = omega arith
+two_low : (n : ℕ) → n ≡ 2 → n ≤ 6
+two_low n e = omega arith
 
-two-five : (n : ℕ) → n ≡ 2 → n ≡ 5 → ⊥
-two-five n e h = omega arith
+two_five : (n : ℕ) → n ≡ 2 → n ≡ 5 → ⊥
+two_five n e h = omega arith
 
-usage-words : (source : Option Told) (words : List (List ℕ)) (answer : Answer) → AnswersWords source words answer →
+usage_words : (source : Option Told) (words : List (List ℕ)) (answer : Answer) → AnswersWords source words answer →
     status_of answer ≡ 2 → IsNoCommand words
-usage-words source words answer (inl (refusal, (none, u), e)) two = none
-usage-words source words answer (inr (command, named, h)) two =
+usage_words source words answer (inl (refusal, (none, u), e)) two = none
+usage_words source words answer (inr (command, named, h)) two =
     absurd ((command_fine source command answer h).other two)
 
-words-usage : (source : Option Told) (words : List (List ℕ)) (answer : Answer) → AnswersWords source words answer →
+words_usage : (source : Option Told) (words : List (List ℕ)) (answer : Answer) → AnswersWords source words answer →
     IsNoCommand words → status_of answer ≡ 2
-words-usage source words answer (inl (refusal, (none, u), e)) other = ap status_of (usage-answer answer refusal e u)
-words-usage source words answer (inr (command, named, h)) other = absurd (other command named)
+words_usage source words answer (inl (refusal, (none, u), e)) other = ap status_of (usage_answer answer refusal e u)
+words_usage source words answer (inr (command, named, h)) other = absurd (other command named)
 
-low-status : (source : Option Told) (words : List (List ℕ)) (answer : Answer) → AnswersWords source words answer →
+low_status : (source : Option Told) (words : List (List ℕ)) (answer : Answer) → AnswersWords source words answer →
     status_of answer ≤ 6
-low-status source words answer (inl (refusal, (none, u), e)) =
-    two-low (status_of answer) (ap status_of (usage-answer answer refusal e u))
-low-status source words answer (inr (command, named, h)) = (command_fine source command answer h).low
+low_status source words answer (inl (refusal, (none, u), e)) =
+    two_low (status_of answer) (ap status_of (usage_answer answer refusal e u))
+low_status source words answer (inr (command, named, h)) = (command_fine source command answer h).low
 
-one-line : (source : Option Told) (words : List (List ℕ)) (answer : Answer) → AnswersWords source words answer →
+one_line : (source : Option Told) (words : List (List ℕ)) (answer : Answer) → AnswersWords source words answer →
     2 ≤ status_of answer → IsOneLine (told answer).text
-one-line source words answer (inl (refusal, (none, u), e)) high =
-    subst (λ a. IsOneLine (told a).text) (sym (usage-answer answer refusal e u))
+one_line source words answer (inl (refusal, (none, u), e)) high =
+    subst (λ a. IsOneLine (told a).text) (sym (usage_answer answer refusal e u))
     (record { line = codes "refused 2 usage"; ends = refl; one = (literal (codes "refused 2 usage") refl).none })
-one-line source words answer (inr (command, named, h)) high = (command_fine source command answer h).line high
+one_line source words answer (inr (command, named, h)) high = (command_fine source command answer h).line high
 
 pub is_reply : (source : Option Told) (words : List (List ℕ)) (answer : Answer) → AnswersWords source words answer →
     IsReply source words (reply_of answer)
 is_reply source words answer answers = record {
   replies = (answer, answers, refl);
-  usage = (usage-words source words answer answers, words-usage source words answer answers);
-  low = low-status source words answer answers;
-  line = one-line source words answer answers;
+  usage = (usage_words source words answer answers, words_usage source words answer answers);
+  low = low_status source words answer answers;
+  line = one_line source words answer answers;
   headline = λ command. λ named. λ low. headline_of source words command answer named answers low;
 }
 
 -- ---- what is put
 
-same-told : (answer : Answer) (made : MadeReply) → made ≡ told answer →
+same_told : (answer : Answer) (made : MadeReply) → made ≡ told answer →
     record { status = status_number made.status; text = made.text } ≡ reply_of answer
-same-told answer made is = ap (λ (r : MadeReply). record { status = status_number r.status; text = r.text }) is
+same_told answer made is = ap (λ (r : MadeReply). record { status = status_number r.status; text = r.text }) is
 
 pub put_whole : (answer : Answer) (made : MadeReply) (status : ℕ) (before now : Option Taken) → made ≡ told answer →
     status ≡ status_number made.status → now ≡ option_map (after_put made.text) before →
     IsPut (reply_of answer) status before now
 put_whole answer made status before now is number puts =
-    subst (λ (r : Reply). IsPut r status before now) (same-told answer made is) (inl (number, puts))
+    subst (λ (r : Reply). IsPut r status before now) (same_told answer made is) (inl (number, puts))
 
 pub put_part : (answer : Answer) (made : MadeReply) (status : ℕ) (before now : Option Taken) → made ≡ told answer →
     status ≡ 7 →
     (count : ℕ) × (count ≤ length made.text) × (now ≡ option_map (after_put (take count made.text)) before) →
     IsPut (reply_of answer) status before now
 put_part answer made status before now is number puts =
-    subst (λ (r : Reply). IsPut r status before now) (same-told answer made is) (inr (number, puts))
+    subst (λ (r : Reply). IsPut r status before now) (same_told answer made is) (inr (number, puts))
 
 -- ---- counts of faults
 
-load-of : (source : Option Told) (words : List (List ℕ)) (answer : Answer) → AnswersWords source words answer →
+load_of : (source : Option Told) (words : List (List ℕ)) (answer : Answer) → AnswersWords source words answer →
     status_of answer ≡ 5 → (name : List ℕ) × (answer ≡ Err (Load name))
-load-of source words answer (inl (refusal, (none, u), e)) five =
-    absurd (two-five (status_of answer) (ap status_of (usage-answer answer refusal e u)) five)
-load-of source words answer (inr (command, named, h)) five = (command_fine source command answer h).load five
+load_of source words answer (inl (refusal, (none, u), e)) five =
+    absurd (two_five (status_of answer) (ap status_of (usage_answer answer refusal e u)) five)
+load_of source words answer (inr (command, named, h)) five = (command_fine source command answer h).load five
 
-low-seven : (n m : ℕ) → n ≡ m → m ≤ 6 → n ≡ 7 → ⊥
-low-seven n m e low seven = omega arith
+low_seven : (n m : ℕ) → n ≡ m → m ≤ 6 → n ≡ 7 → ⊥
+low_seven n m e low seven = omega arith
 
 pub faults_put : (source : Option Told) (words : List (List ℕ)) (answer : Answer) (made : MadeReply)
     (status loads_before loads puts_before puts : ℕ) → AnswersWords source words answer → answer ≢ Err Memory →
@@ -102,9 +102,9 @@ faults_put source words answer made status loads_before loads puts_before puts a
     let statuses : status ≡ status_of answer = number ∙ ap (λ (r : MadeReply). status_number r.status) is in
     record {
       load_failed = λ five.
-          let load = load-of source words answer answers (sym statuses ∙ five) in
+          let load = load_of source words answer answers (sym statuses ∙ five) in
           cause load.0 load.1;
-      put_failed = λ seven. absurd (low-seven status (status_of answer) statuses (low-status source words answer answers) seven);
+      put_failed = λ seven. absurd (low_seven status (status_of answer) statuses (low_status source words answer answers) seven);
       puts_kept = λ other. same;
       loads_kept = λ five. λ seven. λ eight. kept known (λ name. λ e. five (statuses ∙ ap status_of e));
     }

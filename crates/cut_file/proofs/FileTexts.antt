@@ -19,12 +19,12 @@ use Rattle.cut_file.specs.Fronts.Front.{Nothing, Versioned, Sized, Listed, Whole
 use Rattle.cut_file.specs.Private.Reading.{◌>>◌, Read, cut_in, is_in_order, lines_in, or_fault, parts, unfit}
 use Rattle.cut_file.specs.Private.Reading.{unless_whole, whole_cut, with_line, with_text}
 use Rattle.cut_file.specs.Texts.{CutText, cut_text, is_line, separated, line_text, lines_text, open_lines}
-use Rattle.cut_file.proofs.FileReads.{TextAnswer, feed-byte, text-answer}
-use Rattle.cut_file.proofs.Following.{is_kept, kept-step}
-use Rattle.cut_file.proofs.Fronts.{next-ordered}
-use Rattle.cut_file.proofs.LineTexts.{line-clean, line-own}
-use Rattle.cut_file.proofs.Parts.{joined-parts, parts-front, parts-last, parts-some, has_byte}
-use Rattle.cut_file.proofs.Pieces.{lines-append}
+use Rattle.cut_file.proofs.FileReads.{TextAnswer, feed_byte, text_answer}
+use Rattle.cut_file.proofs.Following.{is_kept, kept_step}
+use Rattle.cut_file.proofs.Fronts.{next_ordered}
+use Rattle.cut_file.proofs.LineTexts.{line_clean, line_own}
+use Rattle.cut_file.proofs.Parts.{joined_parts, parts_front, parts_last, parts_some, has_byte}
+use Rattle.cut_file.proofs.Pieces.{lines_append}
 use Rattle.flow_base.specs.Points.{is_region_number}
 
 abbrev pub fine : {A : Type 0} → A → Result A CutFault
@@ -36,71 +36,71 @@ faulty fault = Err fault
 -- ---- one line
 
 -- what a line answers whose form may stand there
-known-text : (number : ℕ) (front next : Front) (line : Line) → is_front front ≡ true →
+known_text : (number : ℕ) (front next : Front) (line : Line) → is_front front ≡ true →
     is_line (version_of front) line ≡ true → followed front line ≡ Some next →
     with_text number front (line_text (version_of front) line) ≡ (if is_front next then fine next else faulty
     (faults.Order number))
 unfolding with_text with_line
-known-text number front next line ordered known follows =
+known_text number front next line ordered known follows =
     ap (λ (o : Option Line). or_fault o (unfit number) >> λ line. with_line number front line)
-    (line-own (version_of front) line known)
+    (line_own (version_of front) line known)
     ∙ ap (λ (o : Option Front). or_fault o (unfit number) >> λ longer. if is_in_order front line then fine longer else
     faulty (faults.Order number)) follows
     ∙ ap (λ (b : Bool). if b then fine next else faulty (faults.Order number))
-    (sym (next-ordered front line next ordered known follows))
+    (sym (next_ordered front line next ordered known follows))
 
-stands-text : (number : ℕ) (front next : Front) (text : List ℕ) (test : Bool) → is_front front ≡ true →
+stands_text : (number : ℕ) (front next : Front) (text : List ℕ) (test : Bool) → is_front front ≡ true →
     Stands front text next → is_front next ≡ test →
     with_text number front text ≡ (if test then fine next else faulty (faults.Order number))
-stands-text number front next text test ordered stands is =
+stands_text number front next text test ordered stands is =
     ap (with_text number front) stands.is
-    ∙ known-text number front next stands.line ordered stands.known stands.follows
+    ∙ known_text number front next stands.line ordered stands.known stands.follows
     ∙ ap (λ (b : Bool). if b then fine next else faulty (faults.Order number)) is
 
-unfit-answer : (number : ℕ) (front : Front) (text : List ℕ) (answer : Result Front CutFault) →
+unfit_answer : (number : ℕ) (front : Front) (text : List ℕ) (answer : Result Front CutFault) →
     TextAnswer number front text answer → (MayStand front text → ⊥) → answer ≡ faulty (unfit number)
-unfit-answer number front text (Ok next) told unfits = absurd (unfits (next, told.0))
-unfit-answer number front text (Err fault) told unfits = elim told [
+unfit_answer number front text (Ok next) told unfits = absurd (unfits (next, told.0))
+unfit_answer number front text (Err fault) told unfits = elim told [
   | inl late ↦ absurd (unfits (late.1.0, late.1.1))
   | inr other ↦ ap (λ (f : CutFault). faulty f) other.0
 ]
 
-lines-cons : (number : ℕ) (front : Front) (text : List ℕ) (texts : List (List ℕ)) → is_empty texts ≡ false →
+lines_cons : (number : ℕ) (front : Front) (text : List ℕ) (texts : List (List ℕ)) → is_empty texts ≡ false →
     lines_in number front (text ∷ texts)
     ≡ (with_text number front text >> λ longer. unless_whole longer texts (lines_in (number + 1) longer texts))
 unfolding lines_in
-lines-cons number front text [] some = absurd cc
-lines-cons number front text (next ∷ texts) some = refl
+lines_cons number front text [] some = absurd cc
+lines_cons number front text (next ∷ texts) some = refl
 
-pub unless-open : (front : Front) (texts : List (List ℕ)) (read : Read) → is_whole front ≡ false →
+pub unless_open : (front : Front) (texts : List (List ℕ)) (read : Read) → is_whole front ≡ false →
     unless_whole front texts read ≡ read
-unless-open Nothing texts read goes_on = refl
-unless-open (Versioned version) texts read goes_on = refl
-unless-open (Sized version secret_len) texts read goes_on = refl
-unless-open (Listed cut) texts read goes_on = refl
-unless-open (Whole cut) texts read is_open = absurd cc
+unless_open Nothing texts read goes_on = refl
+unless_open (Versioned version) texts read goes_on = refl
+unless_open (Sized version secret_len) texts read goes_on = refl
+unless_open (Listed cut) texts read goes_on = refl
+unless_open (Whole cut) texts read is_open = absurd cc
 
 abbrev pub going : ℕ → List (List ℕ) → Result Front CutFault → Read
 going number texts answer = answer >> λ longer. unless_whole longer texts (lines_in (number + 1) longer texts)
 
-pub lines-go : (number : ℕ) (front next : Front) (text : List ℕ) (texts : List (List ℕ)) → is_empty texts ≡ false →
+pub lines_go : (number : ℕ) (front next : Front) (text : List ℕ) (texts : List (List ℕ)) → is_empty texts ≡ false →
     with_text number front text ≡ fine next → is_whole next ≡ false →
     lines_in number front (text ∷ texts) ≡ lines_in (number + 1) next texts
-lines-go number front next text texts some is is_open =
-    lines-cons number front text texts some ∙ ap (going number texts) is
-    ∙ unless-open next texts (lines_in (number + 1) next texts) is_open
+lines_go number front next text texts some is is_open =
+    lines_cons number front text texts some ∙ ap (going number texts) is
+    ∙ unless_open next texts (lines_in (number + 1) next texts) is_open
 
-pub lines-end : (number : ℕ) (front : Front) (cut : CutPicture) (text : List ℕ) (texts : List (List ℕ)) →
+pub lines_end : (number : ℕ) (front : Front) (cut : CutPicture) (text : List ℕ) (texts : List (List ℕ)) →
     is_empty texts ≡ false → with_text number front text ≡ fine (Whole cut) →
     lines_in number front (text ∷ texts) ≡ fine (cut, texts)
-lines-end number front cut text texts some is =
-    lines-cons number front text texts some ∙ ap (going number texts) is
+lines_end number front cut text texts some is =
+    lines_cons number front text texts some ∙ ap (going number texts) is
 
-pub lines-fail : (number : ℕ) (front : Front) (text : List ℕ) (texts : List (List ℕ)) (fault : CutFault) →
+pub lines_fail : (number : ℕ) (front : Front) (text : List ℕ) (texts : List (List ℕ)) (fault : CutFault) →
     is_empty texts ≡ false → with_text number front text ≡ faulty fault →
     lines_in number front (text ∷ texts) ≡ faulty fault
-lines-fail number front text texts fault some is =
-    lines-cons number front text texts some ∙ ap (going number texts) is
+lines_fail number front text texts fault some is =
+    lines_cons number front text texts some ∙ ap (going number texts) is
 
 -- ---- lines in order
 
@@ -109,8 +109,8 @@ over : (number : ℕ) (front next : Front) (line : Line) (tail : List (List ℕ)
     is_empty tail ≡ false →
     lines_in number front (line_text (version_of front) line ∷ tail) ≡ lines_in (number + 1) next tail
 over number front next line tail ordered known follows is_open some =
-    lines-go number front next (line_text (version_of front) line) tail some
-    (known-text number front next line ordered known follows
+    lines_go number front next (line_text (version_of front) line) tail some
+    (known_text number front next line ordered known follows
     ∙ ap (λ (b : Bool). if b then fine next else faulty (faults.Order number)) is_open.ordered) is_open.goes_on
 
 -- items of one kind, each with a line after those of the items before it
@@ -122,22 +122,22 @@ record IsKind {A : Type 0} (version : ℕ) (form : A → Line) (front : List A �
       followed (front items) (form item) ≡ Some (front (items ++ (item ∷ [])))
   pub is_open : (items : List A) → is_kept each test items ≡ true → IsOpen (front items)
 
-some-behind : (first second : List (List ℕ)) → is_empty second ≡ false → is_empty (first ++ second) ≡ false
-some-behind [] second some = some
-some-behind (line ∷ first) second some = refl
+some_behind : (first second : List (List ℕ)) → is_empty second ≡ false → is_empty (first ++ second) ≡ false
+some_behind [] second some = some
+some_behind (line ∷ first) second some = refl
 
-items-own : {A : Type 0} (version : ℕ) (form : A → Line) (front : List A → Front) (each : A → Bool)
+items_own : {A : Type 0} (version : ℕ) (form : A → Line) (front : List A → Front) (each : A → Bool)
     (test : A → A → Bool) → IsKind version form front each test → (more done : List A) (number : ℕ)
     (tail : List (List ℕ)) → is_kept each test done ≡ true → is_kept each test (done ++ more) ≡ true →
     is_empty tail ≡ false →
     lines_in number (front done) (map (line_text version) (map form more) ++ tail)
     ≡ lines_in (number + length more) (front (done ++ more)) tail
-items-own version form front each test kind [] done number tail before kept some =
+items_own version form front each test kind [] done number tail before kept some =
     let same : number ≡ number + 0 = omega arith in
     ap (λ (n : ℕ). lines_in n (front done) tail) same
     ∙ ap (λ l. lines_in (number + 0) (front l) tail) (sym (append-nil done))
-items-own version form front each test kind (item ∷ more) done number tail before kept some =
-    let step = kept-step each test done item more kept in
+items_own version form front each test kind (item ∷ more) done number tail before kept some =
+    let step = kept_step each test done item more kept in
     let same : done ++ (item ∷ more) ≡ (done ++ (item ∷ [])) ++ more = sym (append_assoc done (item ∷ []) more) in
     let count : (number + 1) + length more ≡ number + length (item ∷ more) = omega arith in
     let here = kind.is_open done before in
@@ -147,8 +147,8 @@ items-own version form front each test kind (item ∷ more) done number tail bef
     let texts : List (List ℕ) = map (line_text version) (map form more) ++ tail in
     ap (λ (v : ℕ). lines_in number (front done) (line_text v (form item) ∷ texts)) (sym is)
     ∙ over number (front done) (front (done ++ (item ∷ []))) (form item) texts here.ordered known
-    (kind.follows done item) next (some-behind (map (line_text version) (map form more)) tail some)
-    ∙ items-own version form front each test kind more (done ++ (item ∷ [])) (number + 1) tail step.kept
+    (kind.follows done item) next (some_behind (map (line_text version) (map form more)) tail some)
+    ∙ items_own version form front each test kind more (done ++ (item ∷ [])) (number + 1) tail step.kept
     (ap (is_kept each test) (sym same) ∙ kept) some
     ∙ ap (λ (n : ℕ). lines_in n (front ((done ++ (item ∷ [])) ++ more)) tail) count
     ∙ ap (λ l. lines_in (number + length (item ∷ more)) (front l) tail) (sym same)
@@ -161,9 +161,9 @@ record IsHead (version secret_len bits : ℕ) : Type 0 where
 abbrev of_lists : CutPicture → List ℕ → List CutPoint → Front
 of_lists cut skip points = Listed (record cut { skip = skip; points = points })
 
-skip-kind : (cut : CutPicture) → IsHead cut.version cut.secret_len cut.bits →
+skip_kind : (cut : CutPicture) → IsHead cut.version cut.secret_len cut.bits →
     IsKind cut.version (λ r. Skip r) (λ l. of_lists cut l []) is_region_number nat_lt
-skip-kind cut head = record {
+skip_kind cut head = record {
   known = λ region own. own;
   same = λ skip. refl;
   follows = λ skip region. refl;
@@ -173,9 +173,9 @@ skip-kind cut head = record {
   };
 }
 
-point-kind : (cut : CutPicture) → IsHead cut.version cut.secret_len cut.bits → are_regions cut.skip ≡ true →
+point_kind : (cut : CutPicture) → IsHead cut.version cut.secret_len cut.bits → are_regions cut.skip ≡ true →
     IsKind cut.version (λ p. Point p) (λ l. of_lists cut cut.skip l) (is_point_of cut.version) stands_before
-point-kind cut head skip = record {
+point_kind cut head skip = record {
   known = λ point own. own;
   same = λ points. refl;
   follows = λ points point. refl;
@@ -185,16 +185,16 @@ point-kind cut head skip = record {
   };
 }
 
-map-append : {A B : Type 0} (f : A → B) (first second : List A) → map f (first ++ second) ≡ map f first ++ map f second
-map-append f [] second = refl
-map-append f (item ∷ first) second = ap (λ l. f item ∷ l) (map-append f first second)
+map_over_both : {A B : Type 0} (f : A → B) (first second : List A) → map f (first ++ second) ≡ map f first ++ map f second
+map_over_both f [] second = refl
+map_over_both f (item ∷ first) second = ap (λ l. f item ∷ l) (map_over_both f first second)
 
 -- the regions and points after the first three lines
-lists-own : (cut : CutPicture) (tail : List (List ℕ)) → IsHead cut.version cut.secret_len cut.bits →
+lists_own : (cut : CutPicture) (tail : List (List ℕ)) → IsHead cut.version cut.secret_len cut.bits →
     are_regions cut.skip ≡ true → are_points_of cut.version cut.points ≡ true → is_empty tail ≡ false →
     lines_in 4 (of_lists cut [] []) (map (line_text cut.version) (map Skip cut.skip ++ map Point cut.points) ++ tail)
     ≡ lines_in (suc (length (open_lines cut))) (Listed cut) tail
-lists-own cut tail head skip points some =
+lists_own cut tail head skip points some =
     let skips : List (List ℕ) = map (line_text cut.version) (map Skip cut.skip) in
     let others : List (List ℕ) = map (line_text cut.version) (map Point cut.points) in
     let lines = length-append (map Skip cut.skip) (map Point cut.points) in
@@ -202,30 +202,30 @@ lists-own cut tail head skip points some =
     let second = length-map cut.points Point in
     let count : (4 + length cut.skip) + length cut.points ≡ suc (length (open_lines cut)) = omega
     (arith, lines, first, second) in
-    ap (λ (l : List (List ℕ)). lines_in 4 (of_lists cut [] []) (l ++ tail)) (map-append (line_text cut.version)
+    ap (λ (l : List (List ℕ)). lines_in 4 (of_lists cut [] []) (l ++ tail)) (map_over_both (line_text cut.version)
     (map Skip cut.skip) (map Point cut.points))
     ∙ ap (lines_in 4 (of_lists cut [] [])) (append_assoc skips others tail)
-    ∙ items-own cut.version (λ r. Skip r) (λ l. of_lists cut l []) is_region_number nat_lt (skip-kind cut head) cut.skip [] 4
-    (others ++ tail) refl skip (some-behind others tail some)
-    ∙ items-own cut.version (λ p. Point p) (λ l. of_lists cut cut.skip l) (is_point_of cut.version) stands_before
-    (point-kind cut head skip) cut.points [] (4 + length cut.skip) tail refl points some
+    ∙ items_own cut.version (λ r. Skip r) (λ l. of_lists cut l []) is_region_number nat_lt (skip_kind cut head) cut.skip [] 4
+    (others ++ tail) refl skip (some_behind others tail some)
+    ∙ items_own cut.version (λ p. Point p) (λ l. of_lists cut cut.skip l) (is_point_of cut.version) stands_before
+    (point_kind cut head skip) cut.points [] (4 + length cut.skip) tail refl points some
     ∙ ap (λ (n : ℕ). lines_in n (Listed cut) tail) count
 
 abbrev texts_of : Front → List (List ℕ)
 texts_of front = map (line_text (version_of front)) (lines_before front)
 
-front-own : (front : Front) (tail : List (List ℕ)) → IsOpen front → is_empty tail ≡ false →
+front_own : (front : Front) (tail : List (List ℕ)) → IsOpen front → is_empty tail ≡ false →
     lines_in 1 Nothing (texts_of front ++ tail) ≡ lines_in (suc (length (lines_before front))) front tail
-front-own Nothing tail is_open some = refl
-front-own (Versioned version) tail is_open some =
+front_own Nothing tail is_open some = refl
+front_own (Versioned version) tail is_open some =
     over 1 Nothing (Versioned version) (Version version) tail refl is_open.ordered refl is_open some
-front-own (Sized version secret_len) tail is_open some =
+front_own (Sized version secret_len) tail is_open some =
     let both = and_parts (is_version version) _ is_open.ordered in
     let first : IsOpen (Versioned version) = record { ordered = both.0; goes_on = refl } in
     over 1 Nothing (Versioned version) (Version version) (line_text version (Secret secret_len) ∷ tail) refl both.0 refl
     first refl
     ∙ over 2 (Versioned version) (Sized version secret_len) (Secret secret_len) tail both.0 both.1 refl is_open some
-front-own (Listed cut) tail is_open some =
+front_own (Listed cut) tail is_open some =
     let known = and_parts (is_version cut.version) _ is_open.ordered in
     let short = and_parts (is_line cut.version (Secret cut.secret_len)) _ known.1 in
     let bits = and_parts (is_word cut.bits) _ short.1 in
@@ -245,34 +245,34 @@ front-own (Listed cut) tail is_open some =
     ∙ over 2 (Versioned cut.version) (Sized cut.version cut.secret_len) (Secret cut.secret_len)
     (line_text cut.version (Bits cut.bits) ∷ last) known.0 short.0 refl second refl
     ∙ over 3 (Sized cut.version cut.secret_len) (of_lists cut [] []) (Bits cut.bits) last second.ordered bits.0 refl
-    third (some-behind (map (line_text cut.version) (map Skip cut.skip ++ map Point cut.points)) tail some)
-    ∙ lists-own cut tail head lists.0 lists.1 some
-front-own (Whole cut) tail is_open some = let closed = is_open.goes_on in absurd cc
+    third (some_behind (map (line_text cut.version) (map Skip cut.skip ++ map Point cut.points)) tail some)
+    ∙ lists_own cut tail head lists.0 lists.1 some
+front_own (Whole cut) tail is_open some = let closed = is_open.goes_on in absurd cc
 
 -- ---- the text of lines
 
-all-append : {A : Type 0} (test : A → Bool) (first second : List A) → list_all test first ≡ true →
+all_append : {A : Type 0} (test : A → Bool) (first second : List A) → list_all test first ≡ true →
     list_all test second ≡ true → list_all test (first ++ second) ≡ true
-all-append test [] second e f = f
-all-append test (item ∷ first) second e f =
+all_append test [] second e f = f
+all_append test (item ∷ first) second e f =
     let both = and_parts (test item) (list_all test first) e in
-    and_from _ _ both.0 (all-append test first second both.1 f)
+    and_from _ _ both.0 (all_append test first second both.1 f)
 
-all-map : {A B : Type 0} (form : A → B) (each : A → Bool) (test : B → Bool) (items : List A) →
+all_map : {A B : Type 0} (form : A → B) (each : A → Bool) (test : B → Bool) (items : List A) →
     ((item : A) → each item ≡ true → test (form item) ≡ true) → list_all each items ≡ true →
     list_all test (map form items) ≡ true
-all-map form each test [] known all = refl
-all-map form each test (item ∷ items) known all =
+all_map form each test [] known all = refl
+all_map form each test (item ∷ items) known all =
     let both = and_parts (each item) (list_all each items) all in
-    and_from _ _ (known item both.0) (all-map form each test items known both.1)
+    and_from _ _ (known item both.0) (all_map form each test items known both.1)
 
-lines-known : (front : Front) → IsOpen front → list_all (is_line (version_of front)) (lines_before front) ≡ true
-lines-known Nothing goes_on = refl
-lines-known (Versioned version) is_open = and_from _ _ is_open.ordered refl
-lines-known (Sized version secret_len) is_open =
+lines_known : (front : Front) → IsOpen front → list_all (is_line (version_of front)) (lines_before front) ≡ true
+lines_known Nothing goes_on = refl
+lines_known (Versioned version) is_open = and_from _ _ is_open.ordered refl
+lines_known (Sized version secret_len) is_open =
     let both = and_parts (is_version version) _ is_open.ordered in
     and_from _ _ both.0 (and_from _ _ both.1 refl)
-lines-known (Listed cut) is_open =
+lines_known (Listed cut) is_open =
     let known = and_parts (is_version cut.version) _ is_open.ordered in
     let short = and_parts (is_line cut.version (Secret cut.secret_len)) _ known.1 in
     let bits = and_parts (is_word cut.bits) _ short.1 in
@@ -280,112 +280,112 @@ lines-known (Listed cut) is_open =
     let skips = and_parts (list_all is_region_number cut.skip) _ lists.0 in
     let points = and_parts (list_all (is_point_of cut.version) cut.points) _ lists.1 in
     and_from _ _ known.0 (and_from _ _ short.0 (and_from _ _ bits.0
-    (all-append (is_line cut.version) (map Skip cut.skip) (map Point cut.points)
-    (all-map (λ r. Skip r) is_region_number (is_line cut.version) cut.skip (λ region own. own) skips.0)
-    (all-map (λ p. Point p) (is_point_of cut.version) (is_line cut.version) cut.points (λ point own. own) points.0))))
-lines-known (Whole cut) is_open = let closed = is_open.goes_on in absurd cc
+    (all_append (is_line cut.version) (map Skip cut.skip) (map Point cut.points)
+    (all_map (λ r. Skip r) is_region_number (is_line cut.version) cut.skip (λ region own. own) skips.0)
+    (all_map (λ p. Point p) (is_point_of cut.version) (is_line cut.version) cut.points (λ point own. own) points.0))))
+lines_known (Whole cut) is_open = let closed = is_open.goes_on in absurd cc
 
-parts-lines : (version : ℕ) (lines : List Line) (rest : List ℕ) → list_all (is_line version) lines ≡ true →
+parts_lines : (version : ℕ) (lines : List Line) (rest : List ℕ) → list_all (is_line version) lines ≡ true →
     parts 10 (lines_text version lines ++ rest) ≡ map (line_text version) lines ++ parts 10 rest
-parts-lines version [] rest known = refl
-parts-lines version (line ∷ lines) rest known =
+parts_lines version [] rest known = refl
+parts_lines version (line ∷ lines) rest known =
     let both = and_parts (is_line version line) (list_all (is_line version) lines) known in
     ap (parts 10) (append_assoc (line_text version line) (10 ∷ lines_text version lines) rest)
-    ∙ parts-front 10 (line_text version line) (lines_text version lines ++ rest) (line-clean version line both.0)
-    ∙ ap (λ (l : List (List ℕ)). line_text version line ∷ l) (parts-lines version lines rest both.1)
+    ∙ parts_front 10 (line_text version line) (lines_text version lines ++ rest) (line_clean version line both.0)
+    ∙ ap (λ (l : List (List ℕ)). line_text version line ∷ l) (parts_lines version lines rest both.1)
 
 -- what is read of a file that begins with lines in order
-file-front : (file : List ℕ) (front : Front) (rest : List ℕ) → IsOpen front → file ≡ front_text front ++ rest →
+file_front : (file : List ℕ) (front : Front) (rest : List ℕ) → IsOpen front → file ≡ front_text front ++ rest →
     lines_in 1 Nothing (parts 10 file) ≡ lines_in (suc (length (lines_before front))) front (parts 10 rest)
-file-front file front rest is_open is =
+file_front file front rest is_open is =
     ap (λ (l : List ℕ). lines_in 1 Nothing (parts 10 l)) is
-    ∙ ap (lines_in 1 Nothing) (parts-lines (version_of front) (lines_before front) rest (lines-known front is_open))
-    ∙ front-own front (parts 10 rest) is_open (parts-some 10 rest)
+    ∙ ap (lines_in 1 Nothing) (parts_lines (version_of front) (lines_before front) rest (lines_known front is_open))
+    ∙ front_own front (parts 10 rest) is_open (parts_some 10 rest)
 
 -- ---- the whole file
 
 abbrev pub finish : List ℕ → Read → Result CutPicture CutFault
 finish file read = read >> λ whole. whole_cut (length file) whole.0 (separated 10 whole.1)
 
-pub file-finish : (file : List ℕ) (read : Read) → lines_in 1 Nothing (parts 10 file) ≡ read → cut_in file ≡ finish file read
+pub file_finish : (file : List ℕ) (read : Read) → lines_in 1 Nothing (parts 10 file) ≡ read → cut_in file ≡ finish file read
 unfolding cut_in
-file-finish file read is = ap (finish file) is
+file_finish file read is = ap (finish file) is
 
-ended-own : (file : List ℕ) (cut : CutPicture) (rest : List ℕ) → is_cut_picture cut ≡ true → file ≡ cut_text cut ++ rest →
+ended_own : (file : List ℕ) (cut : CutPicture) (rest : List ℕ) → is_cut_picture cut ≡ true → file ≡ cut_text cut ++ rest →
     cut_in file ≡ whole_cut (length file) cut rest
-ended-own file cut rest valid is =
+ended_own file cut rest valid is =
     let number : ℕ = suc (length (open_lines cut)) in
     let is_open : IsOpen (Listed cut) = record { ordered = valid; goes_on = refl } in
     let last = line_text cut.version End in
     let split : file ≡ front_text (Listed cut) ++ (last ++ (10 ∷ rest)) =
-    is ∙ ap (λ (l : List ℕ). l ++ rest) (lines-append cut.version (open_lines cut) (End ∷ []))
+    is ∙ ap (λ (l : List ℕ). l ++ rest) (lines_append cut.version (open_lines cut) (End ∷ []))
     ∙ append_assoc (front_text (Listed cut)) (last ++ (10 ∷ [])) rest in
     let answer : with_text number (Listed cut) last ≡ fine (Whole cut) =
-    known-text number (Listed cut) (Whole cut) End valid refl refl
+    known_text number (Listed cut) (Whole cut) End valid refl refl
     ∙ ap (λ (b : Bool). if b then fine (Whole cut) else faulty (faults.Order number)) valid in
-    file-finish file (fine (cut, parts 10 rest)) (file-front file (Listed cut) (last ++ (10 ∷ rest)) is_open split
-    ∙ ap (lines_in number (Listed cut)) (parts-front 10 last rest refl)
-    ∙ lines-end number (Listed cut) cut last (parts 10 rest) (parts-some 10 rest) answer)
-    ∙ ap (whole_cut (length file) cut) (joined-parts 10 rest)
+    file_finish file (fine (cut, parts 10 rest)) (file_front file (Listed cut) (last ++ (10 ∷ rest)) is_open split
+    ∙ ap (lines_in number (Listed cut)) (parts_front 10 last rest refl)
+    ∙ lines_end number (Listed cut) cut last (parts 10 rest) (parts_some 10 rest) answer)
+    ∙ ap (whole_cut (length file) cut) (joined_parts 10 rest)
 
-pub cut-own : (file : List ℕ) (cut : CutPicture) → CutText file cut → cut_in file ≡ fine cut
-cut-own file cut known = ended-own file cut [] known.valid (known.text ∙ sym (append-nil (cut_text cut)))
+pub cut_own : (file : List ℕ) (cut : CutPicture) → CutText file cut → cut_in file ≡ fine cut
+cut_own file cut known = ended_own file cut [] known.valid (known.text ∙ sym (append-nil (cut_text cut)))
 
 -- ---- a file with a fault answers it
 
-line-fails : (file : List ℕ) (front : Front) (text : List ℕ) (fault : CutFault) → HasLine file front text →
+line_fails : (file : List ℕ) (front : Front) (text : List ℕ) (fault : CutFault) → HasLine file front text →
     with_text (suc (length (lines_before front))) front text ≡ faulty fault → cut_in file ≡ faulty fault
-line-fails file front text fault here answer =
+line_fails file front text fault here answer =
     let number : ℕ = suc (length (lines_before front)) in
-    file-finish file (faulty fault) (file-front file front (text ++ (10 ∷ here.more)) here.before here.is
-    ∙ ap (lines_in number front) (parts-front 10 text here.more (sym (feed-byte text) ∙ here.whole))
-    ∙ lines-fail number front text (parts 10 here.more) fault (parts-some 10 here.more) answer)
+    file_finish file (faulty fault) (file_front file front (text ++ (10 ∷ here.more)) here.before here.is
+    ∙ ap (lines_in number front) (parts_front 10 text here.more (sym (feed_byte text) ∙ here.whole))
+    ∙ lines_fail number front text (parts 10 here.more) fault (parts_some 10 here.more) answer)
 
-unfit-own : (file : List ℕ) (front : Front) (text : List ℕ) → HasLine file front text → (MayStand front text → ⊥) →
+unfit_own : (file : List ℕ) (front : Front) (text : List ℕ) → HasLine file front text → (MayStand front text → ⊥) →
     cut_in file ≡ faulty (unfit (suc (length (lines_before front))))
-unfit-own file front text here unfits =
+unfit_own file front text here unfits =
     let number : ℕ = suc (length (lines_before front)) in
-    line-fails file front text (unfit number) here (unfit-answer number front text (with_text number front text)
-    (text-answer number front text here.before.ordered) unfits)
+    line_fails file front text (unfit number) here (unfit_answer number front text (with_text number front text)
+    (text_answer number front text here.before.ordered) unfits)
 
-late-own : (file : List ℕ) (front next : Front) (text : List ℕ) → HasLine file front text → Stands front text next →
+late_own : (file : List ℕ) (front next : Front) (text : List ℕ) → HasLine file front text → Stands front text next →
     is_front next ≡ false → cut_in file ≡ faulty (faults.Order (suc (length (lines_before front))))
-late-own file front next text here stands late =
+late_own file front next text here stands late =
     let number : ℕ = suc (length (lines_before front)) in
-    line-fails file front text (faults.Order number) here
-    (stands-text number front next text false here.before.ordered stands late)
+    line_fails file front text (faults.Order number) here
+    (stands_text number front next text false here.before.ordered stands late)
 
-last-line : (number : ℕ) (front : Front) (text : List ℕ) → has_byte 10 text ≡ false →
+last_line : (number : ℕ) (front : Front) (text : List ℕ) → has_byte 10 text ≡ false →
     lines_in number front (parts 10 text) ≡ faulty faults.Truncated
 unfolding lines_in
-last-line number front text clean = ap (lines_in number front) (parts-last 10 text clean)
+last_line number front text clean = ap (lines_in number front) (parts_last 10 text clean)
 
-later-line : (number : ℕ) → 2 ≤ number → unfit number ≡ faults.Line number
-later-line number late =
+later_line : (number : ℕ) → 2 ≤ number → unfit number ≡ faults.Line number
+later_line number late =
     let other : (number == 1) ≡ false = grind arith in
     cond-false (number == 1) faults.Version (faults.Line number) other
 
-pub fault-own : (fault : CutFault) (file : List ℕ) → (fault ≡ faults.Memory → ⊥) → FirstCutFault file fault →
+pub fault_own : (fault : CutFault) (file : List ℕ) → (fault ≡ faults.Memory → ⊥) → FirstCutFault file fault →
     cut_in file ≡ faulty fault
-fault-own faults.Version file free known = unfit-own file Nothing known.0 known.1 known.2
-fault-own (faults.Line number) file free known =
-    unfit-own file known.0 known.1 known.2 known.3
+fault_own faults.Version file free known = unfit_own file Nothing known.0 known.1 known.2
+fault_own (faults.Line number) file free known =
+    unfit_own file known.0 known.1 known.2 known.3
     ∙ ap (λ (n : ℕ). faulty (unfit n)) (sym known.4)
-    ∙ ap (λ (f : CutFault). faulty f) (later-line number known.5)
-fault-own (faults.Order number) file free known =
-    late-own file known.0 known.3.0 known.1 known.2 known.3.1 known.3.2
+    ∙ ap (λ (f : CutFault). faulty f) (later_line number known.5)
+fault_own (faults.Order number) file free known =
+    late_own file known.0 known.3.0 known.1 known.2 known.3.1 known.3.2
     ∙ ap (λ (n : ℕ). faulty (faults.Order n)) (sym known.4)
-fault-own faults.Truncated file free known =
+fault_own faults.Truncated file free known =
     let number : ℕ = suc (length (lines_before known.0)) in
-    file-finish file (faulty faults.Truncated) (file-front file known.0 known.1 known.2 known.4
-    ∙ last-line number known.0 known.1 (sym (feed-byte known.1) ∙ known.3))
-fault-own (faults.Trailing offset) file free known =
+    file_finish file (faulty faults.Truncated) (file_front file known.0 known.1 known.2 known.4
+    ∙ last_line number known.0 known.1 (sym (feed_byte known.1) ∙ known.3))
+fault_own (faults.Trailing offset) file free known =
     let rest : List ℕ = known.1 ∷ known.2 in
     let size : length file ≡ length (cut_text known.0) + length rest = ap length known.4
     ∙ length-append (cut_text known.0) rest in
     let place : length file - length rest ≡ offset = omega (arith, size, known.5) in
-    ended-own file known.0 rest known.3 known.4 ∙ ap (λ (n : ℕ). faulty {A = CutPicture} (faults.Trailing n)) place
-fault-own faults.Memory file free known = absurd (free refl)
+    ended_own file known.0 rest known.3 known.4 ∙ ap (λ (n : ℕ). faulty {A = CutPicture} (faults.Trailing n)) place
+fault_own faults.Memory file free known = absurd (free refl)
 
 -- ---- one answer
 
@@ -397,24 +397,24 @@ fault_or : {A : Type 0} → CutFault → Result A CutFault → CutFault
 fault_or other (Ok value) = other
 fault_or other (Err fault) = fault
 
-pub fine-same : {A : Type 0} (a b : A) → fine a ≡ fine b → a ≡ b
+pub fine_same : {A : Type 0} (a b : A) → fine a ≡ fine b → a ≡ b
 unfolding value_or
-fine-same a b e = ap (value_or a) e
+fine_same a b e = ap (value_or a) e
 
-pub faulty-same : {A : Type 0} (a b : CutFault) → faulty {A = A} a ≡ faulty {A = A} b → a ≡ b
+pub faulty_same : {A : Type 0} (a b : CutFault) → faulty {A = A} a ≡ faulty {A = A} b → a ≡ b
 unfolding fault_or
-faulty-same a b e = ap (fault_or a) e
+faulty_same a b e = ap (fault_or a) e
 
-pub one-cut : (file : List ℕ) (first second : CutPicture) → CutText file first → CutText file second → first ≡ second
-one-cut file first second a b = fine-same first second (sym (cut-own file first a) ∙ cut-own file second b)
+pub one_cut : (file : List ℕ) (first second : CutPicture) → CutText file first → CutText file second → first ≡ second
+one_cut file first second a b = fine_same first second (sym (cut_own file first a) ∙ cut_own file second b)
 
-pub one-fault : (file : List ℕ) (first second : CutFault) → (first ≡ faults.Memory → ⊥) →
+pub one_fault : (file : List ℕ) (first second : CutFault) → (first ≡ faults.Memory → ⊥) →
     (second ≡ faults.Memory → ⊥) → FirstCutFault file first → FirstCutFault file second → first ≡ second
-one-fault file first second a b known other = faulty-same {A = CutPicture} first second (sym
-    (fault-own first file a known) ∙ fault-own second file b other)
+one_fault file first second a b known other = faulty_same {A = CutPicture} first second (sym
+    (fault_own first file a known) ∙ fault_own second file b other)
 
-pub cut-no_fault : (file : List ℕ) (cut : CutPicture) (fault : CutFault) → CutText file cut →
+pub cut_no_fault : (file : List ℕ) (cut : CutPicture) (fault : CutFault) → CutText file cut →
     (fault ≡ faults.Memory → ⊥) → FirstCutFault file fault → ⊥
-cut-no_fault file cut fault text free known =
-    let e : fine cut ≡ faulty fault = sym (cut-own file cut text) ∙ fault-own fault file free known in
+cut_no_fault file cut fault text free known =
+    let e : fine cut ≡ faulty fault = sym (cut_own file cut text) ∙ fault_own fault file free known in
     absurd cc

@@ -14,8 +14,8 @@ use Rattle.cut_file.specs.Folds.{AreFolded, IsFold, IsFolded}
 use Rattle.cut_file.specs.Masks.{listed_masks}
 use Rattle.cut_file.specs.Texts.{cut_text}
 use Rattle.cut_file.specs.TextLengths.{byte_bound, listed_runs}
-use Rattle.cut_file.proofs.Following.{points-all}
-use Rattle.cut_file.proofs.TextLengths.{cut-length, point_bytes, points-of, single-rest}
+use Rattle.cut_file.proofs.Following.{points_all}
+use Rattle.cut_file.proofs.TextLengths.{cut_length, point_bytes, points_of, single_rest}
 
 -- ---- how many stretches of equal masks there are
 
@@ -28,94 +28,94 @@ stretches [] = 0
 stretches (mask ∷ []) = 1
 stretches (mask ∷ (next ∷ masks)) = onto (mask == next) (stretches (next ∷ masks))
 
-onto-grows : (same : Bool) (fewer more : ℕ) → fewer ≤ more → onto same fewer ≤ onto same more
+onto_grows : (same : Bool) (fewer more : ℕ) → fewer ≤ more → onto same fewer ≤ onto same more
 unfolding onto
-onto-grows true fewer more few = few
-onto-grows false fewer more few = omega (arith, few)
+onto_grows true fewer more few = few
+onto_grows false fewer more few = omega (arith, few)
 
-onto-least : (same : Bool) (count : ℕ) → count ≤ onto same count
+onto_least : (same : Bool) (count : ℕ) → count ≤ onto same count
 unfolding onto
-onto-least true count = omega arith
-onto-least false count = omega arith
+onto_least true count = omega arith
+onto_least false count = omega arith
 
-stretches-some : (mask : ℕ) (masks : List ℕ) → 1 ≤ stretches (mask ∷ masks)
+stretches_some : (mask : ℕ) (masks : List ℕ) → 1 ≤ stretches (mask ∷ masks)
 unfolding stretches
-stretches-some mask [] = omega arith
-stretches-some mask (next ∷ masks) =
-    let inner = stretches-some next masks in
-    let more = onto-least (mask == next) (stretches (next ∷ masks)) in
+stretches_some mask [] = omega arith
+stretches_some mask (next ∷ masks) =
+    let inner = stretches_some next masks in
+    let more = onto_least (mask == next) (stretches (next ∷ masks)) in
     omega (arith, inner, more)
 
-stretches-take : (count : ℕ) (masks : List ℕ) → stretches (take count masks) ≤ stretches masks
+stretches_take : (count : ℕ) (masks : List ℕ) → stretches (take count masks) ≤ stretches masks
 unfolding stretches
-stretches-take zero masks = omega arith
-stretches-take (suc count) [] = omega arith
-stretches-take (suc zero) (mask ∷ masks) = stretches-some mask masks
-stretches-take (suc (suc count)) (mask ∷ []) = omega arith
-stretches-take (suc (suc count)) (mask ∷ (next ∷ masks)) =
-    onto-grows (mask == next) _ _ (stretches-take (suc count) (next ∷ masks))
+stretches_take zero masks = omega arith
+stretches_take (suc count) [] = omega arith
+stretches_take (suc zero) (mask ∷ masks) = stretches_some mask masks
+stretches_take (suc (suc count)) (mask ∷ []) = omega arith
+stretches_take (suc (suc count)) (mask ∷ (next ∷ masks)) =
+    onto_grows (mask == next) _ _ (stretches_take (suc count) (next ∷ masks))
 
 -- masks begin with another mask, or there are none
 begins_other : ℕ → List ℕ → Bool
 begins_other mask [] = true
 begins_other mask (next ∷ masks) = not (mask == next)
 
-onto-other : (same : Bool) (count : ℕ) → not same ≡ true → onto same count ≡ suc count
+onto_other : (same : Bool) (count : ℕ) → not same ≡ true → onto same count ≡ suc count
 unfolding onto
-onto-other true count other = absurd cc
-onto-other false count other = refl
+onto_other true count other = absurd cc
+onto_other false count other = refl
 
-onto-same : (mask count : ℕ) → onto (mask == mask) count ≡ count
+onto_same : (mask count : ℕ) → onto (mask == mask) count ≡ count
 unfolding onto
-onto-same mask count = ap (λ (b : Bool). onto b count) (eq-eqb mask mask refl)
+onto_same mask count = ap (λ (b : Bool). onto b count) (eq-eqb mask mask refl)
 
-stretches-cons : (mask : ℕ) (masks : List ℕ) → begins_other mask masks ≡ true →
+stretches_cons : (mask : ℕ) (masks : List ℕ) → begins_other mask masks ≡ true →
     stretches (mask ∷ masks) ≡ suc (stretches masks)
 unfolding stretches begins_other
-stretches-cons mask [] other = refl
-stretches-cons mask (next ∷ masks) other = onto-other (mask == next) (stretches (next ∷ masks)) other
+stretches_cons mask [] other = refl
+stretches_cons mask (next ∷ masks) other = onto_other (mask == next) (stretches (next ∷ masks)) other
 
-stretches-run : (count mask : ℕ) (masks : List ℕ) → begins_other mask masks ≡ true →
+stretches_run : (count mask : ℕ) (masks : List ℕ) → begins_other mask masks ≡ true →
     stretches (replicate (suc count) mask ++ masks) ≡ suc (stretches masks)
 unfolding stretches
-stretches-run zero mask masks other = stretches-cons mask masks other
-stretches-run (suc count) mask masks other =
-    onto-same mask (stretches (replicate (suc count) mask ++ masks)) ∙ stretches-run count mask masks other
+stretches_run zero mask masks other = stretches_cons mask masks other
+stretches_run (suc count) mask masks other =
+    onto_same mask (stretches (replicate (suc count) mask ++ masks)) ∙ stretches_run count mask masks other
 
-stretches-runs : (count mask : ℕ) (masks : List ℕ) → 1 ≤ count → begins_other mask masks ≡ true →
+stretches_runs : (count mask : ℕ) (masks : List ℕ) → 1 ≤ count → begins_other mask masks ≡ true →
     stretches (replicate count mask ++ masks) ≡ suc (stretches masks)
-stretches-runs zero mask masks some other = absurd (omega (arith, some))
-stretches-runs (suc count) mask masks some other = stretches-run count mask masks other
+stretches_runs zero mask masks some other = absurd (omega (arith, some))
+stretches_runs (suc count) mask masks some other = stretches_run count mask masks other
 
-begins-run : (mask next count : ℕ) (masks : List ℕ) → 1 ≤ count → not (mask == next) ≡ true →
+begins_run : (mask next count : ℕ) (masks : List ℕ) → 1 ≤ count → not (mask == next) ≡ true →
     begins_other mask (replicate count next ++ masks) ≡ true
 unfolding begins_other
-begins-run mask next zero masks some other = absurd (omega (arith, some))
-begins-run mask next (suc count) masks some other = other
+begins_run mask next zero masks some other = absurd (omega (arith, some))
+begins_run mask next (suc count) masks some other = other
 
-run-counts : (run : Run) → is_run run ≡ true → 1 ≤ run.count
-run-counts run known = grind arith
+run_counts : (run : Run) → is_run run ≡ true → 1 ≤ run.count
+run_counts run known = grind arith
 
 -- runs whose neighbours differ are one for each stretch
-runs-stretches : (runs : List Run) → list_all is_run runs ≡ true → neighbours_pass have_other_masks runs ≡ true →
+runs_stretches : (runs : List Run) → list_all is_run runs ≡ true → neighbours_pass have_other_masks runs ≡ true →
     stretches (listed_masks runs) ≡ length runs
 unfolding listed_masks stretches begins_other
-runs-stretches [] all differ = refl
-runs-stretches (run ∷ []) all differ =
+runs_stretches [] all differ = refl
+runs_stretches (run ∷ []) all differ =
     let both = and_parts (is_run run) (list_all is_run []) all in
-    stretches-runs run.count run.mask [] (run-counts run both.0) refl
-runs-stretches (run ∷ (next ∷ runs)) all differ =
+    stretches_runs run.count run.mask [] (run_counts run both.0) refl
+runs_stretches (run ∷ (next ∷ runs)) all differ =
     let both = and_parts (is_run run) (list_all is_run (next ∷ runs)) all in
     let second = and_parts (is_run next) (list_all is_run runs) both.1 in
     let other = and_parts (have_other_masks run next) (neighbours_pass have_other_masks (next ∷ runs)) differ in
-    let begins = begins-run run.mask next.mask next.count (listed_masks runs) (run-counts next second.0) other.0 in
-    stretches-runs run.count run.mask (listed_masks (next ∷ runs)) (run-counts run both.0) begins
-    ∙ ap (λ (n : ℕ). suc n) (runs-stretches (next ∷ runs) both.1 other.1)
+    let begins = begins_run run.mask next.mask next.count (listed_masks runs) (run_counts next second.0) other.0 in
+    stretches_runs run.count run.mask (listed_masks (next ∷ runs)) (run_counts run both.0) begins
+    ∙ ap (λ (n : ℕ). suc n) (runs_stretches (next ∷ runs) both.1 other.1)
 
-are_runs-stretches : (runs : List Run) → are_runs runs ≡ true → stretches (listed_masks runs) ≡ length runs
-are_runs-stretches runs known =
+are_runs_stretches : (runs : List Run) → are_runs runs ≡ true → stretches (listed_masks runs) ≡ length runs
+are_runs_stretches runs known =
     let both = and_parts (list_all is_run runs) (neighbours_pass have_other_masks runs) known in
-    runs-stretches runs both.0 both.1
+    runs_stretches runs both.0 both.1
 
 -- ---- the fold
 
@@ -123,53 +123,53 @@ record HasRuns (point : CutPoint) : Type 0 where
   listed : are_runs point.runs ≡ true
   pattern : are_runs point.rest ≡ true
 
-has-runs : (point : CutPoint) → is_cut_point point ≡ true → HasRuns point
-has-runs point known =
+has_runs : (point : CutPoint) → is_cut_point point ≡ true → HasRuns point
+has_runs point known =
     let whole = and_parts (is_point point.point) _ known in
     let lists = and_parts (are_runs point.runs) (is_rest point.rest) whole.1 in
     let pattern = and_parts (nat_le 1 (length point.rest)) (are_runs point.rest) lists.1 in
     record { listed = lists.0; pattern = pattern.1 }
 
-folded-runs : (point folded : CutPoint) → is_point_of 1 point ≡ true → is_cut_point folded ≡ true →
+folded_runs : (point folded : CutPoint) → is_point_of 1 point ≡ true → is_cut_point folded ≡ true →
     IsFolded point folded → length folded.runs + length folded.rest ≤ length point.runs + 1
-folded-runs point folded known own (inl made) =
+folded_runs point folded known own (inl made) =
     let count = made.0 in
-    let before = has-runs point (and_parts (is_cut_point point) _ known).0 in
-    let after = has-runs folded own in
+    let before = has_runs point (and_parts (is_cut_point point) _ known).0 in
+    let after = has_runs folded own in
     let none : length folded.runs ≡ 0 = ap length made.3 in
-    let old = are_runs-stretches point.runs before.listed in
-    let new = are_runs-stretches folded.rest after.pattern in
+    let old = are_runs_stretches point.runs before.listed in
+    let new = are_runs_stretches folded.rest after.pattern in
     let same : stretches (listed_masks folded.rest) ≡ stretches (take count (listed_masks point.runs)) =
     ap stretches made.4 in
-    let fewer = stretches-take count (listed_masks point.runs) in
+    let fewer = stretches_take count (listed_masks point.runs) in
     omega (arith, none, old, new, same, fewer)
-folded-runs point folded known own (inr stays) =
-    let rest = single-rest point known in
+folded_runs point folded known own (inr stays) =
+    let rest = single_rest point known in
     let same : length folded.runs + length folded.rest ≡ length point.runs + length point.rest =
     ap (λ (p : CutPoint). length p.runs + length p.rest) stays.1 in
     omega (arith, rest, same)
 
-folded-bytes : (points folded : List CutPoint) → list_all (is_point_of 1) points ≡ true →
+folded_bytes : (points folded : List CutPoint) → list_all (is_point_of 1) points ≡ true →
     list_all is_cut_point folded ≡ true → AreFolded points folded →
     point_bytes folded ≤ 55 * length points + 22 * listed_runs points
 unfolding point_bytes
-folded-bytes [] [] all own made = omega arith
-folded-bytes [] (first ∷ folded) all own made = absurd made
-folded-bytes (point ∷ points) [] all own made = absurd made
-folded-bytes (point ∷ points) (first ∷ folded) all own made =
+folded_bytes [] [] all own made = omega arith
+folded_bytes [] (first ∷ folded) all own made = absurd made
+folded_bytes (point ∷ points) [] all own made = absurd made
+folded_bytes (point ∷ points) (first ∷ folded) all own made =
     let both = and_parts (is_point_of 1 point) (list_all (is_point_of 1) points) all in
     let new = and_parts (is_cut_point first) (list_all is_cut_point folded) own in
-    let here = folded-runs point first both.0 new.0 made.0 in
-    let inner = folded-bytes points folded both.1 new.1 made.1 in
+    let here = folded_runs point first both.0 new.0 made.0 in
+    let inner = folded_bytes points folded both.1 new.1 made.1 in
     let count = sum_by-cons (λ (p : CutPoint). length p.runs) point points in
     omega (arith, here, inner, count)
 
-pub fold-short : (cut folded : CutPicture) → is_cut_picture cut ≡ true → cut.version ≡ 1 → is_cut_picture folded ≡ true →
+pub fold_short : (cut folded : CutPicture) → is_cut_picture cut ≡ true → cut.version ≡ 1 → is_cut_picture folded ≡ true →
     IsFold cut folded → length (cut_text folded) ≤ byte_bound cut
-fold-short cut folded valid first own made =
-    let single = subst (λ (n : ℕ). list_all (is_point_of n) cut.points ≡ true) first (points-of cut valid) in
-    let new = points-all folded.version folded.points (points-of folded own) in
-    let lines = folded-bytes cut.points folded.points single new made.points in
-    let whole = cut-length folded own in
+fold_short cut folded valid first own made =
+    let single = subst (λ (n : ℕ). list_all (is_point_of n) cut.points ≡ true) first (points_of cut valid) in
+    let new = points_all folded.version folded.points (points_of folded own) in
+    let lines = folded_bytes cut.points folded.points single new made.points in
+    let whole = cut_length folded own in
     let skip : length folded.skip ≡ length cut.skip = ap length made.skip in
     omega (arith, lines, whole, skip)

@@ -11,51 +11,51 @@ use Rattle.cut_file.proofs.Parts.{has_byte}
 
 -- ---- what is written is read
 
-digit-step : (number digit : ℕ) (rest : List ℕ) → digit < 10 → number * 10 + digit < 4294967296 →
+digit_step : (number digit : ℕ) (rest : List ℕ) → digit < 10 → number * 10 + digit < 4294967296 →
     digits_in number ((48 + digit) ∷ rest) ≡ digits_in (number * 10 + digit) rest
-digit-step number digit rest small fits = grind arith
+digit_step number digit rest small fits = grind arith
 
 abbrev ReadsBack : ℕ → List ℕ → Type 0
 ReadsBack number digits = (rest : List ℕ) → number < 4294967296 → digits_in 0 (digits ++ rest) ≡ digits_in number rest
 
 one_digit : (number : ℕ) → number < 10 → ReadsBack number ((48 + number) ∷ [])
-one_digit number small rest fits = grind (arith, digit-step 0 number rest small)
+one_digit number small rest fits = grind (arith, digit_step 0 number rest small)
 
 more_digits : (number : ℕ) (digits : List ℕ) → 10 ≤ number → ReadsBack (number / 10) digits →
     ReadsBack number (digits ++ ((48 + number % 10) ∷ []))
 more_digits number digits large ih rest fits =
     let e : number / 10 * 10 + number % 10 ≡ number = omega arith in
     rw append_assoc (ih ((48 + number % 10) ∷ rest) (omega arith)
-    ∙ digit-step (number / 10) (number % 10) rest (omega arith) (omega arith) ∙ ap (λ (n : ℕ). digits_in n rest) e)
+    ∙ digit_step (number / 10) (number % 10) rest (omega arith) (omega arith) ∙ ap (λ (n : ℕ). digits_in n rest) e)
 
-digits-own : (number : ℕ) → number < 4294967296 → digits_in 0 (decimal number) ≡ Some number
-digits-own number small =
+digits_own : (number : ℕ) → number < 4294967296 → digits_in 0 (decimal number) ≡ Some number
+digits_own number small =
     ap (λ (l : List ℕ). digits_in 0 l) (sym (append-nil (decimal number)))
     ∙ decimal_by_steps ReadsBack one_digit more_digits number (omega arith) [] small
 
-no-leading_zero : (word : List ℕ) → 48 < get_or word 0 0 → has_leading_zero word ≡ false
-no-leading_zero [] above = refl
-no-leading_zero (byte ∷ []) above = refl
-no-leading_zero (byte ∷ (next ∷ bytes)) above = ne_eqb byte 48 (λ e. omega (arith, e))
+no_leading_zero : (word : List ℕ) → 48 < get_or word 0 0 → has_leading_zero word ≡ false
+no_leading_zero [] above = refl
+no_leading_zero (byte ∷ []) above = refl
+no_leading_zero (byte ∷ (next ∷ bytes)) above = ne_eqb byte 48 (λ e. omega (arith, e))
 
-decimal-leads : (number : ℕ) → number < 4294967296 → has_leading_zero (decimal number) ≡ false
-decimal-leads number small =
+decimal_leads : (number : ℕ) → number < 4294967296 → has_leading_zero (decimal number) ≡ false
+decimal_leads number small =
     elim (cases_eq number 0) [
       | inl zero ↦ ap (λ (n : ℕ). has_leading_zero (decimal n)) zero
           ∙ ap has_leading_zero (decimal_digit 0 (omega arith))
-      | inr other ↦ no-leading_zero (decimal number) (first_decimal number (omega (arith, other)) (omega arith))
+      | inr other ↦ no_leading_zero (decimal number) (first_decimal number (omega (arith, other)) (omega arith))
     ]
 
-number-from : (word : List ℕ) (number : ℕ) → 0 < length word → has_leading_zero word ≡ false →
+number_from : (word : List ℕ) (number : ℕ) → 0 < length word → has_leading_zero word ≡ false →
     digits_in 0 word ≡ Some number →
     number_in word ≡ Some number
-number-from [] number some leads digits = absurd (omega arith)
-number-from (byte ∷ bytes) number some leads digits = rw leads digits
+number_from [] number some leads digits = absurd (omega arith)
+number_from (byte ∷ bytes) number some leads digits = rw leads digits
 
-pub number-own : (number : ℕ) → number < 4294967296 → number_in (decimal number) ≡ Some number
-number-own number small =
-    number-from (decimal number) number (decimal_nonempty number (omega arith)) (decimal-leads number small)
-    (digits-own number small)
+pub number_own : (number : ℕ) → number < 4294967296 → number_in (decimal number) ≡ Some number
+number_own number small =
+    number_from (decimal number) number (decimal_nonempty number (omega arith)) (decimal_leads number small)
+    (digits_own number small)
 
 -- ---- what is read was written
 
@@ -70,9 +70,9 @@ number_or : Option ℕ → ℕ
 number_or None = 0
 number_or (Some n) = n
 
-pub some-same : (a b : ℕ) → is_some_number a ≡ is_some_number b → a ≡ b
+pub some_same : (a b : ℕ) → is_some_number a ≡ is_some_number b → a ≡ b
 unfolding number_or
-some-same a b e = ap number_or e
+some_same a b e = ap number_or e
 
 gate : (a b : Bool) (answer : Option ℕ) (number : ℕ) → (if a then
     (if b then answer else None) else None) ≡ Some number →
@@ -87,28 +87,28 @@ record IsDigitStep (number byte : ℕ) (bytes : List ℕ) (answer : ℕ) : Type 
   fits : number * 10 + (byte - 48) < 4294967296
   rest : digits_in (number * 10 + (byte - 48)) bytes ≡ Some answer
 
-digits-step : (number byte : ℕ) (bytes : List ℕ) (answer : ℕ) → digits_in number (byte ∷ bytes) ≡ Some answer →
+digits_step : (number byte : ℕ) (bytes : List ℕ) (answer : ℕ) → digits_in number (byte ∷ bytes) ≡ Some answer →
     IsDigitStep number byte bytes answer
-digits-step number byte bytes answer e =
+digits_step number byte bytes answer e =
     let g = gate (is_digit byte) (nat_lt (number * 10 + (byte - 48)) 4294967296) (digits_in (number * 10 +
     (byte - 48)) bytes) answer e in
     let digit : is_digit byte ≡ true = g.0 in
     let below : nat_lt (number * 10 + (byte - 48)) 4294967296 ≡ true = g.1 in
     record { low = grind arith; high = grind arith; fits = grind arith; rest = g.2 }
 
-digits-found : (number : ℕ) (word : List ℕ) (answer : ℕ) → 0 < number → number < 4294967296 →
+digits_found : (number : ℕ) (word : List ℕ) (answer : ℕ) → 0 < number → number < 4294967296 →
     digits_in number word ≡ Some answer →
     (decimal number ++ word ≡ decimal answer) × (answer < 4294967296)
-digits-found number [] answer some small e =
-    let same = some-same number answer e in
+digits_found number [] answer some small e =
+    let same = some_same number answer e in
     (append-nil (decimal number) ∙ ap decimal same, subst (λ (n : ℕ). n < 4294967296) same small)
-digits-found number (byte ∷ bytes) answer some small e =
-    let step = digits-step number byte bytes answer e in
+digits_found number (byte ∷ bytes) answer some small e =
+    let step = digits_step number byte bytes answer e in
     let low = step.low in
     let high = step.high in
     let fits = step.fits in
     let longer : ℕ = number * 10 + (byte - 48) in
-    let inner = digits-found (number * 10 + (byte - 48)) bytes answer (omega arith) fits step.rest in
+    let inner = digits_found (number * 10 + (byte - 48)) bytes answer (omega arith) fits step.rest in
     let written = decimal_step (number * 10 + (byte - 48)) (omega arith) (omega arith) in
     let front : (number * 10 + (byte - 48)) / 10 ≡ number = omega arith in
     let last : 48 + (number * 10 + (byte - 48)) % 10 ≡ byte = omega arith in
@@ -120,26 +120,26 @@ digits-found number (byte ∷ bytes) answer some small e =
       inner.1,
     )
 
-alone-or_other : (byte : ℕ) (bytes : List ℕ) → has_leading_zero (byte ∷ bytes) ≡ false → byte ≡ 48 → bytes ≡ []
-alone-or_other byte [] leads zero = refl
-alone-or_other byte (next ∷ bytes) leads zero = absurd (grind arith)
+alone_or_other : (byte : ℕ) (bytes : List ℕ) → has_leading_zero (byte ∷ bytes) ≡ false → byte ≡ 48 → bytes ≡ []
+alone_or_other byte [] leads zero = refl
+alone_or_other byte (next ∷ bytes) leads zero = absurd (grind arith)
 
-leads-false : (leads : Bool) (answer : Option ℕ) (number : ℕ) → (if leads then None else answer) ≡ Some number →
+leads_false : (leads : Bool) (answer : Option ℕ) (number : ℕ) → (if leads then None else answer) ≡ Some number →
     (leads ≡ false) × (answer ≡ Some number)
-leads-false true answer number e = absurd cc
-leads-false false answer number e = (refl, e)
+leads_false true answer number e = absurd cc
+leads_false false answer number e = (refl, e)
 
-first-found : (byte : ℕ) (bytes : List ℕ) (answer : ℕ) → has_leading_zero (byte ∷ bytes) ≡ false →
+first_found : (byte : ℕ) (bytes : List ℕ) (answer : ℕ) → has_leading_zero (byte ∷ bytes) ≡ false →
     IsDigitStep 0 byte bytes answer → IsNumberOf (byte ∷ bytes) answer
-first-found byte bytes answer leads step =
+first_found byte bytes answer leads step =
     let low = step.low in
     let high = step.high in
     elim (cases_eq byte 48) [
       | inl zero ↦
-          let alone = alone-or_other byte bytes leads zero in
+          let alone = alone_or_other byte bytes leads zero in
           let empty : digits_in (0 * 10 + (byte - 48)) [] ≡ Some answer = ap (λ (l : List ℕ). digits_in (0 * 10 +
           (byte - 48)) l) (sym alone) ∙ step.rest in
-          let same = some-same (0 * 10 + (byte - 48)) answer empty in
+          let same = some_same (0 * 10 + (byte - 48)) answer empty in
           let none : answer ≡ 0 = omega (arith, same, zero) in
           record {
             text = ap (λ (l : List ℕ). byte ∷ l) alone ∙ ap (λ (b : ℕ). b ∷ []) zero ∙ sym (ap decimal none
@@ -147,7 +147,7 @@ first-found byte bytes answer leads step =
             small = omega (arith, none);
           }
       | inr other ↦
-          let found = digits-found (0 * 10 + (byte - 48)) bytes answer (omega (arith, other)) step.fits step.rest in
+          let found = digits_found (0 * 10 + (byte - 48)) bytes answer (omega (arith, other)) step.fits step.rest in
           let written = decimal_digit (0 * 10 + (byte - 48)) (omega arith) in
           let same : 48 + (0 * 10 + (byte - 48)) ≡ byte = omega arith in
           record {
@@ -156,48 +156,48 @@ first-found byte bytes answer leads step =
           }
     ]
 
-pub number-found : (word : List ℕ) (number : ℕ) → number_in word ≡ Some number → IsNumberOf word number
-number-found [] number e = absurd cc
-number-found (byte ∷ bytes) number e =
-    let g = leads-false (has_leading_zero (byte ∷ bytes)) (digits_in 0 (byte ∷ bytes)) number e in
-    first-found byte bytes number g.0 (digits-step 0 byte bytes number g.1)
+pub number_found : (word : List ℕ) (number : ℕ) → number_in word ≡ Some number → IsNumberOf word number
+number_found [] number e = absurd cc
+number_found (byte ∷ bytes) number e =
+    let g = leads_false (has_leading_zero (byte ∷ bytes)) (digits_in 0 (byte ∷ bytes)) number e in
+    first_found byte bytes number g.0 (digits_step 0 byte bytes number g.1)
 
 -- ---- a decimal word has digits alone
 
-pub clean-append : (separator : ℕ) (first second : List ℕ) → has_byte separator first ≡ false →
+pub clean_append : (separator : ℕ) (first second : List ℕ) → has_byte separator first ≡ false →
     has_byte separator second ≡ false →
     has_byte separator (first ++ second) ≡ false
-clean-append separator [] second e f = f
-clean-append separator (byte ∷ first) second e f = grind (arith, clean-append separator first second)
+clean_append separator [] second e f = f
+clean_append separator (byte ∷ first) second e f = grind (arith, clean_append separator first second)
 
-pub clean-cons : (separator byte : ℕ) (bytes : List ℕ) → (byte ≡ separator → ⊥) → has_byte separator bytes ≡ false →
+pub clean_cons : (separator byte : ℕ) (bytes : List ℕ) → (byte ≡ separator → ⊥) → has_byte separator bytes ≡ false →
     has_byte separator (byte ∷ bytes) ≡ false
-clean-cons separator byte bytes other e = rw (ne_eqb byte separator other) e
+clean_cons separator byte bytes other e = rw (ne_eqb byte separator other) e
 
-pub decimal-clean : (separator number : ℕ) → separator < 48 → number < 4294967296 →
+pub decimal_clean : (separator number : ℕ) → separator < 48 → number < 4294967296 →
     has_byte separator (decimal number) ≡ false
-decimal-clean separator number low small =
+decimal_clean separator number low small =
     decimal_by_steps (λ (n : ℕ) (ds : List ℕ). has_byte separator ds ≡ false)
-    (λ (n : ℕ) h. clean-cons separator (48 + n) [] (λ e. omega (arith, e)) refl)
-    (λ (n : ℕ) (ds : List ℕ) h ih. clean-append separator ds ((48 + n % 10) ∷ []) ih
-    (clean-cons separator (48 + n % 10) [] (λ e. omega (arith, e)) refl))
+    (λ (n : ℕ) h. clean_cons separator (48 + n) [] (λ e. omega (arith, e)) refl)
+    (λ (n : ℕ) (ds : List ℕ) h ih. clean_append separator ds ((48 + n % 10) ∷ []) ih
+    (clean_cons separator (48 + n % 10) [] (λ e. omega (arith, e)) refl))
     number (omega arith)
 
 -- the first byte of a decimal word is a digit
 abbrev BeginsLow : List ℕ → Type 0
 BeginsLow word = get_or word 0 0 ≤ 57
 
-begins-append : (first second : List ℕ) → 0 < length first → BeginsLow first → BeginsLow (first ++ second)
-begins-append [] second some low = absurd (omega arith)
-begins-append (byte ∷ first) second some low = low
+begins_append : (first second : List ℕ) → 0 < length first → BeginsLow first → BeginsLow (first ++ second)
+begins_append [] second some low = absurd (omega arith)
+begins_append (byte ∷ first) second some low = low
 
-pub decimal-begins : (number : ℕ) → number < 4294967296 → (0 < length (decimal number)) × BeginsLow (decimal number)
-decimal-begins number small =
+pub decimal_begins : (number : ℕ) → number < 4294967296 → (0 < length (decimal number)) × BeginsLow (decimal number)
+decimal_begins number small =
     decimal_by_steps (λ (n : ℕ) (ds : List ℕ). (0 < length ds) × BeginsLow ds)
     (λ (n : ℕ) h. (omega arith, omega arith))
     (λ (n : ℕ) (ds : List ℕ) h ih. (
       omega (arith, ih.0, length-append {A = ℕ}),
-      begins-append ds
+      begins_append ds
           ((48 + n % 10) ∷ []) ih.0 ih.1,
     ))
     number (omega arith)

@@ -14,27 +14,27 @@ use Rattle.cut_file.specs.declared.lines.Line.TheVariants.{Version, Secret, Bits
 use Rattle.cut_file.specs.Texts.{cut_text, separated, line_text, lines_text, rest_text, run_text}
 use Rattle.cut_file.specs.Private.Writing.{later_lines, led, point_pieces}
 
-pub joined-led : (word : List ℕ) (words : List (List ℕ)) → separated 32 (word ∷ words) ≡ word ++ led words
-joined-led word [] = sym (append-nil word)
-joined-led word (next ∷ words) = ap (λ (l : List ℕ). word ++ (32 ∷ l)) (joined-led next words)
+pub joined_led : (word : List ℕ) (words : List (List ℕ)) → separated 32 (word ∷ words) ≡ word ++ led words
+joined_led word [] = sym (append-nil word)
+joined_led word (next ∷ words) = ap (λ (l : List ℕ). word ++ (32 ∷ l)) (joined_led next words)
 
-led-append : (first second : List (List ℕ)) → led (first ++ second) ≡ led first ++ led second
-led-append [] second = refl
-led-append (word ∷ first) second =
-    ap (λ (l : List ℕ). 32 ∷ (word ++ l)) (led-append first second)
+led_append : (first second : List (List ℕ)) → led (first ++ second) ≡ led first ++ led second
+led_append [] second = refl
+led_append (word ∷ first) second =
+    ap (λ (l : List ℕ). 32 ∷ (word ++ l)) (led_append first second)
     ∙ sym (append_assoc (32 ∷ word) (led first) (led second))
 
-pub lines-append : (version : ℕ) (first second : List Line) →
+pub lines_append : (version : ℕ) (first second : List Line) →
     lines_text version (first ++ second) ≡ lines_text version first ++ lines_text version second
-lines-append version [] second = refl
-lines-append version (line ∷ first) second =
-    ap (λ (l : List ℕ). line_text version line ++ (10 ∷ l)) (lines-append version first second)
+lines_append version [] second = refl
+lines_append version (line ∷ first) second =
+    ap (λ (l : List ℕ). line_text version line ++ (10 ∷ l)) (lines_append version first second)
     ∙ sym (append_assoc (line_text version line) (10 ∷ lines_text version first) (lines_text version second))
 
 -- the line of a point, and what comes after it, in the pieces that are written
-pub point-pieces : (version : ℕ) (point : CutPoint) →
+pub pieces_of_point : (version : ℕ) (point : CutPoint) →
     line_text version (Point point) ++ codes "\n" ≡ point_pieces version point
-point-pieces version point =
+pieces_of_point version point =
     let region = decimal point.point.region in
     let address = hex_word point.point.address in
     let slot = slot_text point.point.slot in
@@ -43,8 +43,8 @@ point-pieces version point =
     let pattern : List (List ℕ) = map (rest_text version) point.rest in
     let last : List ℕ = codes " rest" ++ led pattern in
     let more : List ℕ = led runs ++ last in
-    let words = joined-led region (address ∷ (slot ∷ (runs ++ (codes "rest" ∷ pattern)))) in
-    let inner : led (runs ++ (codes "rest" ∷ pattern)) ≡ more = led-append runs (codes "rest" ∷ pattern) in
+    let words = joined_led region (address ∷ (slot ∷ (runs ++ (codes "rest" ∷ pattern)))) in
+    let inner : led (runs ++ (codes "rest" ∷ pattern)) ≡ more = led_append runs (codes "rest" ∷ pattern) in
     let front : region ++ (codes " " ++ (address ++ (codes " " ++ (slot ++ more)))) ≡ place ++ more =
     sym (append_assoc region (codes " " ++ (address ++ (codes " " ++ slot))) more
     ∙ ap (λ (l : List ℕ). region ++ (codes " " ++ l)) (append_assoc address (codes " " ++ slot) more)) in
@@ -56,22 +56,22 @@ point-pieces version point =
     ∙ ap (λ (l : List ℕ). codes "point " ++ (place ++ l)) (append_assoc (led runs) last (codes "\n"))
 
 -- one more piece of runs
-pub runs-step : (piece : Run → List ℕ) (runs : List Run) (index : ℕ) (other : Run) (text whole : List ℕ) →
+pub runs_step : (piece : Run → List ℕ) (runs : List Run) (index : ℕ) (other : Run) (text whole : List ℕ) →
     index < length runs → text ++ led (map piece (drop index runs)) ≡ whole →
     (text ++ (32 ∷ piece (get_or runs index other))) ++ led (map piece (drop (index + 1) runs)) ≡ whole
-runs-step piece runs index other text whole inside known =
+runs_step piece runs index other text whole inside known =
     let tail : drop index runs ≡ get_or runs index other ∷ drop
     (suc index) runs = drop-cons runs index other inside in
     rw add-one (append_assoc text (32 ∷ piece (get_or runs index other)) (led (map piece (drop (suc index) runs)))
     ∙ ap (λ (l : List Run). text ++ led (map piece l)) (sym tail) ∙ known)
 
 -- one more line of items
-pub lines-step : {A : Type 0} (version : ℕ) (form : A → Line) (items : List A) (index : ℕ) (other : A)
+pub lines_step : {A : Type 0} (version : ℕ) (form : A → Line) (items : List A) (index : ℕ) (other : A)
     (text piece whole : List ℕ) → index < length items →
     line_text version (form (get_or items index other)) ++ (10 ∷ []) ≡ piece →
     text ++ lines_text version (map form (drop index items)) ≡ whole →
     (text ++ piece) ++ lines_text version (map form (drop (index + 1) items)) ≡ whole
-lines-step version form items index other text piece whole inside is known =
+lines_step version form items index other text piece whole inside is known =
     let here = line_text version (form (get_or items index other)) in
     let tail : drop index items ≡ get_or items index other ∷ drop (suc index) items =
     drop-cons items index other inside in
@@ -82,22 +82,22 @@ lines-step version form items index other text piece whole inside is known =
     ∙ ap (λ l. text ++ lines_text version (map form l)) (sym tail) ∙ known)
 
 -- the lines after the first three, in the pieces that are written
-pub later-pieces : (version : ℕ) (cut : CutPicture) →
+pub later_pieces : (version : ℕ) (cut : CutPicture) →
     lines_text version (later_lines cut)
     ≡ lines_text version (map Skip cut.skip) ++ (lines_text version (map Point cut.points) ++ codes "end\n")
-later-pieces version cut =
+later_pieces version cut =
     let skips : List Line = map Skip cut.skip in
     let points : List Line = map Point cut.points in
-    lines-append version skips (points ++ (End ∷ []))
-    ∙ ap (λ (l : List ℕ). lines_text version skips ++ l) (lines-append version points (End ∷ []))
+    lines_append version skips (points ++ (End ∷ []))
+    ∙ ap (λ (l : List ℕ). lines_text version skips ++ l) (lines_append version points (End ∷ []))
 
 -- the text of a cut in the pieces that are written
-pub cut-pieces : (cut : CutPicture) →
+pub cut_pieces : (cut : CutPicture) →
     lines_text cut.version (Version cut.version ∷ (Secret cut.secret_len ∷ (Bits cut.bits ∷ [])))
     ++ lines_text cut.version (later_lines cut)
     ≡ cut_text cut
-cut-pieces cut =
+cut_pieces cut =
     let head : List Line = Version cut.version ∷ (Secret cut.secret_len ∷ (Bits cut.bits ∷ [])) in
-    sym (lines-append cut.version head (later_lines cut))
+    sym (lines_append cut.version head (later_lines cut))
     ∙ ap (λ (l : List Line). lines_text cut.version (head ++ l)) (sym (append_assoc (map Skip cut.skip)
     (map Point cut.points) (End ∷ [])))

@@ -6,59 +6,59 @@ use Rattle.std.specs.Prelude.{◌%◌, replicate, slice_index_or}
 use Rattle.std.proofs.Math.Nat.{mod-eq_of_lt, add-mod_right}
 use Rattle.cut_file.specs.declared.points.Run.{Run}
 use Rattle.cut_file.specs.Masks.{listed_masks, repeated}
-use Rattle.cut_file.proofs.MaskLists.{repeated-here, repeated-behind}
+use Rattle.cut_file.proofs.MaskLists.{repeated_here, repeated_behind}
 
 -- the first of the list is next
-pub repeated-first : (mask : ℕ) (masks pattern : List ℕ) → repeated (mask ∷ masks) pattern 0 ≡ mask
-repeated-first mask masks pattern = repeated-here (mask ∷ masks) pattern 0 (omega arith)
+pub repeated_first : (mask : ℕ) (masks pattern : List ℕ) → repeated (mask ∷ masks) pattern 0 ≡ mask
+repeated_first mask masks pattern = repeated_here (mask ∷ masks) pattern 0 (omega arith)
 
 -- and then the list is one shorter
-pub repeated-later : (mask : ℕ) (masks pattern : List ℕ) (place : ℕ) →
+pub repeated_later : (mask : ℕ) (masks pattern : List ℕ) (place : ℕ) →
     repeated (mask ∷ masks) pattern (suc place) ≡ repeated masks pattern place
-repeated-later mask masks pattern place = elim (cases_lt place (length masks)) [
+repeated_later mask masks pattern place = elim (cases_lt place (length masks)) [
   | inl inside ↦
-      repeated-here (mask ∷ masks) pattern (suc place) (omega (arith, inside))
-      ∙ sym (repeated-here masks pattern place inside)
+      repeated_here (mask ∷ masks) pattern (suc place) (omega (arith, inside))
+      ∙ sym (repeated_here masks pattern place inside)
   | inr behind ↦
       let same : suc place - length (mask ∷ masks) ≡ place - length masks = omega arith in
-      repeated-behind (mask ∷ masks) pattern (suc place) (omega (arith, behind))
+      repeated_behind (mask ∷ masks) pattern (suc place) (omega (arith, behind))
       ∙ ap (λ (n : ℕ). slice_index_or pattern (n % length pattern) 0) same
-      ∙ sym (repeated-behind masks pattern place behind)
+      ∙ sym (repeated_behind masks pattern place behind)
 ]
 
 -- after the list the pattern stands, and then once more
-pub repeated-round : (pattern : List ℕ) (place : ℕ) → 0 < length pattern →
+pub repeated_round : (pattern : List ℕ) (place : ℕ) → 0 < length pattern →
     repeated [] pattern place ≡ repeated pattern pattern place
-repeated-round pattern place some =
+repeated_round pattern place some =
     let start : place - length {A = ℕ} [] ≡ place = omega arith in
     elim (cases_lt place (length pattern)) [
       | inl inside ↦
-          repeated-behind [] pattern place (omega arith)
+          repeated_behind [] pattern place (omega arith)
           ∙ ap (λ (n : ℕ). slice_index_or pattern (n % length pattern) 0) start
           ∙ ap (λ (n : ℕ). slice_index_or pattern n 0) (mod-eq_of_lt inside)
-          ∙ sym (repeated-here pattern pattern place inside)
+          ∙ sym (repeated_here pattern pattern place inside)
       | inr behind ↦
           let whole : place ≡ (place - length pattern) + length pattern = omega (arith, behind) in
-          repeated-behind [] pattern place (omega arith)
+          repeated_behind [] pattern place (omega arith)
           ∙ ap (λ (n : ℕ). slice_index_or pattern (n % length pattern) 0) (start ∙ whole)
           ∙ ap (λ (n : ℕ). slice_index_or pattern n 0) (add-mod_right (place - length pattern) (length pattern))
-          ∙ sym (repeated-behind pattern pattern place behind)
+          ∙ sym (repeated_behind pattern pattern place behind)
     ]
 
 -- ---- the masks of runs
 
 -- a run of which nothing is left is passed over
-pub masks-ended : (count mask : ℕ) (runs : List Run) → count ≡ 0 →
+pub masks_ended : (count mask : ℕ) (runs : List Run) → count ≡ 0 →
     listed_masks (record { count = count; mask = mask } ∷ runs) ≡ listed_masks runs
 unfolding listed_masks
-masks-ended count mask runs none = ap (λ (n : ℕ). replicate n mask ++ listed_masks runs) none
+masks_ended count mask runs none = ap (λ (n : ℕ). replicate n mask ++ listed_masks runs) none
 
 -- the first mask of a run is its own, and the others are those of the run with one visit fewer
-pub masks-step : (count mask : ℕ) (runs : List Run) → 1 ≤ count →
+pub masks_step : (count mask : ℕ) (runs : List Run) → 1 ≤ count →
     listed_masks (record { count = count; mask = mask } ∷ runs)
     ≡ mask ∷ listed_masks (record { count = count - 1; mask = mask } ∷ runs)
 unfolding listed_masks
-masks-step zero mask runs some = absurd (omega arith)
-masks-step (suc count) mask runs some =
+masks_step zero mask runs some = absurd (omega arith)
+masks_step (suc count) mask runs some =
     let same : count ≡ suc count - 1 = omega arith in
     ap (λ (n : ℕ). mask ∷ (replicate n mask ++ listed_masks runs)) same

@@ -6,8 +6,8 @@ use Rattle.elf32_loader.specs.FirstFault.{IsFirstFault, LoadRows}
 use Rattle.elf32_loader.specs.Pictures.{Picture}
 use Rattle.elf32_loader.specs.Programs.{IsImage}
 
-no-load-row : (file : List ℕ) (fault : ElfFault) → HasNoFault file → LoadRows file fault → ⊥
-no-load-row file fault clean rows = elim rows [
+no_load_row : (file : List ℕ) (fault : ElfFault) → HasNoFault file → LoadRows file fault → ⊥
+no_load_row file fault clean rows = elim rows [
   | inl dynamic ↦ clean.loads.is_not_dynamic dynamic.0
   | inr others ↦ elim others.1 [
     | inl none ↦ clean.loads.has_load none.0
@@ -24,8 +24,8 @@ no-load-row file fault clean rows = elim rows [
   ]
 ]
 
-no-row : (file : List ℕ) (fault : ElfFault) → HasNoFault file → IsFirstFault file fault → ⊥
-no-row file fault clean rows = elim rows [
+no_row : (file : List ℕ) (fault : ElfFault) → HasNoFault file → IsFirstFault file fault → ⊥
+no_row file fault clean rows = elim rows [
   | inl short ↦ clean.header.has_header short.0
   | inr others ↦ elim others.1 [
     | inl other ↦ clean.header.has_format other.0
@@ -37,7 +37,7 @@ no-row file fault clean rows = elim rows [
           | inl other ↦ clean.header.has_table other.0
           | inr others ↦ elim others.1 [
             | inl cut ↦ clean.header.has_whole_table cut.0
-            | inr others ↦ no-load-row file fault clean others.1
+            | inr others ↦ no_load_row file fault clean others.1
           ]
         ]
       ]
@@ -45,6 +45,6 @@ no-row file fault clean rows = elim rows [
   ]
 ]
 
-pub no-image : (file : List ℕ) (fault : ElfFault) → IsFirstFault file fault → (picture : Picture)
+pub no_image : (file : List ℕ) (fault : ElfFault) → IsFirstFault file fault → (picture : Picture)
     → ¬ IsImage file picture
-no-image file fault first picture image = no-row file fault image.no_fault first
+no_image file fault first picture image = no_row file fault image.no_fault first

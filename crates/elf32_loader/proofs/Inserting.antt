@@ -14,52 +14,52 @@ abbrev pub AreApart : Segment → Segment → Type 0
 AreApart one other = (end_of one ≤ other.address) ⊎ (end_of other ≤ one.address)
 
 -- ascending segments stay so
-climbs-more : (segments : List Segment) (place : ℕ) (x : Segment) → 0 < length x.bytes → IsTrue (is_climbing segments)
+climbs_more : (segments : List Segment) (place : ℕ) (x : Segment) → 0 < length x.bytes → IsTrue (is_climbing segments)
     → All (AreApart x) segments → place ≤ length segments
     → All (λ segment. segment.address ≤ x.address) (take place segments)
     → IfSome (slice_get segments place) (λ segment. x.address < segment.address)
     → IsTrue (is_climbing (insert segments place x))
-climbs-more [] zero x some climbs apart within before after = grind (arith, nat_tests)
-climbs-more [] (suc place) x some climbs apart within before after = absurd (omega arith)
-climbs-more (first ∷ rest) zero x some climbs apart within before after =
+climbs_more [] zero x some climbs apart within before after = grind (arith, nat_tests)
+climbs_more [] (suc place) x some climbs apart within before after = absurd (omega arith)
+climbs_more (first ∷ rest) zero x some climbs apart within before after =
     let ends : end_of x ≤ first.address = omega (arith, All-head (AreApart x) first rest apart, after) in
     grind (arith, nat_tests, common_steps)
-climbs-more (first ∷ []) (suc zero) x some climbs apart within before after =
+climbs_more (first ∷ []) (suc zero) x some climbs apart within before after =
     let begins : first.address ≤ x.address = All-head (λ (s : Segment). s.address ≤ x.address) first [] before in
     let ends : end_of first ≤ x.address = omega (arith, All-head (AreApart x) first [] apart) in
     grind (arith, nat_tests, common_steps)
-climbs-more (first ∷ []) (suc (suc place)) x some climbs apart within before after = absurd (omega arith)
-climbs-more (first ∷ (second ∷ rest)) (suc zero) x some climbs apart within before after =
+climbs_more (first ∷ []) (suc (suc place)) x some climbs apart within before after = absurd (omega arith)
+climbs_more (first ∷ (second ∷ rest)) (suc zero) x some climbs apart within before after =
     let begins : first.address ≤ x.address = All-head (λ (s : Segment). s.address ≤ x.address) first [] before in
     let ends : end_of first ≤ x.address = omega (arith, All-head (AreApart x) first (second ∷ rest) apart) in
     let later : IsTrue (is_climbing (x ∷ (second ∷ rest))) =
-    climbs-more (second ∷ rest) zero x some (grind (arith, nat_tests, common_steps))
+    climbs_more (second ∷ rest) zero x some (grind (arith, nat_tests, common_steps))
     (All-tail (AreApart x) first (second ∷ rest) apart) (omega arith) (λ k d below. absurd (omega arith)) after in
     grind (arith, nat_tests, common_steps)
-climbs-more (first ∷ (second ∷ rest)) (suc (suc place)) x some climbs apart within before after =
+climbs_more (first ∷ (second ∷ rest)) (suc (suc place)) x some climbs apart within before after =
     let later : IsTrue (is_climbing (second ∷ (take place rest ++ x ∷ drop place rest))) =
-    climbs-more (second ∷ rest) (suc place) x some (grind (arith, nat_tests, common_steps))
+    climbs_more (second ∷ rest) (suc place) x some (grind (arith, nat_tests, common_steps))
     (All-tail (AreApart x) first (second ∷ rest) apart) (omega arith)
     (All-tail (λ (s : Segment). s.address ≤ x.address) first (second ∷ take place rest) before) after in
     grind (arith, nat_tests, common_steps)
 
-pub climbs-insert : (segments : List Segment) (place : ℕ) (x : Segment) → 0 < length x.bytes
+pub climbs_insert : (segments : List Segment) (place : ℕ) (x : Segment) → 0 < length x.bytes
     → IsTrue (is_climbing segments)
     → All (AreApart x) segments → IsPlace x.address segments place → IsTrue (is_climbing (insert segments place x))
-climbs-insert segments place x some climbs apart is_place =
-    climbs-more segments place x some climbs apart is_place.within is_place.before is_place.after
+climbs_insert segments place x some climbs apart is_place =
+    climbs_more segments place x some climbs apart is_place.within is_place.before is_place.after
 
 -- what holds of each segment and of the new one holds of all
-pub all-insert : (P : Segment → Type 0) (segments : List Segment) (place : ℕ) (x : Segment) → All P segments → P x
+pub all_insert : (P : Segment → Type 0) (segments : List Segment) (place : ℕ) (x : Segment) → All P segments → P x
     → All P (insert segments place x)
-all-insert P segments place x all holds =
+all_insert P segments place x all holds =
     All-append P (take place segments) (x ∷ drop place segments) (All-take P place segments all)
     (All-cons P x (drop place segments) holds (All-drop P place segments all))
 
 -- each segment is still there
-pub contains-insert : (segments : List Segment) (place : ℕ) (x y : Segment) → Contains segments y
+pub contains_insert : (segments : List Segment) (place : ℕ) (x y : Segment) → Contains segments y
     → Contains (insert segments place x) y
-contains-insert segments place x y contained =
+contains_insert segments place x y contained =
     let split : Contains (take place segments ++ drop place segments) y =
     subst (λ (xs : List Segment). Contains xs y) (sym (take-append-drop place segments)) contained in
     elim (Contains-append_cases (take place segments) (drop place segments) y split) [
@@ -70,6 +70,6 @@ contains-insert segments place x y contained =
     ]
 
 -- and so is the new one
-pub contains-new : (segments : List Segment) (place : ℕ) (x : Segment) → Contains (insert segments place x) x
-contains-new segments place x =
+pub contains_new : (segments : List Segment) (place : ℕ) (x : Segment) → Contains (insert segments place x) x
+contains_new segments place x =
     Contains-append_right (take place segments) (x ∷ drop place segments) x (0, omega arith, refl)

@@ -10,7 +10,7 @@ use Rattle.elf32_loader.specs.Headers.{IsLoad, header_at}
 use Rattle.elf32_loader.specs.Programs.{IsLoaded}
 use Rattle.elf32_loader.specs.Private.Searches.{AreLoads, IsPlace}
 use Rattle.elf32_loader.specs.Segments.{highest_end}
-use Rattle.elf32_loader.proofs.Inserting.{AreApart, all-insert, climbs-insert, contains-insert, contains-new}
+use Rattle.elf32_loader.proofs.Inserting.{AreApart, all_insert, climbs_insert, contains_insert, contains_new}
 use Rattle.flow_base.specs.Guests.{memory_size}
 
 -- a load in range
@@ -20,19 +20,19 @@ pub record IsInRange (file : List ℕ) (base index : ℕ) : Type 0 where
   pub in_guest : (header_at file index).address + (header_at file index).memory_size ≤ base + memory_size
   pub in_bounds : (header_at file index).address + (header_at file index).memory_size ≤ highest_end
 
-at-most : (a b : ℕ) → ¬ (b < a) → a ≤ b
-at-most a b not_above = elim (cases_lt b a) [ inl above ↦ absurd (not_above above) | inr below ↦ below ]
+at_most : (a b : ℕ) → ¬ (b < a) → a ≤ b
+at_most a b not_above = elim (cases_lt b a) [ inl above ↦ absurd (not_above above) | inr below ↦ below ]
 
-pub in-range : (file : List ℕ) (base index : ℕ) → HasNoFault file → IsFileBase file base → IsLoad file index
+pub in_range : (file : List ℕ) (base index : ℕ) → HasNoFault file → IsFileBase file base → IsLoad file index
     → IsInRange file base index
-in-range file base index clean is_base is_load =
+in_range file base index clean is_base is_load =
     let out : ¬ IsOutOfRange file base (header_at file index) =
     λ fault. clean.loads.is_in_range (base, index, is_base, (is_load, fault)) in
     record {
-      in_memory = at-most _ _ (λ above. out (inl above));
-      in_file = at-most _ _ (λ above. out (inr (inl above)));
-      in_guest = at-most _ _ (λ above. out (inr (inr (inl above))));
-      in_bounds = at-most _ _ (λ above. out (inr (inr (inr above))));
+      in_memory = at_most _ _ (λ above. out (inl above));
+      in_file = at_most _ _ (λ above. out (inr (inl above)));
+      in_guest = at_most _ _ (λ above. out (inr (inr (inl above))));
+      in_bounds = at_most _ _ (λ above. out (inr (inr (inr above))));
     }
 
 -- two ranges share no address, or one
@@ -64,10 +64,10 @@ apart file first second one other clean below is_first is_second loaded_one load
     ]
 
 -- a header that is no load
-pub loads-skip : (file : List ℕ) (bound : ℕ) (segments : List Segment) → AreLoads file bound segments
+pub loads_skip : (file : List ℕ) (bound : ℕ) (segments : List Segment) → AreLoads file bound segments
     → ¬ IsLoad file bound
     → AreLoads file (bound + 1) segments
-loads-skip file bound segments loads none = record {
+loads_skip file bound segments loads none = record {
   climbs = loads.climbs;
   each =
       All-weaker (λ s. (index : ℕ) × (index < bound) × IsLoad file index × IsLoaded file (header_at file index) s)
@@ -82,10 +82,10 @@ loads-skip file bound segments loads none = record {
 }
 
 -- a load more
-pub loads-put : (file : List ℕ) (bound place : ℕ) (segments : List Segment) (x : Segment) → HasNoFault file
+pub loads_put : (file : List ℕ) (bound place : ℕ) (segments : List Segment) (x : Segment) → HasNoFault file
     → AreLoads file bound segments → IsLoad file bound → IsLoaded file (header_at file bound) x
     → IsPlace x.address segments place → AreLoads file (bound + 1) (insert segments place x)
-loads-put file bound place segments x clean loads is_load loaded is_place =
+loads_put file bound place segments x clean loads is_load loaded is_place =
     let Below : Segment → Type 0 =
     λ s. (index : ℕ) × (index < bound) × IsLoad file index × IsLoaded file (header_at file index) s in
     let Within : Segment → Type 0 =
@@ -93,20 +93,20 @@ loads-put file bound place segments x clean loads is_load loaded is_place =
     let some : 0 < length x.bytes = omega (arith, loaded.size, is_load.2) in
     record {
       climbs =
-          climbs-insert segments place x some loads.climbs
+          climbs_insert segments place x some loads.climbs
           (All-weaker Below (AreApart x)
           (λ s found. apart file found.0 bound s x clean found.1 found.2 is_load found.3 loaded) segments loads.each)
           is_place;
       each =
-          all-insert Within segments place x
+          all_insert Within segments place x
           (All-weaker Below Within (λ s found. (found.0, omega (arith, found.1), found.2, found.3)) segments loads.each)
           (bound, omega arith, is_load, loaded);
       stand = λ index below is_this. elim (cases_lt index bound) [
         | inl before ↦
             let found = loads.stand index before is_this in
-            (found.0, contains-insert segments place x found.0 found.1, found.2)
+            (found.0, contains_insert segments place x found.0 found.1, found.2)
         | inr after ↦
             let same : bound ≡ index = omega arith in
-            (x, contains-new segments place x, subst (λ (n : ℕ). IsLoaded file (header_at file n) x) same loaded)
+            (x, contains_new segments place x, subst (λ (n : ℕ). IsLoaded file (header_at file n) x) same loaded)
       ];
     }

@@ -10,52 +10,52 @@ use Rattle.elf32_loader.specs.Programs.{IsImage, IsLoaded, loaded_byte}
 use Rattle.elf32_loader.specs.Segments.{end_of, holds, is_ascending}
 
 -- segments after the first ascend
-pub rest-ascends : (first second : Segment) (rest : List Segment) → IsTrue (is_ascending (first ∷ second ∷ rest))
+pub rest_ascends : (first second : Segment) (rest : List Segment) → IsTrue (is_ascending (first ∷ second ∷ rest))
     → IsTrue (is_ascending (second ∷ rest))
-rest-ascends first second rest ascends = grind (arith, nat_tests, common_steps)
+rest_ascends first second rest ascends = grind (arith, nat_tests, common_steps)
 
-pub ends-before : (first second : Segment) (rest : List Segment) → IsTrue (is_ascending (first ∷ second ∷ rest))
+pub ends_before : (first second : Segment) (rest : List Segment) → IsTrue (is_ascending (first ∷ second ∷ rest))
     → end_of first ≤ second.address
-ends-before first second rest ascends = grind (arith, nat_tests, common_steps)
+ends_before first second rest ascends = grind (arith, nat_tests, common_steps)
 
 -- the first segment ends at or below each later one
-pub later-begins : (first : Segment) (rest : List Segment) → IsTrue (is_ascending (first ∷ rest))
+pub later_begins : (first : Segment) (rest : List Segment) → IsTrue (is_ascending (first ∷ rest))
     → (place : ℕ) (other : Segment)
     → place < length rest → end_of first ≤ (slice_index_or rest place other).address
-later-begins first [] ascends place other below = absurd (omega arith)
-later-begins first (second ∷ rest) ascends zero other below = ends-before first second rest ascends
-later-begins first (second ∷ rest) ascends (suc place) other below =
+later_begins first [] ascends place other below = absurd (omega arith)
+later_begins first (second ∷ rest) ascends zero other below = ends_before first second rest ascends
+later_begins first (second ∷ rest) ascends (suc place) other below =
     let later : end_of second ≤ (slice_index_or rest place other).address =
-    later-begins second rest (rest-ascends first second rest ascends) place other (omega arith) in
-    let here : end_of first ≤ second.address = ends-before first second rest ascends in
+    later_begins second rest (rest_ascends first second rest ascends) place other (omega arith) in
+    let here : end_of first ≤ second.address = ends_before first second rest ascends in
     omega arith
 
-pub holds-true : (segment : Segment) (address : ℕ) → segment.address ≤ address → address < end_of segment
+pub holds_true : (segment : Segment) (address : ℕ) → segment.address ≤ address → address < end_of segment
     → holds segment address ≡ true
-holds-true segment address above below = grind (arith, nat_tests)
+holds_true segment address above below = grind (arith, nat_tests)
 
-holds-false : (segment : Segment) (address : ℕ) → end_of segment ≤ address → holds segment address ≡ false
-holds-false segment address above = grind (arith, nat_tests)
+holds_false : (segment : Segment) (address : ℕ) → end_of segment ≤ address → holds segment address ≡ false
+holds_false segment address above = grind (arith, nat_tests)
 
 -- memory has the byte of the segment that holds an address
-byte-of : (segments : List Segment) → IsTrue (is_ascending segments) → (place : ℕ) (other : Segment)
+byte_of : (segments : List Segment) → IsTrue (is_ascending segments) → (place : ℕ) (other : Segment)
     → place < length segments
     → (address : ℕ) → (slice_index_or segments place other).address ≤ address
     → address < end_of (slice_index_or segments place other)
     → byte_in segments address ≡ slice_index (slice_index_or segments place other).bytes
     (address - (slice_index_or segments place other).address)
-byte-of [] ascends place other within address above below = absurd (omega arith)
-byte-of (first ∷ rest) ascends zero other within address above below = rw (holds-true first address above below) refl
-byte-of (first ∷ []) ascends (suc place) other within address above below = absurd (omega arith)
-byte-of (first ∷ (second ∷ rest)) ascends (suc place) other within address above below =
-    let later = later-begins first (second ∷ rest) ascends place other (omega arith) in
-    let passed : holds first address ≡ false = holds-false first address (omega arith) in
-    rw passed (byte-of (second ∷ rest) (rest-ascends first second rest ascends) place other (omega arith) address above below)
+byte_of [] ascends place other within address above below = absurd (omega arith)
+byte_of (first ∷ rest) ascends zero other within address above below = rw (holds_true first address above below) refl
+byte_of (first ∷ []) ascends (suc place) other within address above below = absurd (omega arith)
+byte_of (first ∷ (second ∷ rest)) ascends (suc place) other within address above below =
+    let later = later_begins first (second ∷ rest) ascends place other (omega arith) in
+    let passed : holds first address ≡ false = holds_false first address (omega arith) in
+    rw passed (byte_of (second ∷ rest) (rest_ascends first second rest ascends) place other (omega arith) address above below)
 
-pub memory-is-loaded : (file : List ℕ) (picture : Picture) → IsImage file picture → (index : ℕ) → IsLoad file index
+pub memory_is_loaded : (file : List ℕ) (picture : Picture) → IsImage file picture → (index : ℕ) → IsLoad file index
     → (place : ℕ) → HoldsAddress (header_at file index) place
     → mem picture place ≡ loaded_byte file (header_at file index) place
-memory-is-loaded file picture image index is_load place here =
+memory_is_loaded file picture image index is_load place here =
     let stands = image.each_load_stands index is_load in
     let segment : Segment = stands.0 in
     let found = stands.1 in
@@ -65,7 +65,7 @@ memory-is-loaded file picture image index is_load place here =
     let P : Segment → Type 0 =
     λ s. s.address ≤ place → place < end_of s → byte_in picture.segments place ≡ slice_index s.bytes
     (place - s.address) in
-    let byte : P segment = subst P found.2 (byte-of picture.segments image.ascends found.0 segment found.1 place) in
+    let byte : P segment = subst P found.2 (byte_of picture.segments image.ascends found.0 segment found.1 place) in
     byte above below
     ∙ ap (λ (n : ℕ). slice_index segment.bytes (place - n)) loaded.address
     ∙ loaded.bytes place here
@@ -74,31 +74,31 @@ pub either : (test : Bool) → (test ≡ true) ⊎ (test ≡ false)
 either true = inl refl
 either false = inr refl
 
-pub begins-below : (segment : Segment) (address : ℕ) → holds segment address ≡ true → segment.address ≤ address
-begins-below segment address inside = grind (arith, nat_tests, common_steps)
+pub begins_below : (segment : Segment) (address : ℕ) → holds segment address ≡ true → segment.address ≤ address
+begins_below segment address inside = grind (arith, nat_tests, common_steps)
 
-pub ends-above : (segment : Segment) (address : ℕ) → holds segment address ≡ true → address < end_of segment
-ends-above segment address inside = grind (arith, nat_tests, common_steps)
+pub ends_above : (segment : Segment) (address : ℕ) → holds segment address ≡ true → address < end_of segment
+ends_above segment address inside = grind (arith, nat_tests, common_steps)
 
 -- memory is 0 where no segment holds the address
-none-holds : (segments : List Segment) (address : ℕ)
+none_holds : (segments : List Segment) (address : ℕ)
     → ((place : ℕ) (other : Segment) → place < length segments → ¬ (holds (slice_index_or segments place other) address ≡ true))
     → byte_in segments address ≡ 0
-none-holds [] address none = refl
-none-holds (first ∷ rest) address none = elim (either (holds first address)) [
+none_holds [] address none = refl
+none_holds (first ∷ rest) address none = elim (either (holds first address)) [
   | inl inside ↦ absurd (none zero first (omega arith) inside)
-  | inr outside ↦ rw outside (none-holds rest address (λ place other below. none (suc place) other (omega arith)))
+  | inr outside ↦ rw outside (none_holds rest address (λ place other below. none (suc place) other (omega arith)))
 ]
 
-pub rest-is-zero : (file : List ℕ) (picture : Picture) → IsImage file picture
+pub rest_is_zero : (file : List ℕ) (picture : Picture) → IsImage file picture
     → (place : ℕ) → ((index : ℕ) → IsLoad file index → ¬ HoldsAddress (header_at file index) place)
     → mem picture place ≡ 0
-rest-is-zero file picture image place nowhere =
-    none-holds picture.segments place (λ at other below inside.
+rest_is_zero file picture image place nowhere =
+    none_holds picture.segments place (λ at other below inside.
     let load = image.each_is_load at other below in
     let loaded : IsLoaded file (header_at file load.0) (slice_index_or picture.segments at other) = load.2 in
     let above : (slice_index_or picture.segments at other).address ≤ place =
-    begins-below (slice_index_or picture.segments at other) place inside in
+    begins_below (slice_index_or picture.segments at other) place inside in
     let under : place < end_of (slice_index_or picture.segments at other) =
-    ends-above (slice_index_or picture.segments at other) place inside in
+    ends_above (slice_index_or picture.segments at other) place inside in
     nowhere load.0 load.1 (omega (arith, loaded.address), omega (arith, loaded.address, loaded.size)))

@@ -15,43 +15,43 @@ front segments index segment below is =
     drop_more segments index segment below ∙ ap (λ (s : Segment). s ∷ drop (index + 1) segments) (sym is)
 
 -- a program header more
-pub headers-more : (file longer : List ℕ) (place index : ℕ) (segments : List Segment) (segment : Segment)
+pub headers_more : (file longer : List ℕ) (place index : ℕ) (segments : List Segment) (segment : Segment)
     → index < length segments → segment ≡ get_or segments index segment
     → longer ≡ file ++ program_header place segment.address (length segment.bytes)
     → longer ++ program_headers (place + length segment.bytes) (drop (index + 1) segments)
     ≡ file ++ program_headers place (drop index segments)
-headers-more file longer place index segments segment below is put =
+headers_more file longer place index segments segment below is put =
     let rest : List ℕ = program_headers (place + length segment.bytes) (drop (index + 1) segments) in
     ap (λ (xs : List ℕ). xs ++ rest) put
     ∙ append_assoc file (program_header place segment.address (length segment.bytes)) rest
     ∙ ap (λ (xs : List Segment). file ++ program_headers place xs) (sym (front segments index segment below is))
 
 -- the bytes of the segments from an index on are those of the first and of the rest
-pub contents-more : (index : ℕ) (segments : List Segment) (segment : Segment) → index < length segments
+pub contents_more : (index : ℕ) (segments : List Segment) (segment : Segment) → index < length segments
     → segment ≡ get_or segments index segment
     → length (contents (drop index segments)) ≡ length segment.bytes + length (contents (drop (index + 1) segments))
-contents-more index segments segment below is =
+contents_more index segments segment below is =
     ap (λ (xs : List Segment). length (contents xs)) (front segments index segment below is)
     ∙ length-append segment.bytes (contents (drop (index + 1) segments))
 
 -- segments that ascend inside guest memory have no more bytes than fit above the first one's address
-above-first : (base : ℕ) (first : Segment) (rest : List Segment) → IsTrue (is_ascending (first ∷ rest))
+above_first : (base : ℕ) (first : Segment) (rest : List Segment) → IsTrue (is_ascending (first ∷ rest))
     → IsTrue (are_inside base (first ∷ rest)) → first.address + length (contents (first ∷ rest)) ≤ base + memory_size
-above-first base first [] ascends inside =
+above_first base first [] ascends inside =
     let ends : end_of first ≤ base + memory_size = grind (arith, nat_tests, common_steps) in
     omega (arith, length-append first.bytes [])
-above-first base first (second ∷ rest) ascends inside =
+above_first base first (second ∷ rest) ascends inside =
     let later : second.address + length (contents (second ∷ rest)) ≤ base + memory_size =
-    above-first base second rest (grind (arith, nat_tests, common_steps)) (grind (arith, nat_tests, common_steps)) in
+    above_first base second rest (grind (arith, nat_tests, common_steps)) (grind (arith, nat_tests, common_steps)) in
     let here : end_of first ≤ second.address = grind (arith, nat_tests, common_steps) in
     omega (arith, length-append first.bytes (contents (second ∷ rest)))
 
 -- segments of an image have no more bytes than guest memory
-pub contents-fit : (base : ℕ) (segments : List Segment) → IsTrue (is_ascending segments)
+pub contents_fit : (base : ℕ) (segments : List Segment) → IsTrue (is_ascending segments)
     → IsTrue (are_inside base segments) → length (contents segments) ≤ memory_size
-contents-fit base [] ascends inside = omega arith
-contents-fit base (first ∷ rest) ascends inside =
+contents_fit base [] ascends inside = omega arith
+contents_fit base (first ∷ rest) ascends inside =
     let within : first.address + length (contents (first ∷ rest)) ≤ base + memory_size =
-    above-first base first rest ascends inside in
+    above_first base first rest ascends inside in
     let above : base ≤ first.address = grind (arith, nat_tests, common_steps) in
     omega arith

@@ -17,10 +17,10 @@ use Rattle.elf32_loader.specs.Segments.{are_inside, end_of, highest_base, highes
 use Rattle.elf32_loader.specs.Written.{contents, elf_header, headers, program_headers, written}
 use Rattle.flow_base.specs.Guests.{memory_size}
 use Rattle.elf32_loader.proofs.Bases.{same_base}
-use Rattle.elf32_loader.proofs.Laying.{bytes-in, header-in, headers-length, start_of, starts-within, word-back, written_header}
-use Rattle.elf32_loader.proofs.Memory.{begins-below, either, ends-above, later-begins, rest-ascends}
-use Rattle.elf32_loader.proofs.Putting.{contents-fit}
-use Rattle.elf32_loader.proofs.Unique.{has-bytes}
+use Rattle.elf32_loader.proofs.Laying.{bytes_in, header_in, length_of_headers, start_of, starts_within, word_back, written_header}
+use Rattle.elf32_loader.proofs.Memory.{begins_below, either, ends_above, later_begins, rest_ascends}
+use Rattle.elf32_loader.proofs.Putting.{contents_fit}
+use Rattle.elf32_loader.proofs.Unique.{has_bytes}
 
 -- the segment of a place, and the header that is written for it
 abbrev segment_at : Picture → ℕ → Segment → Segment
@@ -57,7 +57,7 @@ spelt picture low_entry few fits low =
     let front : List ℕ = elf_header picture.entry count in
     let table : List ℕ = program_headers (52 + 32 * count) picture.segments in
     let bytes : List ℕ = contents picture.segments in
-    let table_length : length table ≡ 32 * count = headers-length (52 + 32 * count) picture.segments in
+    let table_length : length table ≡ 32 * count = length_of_headers (52 + 32 * count) picture.segments in
     let headers_length : length (headers picture) ≡ 52 + 32 * count = omega arith in
     record {
       size = omega (arith, length-append (headers picture) bytes, headers_length);
@@ -68,13 +68,13 @@ spelt picture low_entry few fits low =
       table_size = refl;
       count = little_number-reads_back 2 count [] (omega arith);
       table = refl;
-      start = word-back picture.entry low_entry;
+      start = word_back picture.entry low_entry;
       header = λ place d below.
           ap (λ (xs : List ℕ). header_from xs (52 + 32 * place)) (append_assoc front table bytes)
-          ∙ header-in front (52 + 32 * count) picture.segments bytes place d (52 + 32 * place) (omega arith) below
+          ∙ header_in front (52 + 32 * count) picture.segments bytes place d (52 + 32 * place) (omega arith) below
           (omega arith) low;
       content = λ place d i below within.
-          bytes-in (headers picture) (52 + 32 * count) picture.segments place d i (sym headers_length) below within;
+          bytes_in (headers picture) (52 + 32 * count) picture.segments place d i (sym headers_length) below within;
     }
 
 -- what a valid picture keeps of each segment
@@ -84,33 +84,33 @@ record IsFit (base : ℕ) (segment : Segment) : Type 0 where
   in_guest : end_of segment ≤ base + memory_size
   in_bounds : end_of segment ≤ highest_end
 
-each-fit : (base : ℕ) (segments : List Segment) → IsTrue (is_ascending segments) → IsTrue (are_inside base segments)
+each_fit : (base : ℕ) (segments : List Segment) → IsTrue (is_ascending segments) → IsTrue (are_inside base segments)
     → (place : ℕ) (d : Segment) → place < length segments → IsFit base (slice_index_or segments place d)
-each-fit base [] ascends inside place d below = absurd (omega arith)
-each-fit base (first ∷ rest) ascends inside zero d below =
-    let some : 0 < length first.bytes = has-bytes first rest ascends in
+each_fit base [] ascends inside place d below = absurd (omega arith)
+each_fit base (first ∷ rest) ascends inside zero d below =
+    let some : 0 < length first.bytes = has_bytes first rest ascends in
     record {
       some = some;
       based = grind (arith, nat_tests, common_steps);
       in_guest = grind (arith, nat_tests, common_steps);
       in_bounds = grind (arith, nat_tests, common_steps);
     }
-each-fit base (first ∷ []) ascends inside (suc place) d below = absurd (omega arith)
-each-fit base (first ∷ (second ∷ rest)) ascends inside (suc place) d below =
+each_fit base (first ∷ []) ascends inside (suc place) d below = absurd (omega arith)
+each_fit base (first ∷ (second ∷ rest)) ascends inside (suc place) d below =
     let inside_rest : IsTrue (are_inside base (second ∷ rest)) = grind (arith, nat_tests, common_steps) in
-    each-fit base (second ∷ rest) (rest-ascends first second rest ascends) inside_rest place d (omega arith)
+    each_fit base (second ∷ rest) (rest_ascends first second rest ascends) inside_rest place d (omega arith)
 
 -- an earlier segment ends at or below a later one's address
-in-order : (segments : List Segment) → IsTrue (is_ascending segments) → (a b : ℕ) (d e : Segment) → a < b
+in_order : (segments : List Segment) → IsTrue (is_ascending segments) → (a b : ℕ) (d e : Segment) → a < b
     → b < length segments
     → end_of (slice_index_or segments a d) ≤ (slice_index_or segments b e).address
-in-order [] ascends a b d e before below = absurd (omega arith)
-in-order (first ∷ rest) ascends zero zero d e before below = absurd (omega arith)
-in-order (first ∷ rest) ascends zero (suc b) d e before below = later-begins first rest ascends b e (omega arith)
-in-order (first ∷ rest) ascends (suc a) zero d e before below = absurd (omega arith)
-in-order (first ∷ []) ascends (suc a) (suc b) d e before below = absurd (omega arith)
-in-order (first ∷ (second ∷ rest)) ascends (suc a) (suc b) d e before below =
-    in-order (second ∷ rest) (rest-ascends first second rest ascends) a b d e (omega arith) (omega arith)
+in_order [] ascends a b d e before below = absurd (omega arith)
+in_order (first ∷ rest) ascends zero zero d e before below = absurd (omega arith)
+in_order (first ∷ rest) ascends zero (suc b) d e before below = later_begins first rest ascends b e (omega arith)
+in_order (first ∷ rest) ascends (suc a) zero d e before below = absurd (omega arith)
+in_order (first ∷ []) ascends (suc a) (suc b) d e before below = absurd (omega arith)
+in_order (first ∷ (second ∷ rest)) ascends (suc a) (suc b) d e before below =
+    in_order (second ∷ rest) (rest_ascends first second rest ascends) a b d e (omega arith) (omega arith)
 
 -- an address that some segment holds is held by that of a place
 holder : (segments : List Segment) (address : ℕ) (d : Segment) → some_holds segments address ≡ true
@@ -151,9 +151,9 @@ record IsFirst (base : ℕ) (segments : List Segment) : Type 0 where
   rounded : (d : Segment) → base ≡ rounded_down (slice_index_or segments 0 d).address
   low : base ≤ highest_base
 
-first-of : (base : ℕ) (segments : List Segment) → IsTrue (is_base_of segments base) → IsFirst base segments
-first-of base [] based = absurd (false≢true based)
-first-of base (first ∷ rest) based = record {
+first_of : (base : ℕ) (segments : List Segment) → IsTrue (is_base_of segments base) → IsFirst base segments
+first_of base [] based = absurd (false≢true based)
+first_of base (first ∷ rest) based = record {
   some = omega arith;
   rounded = λ d. grind (arith, nat_tests, common_steps);
   low = grind (arith, nat_tests, common_steps);
@@ -173,13 +173,13 @@ record IsGiven (file : List ℕ) (picture : Picture) : Type 0 where
   fit : (place : ℕ) (d : Segment) → place < length picture.segments → IsFit picture.base (segment_at picture place d)
 
 -- a header of the file is that of a place, and a load
-at-place : (file : List ℕ) (picture : Picture) → IsGiven file picture → (index : ℕ) → IsLoad file index
+at_place : (file : List ℕ) (picture : Picture) → IsGiven file picture → (index : ℕ) → IsLoad file index
     → index < length picture.segments
-at-place file picture given index is_load = omega (arith, given.spells.count, is_load.0)
+at_place file picture given index is_load = omega (arith, given.spells.count, is_load.0)
 
-load-at : (file : List ℕ) (picture : Picture) → IsGiven file picture → (place : ℕ) → place < length picture.segments
+load_at : (file : List ℕ) (picture : Picture) → IsGiven file picture → (place : ℕ) → place < length picture.segments
     → IsLoad file place
-load-at file picture given place below =
+load_at file picture given place below =
     let header = given.spells.header place nothing below in
     let fit = given.fit place nothing below in
     let size : (header_at file place).memory_size ≡ length (segment_at picture place nothing).bytes =
@@ -189,52 +189,52 @@ load-at file picture given place below =
       λ none. omega (arith, fit.some),
     )
 
-address-at : (file : List ℕ) (picture : Picture) → IsGiven file picture → (place : ℕ) (d : Segment)
+address_at : (file : List ℕ) (picture : Picture) → IsGiven file picture → (place : ℕ) (d : Segment)
     → place < length picture.segments → (header_at file place).address ≡ (segment_at picture place d).address
-address-at file picture given place d below = ap (λ (h : Header). h.address) (given.spells.header place d below)
+address_at file picture given place d below = ap (λ (h : Header). h.address) (given.spells.header place d below)
 
 -- no load begins below the first segment
-lowest-at : (file : List ℕ) (picture : Picture) → IsGiven file picture → (place : ℕ) → place < length picture.segments
+lowest_at : (file : List ℕ) (picture : Picture) → IsGiven file picture → (place : ℕ) → place < length picture.segments
     → (header_at file 0).address ≡ (segment_at picture 0 nothing).address
     → (header_at file place).address ≡ (segment_at picture place nothing).address
     → (header_at file 0).address ≤ (header_at file place).address
-lowest-at file picture given zero below first address = omega arith
-lowest-at file picture given (suc place) below first address =
-    let later = in-order picture.segments given.keeps.ascends 0 (suc place) nothing nothing (omega arith) below in
+lowest_at file picture given zero below first address = omega arith
+lowest_at file picture given (suc place) below first address =
+    let later = in_order picture.segments given.keeps.ascends 0 (suc place) nothing nothing (omega arith) below in
     omega (arith, later)
 
-file-base : (file : List ℕ) (picture : Picture) → IsGiven file picture → IsFileBase file picture.base
-file-base file picture given =
+file_base : (file : List ℕ) (picture : Picture) → IsGiven file picture → IsFileBase file picture.base
+file_base file picture given =
     let some : 0 < length picture.segments = given.first.some in
     let first : (header_at file 0).address ≡ (segment_at picture 0 nothing).address =
-    address-at file picture given 0 nothing some in (
+    address_at file picture given 0 nothing some in (
       0,
       (
-        load-at file picture given 0 some,
+        load_at file picture given 0 some,
         λ other is_load.
-            let below : other < length picture.segments = at-place file picture given other is_load in
+            let below : other < length picture.segments = at_place file picture given other is_load in
             let address : (header_at file other).address ≡ (segment_at picture other nothing).address =
-            address-at file picture given other nothing below in
-            lowest-at file picture given other below first address,
+            address_at file picture given other nothing below in
+            lowest_at file picture given other below first address,
       ),
       given.first.rounded nothing ∙ ap rounded_down (sym first),
     )
 
-in-range : (file : List ℕ) (picture : Picture) → IsGiven file picture → (place : ℕ) → place < length picture.segments
+in_range : (file : List ℕ) (picture : Picture) → IsGiven file picture → (place : ℕ) → place < length picture.segments
     → ¬ IsOutOfRange file picture.base (header_for picture place nothing)
-in-range file picture given place below = λ out.
+in_range file picture given place below = λ out.
     let fit = given.fit place nothing below in
-    let within = starts-within (52 + 32 * length picture.segments) picture.segments place nothing below in
+    let within = starts_within (52 + 32 * length picture.segments) picture.segments place nothing below in
     omega (arith, out, fit.in_guest, fit.in_bounds, within, given.spells.size)
 
-no-overlap : (file : List ℕ) (picture : Picture) → IsGiven file picture → (a b address : ℕ) → a < b → IsLoad file a
+no_overlap : (file : List ℕ) (picture : Picture) → IsGiven file picture → (a b address : ℕ) → a < b → IsLoad file a
     → IsLoad file b → HoldsAddress (header_at file a) address → HoldsAddress (header_at file b) address → ⊥
-no-overlap file picture given a b address before is_a is_b in_a in_b =
-    let below_a : a < length picture.segments = at-place file picture given a is_a in
-    let below_b : b < length picture.segments = at-place file picture given b is_b in
-    let apart = in-order picture.segments given.keeps.ascends a b nothing nothing before below_b in
+no_overlap file picture given a b address before is_a is_b in_a in_b =
+    let below_a : a < length picture.segments = at_place file picture given a is_a in
+    let below_b : b < length picture.segments = at_place file picture given b is_b in
+    let apart = in_order picture.segments given.keeps.ascends a b nothing nothing before below_b in
     let at_a = ap (λ (h : Header). h.address + h.memory_size) (given.spells.header a nothing below_a) in
-    let at_b = address-at file picture given b nothing below_b in
+    let at_b = address_at file picture given b nothing below_b in
     omega (arith, apart, at_a, at_b, in_a.1, in_b.0)
 
 aligned : (picture : Picture) → IsTrue (is_entry picture.segments picture.entry) → picture.entry % 4 ≡ 0
@@ -243,23 +243,23 @@ aligned picture entered =
     let even : IsTrue (picture.entry % 4 == 0) = parts.0 in
     grind (arith, nat_tests)
 
-entry-held : (file : List ℕ) (picture : Picture) → IsGiven file picture
+entry_held : (file : List ℕ) (picture : Picture) → IsGiven file picture
     → ((index : ℕ) → ¬ IsEntryIn file index) → ⊥
-entry-held file picture given nowhere =
+entry_held file picture given nowhere =
     let parts = both (picture.entry % 4 == 0) (some_holds picture.segments picture.entry) given.keeps.entered in
     let found = holder picture.segments picture.entry nothing parts.1 in
     let segment : Segment = segment_at picture found.0 nothing in
-    let above = begins-below segment picture.entry found.2 in
-    let below = ends-above segment picture.entry found.2 in
+    let above = begins_below segment picture.entry found.2 in
+    let below = ends_above segment picture.entry found.2 in
     let header = given.spells.header found.0 nothing found.1 in
     let address = ap (λ (h : Header). h.address) header in
     let end = ap (λ (h : Header). h.address + h.memory_size) header in
     let here : HoldsAddress (header_at file found.0) (entry_of file) =
     (omega (arith, address, above, given.spells.start), omega (arith, end, below, given.spells.start)) in
-    nowhere found.0 (load-at file picture given found.0 found.1, here)
+    nowhere found.0 (load_at file picture given found.0 found.1, here)
 
-clean-header : (file : List ℕ) (picture : Picture) → IsGiven file picture → HasCleanHeader file
-clean-header file picture given =
+clean_header : (file : List ℕ) (picture : Picture) → IsGiven file picture → HasCleanHeader file
+clean_header file picture given =
     let laid = given.spells in
     record {
       has_header = λ short. omega (arith, laid.size);
@@ -275,39 +275,39 @@ clean-header file picture given =
       has_whole_table = λ cut. omega (arith, laid.count, laid.table, laid.size);
     }
 
-clean-loads : (file : List ℕ) (picture : Picture) → IsGiven file picture → HasCleanLoads file
-clean-loads file picture given =
+clean_loads : (file : List ℕ) (picture : Picture) → IsGiven file picture → HasCleanLoads file
+clean_loads file picture given =
     let laid = given.spells in
-    let is_base_of = file-base file picture given in
+    let is_base_of = file_base file picture given in
     record {
       is_not_dynamic = λ dynamic.
           let below : dynamic.0 < length picture.segments = omega (arith, laid.count, dynamic.1.0) in
           let kind : (header_at file dynamic.0).kind ≡ 1 =
           ap (λ (h : Header). h.kind) (laid.header dynamic.0 nothing below) in
           omega (arith, dynamic.1.1);
-      has_load = λ none. none 0 (load-at file picture given 0 given.first.some);
+      has_load = λ none. none 0 (load_at file picture given 0 given.first.some);
       is_in_range = λ fault.
-          let below : fault.1 < length picture.segments = at-place file picture given fault.1 fault.3.0 in
+          let below : fault.1 < length picture.segments = at_place file picture given fault.1 fault.3.0 in
           let at_base : IsOutOfRange file picture.base (header_at file fault.1) =
           subst (λ (n : ℕ). IsOutOfRange file n (header_at file fault.1))
           (same_base file fault.0 picture.base fault.2 is_base_of) fault.3.1 in
-          in-range file picture given fault.1 below
+          in_range file picture given fault.1 below
           (subst (λ (h : Header). IsOutOfRange file picture.base h) (laid.header fault.1 nothing below) at_base);
       has_low_base = λ high.
           omega (arith, same_base file high.0 picture.base high.1 is_base_of, high.2, given.first.low);
       has_no_overlap = λ overlap.
           let shared = overlap.2.3 in
-          no-overlap file picture given overlap.0 overlap.1 shared.0 overlap.2.0 overlap.2.1 overlap.2.2 shared.1 shared.2;
+          no_overlap file picture given overlap.0 overlap.1 shared.0 overlap.2.0 overlap.2.1 overlap.2.2 shared.1 shared.2;
       has_entry = λ outside. elim outside [
         | inl h ↦ h (ap (λ (n : ℕ). n % 4) laid.start ∙ aligned picture given.keeps.entered)
-        | inr h ↦ entry-held file picture given h
+        | inr h ↦ entry_held file picture given h
       ];
     }
 
 -- a segment is what its load puts into memory
-loaded-at : (file : List ℕ) (picture : Picture) → IsGiven file picture → (place : ℕ) (d : Segment)
+loaded_at : (file : List ℕ) (picture : Picture) → IsGiven file picture → (place : ℕ) (d : Segment)
     → place < length picture.segments → IsLoaded file (header_at file place) (segment_at picture place d)
-loaded-at file picture given place d below =
+loaded_at file picture given place d below =
     let segment : Segment = segment_at picture place d in
     let start : ℕ = start_of (52 + 32 * length picture.segments) picture.segments place in
     let header = given.spells.header place d below in
@@ -322,35 +322,35 @@ loaded-at file picture given place d below =
     } in
     subst (λ (h : Header). IsLoaded file h segment) (sym header) written
 
-given-of : (picture : Picture) → IsTrue (is_image_picture picture) → length picture.segments ≤ 64
+given_of : (picture : Picture) → IsTrue (is_image_picture picture) → length picture.segments ≤ 64
     → IsGiven (written picture) picture
-given-of picture valid few =
+given_of picture valid few =
     let keeps = whole picture valid in
-    let first = first-of picture.base picture.segments keeps.based in
-    let fits = contents-fit picture.base picture.segments keeps.ascends keeps.inside in
-    let fit = each-fit picture.base picture.segments keeps.ascends keeps.inside in
+    let first = first_of picture.base picture.segments keeps.based in
+    let fits = contents_fit picture.base picture.segments keeps.ascends keeps.inside in
+    let fit = each_fit picture.base picture.segments keeps.ascends keeps.inside in
     let parts = both (picture.entry % 4 == 0) (some_holds picture.segments picture.entry) keeps.entered in
     let found = holder picture.segments picture.entry nothing parts.1 in
     let low_entry : picture.entry < 2 ^ 32 =
-    omega (arith, ends-above (segment_at picture found.0 nothing) picture.entry found.2, (fit found.0 nothing found.1).in_bounds) in
+    omega (arith, ends_above (segment_at picture found.0 nothing) picture.entry found.2, (fit found.0 nothing found.1).in_bounds) in
     let low : All (λ s. s.address < 2 ^ 32) picture.segments =
     λ place d below. omega (arith, (fit place d below).in_bounds, (fit place d below).some) in
     record { spells = spelt picture low_entry few fits low; keeps = keeps; few = few; first = first; fits = fits; fit = fit }
 
-pub written-image : (picture : Picture) → IsTrue (is_image_picture picture) → length picture.segments ≤ 64
+pub written_image : (picture : Picture) → IsTrue (is_image_picture picture) → length picture.segments ≤ 64
     → IsImage (written picture) picture
-written-image picture valid few =
+written_image picture valid few =
     let file : List ℕ = written picture in
-    let given = given-of picture valid few in
+    let given = given_of picture valid few in
     record {
-      no_fault = record { header = clean-header file picture given; loads = clean-loads file picture given };
-      base = file-base file picture given;
+      no_fault = record { header = clean_header file picture given; loads = clean_loads file picture given };
+      base = file_base file picture given;
       entry = sym given.spells.start;
       ascends = given.keeps.ascends;
       each_is_load = λ place d below.
-          (place, load-at file picture given place below, loaded-at file picture given place d below);
+          (place, load_at file picture given place below, loaded_at file picture given place d below);
       each_load_stands = λ index is_load.
-          let below : index < length picture.segments = at-place file picture given index is_load in
+          let below : index < length picture.segments = at_place file picture given index is_load in
           let contained = Contains-get_or picture.segments index nothing below in
-          (segment_at picture index nothing, contained, loaded-at file picture given index nothing below);
+          (segment_at picture index nothing, contained, loaded_at file picture given index nothing below);
     }

@@ -13,21 +13,21 @@ use Rattle.elf32_loader.specs.Programs.{IsImage}
 use Rattle.elf32_loader.specs.Private.Searches.{AreLoads, is_climbing}
 use Rattle.elf32_loader.specs.Segments.{are_inside, end_of, highest_base, highest_end, holds, is_ascending, is_base_of, is_entry, holds_segment, rounded_down, some_holds}
 use Rattle.flow_base.specs.Guests.{memory_size}
-use Rattle.elf32_loader.proofs.Loads.{in-range}
-use Rattle.elf32_loader.proofs.Memory.{either, holds-true, later-begins}
+use Rattle.elf32_loader.proofs.Loads.{in_range}
+use Rattle.elf32_loader.proofs.Memory.{either, holds_true, later_begins}
 
 -- climbing segments of which there is one ascend
-ascends-from : (segments : List Segment) (x : Segment) → Contains segments x → IsTrue (is_climbing segments)
+ascends_from : (segments : List Segment) (x : Segment) → Contains segments x → IsTrue (is_climbing segments)
     → IsTrue (is_ascending segments)
-ascends-from [] x contained climbs = absurd (omega (arith, contained.1))
-ascends-from (first ∷ rest) x contained climbs = climbs
+ascends_from [] x contained climbs = absurd (omega (arith, contained.1))
+ascends_from (first ∷ rest) x contained climbs = climbs
 
 -- all loads of a file without faults make its image
-pub image-from : (file : List ℕ) (base entry : ℕ) (segments loaded : List Segment) → HasNoFault file
+pub image_from : (file : List ℕ) (base entry : ℕ) (segments loaded : List Segment) → HasNoFault file
     → IsFileBase file base
     → entry ≡ entry_of file → segments ≡ loaded → AreLoads file (header_count file) loaded
     → IsImage file (record { base = base; entry = entry; segments = segments })
-image-from file base entry segments loaded clean is_base_of at_entry same loads =
+image_from file base entry segments loaded clean is_base_of at_entry same loads =
     let moved : AreLoads file (header_count file) segments =
     subst (λ (xs : List Segment). AreLoads file (header_count file) xs) (sym same) loads in
     let lowest = moved.stand is_base_of.0 is_base_of.1.0.0 is_base_of.1.0 in
@@ -35,33 +35,33 @@ image-from file base entry segments loaded clean is_base_of at_entry same loads 
       no_fault = clean;
       base = is_base_of;
       entry = at_entry;
-      ascends = ascends-from segments lowest.0 lowest.1 moved.climbs;
+      ascends = ascends_from segments lowest.0 lowest.1 moved.climbs;
       each_is_load = λ place other below. let found = moved.each place other below in (found.0, found.2, found.3);
       each_load_stands = λ index is_load. moved.stand index is_load.0 is_load;
     }
 
 -- no segment begins below the first one
-first-lowest : (first : Segment) (rest : List Segment) (place : ℕ) (other : Segment)
+first_lowest : (first : Segment) (rest : List Segment) (place : ℕ) (other : Segment)
     → IsTrue (is_ascending (first ∷ rest))
     → place < length (first ∷ rest) → first.address ≤ (slice_index_or (first ∷ rest) place other).address
-first-lowest first rest zero other ascends below = omega arith
-first-lowest first rest (suc place) other ascends below =
+first_lowest first rest zero other ascends below = omega arith
+first_lowest first rest (suc place) other ascends below =
     let later : end_of first ≤ (slice_index_or rest place other).address =
-    later-begins first rest ascends place other (omega arith) in
+    later_begins first rest ascends place other (omega arith) in
     omega arith
 
 -- the base is that of the first segment
-based-on : (file : List ℕ) (base entry : ℕ) (segments : List Segment)
+based_on : (file : List ℕ) (base entry : ℕ) (segments : List Segment)
     → IsImage file (record { base = base; entry = entry; segments = segments }) → IsTrue (is_base_of segments base)
-based-on file base entry [] image = absurd (false≢true image.ascends)
-based-on file base entry (first ∷ rest) image =
+based_on file base entry [] image = absurd (false≢true image.ascends)
+based_on file base entry (first ∷ rest) image =
     let lowest = image.base.0 in
     let is_lowest = image.base.1 in
     let stands = image.each_load_stands lowest is_lowest.0 in
     let own = image.each_is_load zero first (omega arith) in
     let P : Segment → Type 0 = λ s. first.address ≤ s.address in
     let below : first.address ≤ (stands.0).address =
-    subst P stands.1.2 (first-lowest first rest stands.1.0 stands.0 image.ascends stands.1.1) in
+    subst P stands.1.2 (first_lowest first rest stands.1.0 stands.0 image.ascends stands.1.1) in
     let above : (header_at file lowest).address ≤ (header_at file own.0).address = is_lowest.1 own.0 own.1 in
     let same : (header_at file lowest).address ≡ first.address =
     omega (arith, below, above, own.2.address, (stands.2).address) in
@@ -73,39 +73,39 @@ based-on file base entry (first ∷ rest) image =
     grind (arith, nat_tests)
 
 -- each segment is inside where each one is
-each-inside : (base : ℕ) (segments : List Segment) → All (λ s. IsTrue (holds_segment base s)) segments
+each_inside : (base : ℕ) (segments : List Segment) → All (λ s. IsTrue (holds_segment base s)) segments
     → IsTrue (are_inside base segments)
-each-inside base [] all = refl
-each-inside base (first ∷ rest) all =
+each_inside base [] all = refl
+each_inside base (first ∷ rest) all =
     let here : IsTrue (holds_segment base first) = All-head (λ (s : Segment). IsTrue (holds_segment base s)) first rest all in
     let there : IsTrue (are_inside base rest) =
-    each-inside base rest (All-tail (λ (s : Segment). IsTrue (holds_segment base s)) first rest all) in
+    each_inside base rest (All-tail (λ (s : Segment). IsTrue (holds_segment base s)) first rest all) in
     grind (arith, nat_tests, common_steps)
 
-is-inside : (base : ℕ) (segment : Segment) → base ≤ segment.address → end_of segment ≤ base + memory_size
+is_inside : (base : ℕ) (segment : Segment) → base ≤ segment.address → end_of segment ≤ base + memory_size
     → end_of segment ≤ highest_end → IsTrue (holds_segment base segment)
-is-inside base segment based guest bounds = grind (arith, nat_tests)
+is_inside base segment based guest bounds = grind (arith, nat_tests)
 
 inside : (file : List ℕ) (picture : Picture) → IsImage file picture → IsTrue (are_inside picture.base picture.segments)
 inside file picture image =
-    each-inside picture.base picture.segments (λ place other below.
+    each_inside picture.base picture.segments (λ place other below.
     let segment : Segment = slice_index_or picture.segments place other in
     let found = image.each_is_load place other below in
-    let range = in-range file picture.base found.0 image.no_fault image.base found.1 in
+    let range = in_range file picture.base found.0 image.no_fault image.base found.1 in
     let lowest = image.base.1.1 found.0 found.1 in
     let based : picture.base ≤ segment.address = omega (arith, image.base.2, lowest, found.2.address) in
     let guest : end_of segment ≤ picture.base + memory_size =
     omega (arith, range.in_guest, found.2.address, found.2.size) in
     let bounds : end_of segment ≤ highest_end = omega (arith, range.in_bounds, found.2.address, found.2.size) in
-    is-inside picture.base segment based guest bounds)
+    is_inside picture.base segment based guest bounds)
 
 -- a segment that holds an address is one that some holds
-some-holds : (segments : List Segment) (place : ℕ) (other : Segment) (address : ℕ) → place < length segments
+one_holds : (segments : List Segment) (place : ℕ) (other : Segment) (address : ℕ) → place < length segments
     → holds (slice_index_or segments place other) address ≡ true → some_holds segments address ≡ true
-some-holds [] place other address below held = absurd (omega arith)
-some-holds (first ∷ rest) zero other address below held = grind (arith, common_steps)
-some-holds (first ∷ rest) (suc place) other address below held =
-    let later : some_holds rest address ≡ true = some-holds rest place other address (omega arith) held in
+one_holds [] place other address below held = absurd (omega arith)
+one_holds (first ∷ rest) zero other address below held = grind (arith, common_steps)
+one_holds (first ∷ rest) (suc place) other address below held =
+    let later : some_holds rest address ≡ true = one_holds rest place other address (omega arith) held in
     grind (arith, common_steps)
 
 either_zero : (n : ℕ) → (n ≡ 0) ⊎ (n ≡ 0 → ⊥)
@@ -131,8 +131,8 @@ entered file picture image =
           omega (arith, here.1, (stands.2).address, (stands.2).size, image.entry) in
           let P : Segment → Type 0 = λ s. holds s picture.entry ≡ true in
           let holding : P (slice_index_or picture.segments stands.1.0 stands.0) =
-          subst P (sym stands.1.2) (holds-true stands.0 picture.entry above below) in
-          let some = some-holds picture.segments stands.1.0 stands.0 picture.entry stands.1.1 holding in
+          subst P (sym stands.1.2) (holds_true stands.0 picture.entry above below) in
+          let some = one_holds picture.segments stands.1.0 stands.0 picture.entry stands.1.1 holding in
           false≢true (sym none ∙ some))))
     ] in
     grind (arith, nat_tests)
@@ -147,7 +147,7 @@ pub record Keeps (picture : Picture) : Type 0 where
 pub keeps : (file : List ℕ) (picture : Picture) → IsImage file picture → Keeps picture
 keeps file picture image = record {
   ascends = image.ascends;
-  based = based-on file picture.base picture.entry picture.segments image;
+  based = based_on file picture.base picture.entry picture.segments image;
   inside = inside file picture image;
   entered = entered file picture image;
 }

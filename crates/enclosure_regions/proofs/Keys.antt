@@ -22,35 +22,35 @@ keys_known test (entry ∷ entries) = ap (λ b. test (string_bytes entry.0) && b
 
 -- ---- tests that answer the same
 
-keys-same : (test other : List ℕ → Bool) → ((key : List ℕ) → test key ≡ other key) → (members : Members)
+keys_same : (test other : List ℕ → Bool) → ((key : List ℕ) → test key ≡ other key) → (members : Members)
     → keys_pass test members ≡ keys_pass other members
-keys-same test other same no_members = refl
-keys-same test other same (member key d members) =
-    ap (λ b. b && keys_pass test members) (same key) ∙ ap (λ b. other key && b) (keys-same test other same members)
+keys_same test other same no_members = refl
+keys_same test other same (member key d members) =
+    ap (λ b. b && keys_pass test members) (same key) ∙ ap (λ b. other key && b) (keys_same test other same members)
 
-members-same : (test other : List ℕ → Bool) → ((key : List ℕ) → test key ≡ other key) → (members : Option Members)
+members_same : (test other : List ℕ → Bool) → ((key : List ℕ) → test key ≡ other key) → (members : Option Members)
     → members_pass test members ≡ members_pass other members
-members-same test other same None = refl
-members-same test other same (Some members) = keys-same test other same members
+members_same test other same None = refl
+members_same test other same (Some members) = keys_same test other same members
 
-or-none : (b : Bool) → b || false ≡ b
-or-none true = refl
-or-none false = refl
+or_none : (b : Bool) → b || false ≡ b
+or_none true = refl
+or_none false = refl
 
 -- ---- the tables of the code
 
 pub file_keys : (d : Data) → has_keys (λ key. list_any (λ other. bytes_eq key other.now) FILE_KEYS) d ≡ has_keys is_file_key d
-file_keys d = members-same _ is_file_key (λ key. or-none (is_file_key key)) (as_object d)
+file_keys d = members_same _ is_file_key (λ key. or_none (is_file_key key)) (as_object d)
 
 pub range_keys : (d : Data) → has_keys (λ key. list_any (λ other. bytes_eq key other.now) RANGE_KEYS) d ≡ has_keys is_range_key d
 range_keys d =
-    members-same _ is_range_key (λ key.
+    members_same _ is_range_key (λ key.
     ap (λ last. bytes_eq key (codes "base") || (bytes_eq key (codes "offset") || last))
-    (or-none (bytes_eq key (codes "length")))) (as_object d)
+    (or_none (bytes_eq key (codes "length")))) (as_object d)
 
 pub region_keys : (d : Data) → has_keys (λ key. list_any (λ other. bytes_eq key other.now) REGION_KEYS) d ≡ has_keys is_region_key d
 region_keys d =
-    members-same _ is_region_key (λ key.
+    members_same _ is_region_key (λ key.
     ap (λ last. bytes_eq key (codes "id") || (bytes_eq key (codes "enter") || (bytes_eq key (codes "leave")
     || (bytes_eq key (codes "outs") || (bytes_eq key (codes "keep") || last)))))
-    (or-none (bytes_eq key (codes "ranges")))) (as_object d)
+    (or_none (bytes_eq key (codes "ranges")))) (as_object d)

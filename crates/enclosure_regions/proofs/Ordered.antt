@@ -13,15 +13,15 @@ pub table : ALL_REGISTERS ≡ all_registers
 unfolding all_registers
 table = refl
 
-all-are : IsTrue (are_registers all_registers)
+all_are : IsTrue (are_registers all_registers)
 unfolding all_registers
-all-are = refl
+all_are = refl
 
 -- ---- what is picked
 
-filter-all : (test pick : ℕ → Bool) (xs : List ℕ) → IsTrue (list_all test xs) → IsTrue (list_all test (filter pick xs))
-filter-all test pick [] h = h
-filter-all test pick (x ∷ xs) h = grind (arith, common_steps, filter-all test pick xs)
+filter_all : (test pick : ℕ → Bool) (xs : List ℕ) → IsTrue (list_all test xs) → IsTrue (list_all test (filter pick xs))
+filter_all test pick [] h = h
+filter_all test pick (x ∷ xs) h = grind (arith, common_steps, filter_all test pick xs)
 
 lower : (a b : ℕ) (xs : List ℕ) → a ≤ b → IsTrue (ascends_above b xs) → IsTrue (ascends_above a xs)
 lower a b [] le h = refl
@@ -37,38 +37,38 @@ picked registers =
     grind (
       arith,
       common_steps,
-      all-are,
-      filter-all is_register (is_listed registers) all_registers,
+      all_are,
+      filter_all is_register (is_listed registers) all_registers,
       ascends (is_listed registers) 0 all_registers,
     )
 
 -- ---- twice
 
-stands-times : (r : ℕ) (xs : List ℕ) → IsTrue (is_listed xs r) → 1 ≤ times xs r
-stands-times r [] h = grind arith
-stands-times r (x ∷ xs) h = grind (arith, common_steps, stands-times r xs)
+stands_times : (r : ℕ) (xs : List ℕ) → IsTrue (is_listed xs r) → 1 ≤ times xs r
+stands_times r [] h = grind arith
+stands_times r (x ∷ xs) h = grind (arith, common_steps, stands_times r xs)
 
-stands-picked : (pick : ℕ → Bool) (r : ℕ) (xs : List ℕ) → IsTrue (is_listed (filter pick xs) r) → IsTrue (pick r)
-stands-picked pick r [] h = grind arith
-stands-picked pick r (x ∷ xs) h = grind (arith, common_steps, stands-picked pick r xs)
+stands_picked : (pick : ℕ → Bool) (r : ℕ) (xs : List ℕ) → IsTrue (is_listed (filter pick xs) r) → IsTrue (pick r)
+stands_picked pick r [] h = grind arith
+stands_picked pick r (x ∷ xs) h = grind (arith, common_steps, stands_picked pick r xs)
 
-apart-of : (outs keep ys xs : List ℕ) → find (stands_twice outs keep) xs ≡ None
+apart_of : (outs keep ys xs : List ℕ) → find (stands_twice outs keep) xs ≡ None
     → IsTrue (are_apart (filter (is_listed outs) xs) (filter (is_listed keep) ys))
-apart-of outs keep ys [] h = refl
-apart-of outs keep ys (x ∷ xs) h =
+apart_of outs keep ys [] h = refl
+apart_of outs keep ys (x ∷ xs) h =
     grind (
       arith,
       common_steps,
-      stands-times x outs,
-      stands-times x keep,
-      stands-picked (is_listed keep) x ys,
-      apart-of outs keep ys xs,
+      stands_times x outs,
+      stands_times x keep,
+      stands_picked (is_listed keep) x ys,
+      apart_of outs keep ys xs,
     )
 
 pub apart : (outs keep : List ℕ) → lowest_twice outs keep ≡ None → IsTrue (are_apart (in_order outs) (in_order keep))
-apart outs keep h = apart-of outs keep all_registers all_registers h
+apart outs keep h = apart_of outs keep all_registers all_registers h
 
-pub ordered-rules : (region : Region) → IsTrue (is_written region) → region.enter ≢ region.leave
+pub ordered_rules : (region : Region) → IsTrue (is_written region) → region.enter ≢ region.leave
     → lowest_twice region.outs region.keep ≡ None → IsTrue (is_region (ordered region))
-ordered-rules region written differ none =
+ordered_rules region written differ none =
     grind (arith, common_steps, picked region.outs, picked region.keep, apart region.outs region.keep none)

@@ -26,12 +26,12 @@ pub record Rounds (units places left rounded : ℕ) : Type 0 where
   pub enough : (other : ℕ) → rounded ≤ other * 2 ^ left → units ≤ other * 2 ^ places
   pub least : (other : ℕ) → units ≤ other * 2 ^ places → rounded ≤ other * 2 ^ left
 
-pub rounds-start : (units places : ℕ) → Rounds units places places units
-rounds-start units places = record { enough = λ other h. h; least = λ other h. h }
+pub rounds_start : (units places : ℕ) → Rounds units places places units
+rounds_start units places = record { enough = λ other h. h; least = λ other h. h }
 
-pub rounds-half : (units places left rounded : ℕ) → 0 < left → Rounds units places left rounded →
+pub rounds_half : (units places left rounded : ℕ) → 0 < left → Rounds units places left rounded →
     Rounds units places (left - 1) (rounded / 2 + rounded % 2)
-rounds-half units places left rounded some rounds = halved (left - 1) (omega arith)
+rounds_half units places left rounded some rounds = halved (left - 1) (omega arith)
   where
     halved : (less : ℕ) → suc less ≡ left → Rounds units places less (rounded / 2 + rounded % 2)
     halved less is = record {
@@ -43,9 +43,9 @@ rounds-half units places left rounded some rounds = halved (left - 1) (omega ari
           omega (arith, before, twice other less);
     }
 
-pub rounds-end : (units places left rounded : ℕ) → (1 < rounded → left ≡ 0) → Rounds units places left rounded →
+pub rounds_end : (units places left rounded : ℕ) → (1 < rounded → left ≡ 0) → Rounds units places left rounded →
     IsCeiling units places rounded
-rounds-end units places left rounded done rounds = record {
+rounds_end units places left rounded done rounds = record {
   enough = λ other h. rounds.enough other (omega (arith, h, le-mul_of_pos_right other (pow_pos left)));
   least = λ other h. few other (rounds.least other h);
 }
@@ -64,16 +64,16 @@ pub record Halves (units bits rounded : ℕ) : Type 0 where
   pub least : (fewer : ℕ) → units ≤ 2 ^ fewer → bits ≤ fewer
   pub falls : bits + rounded ≤ units
 
-pub halves-start : (units : ℕ) → Halves units 0 units
-halves-start units = record {
+pub halves_start : (units : ℕ) → Halves units 0 units
+halves_start units = record {
   ceiling = record { enough = λ other h. omega (arith, h); least = λ other h. omega (arith, h) };
   least = λ fewer h. omega arith;
   falls = omega arith;
 }
 
-pub halves-more : (units bits rounded : ℕ) → 1 < rounded → Halves units bits rounded →
+pub halves_more : (units bits rounded : ℕ) → 1 < rounded → Halves units bits rounded →
     Halves units (bits + 1) (rounded / 2 + rounded % 2)
-halves-more units bits rounded many halves =
+halves_more units bits rounded many halves =
     subst (λ n. Halves units n (rounded / 2 + rounded % 2)) one (record {
       ceiling = record {
         enough = λ other h.
@@ -102,8 +102,8 @@ halves-more units bits rounded many halves =
         absurd (omega (arith, only, many)))
         (le_or_lt (suc bits) fewer)
 
-pub halves-end : (units bits rounded : ℕ) → rounded ≤ 1 → Halves units bits rounded → IsLeastPower units bits
-halves-end units bits rounded few halves = record {
+pub halves_end : (units bits rounded : ℕ) → rounded ≤ 1 → Halves units bits rounded → IsLeastPower units bits
+halves_end units bits rounded few halves = record {
   enough = let all = halves.ceiling.enough 1 few in omega (arith, all);
   least = halves.least;
 }
@@ -119,8 +119,8 @@ pub record Adds (high : ℕ) (exponents rest : List ℕ) (places units : ℕ) : 
   pub ascend : Ascend places high rest
   pub few : units + length rest ≤ length exponents
 
-pub adds-start : (high : ℕ) (exponents : List ℕ) → Ascend 0 high exponents → Adds high exponents exponents 0 0
-adds-start high exponents ascend = record {
+pub adds_start : (high : ℕ) (exponents : List ℕ) → Ascend 0 high exponents → Adds high exponents exponents 0 0
+adds_start high exponents ascend = record {
   sum = 0;
   whole = omega arith;
   ceiling = record { enough = λ other h. omega arith; least = λ other h. omega arith };
@@ -142,8 +142,8 @@ further sum places units more rounded first second = record {
     split other = mul_assoc other (2 ^ more) (2 ^ places) ∙ ap (λ p. other * p) (sym (pow-add 2 more places))
 
 -- with one unit more
-one-more : (sum places units : ℕ) → IsCeiling sum places units → IsCeiling (sum + 2 ^ places) places (units + 1)
-one-more sum places units ceiling = record { enough = enough; least = least }
+one_more : (sum places units : ℕ) → IsCeiling sum places units → IsCeiling (sum + 2 ^ places) places (units + 1)
+one_more sum places units ceiling = record { enough = enough; least = least }
   where
     enough : (other : ℕ) → units + 1 ≤ other → sum + 2 ^ places ≤ other * 2 ^ places
     enough zero h = absurd (omega (arith, h))
@@ -155,13 +155,13 @@ one-more sum places units ceiling = record { enough = enough; least = least }
     least (suc n) h =
         let few = ceiling.least n (omega (arith, h, suc-mul n (2 ^ places))) in omega (arith, few)
 
-pub adds-more : (high : ℕ) (exponents : List ℕ) (exponent : ℕ) (rest : List ℕ) (places units rounded : ℕ) →
+pub adds_more : (high : ℕ) (exponents : List ℕ) (exponent : ℕ) (rest : List ℕ) (places units rounded : ℕ) →
     Adds high exponents (exponent ∷ rest) places units → IsCeiling units (exponent - places) rounded →
     Adds high exponents rest exponent (rounded + 1)
-adds-more high exponents exponent rest places units rounded adds ceiling = record {
+adds_more high exponents exponent rest places units rounded adds ceiling = record {
   sum = adds.sum + 2 ^ exponent;
   whole = let parts = sum_by-cons (λ e. 2 ^ e) exponent rest in let before = adds.whole in omega (arith, parts, before);
-  ceiling = one-more adds.sum exponent rounded at_exponent;
+  ceiling = one_more adds.sum exponent rounded at_exponent;
   reaches = λ fewer h. ⊎_elim (λ (enough : exponent ≤ fewer). enough)
       (λ (short : fewer < exponent).
       let less : 2 ^ fewer < 2 ^ exponent = pow-lt short in absurd (omega (arith, h, less)))
@@ -182,27 +182,27 @@ adds-more high exponents exponent rest places units rounded adds ceiling = recor
         (further adds.sum places units (exponent - places) rounded adds.ceiling ceiling)
 
 -- the same of a list with a first power
-pub adds-next : (high : ℕ) (exponents rest : List ℕ) (places units rounded count : ℕ) → count ≡ length rest - 1 →
+pub adds_next : (high : ℕ) (exponents rest : List ℕ) (places units rounded count : ℕ) → count ≡ length rest - 1 →
     0 < length rest → Adds high exponents rest places units → IsCeiling units (get_or rest 0 0 - places) rounded →
     Adds high exponents (take count (drop 1 rest)) (get_or rest 0 0) (rounded + 1)
-adds-next high exponents [] places units rounded count is some adds ceiling = absurd (omega (arith, some))
-adds-next high exponents (exponent ∷ rest) places units rounded count is some adds ceiling =
+adds_next high exponents [] places units rounded count is some adds ceiling = absurd (omega (arith, some))
+adds_next high exponents (exponent ∷ rest) places units rounded count is some adds ceiling =
     subst (λ left. Adds high exponents left exponent (rounded + 1)) (sym (take_all count rest (omega (arith, is))))
-    (adds-more high exponents exponent rest places units rounded adds ceiling)
+    (adds_more high exponents exponent rest places units rounded adds ceiling)
 
 -- the units stay as few as the powers
-pub adds-few : (high : ℕ) (exponents rest : List ℕ) (places units more rounded : ℕ) → 0 < length rest →
+pub adds_few : (high : ℕ) (exponents rest : List ℕ) (places units more rounded : ℕ) → 0 < length rest →
     Adds high exponents rest places units → IsCeiling units more rounded → rounded + 1 ≤ length exponents
-adds-few high exponents rest places units more rounded some adds ceiling =
+adds_few high exponents rest places units more rounded some adds ceiling =
     let kept : rounded ≤ units = ceiling.least units (le-mul_of_pos_right units (pow_pos more)) in
     let few = adds.few in
     omega (arith, kept, few, some)
 
-pub adds-end : (high : ℕ) (exponents rest : List ℕ) (places units bits : ℕ) → length rest < 1 →
+pub adds_end : (high : ℕ) (exponents rest : List ℕ) (places units bits : ℕ) → length rest < 1 →
     Adds high exponents rest places units → IsLeastPower units bits →
     IsLeastPower (sum_of_powers exponents) (places + bits)
-adds-end high exponents (exponent ∷ rest) places units bits none adds power = absurd (omega (arith, none))
-adds-end high exponents [] places units bits none adds power = record {
+adds_end high exponents (exponent ∷ rest) places units bits none adds power = absurd (omega (arith, none))
+adds_end high exponents [] places units bits none adds power = record {
   enough =
       let all = adds.ceiling.enough (2 ^ bits) power.enough in
       let split : 2 ^ (bits + places) ≡ 2 ^ bits * 2 ^ places = pow-add 2 bits places in
@@ -232,7 +232,7 @@ steps high x (y ∷ ys) few sorted = (
       (λ i j d below within. sorted (suc i) (suc j) d (omega (arith, below)) (omega (arith, within))),
 )
 
-pub ascend-from-sorted : (high : ℕ) (xs : List ℕ) → All (λ x. x ≤ high) xs → IsNonDecreasing xs → Ascend 0 high xs
-ascend-from-sorted high [] few sorted = omega arith
-ascend-from-sorted high (x ∷ xs) few sorted =
+pub ascend_from_sorted : (high : ℕ) (xs : List ℕ) → All (λ x. x ≤ high) xs → IsNonDecreasing xs → Ascend 0 high xs
+ascend_from_sorted high [] few sorted = omega arith
+ascend_from_sorted high (x ∷ xs) few sorted =
     (omega arith, steps high x xs (recursion_from_All (λ y. y ≤ high) (x ∷ xs) few) sorted)

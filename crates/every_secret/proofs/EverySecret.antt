@@ -29,7 +29,7 @@ use Rattle.every_secret.specs.Rules.{AreSoundRules, Rules}
 use Rattle.every_secret.proofs.JudgedPaths.{EndsInWords, AreJudged, Shows, all_judged, listed}
 use Rattle.every_secret.proofs.PathWeights.{AllEnd, end_at, ends_from_paths, paths_from_ends, weight_of_paths}
 use Rattle.every_secret.proofs.PatternOutputs.{few_outputs}
-use Rattle.every_secret.proofs.Trees.{fed-descends}
+use Rattle.every_secret.proofs.Trees.{fed_descends}
 use Rattle.every_secret.proofs.WalkWeights.{replay_weight}
 use Rattle.every_secret.proofs.WalkWords.{cut_masks_fit, replay_words}
 
@@ -93,7 +93,7 @@ module _ (run : RunLaw) (rules : Rules) (program : Picture) (public_input : List
   path_shows : (secret : List ℕ) (choice : Chooses rules task limits secret) → Shows found choice.ends
   path_shows secret choice =
       end_at (Shows found) (tree_of walks) choice.bits (record { ends = choice.ends; rest = [] }) shows
-      (fed-descends walks choice.bits choice.ends [] choice.uses)
+      (fed_descends walks choice.bits choice.ends [] choice.uses)
 
   chosen : (secret : List ℕ) → IsSecret task secret → (real_of task secret limits.turns).broken ≡ None →
       Chooses rules task limits secret ⊎ IsLost task limits secret

@@ -14,17 +14,17 @@ use Rattle.every_secret.specs.Private.KeptPatterns.{pattern_of}
 abbrev pub IsTestFor : KeptPattern → (KeptPattern → Bool) → Type 0
 IsTestFor key test = (other : KeptPattern) → test other ≡ is_same_pattern (pattern_of key) (pattern_of other)
 
-pub all-four : (a b c d : Bool) → (a && (b && (c && d))) ≡ ((a && b) && (c && d))
-all-four true true c d = refl
-all-four true false c d = refl
-all-four false true c d = refl
-all-four false false c d = refl
+pub all_four : (a b c d : Bool) → (a && (b && (c && d))) ≡ ((a && b) && (c && d))
+all_four true true c d = refl
+all_four true false c d = refl
+all_four false true c d = refl
+all_four false false c d = refl
 
-pub left-four : (a b c d : Bool) → (((a && b) && c) && d) ≡ ((a && b) && (c && d))
-left-four true true true d = refl
-left-four true true false d = refl
-left-four true false c d = refl
-left-four false b c d = refl
+pub left_four : (a b c d : Bool) → (((a && b) && c) && d) ≡ ((a && b) && (c && d))
+left_four true true true d = refl
+left_four true true false d = refl
+left_four true false c d = refl
+left_four false b c d = refl
 
 known : (test : KeptPattern → Bool) (k : KeptPattern) (ks : List KeptPattern) → IsTestFor k test →
     list_any test ks ≡ list_any (is_same_pattern (pattern_of k)) (map pattern_of ks)
@@ -50,24 +50,24 @@ inserted test k ks new h is =
     ∙ (chosen (list_any test ks) k ks
     ∙ ap (λ b. cond b (map pattern_of ks) (map pattern_of ks ++ pattern_of k ∷ [])) (known test k ks is))
 
-size-behind : (p : Pattern) (ps : List Pattern) → size_of (ps ++ p ∷ []) ≡ size_of ps + length p.bytes + 1
-size-behind p [] = omega arith
-size-behind p (q ∷ ps) = omega (arith, size-behind p ps)
+size_behind : (p : Pattern) (ps : List Pattern) → size_of (ps ++ p ∷ []) ≡ size_of ps + length p.bytes + 1
+size_behind p [] = omega arith
+size_behind p (q ∷ ps) = omega (arith, size_behind p ps)
 
-size-chosen : (b : Bool) (p : Pattern) (ps : List Pattern) →
+size_chosen : (b : Bool) (p : Pattern) (ps : List Pattern) →
     size_of (cond b ps (ps ++ p ∷ [])) ≡ cond (not b) (size_of ps + length p.bytes + 1) (size_of ps)
-size-chosen true p ps = refl
-size-chosen false p ps = size-behind p ps
+size_chosen true p ps = refl
+size_chosen false p ps = size_behind p ps
 
 -- how many bytes they have, by whether the key was new
-pub inserted-size : (test : KeptPattern → Bool) (k : KeptPattern) (ks new : List KeptPattern) (is_new : Bool) →
+pub inserted_size : (test : KeptPattern → Bool) (k : KeptPattern) (ks new : List KeptPattern) (is_new : Bool) →
     new ≡ (if list_any test ks then ks else ks ++ k ∷ []) → is_new ≡ not (list_any test ks) → IsTestFor k test →
     size_of (map pattern_of new)
     ≡ cond is_new (size_of (map pattern_of ks) + length k.bytes.items + 1) (size_of (map pattern_of ks))
-inserted-size test k ks new is_new h absent is =
+inserted_size test k ks new is_new h absent is =
     let ps = map pattern_of ks in
     ap (λ qs. size_of qs) (inserted test k ks new h is)
-    ∙ (size-chosen (list_any (is_same_pattern (pattern_of k)) ps) (pattern_of k) ps
+    ∙ (size_chosen (list_any (is_same_pattern (pattern_of k)) ps) (pattern_of k) ps
     ∙ ap (λ b. cond b (size_of ps + length k.bytes.items + 1) (size_of ps))
     (sym (absent ∙ ap (λ b. not b) (known test k ks is))))
 

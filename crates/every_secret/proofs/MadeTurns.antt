@@ -14,14 +14,14 @@ use Rattle.region_machine.proofs.RangesStayInside.{CanGoOn}
 use Rattle.replay_machine.specs.declared.outsides.Outside.{Outside}
 use Rattle.replay_machine.specs.ReplayTurns.{kind_outside_range, replay_kind_walk}
 use Rattle.replay_machine.specs.Runs.{Masks}
-use Rattle.replay_machine.proofs.MasksAhead.{ahead-self}
+use Rattle.replay_machine.proofs.MasksAhead.{ahead_self}
 use Rattle.replay_machine.proofs.ReplayEnds.{kind_inside, replay_kind_keeps}
 use Rattle.run_labels.specs.Runs.{entered_number}
 use Rattle.tracked_run.specs.declared.held.Held.{Held}
 use Rattle.tracked_run.specs.Labels.{labels_of, map_of, clean_held}
 use Rattle.lockstep_replay.specs.Tasks.{Task}
 use Rattle.every_secret.specs.declared.whys.UnclearWhy.TheVariants.{BaseSecret}
-use Rattle.every_secret.specs.Private.Ends.{lengthens-none}
+use Rattle.every_secret.specs.Private.Ends.{lengthens_none}
 use Rattle.every_secret.specs.Masked.{MaskedPlace, Reached, Goes, Meets, Halts, masked}
 use Rattle.every_secret.specs.Rules.{AnswerAs, Rules}
 use Rattle.every_secret.specs.Private.Tapes.{Arrives, EndsAt, EndsMasked, HoldsPlace, HoldsReached, Lengthens, PlaysWalk, Tape}
@@ -30,19 +30,19 @@ use Rattle.every_secret.specs.Private.Turning.{HoldsTurn, IsReady, MakesFed, Mak
 use Rattle.every_secret.specs.Turns.{cutting_of, kind_turn, knowledge_at, masked_turn, secret_base_of, skips}
 use Rattle.every_secret.specs.Turns.{turn_from, turn_inside}
 
-pub none-of : {A : Type 0} (option : Option A) → ((value : A) → option ≡ Some value → ⊥) → option ≡ None
-none-of None h = refl
-none-of (Some value) h = absurd (h value refl)
+pub none_of : {A : Type 0} (option : Option A) → ((value : A) → option ≡ Some value → ⊥) → option ≡ None
+none_of None h = refl
+none_of (Some value) h = absurd (h value refl)
 
 -- what is so at each end of a turn is so where the turn has come to
-pub at-end : (P : State → Type 0) (walk : Walk) (state : State) → AtEnds P walk → EndsAt walk state → P state
+pub at_end : (P : State → Type 0) (walk : Walk) (state : State) → AtEnds P walk → EndsAt walk state → P state
 unfolding EndsAt
-at-end P (Looked seen value walk) state h e = at-end P walk state h e
-at-end P (Passed passing go) state h e = at-end P (go e.0) state (h e.0) e.1
-at-end P (Moved place shape source value walk) state h e = at-end P walk state h e
-at-end P (Saved walk) state h e = at-end P walk state h e
-at-end P (Restored registers walk back) state h e = at-end P back state h.1 e
-at-end P (Ended end) state h e = subst P e h
+at_end P (Looked seen value walk) state h e = at_end P walk state h e
+at_end P (Passed passing go) state h e = at_end P (go e.0) state (h e.0) e.1
+at_end P (Moved place shape source value walk) state h e = at_end P walk state h e
+at_end P (Saved walk) state h e = at_end P walk state h e
+at_end P (Restored registers walk back) state h e = at_end P back state h.1 e
+at_end P (Ended end) state h e = subst P e h
 
 -- ---- a turn of a kind
 
@@ -65,7 +65,7 @@ module _ (enclosures : Enclosures) (kind : Kind) (region : ℕ) (skipped : Bool)
       EndsMasked (record { masks = MaskAt before.ahead; skipped = skipped }) region
       (knowledge_of [] (labels_of before.shades held) before) before (replay_kind_walk enclosures kind machine) state
       after
-  whatever plays = plays (MaskAt before.ahead) [] (ahead-self before.ahead)
+  whatever plays = plays (MaskAt before.ahead) [] (ahead_self before.ahead)
 
   pub kind-table : (register : Option ℕ) (range : Option Outside) → By register range → after.table ≡ before.table
   kind-table (Some register) range h = ap (λ (t : Tape). t.table) h.0
@@ -75,21 +75,21 @@ module _ (enclosures : Enclosures) (kind : Kind) (region : ℕ) (skipped : Bool)
   pub kind-longer : (register : Option ℕ) (range : Option Outside) → By register range →
       Lengthens before.stream after.stream
   kind-longer (Some register) range h =
-      subst (λ (t : Tape). Lengthens before.stream t.stream) (sym h.0) (lengthens-none before.stream)
+      subst (λ (t : Tape). Lengthens before.stream t.stream) (sym h.0) (lengthens_none before.stream)
   kind-longer None (Some range) h =
-      subst (λ (t : Tape). Lengthens before.stream t.stream) (sym h.0) (lengthens-none before.stream)
+      subst (λ (t : Tape). Lengthens before.stream t.stream) (sym h.0) (lengthens_none before.stream)
   kind-longer None None h = (whatever h.0).longer
 
-  kind-leaves : (register : Option ℕ) (range : Option Outside) → range ≡ kind_outside_range kind machine →
+  kind_leaves : (register : Option ℕ) (range : Option Outside) → range ≡ kind_outside_range kind machine →
       are_regions enclosures.regions ≡ true → may_leave enclosures.regions machine ≡ true →
       kind_of enclosures.regions machine.control ≡ kind → outside ≡ None → after.unclear ≡ None →
       By register range → may_leave enclosures.regions state ≡ true
-  kind-leaves (Some register) range e rules leaves is none clear h =
+  kind_leaves (Some register) range e rules leaves is none clear h =
       let met : after.unclear ≡ Some (BaseSecret (entered_number kind) register) = ap (λ (t : Tape). t.unclear) h.0 in
       absurd (cc)
-  kind-leaves None (Some range) e rules leaves is none clear h = let told = h.2 in absurd (cc)
-  kind-leaves None None e rules leaves is none clear h =
-      at-end (CanGoOn enclosures.regions) (replay_kind_walk enclosures kind machine) state
+  kind_leaves None (Some range) e rules leaves is none clear h = let told = h.2 in absurd (cc)
+  kind_leaves None None e rules leaves is none clear h =
+      at_end (CanGoOn enclosures.regions) (replay_kind_walk enclosures kind machine) state
       (replay_kind_keeps enclosures kind machine rules leaves is (kind_inside kind machine (sym e))) (whatever h.0).ends
 
   pub kind-ready : are_regions enclosures.regions ≡ true → kind_of enclosures.regions machine.control ≡ kind →
@@ -98,7 +98,7 @@ module _ (enclosures : Enclosures) (kind : Kind) (region : ℕ) (skipped : Bool)
       IsReady enclosures.regions state after
   kind-ready rules is ready base none clear h = record {
     base = base;
-    leaves = kind-leaves (secret_base_of kind (map_of before.shades)) (kind_outside_range kind machine) refl rules
+    leaves = kind_leaves (secret_base_of kind (map_of before.shades)) (kind_outside_range kind machine) refl rules
         ready.leaves is none clear h;
     clear = clear;
   }
@@ -116,9 +116,9 @@ placed machine past tape = record {
   status_mask = tape.status_mask;
 }
 
-pub place-is : (masks : Masks) (place : MaskedPlace) (machine : State) (tape : Tape) → HoldsPlace masks place machine tape →
+pub place_is : (masks : Masks) (place : MaskedPlace) (machine : State) (tape : Tape) → HoldsPlace masks place machine tape →
     placed machine place.past tape ≡ place
-place-is masks place machine tape h = λ i. record {
+place_is masks place machine tape h = λ i. record {
   state = sym h.state_is i;
   past = place.past;
   labels = h.labels i;
@@ -172,7 +172,7 @@ module _ (rules : Rules) (task : Task) (kind : Kind) (machine : State) (past : L
         held = held-turn arrives.reached arrives.held h.1;
       }
 
-pub turn-makes : (rules : Rules) (task : Task) (place : MaskedPlace) (machine : State) (before : Tape)
+pub turn_makes : (rules : Rules) (task : Task) (place : MaskedPlace) (machine : State) (before : Tape)
     (outside : Option Outside) (state : State) (after : Tape) (enclosures : Enclosures) (kind : Kind) (region : ℕ)
     (skipped : Bool) (held : Held) → AnswerAs before.table rules → task.enclosures ≡ enclosures →
     HoldsPlace task.masks place machine before → kind ≡ kind_of enclosures.regions machine.control →
@@ -180,7 +180,7 @@ pub turn-makes : (rules : Rules) (task : Task) (place : MaskedPlace) (machine : 
     MakesKind enclosures kind region skipped held machine before outside state after →
     MakesFed task.masks (masked_turn rules task place) before.stream outside state after
 unfolding turn_as
-turn-makes rules task place machine before outside state after enclosures kind region skipped held answers same at is
+turn_makes rules task place machine before outside state after enclosures kind region skipped held answers same at is
     region_is skipped_is held_is made =
     let regular : MakesKind task.enclosures kind (entered_number kind) (skips task.enclosures kind) clean_held machine before
     outside state after =
@@ -200,7 +200,7 @@ turn-makes rules task place machine before outside state after enclosures kind r
       clear = at.clear;
     } in
     subst (λ p. MakesFed task.masks (masked_turn rules task p) before.stream outside state after)
-    (place-is task.masks place machine before at)
+    (place_is task.masks place machine before at)
     (subst (λ k. MakesFed task.masks (kind_turn rules task k (placed machine place.past before)) before.stream outside state
     after) (is ∙ ap (λ (e : Enclosures). kind_of e.regions machine.control) (sym same))
     (makes-by rules task kind machine place.past before outside state after at.clear

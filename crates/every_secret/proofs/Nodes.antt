@@ -28,7 +28,7 @@ use Rattle.every_secret.specs.Private.Tapes.{Arrives, EndsAt, EndsMasked, Length
 use Rattle.every_secret.specs.Private.Tapes.{knowledge_of}
 use Rattle.every_secret.specs.Private.Visited.{IsVisited}
 use Rattle.every_secret.specs.Visits.{Knowledge, differing_at, known_after, left_of_mask}
-use Rattle.every_secret.proofs.Strings.{feeds-taken, lengthens-more}
+use Rattle.every_secret.proofs.Strings.{feeds_taken, lengthens_more}
 
 -- ---- nothing more is told once something is met
 
@@ -57,21 +57,21 @@ module _ (cutting : Cutting) (region : ℕ) (known later : Knowledge) (tape : Ta
   over-looked seen value walk (Finished state after) h = over walk (Looked seen value walk) state after (λ e. e) h
   over-looked seen value walk (Halted stop) h = tt
 
-  pub over-passed : (passing : Passing) (value : ℕ) (go : ℕ → Walk) (out : Played NoMemory Tape) →
+  pub over_passed : (passing : Passing) (value : ℕ) (go : ℕ → Walk) (out : Played NoMemory Tape) →
       PlaysMasked cutting region later tape (go value) out → PlaysMasked cutting region known tape (Passed passing go) out
   unfolding EndsAt
-  over-passed passing value go (Finished state after) h =
+  over_passed passing value go (Finished state after) h =
       over (go value) (Passed passing go) state after (λ e. (value, e)) h
-  over-passed passing value go (Halted stop) h = tt
+  over_passed passing value go (Halted stop) h = tt
 
 -- ---- the nodes
 
 -- what is fed to an asker that is over at once stays
-met-arrives : (masks : Masks) (why : UnclearWhy) (asker : Asker Reached) (before : Stream) (mid : Tape) (state : State)
+met_arrives : (masks : Masks) (why : UnclearWhy) (asker : Asker Reached) (before : Stream) (mid : Tape) (state : State)
     (after : Tape) →
     feed asker (drop before.taken after.stream.bits) ≡ Fed' (Meets why) (drop mid.stream.taken after.stream.bits) →
     Rests why mid after → Arrives masks asker before state after
-met-arrives masks why asker before mid state after feeds rests = record {
+met_arrives masks why asker before mid state after feeds rests = record {
   reached = Meets why;
   feeds = feeds ∙ ap (λ (s : Stream). Fed' (Meets why) (drop s.taken after.stream.bits)) (sym rests.stream);
   held = rests.unclear;
@@ -108,7 +108,7 @@ module _ (cutting : Cutting) (region : ℕ) (past : List Point) (old : TurnLabel
     held = h.held;
   }
   looked-arrives rules seen value walk state after (Some why) is h =
-      met-arrives cutting.masks why (masked rules cutting region known (Looked seen value walk)) before.stream
+      met_arrives cutting.masks why (masked rules cutting region known (Looked seen value walk)) before.stream
       (record before { unclear = Some why }) state after
       (ap (λ w. feed (unless_met w (masked rules cutting region known walk))
       (drop before.stream.taken after.stream.bits)) (sym is))
@@ -148,7 +148,7 @@ module _ (cutting : Cutting) (region : ℕ) (past : List Point) (old : TurnLabel
           let decides = unclear_by_left (left_at passing.aim passing.point (left_of_mask rules cutting known passing)) in
           let then_known = known_after rules cutting known passing in
           let left = drop mid.stream.taken after.stream.bits in
-          feeds-taken (asked_for (shown_at passing.point.slot) differing)
+          feeds_taken (asked_for (shown_at passing.point.slot) differing)
           (λ bits. unless_met decides (masked rules cutting region then_known (go (patched passing.value differing bits))))
           before.stream mid.stream after.stream visited.takes longer
           ∙ (ap (λ v. feed (unless_met decides (masked rules cutting region then_known (go v))) left)
@@ -163,7 +163,7 @@ module _ (cutting : Cutting) (region : ℕ) (past : List Point) (old : TurnLabel
           Arrives cutting.masks (masked rules cutting region known (Passed passing go)) before.stream state after
       by_met None is told = record { reached = told.reached; feeds = goes None is ∙ told.feeds; held = told.held }
       by_met (Some why) is told =
-          met-arrives cutting.masks why (masked rules cutting region known (Passed passing go)) before.stream mid state
+          met_arrives cutting.masks why (masked rules cutting region known (Passed passing go)) before.stream mid state
           after (goes (Some why) is) told
 
   pub masks-passed : (passing : Passing) (go : ℕ → Walk) (value : ℕ) (new : TurnLabels) (mid : Tape)
@@ -175,7 +175,7 @@ module _ (cutting : Cutting) (region : ℕ) (past : List Point) (old : TurnLabel
   masks-passed passing go value new mid (Finished state after) table longer visited h = record {
     ends = (value, h.ends);
     table = h.table ∙ table;
-    longer = lengthens-more before.stream mid.stream after.stream longer h.longer;
+    longer = lengthens_more before.stream mid.stream after.stream longer h.longer;
     tells = λ rules answers. from-clear (masked rules cutting region known (Passed passing go)) state after
         (visited-arrives rules passing go value new mid state after mid.unclear refl (visited rules answers) h.longer
         (h.tells rules (subst (λ t. AnswerAs t rules) (sym table) answers)));

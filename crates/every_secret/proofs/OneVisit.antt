@@ -22,10 +22,10 @@ use Rattle.every_secret.specs.Private.Visited.{IsVisited}
 use Rattle.every_secret.specs.Visits.{Knowledge, differing_at, known_after, left_of_mask}
 
 -- what goes on keeps the width of its slot
-pub put-width : (passing : Passing) (mask crossing value : ℕ) (bits : _) → passing.value ≤ width_of passing.point.slot →
+pub put_width : (passing : Passing) (mask crossing value : ℕ) (bits : _) → passing.value ≤ width_of passing.point.slot →
     crossing ≤ width_of passing.point.slot → value ≡ patched passing.value (bit_and mask crossing) bits →
     value ≤ width_of passing.point.slot
-put-width passing mask crossing value bits fits small is =
+put_width passing mask crossing value bits fits small is =
     let less : bit_and mask crossing ≤ crossing = and_le_r mask crossing in
     subst (λ v. v ≤ width_of passing.point.slot) (sym is)
     (patched_width passing.point.slot passing.value (bit_and mask crossing) bits fits (omega (arith, less, small)))

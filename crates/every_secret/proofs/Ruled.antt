@@ -12,18 +12,18 @@ use Rattle.tracked_run.specs.declared.source_masks.SourceMasks.{SourceMasks}
 use Rattle.tracked_run.specs.Labels.{AreMasks, masks_in_order}
 use Rattle.every_secret.specs.Rules.{AnswerAs, Rules, answer_to}
 
-shaped-same : (shape : Shape) (masks : SourceMasks) (list : List ℕ) → AreMasks masks list →
+shaped_same : (shape : Shape) (masks : SourceMasks) (list : List ℕ) → AreMasks masks list →
     shaped shape (masks_in_order masks) ≡ shaped shape list
-shaped-same Copied masks list are = are.first
-shaped-same (Extended kind) masks list are = ap (λ word. extended kind word) are.all
-shaped-same (Part part) masks list are = ap (λ word. part_of part word) are.first
+shaped_same Copied masks list are = are.first
+shaped_same (Extended kind) masks list are = ap (λ word. extended kind word) are.all
+shaped_same (Part part) masks list are = ap (λ word. part_of part word) are.first
 
-pub work-ruled : (table : ℕ) (rules : Rules) → AnswerAs table rules → (work : Work) (masks : SourceMasks)
+pub work_ruled : (table : ℕ) (rules : Rules) → AnswerAs table rules → (work : Work) (masks : SourceMasks)
     (list : List ℕ) → AreMasks masks list → (answer : ℕ) →
     HoldsOfAnswer (IsTableAnswer table) work (masks_in_order masks) answer →
     work_mask work (masks_in_order masks) answer ≡ work_mask work list (answer_to rules work list)
-work-ruled table rules as' (Shaped shape) masks list are answer holds = shaped-same shape masks list are
-work-ruled table rules as' (Computed operation first second) masks list are answer holds =
+work_ruled table rules as' (Shaped shape) masks list are answer holds = shaped_same shape masks list are
+work_ruled table rules as' (Computed operation first second) masks list are answer holds =
     ap (λ a. answered_mask operation a)
     (as' operation (operands_of first second (masks_in_order masks)) answer holds
     ∙ ap₂ (λ m n. rules operation (record { v1 = first; m1 = m; v2 = second; m2 = n })) are.first are.second)

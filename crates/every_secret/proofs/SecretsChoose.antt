@@ -19,7 +19,7 @@ use Rattle.region_machine.specs.Guests.{kind_walk}
 use Rattle.region_machine.specs.Enclosures.{Kind, Enters, Leaves, Steps, is_enclosed_kind, kind_of}
 use Rattle.region_machine.specs.Runs.{Place, common_turns, has_exited, Real}
 use Rattle.region_machine.proofs.NoExitInside.{enclosed_runs_on}
-use Rattle.region_machine.proofs.RangesStayInside.{entered-found, numbered}
+use Rattle.region_machine.proofs.RangesStayInside.{entered_found, numbered}
 use Rattle.replay_machine.specs.Runs.{Replay, replay_fresh}
 use Rattle.lockstep_replay.specs.Crossing.{cross_after}
 use Rattle.lockstep_replay.specs.Tasks.{Limits, Task, real_of, real_start, replay_start, task_of}
@@ -146,14 +146,14 @@ module _ (rules : Rules) (sound : AreSoundRules rules) (task : Task) (limits : L
           is_listed task.enclosures.skip region.id ≡ t → ModeAt (suc turns)
       enters region e false unskipped =
           let found = numbered regions (λ another. another.enter == here.pc) region listed
-          (entered-found here.mode regions here region e) in
+          (entered_found here.mode regions here region e) in
           common (Enters region) e unskipped
           (entry_walks rules sound task setting secret other bytes others public_bytes small_start small proper run.control
           run.output run.written run.labels run.real run.copy run.past run.crossed run.masks run.mask region run.agree e
           unskipped found (unbroken (Enters region) e) run.stands)
       enters region e true skipped =
           let found = numbered regions (λ another. another.enter == here.pc) region listed
-          (entered-found here.mode regions here region e) in
+          (entered_found here.mode regions here region e) in
           let out = enters_outside here.mode regions here region e in
           goes_in region e skipped
           (skip_begins rules sound task setting secret other bytes others public_bytes small_start small proper

@@ -14,40 +14,40 @@ use Rattle.every_secret.specs.declared.bounding.Step.TheVariants.{Answered, Goes
 use Rattle.every_secret.specs.Paths.{Path, Paths, Tree, next_string, tree_of}
 use Rattle.every_secret.specs.Private.Stepping.{EndsPath, Steps, StepsAfter, judged_from, left_after}
 use Rattle.every_secret.specs.Private.Tapes.{Lengthens}
-use Rattle.every_secret.proofs.Trees.{fed-descends, first-later, next-path, no-later, opens-none, walked-first}
+use Rattle.every_secret.proofs.Trees.{fed_descends, first_later, next_path, no_later, opens_none, walked_first}
 
 -- ---- after a path
 
-unless-none : (many : Bool) (limit : ℕ) (bits : List Bool) (later : Answer) →
+unless_none : (many : Bool) (limit : ℕ) (bits : List Bool) (later : Answer) →
     unless_many many limit bits [] later ≡ later
-unless-none true limit bits later = refl
-unless-none false limit bits later = refl
+unless_none true limit bits later = refl
+unless_none false limit bits later = refl
 
 -- it is the last
-pub ends-all : (limit : ℕ) (found : Found) (tree : Tree) (bits : List Bool) (ends : PathEnd) →
+pub ends_all : (limit : ℕ) (found : Found) (tree : Tree) (bits : List Bool) (ends : PathEnd) →
     EndsPath tree bits ends → next_string bits ≡ None → left_after limit found tree bits ends ≡ IsBounded found
 unfolding judged
-ends-all limit found tree bits ends path none =
+ends_all limit found tree bits ends path none =
     ap (λ (ps : List Path). unless_many (found.paths == limit) limit bits ps (judged limit found ps))
-    (no-later tree bits ends path none)
-    ∙ unless-none (found.paths == limit) limit bits (IsBounded found)
+    (no_later tree bits ends path none)
+    ∙ unless_none (found.paths == limit) limit bits (IsBounded found)
 
 -- another is left, and no more may be walked
-pub ends-many : (limit : ℕ) (found : Found) (tree : Tree) (bits next : List Bool) (ends : PathEnd) →
+pub ends_many : (limit : ℕ) (found : Found) (tree : Tree) (bits next : List Bool) (ends : PathEnd) →
     EndsPath tree bits ends → next_string bits ≡ Some next → (found.paths == limit) ≡ true →
     left_after limit found tree bits ends ≡ IsUnclear bits (PathsLimit limit)
-ends-many limit found tree bits next ends path is many =
-    let follows = next-path tree bits next ends path is in
+ends_many limit found tree bits next ends path is many =
+    let follows = next_path tree bits next ends path is in
     ap (λ (ps : List Path). unless_many (found.paths == limit) limit bits ps (judged limit found ps)) follows.later_is
     ∙ ap (λ t. unless_many t limit bits (first_from tree next ∷ later tree (first_from tree next).bits)
     (judged_from limit found tree next)) many
 
 -- another is left
-pub goes-next : (limit : ℕ) (found : Found) (tree : Tree) (bits next : List Bool) (ends : PathEnd) →
+pub goes_next : (limit : ℕ) (found : Found) (tree : Tree) (bits next : List Bool) (ends : PathEnd) →
     EndsPath tree bits ends → next_string bits ≡ Some next → (found.paths == limit) ≡ false →
     (left_after limit found tree bits ends ≡ judged_from limit found tree next) × Opens tree next
-goes-next limit found tree bits next ends path is few =
-    let follows = next-path tree bits next ends path is in (
+goes_next limit found tree bits next ends path is few =
+    let follows = next_path tree bits next ends path is in (
       ap (λ (ps : List Path). unless_many (found.paths == limit) limit bits ps (judged limit found ps)) follows.later_is
           ∙ ap (λ t. unless_many t limit bits (first_from tree next ∷ later tree (first_from tree next).bits)
           (judged_from limit found tree next)) few,
@@ -63,17 +63,17 @@ pub record IsWalked (limit : ℕ) (found : Found) (tree : Tree) (bits : List Boo
       ≡ after_end limit ends (record { bits = path; ends = ends }) (later tree path) found
       (λ next. judged limit next (later tree path))
 
-pub is-walked : (limit : ℕ) (found : Found) (asker : Asker PathEnd) (bits path : Stream) (ends : PathEnd) →
+pub is_walked : (limit : ℕ) (found : Found) (asker : Asker PathEnd) (bits path : Stream) (ends : PathEnd) →
     Lengthens bits path → feed asker path.bits ≡ Fed' ends (left_of path) → Opens (tree_of asker) bits.bits →
     IsWalked limit found (tree_of asker) bits.bits path.bits ends
 unfolding judged
-is-walked limit found asker bits path ends longer fed opens =
+is_walked limit found asker bits path ends longer fed opens =
     let tree = tree_of asker in
     let come : Come = record { ends = ends; rest = left_of path } in
-    let here : descend tree path.bits ≡ Some come = fed-descends asker path.bits ends (left_of path) fed in
+    let here : descend tree path.bits ≡ Some come = fed_descends asker path.bits ends (left_of path) fed in
     let there : descend tree (bits.bits ++ replicate longer.count false) ≡ Some come =
     subst (λ s. descend tree s ≡ Some come) longer.bits here in
-    let first = walked-first tree bits.bits longer.count come opens there
+    let first = walked_first tree bits.bits longer.count come opens there
     (λ some. let full = longer.whole some in drop_of_length-le path.bits (omega (arith, full))) in
     let same : first_from tree bits.bits ≡ record { bits = path.bits; ends = ends } =
     first.first ∙ ap (λ s. record { bits = s; ends = ends }) (sym longer.bits) in record {
@@ -82,22 +82,22 @@ is-walked limit found asker bits path ends longer fed opens =
     }
 
 -- the walk of a path, and what is after it
-pub steps-join : (step : Step) (limit : ℕ) (found next : Found) (tree : Tree) (bits path : List Bool)
+pub steps_join : (step : Step) (limit : ℕ) (found next : Found) (tree : Tree) (bits path : List Bool)
     (ends : PathEnd) → judged_from limit found tree bits ≡ left_after limit next tree path ends →
     StepsAfter step limit next tree path ends → Steps step limit found tree bits
-steps-join (Answered verdict) limit found next tree bits path ends e h = e ∙ h
-steps-join (Goes more memory string) limit found next tree bits path ends e h = (e ∙ h.0, h.1)
+steps_join (Answered verdict) limit found next tree bits path ends e h = e ∙ h
+steps_join (Goes more memory string) limit found next tree bits path ends e h = (e ∙ h.0, h.1)
 
 -- the first path begins with the empty string
-pub begins-all : (limit : ℕ) (asker : Asker PathEnd) (found : Found) (bits : List Bool) → found ≡ nothing_found →
+pub begins_all : (limit : ℕ) (asker : Asker PathEnd) (found : Found) (bits : List Bool) → found ≡ nothing_found →
     bits ≡ [] →
     (judged limit nothing_found (Paths asker) ≡ judged_from limit found (tree_of asker) bits)
     × Opens (tree_of asker) bits
-begins-all limit asker found bits none empty =
+begins_all limit asker found bits none empty =
     subst (λ f. (judged limit nothing_found (Paths asker) ≡ judged_from limit f (tree_of asker) bits)
     × Opens (tree_of asker) bits) (sym none)
     (subst (λ s. (judged limit nothing_found (Paths asker) ≡ judged_from limit nothing_found (tree_of asker) s)
     × Opens (tree_of asker) s) (sym empty) (
-      ap (λ ps. judged limit nothing_found ps) (first-later (tree_of asker)),
-      opens-none (tree_of asker),
+      ap (λ ps. judged limit nothing_found ps) (first_later (tree_of asker)),
+      opens_none (tree_of asker),
     ))

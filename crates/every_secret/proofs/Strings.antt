@@ -8,7 +8,7 @@ use Rattle.flow_base.specs.Words.{bit_count, bits_below, bits_under, count_below
 use Rattle.crossing_bits.specs.Askers.{Asker, Asks, feed}
 use Rattle.crossing_bits.proofs.Feeding.{feed_enough}
 use Rattle.crossing_bits.specs.Streams.{Stream}
-use Rattle.every_secret.specs.Private.Ends.{lengthens-none}
+use Rattle.every_secret.specs.Private.Ends.{lengthens_none}
 use Rattle.every_secret.specs.Private.Tapes.{Lengthens, Takes}
 
 -- the beginning of what is left is not changed by what comes after it
@@ -31,9 +31,9 @@ length_drop_enough n t xs h =
     let long : length (drop t xs) ≡ length xs - t = length-drop t xs in omega (arith, h, long)
 
 -- two growths after one another
-pub lengthens-more : (first second third : Stream) → Lengthens first second → Lengthens second third →
+pub lengthens_more : (first second third : Stream) → Lengthens first second → Lengthens second third →
     Lengthens first third
-lengthens-more first second third one two = record {
+lengthens_more first second third one two = record {
   count = one.count + two.count;
   bits = two.bits ∙ (ap (λ s. s ++ replicate two.count false) one.bits
       ∙ (append_assoc first.bits (replicate one.count false) (replicate two.count false)
@@ -55,11 +55,11 @@ lengthens-more first second third one two = record {
         omega (arith, full, at_most, at_least, as_long)
 
 -- an asker takes its bits of a string that grows later
-pub feeds-taken : {A : Type 0} (count : ℕ) (go : List Bool → Asker A) (before mid after : Stream) →
+pub feeds_taken : {A : Type 0} (count : ℕ) (go : List Bool → Asker A) (before mid after : Stream) →
     Takes count before mid → Lengthens mid after →
     feed (Asks count go) (drop before.taken after.bits)
     ≡ feed (go (take count (drop before.taken mid.bits))) (drop mid.taken after.bits)
-feeds-taken count go before mid after takes longer =
+feeds_taken count go before mid after takes longer =
     let grown : length after.bits ≡ length mid.bits + length (replicate longer.count false) =
     ap (λ s. length s) longer.bits ∙ length-append mid.bits (replicate longer.count false) in
     let fits = takes.enough in
@@ -75,10 +75,10 @@ feeds-taken count go before mid after takes longer =
     ∙ ap (λ s. feed (go (take count (drop before.taken mid.bits))) s) rest)
 
 -- nothing is taken
-pub takes-none : (count : ℕ) (stream : Stream) → count ≡ 0 → stream.taken ≤ length stream.bits →
+pub takes_none : (count : ℕ) (stream : Stream) → count ≡ 0 → stream.taken ≤ length stream.bits →
     Takes count stream stream
-takes-none count stream none within =
-    record { longer = lengthens-none stream; enough = omega (arith, none, within); taken = omega (arith, none) }
+takes_none count stream none within =
+    record { longer = lengthens_none stream; enough = omega (arith, none, within); taken = omega (arith, none) }
 
 -- one bit of 0
 pub count_one : bit_count 1 ≡ 1

@@ -11,29 +11,29 @@ use Rattle.every_secret.specs.declared.path_ends.PathEnd.{PathEnd}
 use Rattle.every_secret.specs.Private.Orders.{Come, Opens, descend, first_from, later}
 use Rattle.every_secret.specs.Paths.{Fork, Leaf, Tree, behind, forks, next_or, next_string, paths_of, tree_of}
 
-pub opens-none : (tree : Tree) → Opens tree []
-opens-none (Leaf e) = tt
-opens-none (Fork first second) = tt
+pub opens_none : (tree : Tree) → Opens tree []
+opens_none (Leaf e) = tt
+opens_none (Fork first second) = tt
 
 -- ---- one path after another
 
-pub first-later : (tree : Tree) → paths_of tree ≡ first_from tree [] ∷ later tree (first_from tree []).bits
+pub first_later : (tree : Tree) → paths_of tree ≡ first_from tree [] ∷ later tree (first_from tree []).bits
 unfolding paths_of
-first-later (Leaf e) = refl
-first-later (Fork first second) =
-    ap (λ ps. map (behind false) ps ++ map (behind true) (paths_of second)) (first-later first)
+first_later (Leaf e) = refl
+first_later (Fork first second) =
+    ap (λ ps. map (behind false) ps ++ map (behind true) (paths_of second)) (first_later first)
 
-last-path : (tree : Tree) (bits : List Bool) (e : PathEnd) → descend tree bits ≡ Some (record { ends = e; rest = [] }) →
+last_path : (tree : Tree) (bits : List Bool) (e : PathEnd) → descend tree bits ≡ Some (record { ends = e; rest = [] }) →
     next_string bits ≡ None → later tree bits ≡ []
-last-path (Leaf x) bits e comes none = refl
-last-path (Fork first second) [] e comes none = refl
-last-path (Fork first second) (false ∷ bits) e comes none = by (next_string bits) none
+last_path (Leaf x) bits e comes none = refl
+last_path (Fork first second) [] e comes none = refl
+last_path (Fork first second) (false ∷ bits) e comes none = by (next_string bits) none
   where
     by : (next : Option (List Bool)) → next_or false next ≡ None → later (Fork first second) (false ∷ bits) ≡ []
     by None h = absurd (cc)
     by (Some next) h = absurd (cc)
-last-path (Fork first second) (true ∷ bits) e comes none =
-    by (next_string bits) refl none (λ is. last-path second bits e comes is)
+last_path (Fork first second) (true ∷ bits) e comes none =
+    by (next_string bits) refl none (λ is. last_path second bits e comes is)
   where
     by : (next : Option (List Bool)) → next_string bits ≡ next → next_or true next ≡ None →
         (next_string bits ≡ None → later second bits ≡ []) → later (Fork first second) (true ∷ bits) ≡ []
@@ -45,22 +45,22 @@ pub record Follows (tree : Tree) (bits next : List Bool) : Type 0 where
   pub opens : Opens tree next
   pub later_is : later tree bits ≡ first_from tree next ∷ later tree (first_from tree next).bits
 
-pub no-later : (tree : Tree) (bits : List Bool) (e : PathEnd) →
+pub no_later : (tree : Tree) (bits : List Bool) (e : PathEnd) →
     descend tree bits ≡ Some (record { ends = e; rest = [] }) → next_string bits ≡ None → later tree bits ≡ []
-no-later tree bits e comes none = last-path tree bits e comes none
+no_later tree bits e comes none = last_path tree bits e comes none
 
-pub next-path : (tree : Tree) (bits next : List Bool) (e : PathEnd) →
+pub next_path : (tree : Tree) (bits next : List Bool) (e : PathEnd) →
     descend tree bits ≡ Some (record { ends = e; rest = [] }) → next_string bits ≡ Some next → Follows tree bits next
-next-path (Leaf x) [] next e comes is = absurd (cc)
-next-path (Leaf x) (bit ∷ bits) next e comes is =
+next_path (Leaf x) [] next e comes is = absurd (cc)
+next_path (Leaf x) (bit ∷ bits) next e comes is =
     let one : Come = record { ends = x; rest = bit ∷ bits } in
     let two : Come = record { ends = e; rest = [] } in
     let left : one ≡ two = cc in
     let rest : bit ∷ bits ≡ [] = ap (λ (c : Come). c.rest) left in
     absurd (cc)
-next-path (Fork first second) [] next e comes is = absurd (cc)
-next-path (Fork first second) (false ∷ bits) next e comes is =
-    by (next_string bits) refl is (λ more at. next-path first bits more e comes at)
+next_path (Fork first second) [] next e comes is = absurd (cc)
+next_path (Fork first second) (false ∷ bits) next e comes is =
+    by (next_string bits) refl is (λ more at. next_path first bits more e comes at)
   where
     by : (found : Option (List Bool)) → next_string bits ≡ found → next_or false found ≡ Some next →
         ((more : List Bool) → next_string bits ≡ Some more → Follows first bits more) →
@@ -75,13 +75,13 @@ next-path (Fork first second) (false ∷ bits) next e comes is =
     by None at h goes =
         let same : true ∷ [] ≡ next = cc in
         subst (λ n. Follows (Fork first second) (false ∷ bits) n) same (record {
-          opens = opens-none second;
+          opens = opens_none second;
           later_is = ap (λ ps. map (behind false) ps ++ map (behind true) (paths_of second))
-              (last-path first bits e comes at)
-              ∙ ap (λ ps. map (behind true) ps) (first-later second);
+              (last_path first bits e comes at)
+              ∙ ap (λ ps. map (behind true) ps) (first_later second);
         })
-next-path (Fork first second) (true ∷ bits) next e comes is =
-    by (next_string bits) refl is (λ more at. next-path second bits more e comes at)
+next_path (Fork first second) (true ∷ bits) next e comes is =
+    by (next_string bits) refl is (λ more at. next_path second bits more e comes at)
   where
     by : (found : Option (List Bool)) → next_string bits ≡ found → next_or true found ≡ Some next →
         ((more : List Bool) → next_string bits ≡ Some more → Follows second bits more) →
@@ -97,38 +97,38 @@ next-path (Fork first second) (true ∷ bits) next e comes is =
 
 -- ---- the next string, by its last bit
 
-pub next-of-zero : (bits : List Bool) → next_string (bits ++ false ∷ []) ≡ Some (bits ++ true ∷ [])
-next-of-zero [] = refl
-next-of-zero (bit ∷ bits) = ap (λ next. next_or bit next) (next-of-zero bits)
+pub next_of_zero : (bits : List Bool) → next_string (bits ++ false ∷ []) ≡ Some (bits ++ true ∷ [])
+next_of_zero [] = refl
+next_of_zero (bit ∷ bits) = ap (λ next. next_or bit next) (next_of_zero bits)
 
-pub next-of-one : (bits : List Bool) → next_string (bits ++ true ∷ []) ≡ next_string bits
-next-of-one [] = refl
-next-of-one (bit ∷ bits) = ap (λ next. next_or bit next) (next-of-one bits)
+pub next_of_one : (bits : List Bool) → next_string (bits ++ true ∷ []) ≡ next_string bits
+next_of_one [] = refl
+next_of_one (bit ∷ bits) = ap (λ next. next_or bit next) (next_of_one bits)
 
 -- the last 0 so far, with one bit more
-pub zero-step : (bits : List Bool) (place : ℕ) (last : Option ℕ) → place < length bits →
+pub zero_step : (bits : List Bool) (place : ℕ) (last : Option ℕ) → place < length bits →
     option_map (λ p. take p bits ++ true ∷ []) last ≡ next_string (take place bits) → (bit : Bool) →
     get_or bits place false ≡ bit →
     option_map (λ p. take p bits ++ true ∷ []) (if bit then last else Some place) ≡ next_string (take (place + 1) bits)
-zero-step bits place last below h bit is =
+zero_step bits place last below h bit is =
     by bit (ap (λ n. take n bits) (add-one place) ∙ (take-suc bits place false below ∙ ap (λ b. take place bits ++ b ∷ []) is))
   where
     by : (b : Bool) → take (place + 1) bits ≡ take place bits ++ b ∷ [] →
         option_map (λ p. take p bits ++ true ∷ []) (if b then last else Some place) ≡ next_string (take (place + 1) bits)
-    by true e = h ∙ sym (ap (λ s. next_string s) e ∙ next-of-one (take place bits))
-    by false e = sym (ap (λ s. next_string s) e ∙ next-of-zero (take place bits))
+    by true e = h ∙ sym (ap (λ s. next_string s) e ∙ next_of_one (take place bits))
+    by false e = sym (ap (λ s. next_string s) e ∙ next_of_zero (take place bits))
 
-pub zero-within : (last : Option ℕ) (place : ℕ) (bit : Bool) → IfSome last (λ p. p < place) →
+pub zero_within : (last : Option ℕ) (place : ℕ) (bit : Bool) → IfSome last (λ p. p < place) →
     IfSome (if bit then last else Some place) (λ p. p < place + 1)
-zero-within None place true h = tt
-zero-within (Some p) place true h = omega (arith, h)
-zero-within last place false h = omega arith
+zero_within None place true h = tt
+zero_within (Some p) place true h = omega (arith, h)
+zero_within last place false h = omega arith
 
 -- a bit as the lowest of a number
-pub bit-under : (bit : Bool) → bits_under (number_of_bit bit) 1 ≡ bit ∷ []
+pub bit_under : (bit : Bool) → bits_under (number_of_bit bit) 1 ≡ bit ∷ []
 unfolding bits_below
-bit-under true = refl
-bit-under false = refl
+bit_under true = refl
+bit_under false = refl
 
 -- ---- a walk of a string that goes on with zeros
 
@@ -137,55 +137,55 @@ pub record IsFirst (tree : Tree) (bits : List Bool) (count : ℕ) (come : Come) 
   pub used : come.rest ≡ []
   pub first : first_from tree bits ≡ record { bits = bits ++ replicate count false; ends = come.ends }
 
-leaf-first : (x : PathEnd) (count : ℕ) (come : Come) →
+leaf_first : (x : PathEnd) (count : ℕ) (come : Come) →
     Some (record { ends = x; rest = replicate count false }) ≡ Some come → (0 < count → come.rest ≡ []) →
     IsFirst (Leaf x) [] count come
-leaf-first x zero come comes whole =
+leaf_first x zero come comes whole =
     let same : (record { ends = x; rest = [] }) ≡ come = cc in
     subst (λ c. IsFirst (Leaf x) [] zero c) same (record { used = refl; first = refl })
-leaf-first x (suc count) come comes whole =
+leaf_first x (suc count) come comes whole =
     let same : (record { ends = x; rest = false ∷ replicate count false }) ≡ come = cc in
     let rest : false ∷ replicate count false ≡ [] = ap (λ (c : Come). c.rest) same ∙ whole (omega arith) in
     absurd (cc)
 
-pub walked-first : (tree : Tree) (bits : List Bool) (count : ℕ) (come : Come) → Opens tree bits →
+pub walked_first : (tree : Tree) (bits : List Bool) (count : ℕ) (come : Come) → Opens tree bits →
     descend tree (bits ++ replicate count false) ≡ Some come → (0 < count → come.rest ≡ []) →
     IsFirst tree bits count come
-walked-first (Leaf x) [] count come opens comes whole = leaf-first x count come comes whole
-walked-first (Leaf x) (bit ∷ bits) count come opens comes whole = absurd opens
-walked-first (Fork first second) [] zero come opens comes whole = absurd (cc)
-walked-first (Fork first second) [] (suc count) come opens comes whole =
-    let inner = walked-first first [] count come (opens-none first) comes (λ some. whole (omega arith)) in
+walked_first (Leaf x) [] count come opens comes whole = leaf_first x count come comes whole
+walked_first (Leaf x) (bit ∷ bits) count come opens comes whole = absurd opens
+walked_first (Fork first second) [] zero come opens comes whole = absurd (cc)
+walked_first (Fork first second) [] (suc count) come opens comes whole =
+    let inner = walked_first first [] count come (opens_none first) comes (λ some. whole (omega arith)) in
     record { used = inner.used; first = ap (λ p. behind false p) inner.first }
-walked-first (Fork first second) (false ∷ bits) count come opens comes whole =
-    let inner = walked-first first bits count come opens comes whole in
+walked_first (Fork first second) (false ∷ bits) count come opens comes whole =
+    let inner = walked_first first bits count come opens comes whole in
     record { used = inner.used; first = ap (λ p. behind false p) inner.first }
-walked-first (Fork first second) (true ∷ bits) count come opens comes whole =
-    let inner = walked-first second bits count come opens comes whole in
+walked_first (Fork first second) (true ∷ bits) count come opens comes whole =
+    let inner = walked_first second bits count come opens comes whole in
     record { used = inner.used; first = ap (λ p. behind true p) inner.first }
 
 -- ---- the tree of an asker
 
-forks-descend : (count : ℕ) (next : List Bool → Tree) (bits : List Bool) → count ≤ length bits →
+forks_descend : (count : ℕ) (next : List Bool → Tree) (bits : List Bool) → count ≤ length bits →
     descend (forks count next) bits ≡ descend (next (take count bits)) (drop count bits)
-forks-descend zero next bits enough = refl
-forks-descend (suc count) next [] enough = absurd (omega (arith, enough))
-forks-descend (suc count) next (false ∷ bits) enough =
-    forks-descend count (λ more. next (false ∷ more)) bits (omega (arith, enough))
-forks-descend (suc count) next (true ∷ bits) enough =
-    forks-descend count (λ more. next (true ∷ more)) bits (omega (arith, enough))
+forks_descend zero next bits enough = refl
+forks_descend (suc count) next [] enough = absurd (omega (arith, enough))
+forks_descend (suc count) next (false ∷ bits) enough =
+    forks_descend count (λ more. next (false ∷ more)) bits (omega (arith, enough))
+forks_descend (suc count) next (true ∷ bits) enough =
+    forks_descend count (λ more. next (true ∷ more)) bits (omega (arith, enough))
 
-pub fed-descends : (asker : Asker PathEnd) (bits : List Bool) (e : PathEnd) (rest : List Bool) →
+pub fed_descends : (asker : Asker PathEnd) (bits : List Bool) (e : PathEnd) (rest : List Bool) →
     feed asker bits ≡ Fed' e rest → descend (tree_of asker) bits ≡ Some (record { ends = e; rest = rest })
 unfolding tree_of
-fed-descends (Over x) bits e rest h =
+fed_descends (Over x) bits e rest h =
     let one : x ≡ e = cc in
     let two : bits ≡ rest = cc in
     ap₂ (λ a b. Some (record { ends = a; rest = b })) one two
-fed-descends (Asks count go) bits e rest h = elim (le_or_lt count (length bits)) [
+fed_descends (Asks count go) bits e rest h = elim (le_or_lt count (length bits)) [
   | inl enough ↦
-      forks-descend count (λ more. tree_of (go more)) bits enough
-      ∙ fed-descends (go (take count bits)) (drop count bits) e rest (sym (feed_enough count go bits enough) ∙ h)
+      forks_descend count (λ more. tree_of (go more)) bits enough
+      ∙ fed_descends (go (take count bits)) (drop count bits) e rest (sym (feed_enough count go bits enough) ∙ h)
   | inr few ↦
       let short : feed (Asks count go) bits ≡ Short (count - length bits) = feed_few count go bits few in absurd (cc)
 ]

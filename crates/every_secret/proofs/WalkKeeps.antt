@@ -186,15 +186,15 @@ count_more a k n = omega arith
 
 -- ---- answers are sound
 
-place-word : (place : Place) → place_limit place ≤ 4294967295
-place-word (Register register) = omega arith
-place-word (Byte address) = omega arith
-place-word First = omega arith
-place-word Second = omega arith
+place_word : (place : Place) → place_limit place ≤ 4294967295
+place_word (Register register) = omega arith
+place_word (Byte address) = omega arith
+place_word First = omega arith
+place_word Second = omega arith
 
 module _ (labels : TurnLabels) (limits : (place : Place) → (label_at labels place).mask ≤ place_limit place) where
   source-mask-word : (source : Source) → source_mask labels source < 2 ^ 32
-  source-mask-word (At place) = let a = limits place in let b = place-word place in omega (arith, a, b)
+  source-mask-word (At place) = let a = limits place in let b = place_word place in omega (arith, a, b)
   source-mask-word (Constant value) = omega arith
   source-mask-word (Secret index) = omega arith
 

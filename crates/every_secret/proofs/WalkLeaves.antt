@@ -67,9 +67,9 @@ unfoldable pub cleaned : List Output → TurnLabels → TurnLabels
 cleaned [] labels = labels
 cleaned (o ∷ os) labels = cleaned os (put_label (output_place o) clean labels)
 
-held-still : (o : Output) (value : ℕ) (held : Held) → hold (output_place o) value held ≡ held
-held-still (OfRegister register) value held = refl
-held-still (OfByte range address) value held = refl
+held_still : (o : Output) (value : ℕ) (held : Held) → hold (output_place o) value held ≡ held
+held_still (OfRegister register) value held = refl
+held_still (OfByte range address) value held = refl
 
 zeroed_masked : (rules : Rules) (cutting : Cutting) (number : ℕ) (setting : Setting) (other : List ℕ) (past : List Point)
     (crossed : ℕ) (masks : List ℕ) (mask : ℕ) (os : List Output) (turn : Turn) (labels : TurnLabels) (store : Store)
@@ -81,7 +81,7 @@ unfolding zeroed cleared cleaned masked walked
 zeroed_masked rules cutting number setting other past crossed masks mask [] turn labels store held = refl
 zeroed_masked rules cutting number setting other past crossed masks mask (o ∷ os) turn labels store held =
     ap (λ h. masked rules cutting number (knows past (put_label (output_place o) clean labels) crossed masks mask)
-    (walked setting other (zeroed os turn) (put setting.base (output_place o) 0 store) h)) (held-still o 0 held)
+    (walked setting other (zeroed os turn) (put setting.base (output_place o) 0 store) h)) (held_still o 0 held)
     ∙ zeroed_masked rules cutting number setting other past crossed masks mask os turn
     (put_label (output_place o) clean labels) (put setting.base (output_place o) 0 store) held
 
@@ -116,9 +116,9 @@ cleaned_case (o ∷ os) labels q = ⊎_elim
     (λ same. ⊎_elim (λ here. inl (inl here)) (λ still. inr (same ∙ still)) (put_case o labels q))
     (cleaned_case os (put_label (output_place o) clean labels) q)
 
-none-limit : (o : Output) → 0 ≤ place_limit (output_place o)
-none-limit (OfRegister register) = omega arith
-none-limit (OfByte range address) = omega arith
+none_limit : (o : Output) → 0 ≤ place_limit (output_place o)
+none_limit (OfRegister register) = omega arith
+none_limit (OfByte range address) = omega arith
 
 cleaned_limits : (os : List Output) (labels : TurnLabels) → ((q : Place) → (label_at labels q).mask ≤ place_limit q) →
     (q : Place) → (label_at (cleaned os labels) q).mask ≤ place_limit q
@@ -126,7 +126,7 @@ unfolding cleaned
 cleaned_limits [] labels limits q = limits q
 cleaned_limits (o ∷ os) labels limits q =
     cleaned_limits os (put_label (output_place o) clean labels)
-    (λ p. put_label_limits (output_place o) clean labels (none-limit o) p (limits p)) q
+    (λ p. put_label_limits (output_place o) clean labels (none_limit o) p (limits p)) q
 
 cleaned_kept : (os : List Output) (labels : TurnLabels) → (cleaned os labels).map.kept ≡ labels.map.kept
 unfolding cleaned

@@ -41,9 +41,9 @@ use Rattle.every_secret.proofs.Merging.{merged}
 use Rattle.every_secret.proofs.WalkKeeps.{AlikeControl, Outcome, count_more, kept_of, knows, same_part, step}
 
 -- an output of a region is not shown
-nothing-shown : (o : Output) → shown_at (output_slot o) ≡ Nothing
-nothing-shown (OfRegister register) = refl
-nothing-shown (OfByte range address) = refl
+nothing_shown : (o : Output) → shown_at (output_slot o) ≡ Nothing
+nothing_shown (OfRegister register) = refl
+nothing_shown (OfByte range address) = refl
 
 module _ (rules : Rules) (cutting : Cutting) (small : AreSmall cutting.masks) (setting : Setting) (secret other : List ℕ)
     (number : ℕ) (region : Region) where
@@ -213,7 +213,7 @@ module _ (rules : Rules) (cutting : Cutting) (small : AreSmall cutting.masks) (s
       (status_mask_after is_shown open_bits mask))
       (walked setting other (given region os (Ends shown)) (put setting.base place (patched y open_bits chosen) copy)
       (hold place (patched y open_bits chosen) taken)))) crossed end points (bits_under r cut ++ bits) replay (kept_of copy labels.map))
-      (sym (nothing-shown o))
+      (sym (nothing_shown o))
       (step setting other (Asks (bit_count open_bits) (λ chosen. goes (patched y open_bits chosen))) (goes p) count crossed
       end points bits replay (copied p) (kept_of (put setting.base place p copy) after.map) (kept_of copy labels.map) (bits_under r open_bits)
       (bits_under r cut)

@@ -17,7 +17,7 @@ use Rattle.every_secret.specs.declared.endings.Ending.TheVariants as ending
 use Rattle.every_secret.specs.declared.stops.PathStop.TheVariants.{Guest, RangeOutside, Turns}
 use Rattle.every_secret.specs.declared.whys.UnclearWhy.{UnclearWhy}
 use Rattle.every_secret.specs.declared.whys.UnclearWhy.TheVariants.{Budget}
-use Rattle.every_secret.specs.Private.Ends.{lengthens-none}
+use Rattle.every_secret.specs.Private.Ends.{lengthens_none}
 use Rattle.every_secret.specs.Masked.{MaskedPlace, Reached, Goes, Meets, Halts}
 use Rattle.every_secret.specs.declared.path_ends.PathEnd.{PathEnd}
 use Rattle.every_secret.specs.Replays.{ended_or, unless_exited, unless_over, unless_stopped, walked_on}
@@ -26,8 +26,8 @@ use Rattle.every_secret.specs.Private.Tapes.{HoldsPlace, Lengthens, Tape}
 use Rattle.every_secret.specs.Private.Turning.{HoldsTurn, MakesFed}
 use Rattle.every_secret.specs.Turns.{masked_turn}
 use Rattle.every_secret.specs.Private.Walks.{end_of, ending_after, ending_met, ending_mode, ending_within}
-use Rattle.every_secret.proofs.MadeTurns.{placed, place-is}
-use Rattle.every_secret.proofs.Strings.{lengthens-more}
+use Rattle.every_secret.proofs.MadeTurns.{placed, place_is}
+use Rattle.every_secret.proofs.Strings.{lengthens_more}
 
 -- ---- how a turn ends a walk
 
@@ -97,7 +97,7 @@ module _ (masks : Masks) (budget : ℕ) (outside : Option Outside) (state : Stat
         let ends : ending_mode state.control.mode budget after.crossed ≡ None =
         subst (λ o. ending_after o None state.control.mode budget after.crossed ≡ None) h.1
         (subst (λ u. ending_after outside u state.control.mode budget after.crossed ≡ None) h.0.clear e) in
-        subst (λ p. ended_or budget (Goes p) later ≡ later p) (place-is masks place state after h.0)
+        subst (λ p. ended_or budget (Goes p) later ≡ later p) (place_is masks place state after h.0)
         (mode-none budget state place.past after (later (placed state place.past after)) state.control.mode refl ends);
   }
   turn-none (Meets why) h e =
@@ -118,7 +118,7 @@ module _ (masks : Masks) (budget : ℕ) (outside : Option Outside) (state : Stat
       subst (λ o. ending_after o None state.control.mode budget after.crossed ≡ Some ends) h.1
       (subst (λ u. ending_after outside u state.control.mode budget after.crossed ≡ Some ends) h.0.clear e) in
       subst (λ p. ended_or budget (Goes p) later ≡ Over (end_of ends state after))
-      (place-is masks place state after h.0)
+      (place_is masks place state after h.0)
       (mode-some budget state place.past after (later (placed state place.past after)) state.control.mode refl ends is)
   turn-some (Meets why) ends later h e =
       let is : Some (ending.Unclear why) ≡ Some ends =
@@ -133,20 +133,20 @@ module _ (masks : Masks) (budget : ℕ) (outside : Option Outside) (state : Stat
       ap (λ x. Over (end_of x state after)) same
 
 -- after a turn without an end no range is told of, and nothing is met
-pub none-after : (outside : Option Outside) (met : Option UnclearWhy) (mode : Stepped) (budget crossed : ℕ) →
+pub none_after : (outside : Option Outside) (met : Option UnclearWhy) (mode : Stepped) (budget crossed : ℕ) →
     ending_after outside met mode budget crossed ≡ None → (outside ≡ None) × (met ≡ None)
-none-after None None mode budget crossed e = (refl, refl)
-none-after None (Some why) mode budget crossed e = absurd (cc)
-none-after (Some range) met mode budget crossed e = absurd (cc)
+none_after None None mode budget crossed e = (refl, refl)
+none_after None (Some why) mode budget crossed e = absurd (cc)
+none_after (Some range) met mode budget crossed e = absurd (cc)
 
 -- ---- turn after turn
 
 -- what is fed of a string leaves what is left of a string that has grown
-pub feed-grown : {A : Type 0} (asker : Asker A) (x : A) (before after later : Stream) →
+pub feed_grown : {A : Type 0} (asker : Asker A) (x : A) (before after later : Stream) →
     before.taken ≤ length after.bits → after.taken ≤ length after.bits → Lengthens after later →
     feed asker (drop before.taken after.bits) ≡ Fed' x (left_of after) →
     feed asker (drop before.taken later.bits) ≡ Fed' x (drop after.taken later.bits)
-feed-grown asker x before after later first second longer fed =
+feed_grown asker x before after later first second longer fed =
     let zeros = replicate longer.count false in
     let one : drop before.taken later.bits ≡ drop before.taken after.bits ++ zeros =
     ap (λ s. drop before.taken s) longer.bits ∙ drop-append-le before.taken after.bits zeros first in
@@ -181,16 +181,16 @@ module _ (rules : Rules) (task : Task) (limits : Limits) (place : MaskedPlace) (
       let second = longer.within within in
       let taken = longer.taken in
       let start : tape.stream.taken ≤ length after.stream.bits = omega (arith, taken, second) in
-      on.on later (lengthens-more tape.stream after.stream later longer grown)
+      on.on later (lengthens_more tape.stream after.stream later longer grown)
       ∙ feed_then (masked_turn rules task on.next)
       (λ reached. ended_or limits.budget reached (λ next. walked_on rules task limits left next))
       (drop tape.stream.taken later.bits) makes.reached (drop after.stream.taken later.bits)
-      (feed-grown (masked_turn rules task on.next) makes.reached tape.stream after.stream later start second grown
+      (feed_grown (masked_turn rules task on.next) makes.reached tape.stream after.stream later start second grown
       makes.feeds)
 
-  pub goes-on : ending_after outside after.unclear new.control.mode limits.budget after.crossed ≡ None →
+  pub goes_on_so : ending_after outside after.unclear new.control.mode limits.budget after.crossed ≡ None →
       IsOn rules task limits place first left new after
-  goes-on e =
+  goes_on_so e =
       let goes = turn-none task.masks limits.budget outside new after makes.reached makes.held e in record {
         next = goes.next;
         holds = goes.holds;
@@ -199,25 +199,25 @@ module _ (rules : Rules) (task : Task) (limits : Limits) (place : MaskedPlace) (
             (goes.on (λ next. walked_on rules task limits left next));
       }
 
-  pub ends-here : (ends : Ending) →
+  pub ends_here : (ends : Ending) →
       ending_after outside after.unclear new.control.mode limits.budget after.crossed ≡ Some ends →
       feed (walked_on rules task limits limits.turns place) (drop first.taken after.stream.bits)
       ≡ Fed' (end_of ends new after) (left_of after.stream)
-  ends-here ends e =
-      turned after.stream (lengthens-none after.stream)
+  ends_here ends e =
+      turned after.stream (lengthens_none after.stream)
       ∙ ap (λ asker. feed asker (drop after.stream.taken after.stream.bits))
       (turn-some task.masks limits.budget outside new after makes.reached ends
       (λ next. walked_on rules task limits left next) makes.held e)
 
 -- no turn is left
-pub ends-late : (rules : Rules) (task : Task) (limits : Limits) (place : MaskedPlace) (first : Stream) (state : State)
+pub ends_late : (rules : Rules) (task : Task) (limits : Limits) (place : MaskedPlace) (first : Stream) (state : State)
     (tape : Tape) → IsOn rules task limits place first 0 state tape →
     feed (walked_on rules task limits limits.turns place) (drop first.taken tape.stream.bits)
     ≡ Fed' (end_of (ending.Stopped (Turns limits.turns)) state tape) (left_of tape.stream)
 unfolding walked_on
-ends-late rules task limits place first state tape on = on.on tape.stream (lengthens-none tape.stream)
+ends_late rules task limits place first state tape on = on.on tape.stream (lengthens_none tape.stream)
 
 -- the first turn is ahead
-pub begins-on : (rules : Rules) (task : Task) (limits : Limits) (place : MaskedPlace) (state : State) (tape : Tape) →
+pub begins_on : (rules : Rules) (task : Task) (limits : Limits) (place : MaskedPlace) (state : State) (tape : Tape) →
     HoldsPlace task.masks place state tape → IsOn rules task limits place tape.stream limits.turns state tape
-begins-on rules task limits place state tape holds = record { next = place; holds = holds; on = λ later grown. refl }
+begins_on rules task limits place state tape holds = record { next = place; holds = holds; on = λ later grown. refl }

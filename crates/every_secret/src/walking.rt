@@ -113,7 +113,7 @@ impl Passer for Walking<'_> {
     ghost use Rattle.std.proofs.Common.{refl};
     ghost use Rattle.tracked_run.specs.Labels.{labels_of};
     ghost use Rattle.every_secret.specs.Private.Tapes.{Tape, PlaysWalk, tape_of};
-    ghost use Rattle.every_secret.specs.Private.Ends.{masks-Ended};
+    ghost use Rattle.every_secret.specs.Private.Ends.{masks_Ended};
 
     type Stop = NoMemory;
 
@@ -169,7 +169,7 @@ impl Passer for Walking<'_> {
     }
 
     ghost at_end = { λ side state masks past ahead.
-        masks-Ended (record { masks = masks; skipped = side.skipped }) side.region past
+        masks_Ended (record { masks = masks; skipped = side.skipped }) side.region past
         (labels_of side.shadow side.held)
         (tape_of side.book.now.table side.shadow side.masks side.bits side.crossed side.byte_masks.items
         side.status_mask side.unclear) state refl ahead };

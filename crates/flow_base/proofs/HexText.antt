@@ -11,29 +11,29 @@ abbrev low_digits : ℕ → ℕ → List ℕ → List ℕ
 low_digits zero n acc = acc
 low_digits (suc k) n acc = low_digits k (n / 16) (digit_glyph false (n % 16) ∷ acc)
 
-zero-later : (k : ℕ) (acc : List ℕ) → replicate k 48 ++ (48 ∷ acc) ≡ 48 ∷ (replicate k 48 ++ acc)
-zero-later zero acc = refl
-zero-later (suc k) acc = ap (λ text. 48 ∷ text) (zero-later k acc)
+zero_later : (k : ℕ) (acc : List ℕ) → replicate k 48 ++ (48 ∷ acc) ≡ 48 ∷ (replicate k 48 ++ acc)
+zero_later zero acc = refl
+zero_later (suc k) acc = ap (λ text. 48 ∷ text) (zero_later k acc)
 
-zeros-first : (k : ℕ) (acc : List ℕ) → replicate k 48 ++ acc ≡ low_digits k 0 acc
-zeros-first zero acc = refl
-zeros-first (suc k) acc = sym (zero-later k acc) ∙ zeros-first k (48 ∷ acc)
+zeros_first : (k : ℕ) (acc : List ℕ) → replicate k 48 ++ acc ≡ low_digits k 0 acc
+zeros_first zero acc = refl
+zeros_first (suc k) acc = sym (zero_later k acc) ∙ zeros_first k (48 ∷ acc)
 
 -- zeros up to k digits before a text that is written onto others
 abbrev filled : ℕ → List ℕ → List ℕ → List ℕ
 filled k acc text = replicate (k + length acc - length text) 48 ++ text
 
 -- the text of a number below 16
-last-digit : (k m n : ℕ) (acc : List ℕ) → n / 16 ≡ 0 →
+last_digit : (k m n : ℕ) (acc : List ℕ) → n / 16 ≡ 0 →
     filled (suc k) acc (digit_glyph false (n % 16) ∷ acc) ≡ low_digits (suc k) n acc
-last-digit k m n acc e =
+last_digit k m n acc e =
     let digit : ℕ = digit_glyph false (n % 16) in
     ap (λ count. replicate count 48 ++ (digit ∷ acc)) {x = suc k + length acc - suc (length acc)} {y = k} (omega arith)
-    ∙ (zeros-first k (digit ∷ acc) ∙ ap (λ high. low_digits k high (digit ∷ acc)) (sym e))
+    ∙ (zeros_first k (digit ∷ acc) ∙ ap (λ high. low_digits k high (digit ∷ acc)) (sym e))
 
 -- a digit is a part of the length, wherever it is counted
-digit-counted : (k digit : ℕ) (acc text : List ℕ) → filled (suc k) acc text ≡ filled k (digit ∷ acc) text
-digit-counted k digit acc text =
+digit_counted : (k digit : ℕ) (acc text : List ℕ) → filled (suc k) acc text ≡ filled k (digit ∷ acc) text
+digit_counted k digit acc text =
     ap (λ count. replicate count 48 ++ text) {x = suc k + length acc - length text}
     {y = k + suc (length acc) - length text} (omega arith)
 
@@ -41,31 +41,31 @@ leads : (k n : ℕ) → n < 16 ^ suc k → (n / 16 == 0) ≡ false → 0 < k
 leads zero n small e = absurd (omega (arith, small, eqb-false (n / 16) 0 e))
 leads (suc k) n small e = omega arith
 
-one-more : (k m n : ℕ) (acc : List ℕ) (is_last : Bool) → (n / 16 == 0) ≡ is_last →
+one_more : (k m n : ℕ) (acc : List ℕ) (is_last : Bool) → (n / 16 == 0) ≡ is_last →
     (is_last ≡ false → filled k (digit_glyph false (n % 16) ∷ acc)
     (digits_onto m 16 false (n / 16) (digit_glyph false (n % 16) ∷ acc))
     ≡ low_digits k (n / 16) (digit_glyph false (n % 16) ∷ acc)) →
     filled (suc k) acc (digits_onto (suc m) 16 false n acc) ≡ low_digits (suc k) n acc
-one-more k m n acc true e high =
+one_more k m n acc true e high =
     ap (λ (b : Bool). filled (suc k) acc (cond b (digit_glyph false (n % 16) ∷ acc)
     (digits_onto m 16 false (n / 16) (digit_glyph false (n % 16) ∷ acc)))) e
-    ∙ last-digit k m n acc (eqb-true (n / 16) 0 e)
-one-more k m n acc false e high =
+    ∙ last_digit k m n acc (eqb-true (n / 16) 0 e)
+one_more k m n acc false e high =
     ap (λ (b : Bool). filled (suc k) acc (cond b (digit_glyph false (n % 16) ∷ acc)
     (digits_onto m 16 false (n / 16) (digit_glyph false (n % 16) ∷ acc)))) e
-    ∙ (digit-counted k (digit_glyph false (n % 16)) acc _ ∙ high refl)
+    ∙ (digit_counted k (digit_glyph false (n % 16)) acc _ ∙ high refl)
 
-filled-digits : (k m n : ℕ) (acc : List ℕ) → 0 < k → k ≤ m → n < 16 ^ k →
+filled_digits : (k m n : ℕ) (acc : List ℕ) → 0 < k → k ≤ m → n < 16 ^ k →
     filled k acc (digits_onto m 16 false n acc) ≡ low_digits k n acc
-filled-digits zero m n acc some fits small = absurd (omega (arith, some))
-filled-digits (suc k) zero n acc some fits small = absurd (omega (arith, fits))
-filled-digits (suc k) (suc m) n acc some fits small =
-    one-more k m n acc (n / 16 == 0) refl
-    (λ e. filled-digits k m (n / 16) (digit_glyph false (n % 16) ∷ acc) (leads k n small e) (omega (arith, fits))
+filled_digits zero m n acc some fits small = absurd (omega (arith, some))
+filled_digits (suc k) zero n acc some fits small = absurd (omega (arith, fits))
+filled_digits (suc k) (suc m) n acc some fits small =
+    one_more k m n acc (n / 16 == 0) refl
+    (λ e. filled_digits k m (n / 16) (digit_glyph false (n % 16) ∷ acc) (leads k n small e) (omega (arith, fits))
     (omega (arith, small)))
 
-eight-digits : (n : ℕ) → low_digits 8 n [] ≡ hex_digits n
-eight-digits n =
+eight_digits : (n : ℕ) → low_digits 8 n [] ≡ hex_digits n
+eight_digits n =
     let second : n / 16 / 16 ≡ n / 256 = omega arith in
     let third : n / 256 / 16 ≡ n / 4096 = omega arith in
     let fourth : n / 4096 / 16 ≡ n / 65536 = omega arith in
@@ -75,9 +75,9 @@ eight-digits n =
     rw (second, third, fourth, fifth, sixth, seventh)
 
 -- what `{:08x}` writes before and after digits
-padded-filled : (text : List ℕ) → padded_integral (format_spec 32 0 4 8 (2 ^ 64 - 1)) false [] text ≡ filled 8 [] text
+padded_filled : (text : List ℕ) → padded_integral (format_spec 32 0 4 8 (2 ^ 64 - 1)) false [] text ≡ filled 8 [] text
 unfolding padded_integral char_count
-padded-filled text =
+padded_filled text =
     ap (λ count. replicate count 48 ++ (text ++ [])) {x = 8 - length text - 0 - 0} {y = 8 + 0 - length text} (omega arith)
     ∙ ap (λ rest. replicate (8 + 0 - length text) 48 ++ rest) (append-nil text)
 
@@ -85,4 +85,4 @@ pub padded_word : (n : ℕ) → n < 2 ^ 32 →
     padded_integral (format_spec 32 0 4 8 (2 ^ 64 - 1)) false [] (digits 16 false n) ≡ hex_digits n
 unfolding digits
 padded_word n small =
-    padded-filled _ ∙ (filled-digits 8 64 n [] (omega arith) (omega arith) small ∙ eight-digits n)
+    padded_filled _ ∙ (filled_digits 8 64 n [] (omega arith) (omega arith) small ∙ eight_digits n)

@@ -82,8 +82,8 @@ then_both Equal r e = (refl, e)
 then_both Greater r e = absurd (cc)
 
 -- points that are the same are one
-pub same-one : (p q : Point) → is_same p q ≡ true → p ≡ q
-same-one p q same =
+pub one_if_same : (p q : Point) → is_same p q ≡ true → p ≡ q
+one_if_same p q same =
     let whole = then_both _ _ (is_equal (point_cmp p q) same) in
     let later = then_both _ _ whole.1 in
     let region : p.region ≡ q.region = nat_equal p.region q.region whole.0 in
@@ -93,11 +93,11 @@ same-one p q same =
     ∙ (ap (λ (n : ℕ). record { region = q.region; address = n; slot = p.slot }) address
     ∙ ap (λ (s : Slot). record { region = q.region; address = q.address; slot = s }) slot)
 
-pub same-self : (p : Point) → is_same p p ≡ true
-same-self p = ap is_eq (tied_itself point_total p)
+pub same_self : (p : Point) → is_same p p ≡ true
+same_self p = ap is_eq (tied_itself point_total p)
 
-pub one-same : (p q : Point) → p ≡ q → is_same p q ≡ true
-one-same p q one = ap (λ (x : Point). is_same p x) (sym one) ∙ same-self p
+pub one_same : (p q : Point) → p ≡ q → is_same p q ≡ true
+one_same p q one = ap (λ (x : Point). is_same p x) (sym one) ∙ same_self p
 
 -- ---- numbers
 
@@ -106,8 +106,8 @@ less_number true e = refl
 less_number false true = refl
 less_number false false = refl
 
-pub is_lt-number : (n m : ℕ) → is_lt (nat_cmp n m) ≡ nat_lt n m
-is_lt-number n m = less_number (nat_lt n m) (n == m)
+pub is_lt_number : (n m : ℕ) → is_lt (nat_cmp n m) ≡ nat_lt n m
+is_lt_number n m = less_number (nat_lt n m) (n == m)
 
 then_less : (l e : Bool) (o : Ordering) → is_lt (ordering_then (cond l Less (cond e Equal Greater)) o) ≡
     (l || (e && is_lt o))
@@ -139,62 +139,62 @@ register_range register range valid =
     lt-ltb (12 + register) (44 + range) (omega (arith, last))
 
 -- slots are ordered by their numbers
-pub slots-numbered : (s t : Slot) → is_slot s ≡ true → is_slot t ≡ true →
+pub slots_numbered : (s t : Slot) → is_slot s ≡ true → is_slot t ≡ true →
     is_lt (slot_cmp s t) ≡ nat_lt (slot_number s) (slot_number t)
-slots-numbered First (OutReg m) a b = to_register 1 m (omega arith) b
-slots-numbered First (OutRange m) a b = to_range 1 m (omega arith)
-slots-numbered First t a b = refl
-slots-numbered Second (OutReg m) a b = to_register 2 m (omega arith) b
-slots-numbered Second (OutRange m) a b = to_range 2 m (omega arith)
-slots-numbered Second t a b = refl
-slots-numbered Address (OutReg m) a b = to_register 3 m (omega arith) b
-slots-numbered Address (OutRange m) a b = to_range 3 m (omega arith)
-slots-numbered Address t a b = refl
-slots-numbered Result (OutReg m) a b = to_register 4 m (omega arith) b
-slots-numbered Result (OutRange m) a b = to_range 4 m (omega arith)
-slots-numbered Result t a b = refl
-slots-numbered Decision (OutReg m) a b = to_register 5 m (omega arith) b
-slots-numbered Decision (OutRange m) a b = to_range 5 m (omega arith)
-slots-numbered Decision t a b = refl
-slots-numbered Number (OutReg m) a b = to_register 6 m (omega arith) b
-slots-numbered Number (OutRange m) a b = to_range 6 m (omega arith)
-slots-numbered Number t a b = refl
-slots-numbered Arg0 (OutReg m) a b = to_register 7 m (omega arith) b
-slots-numbered Arg0 (OutRange m) a b = to_range 7 m (omega arith)
-slots-numbered Arg0 t a b = refl
-slots-numbered Arg1 (OutReg m) a b = to_register 8 m (omega arith) b
-slots-numbered Arg1 (OutRange m) a b = to_range 8 m (omega arith)
-slots-numbered Arg1 t a b = refl
-slots-numbered Arg2 (OutReg m) a b = to_register 9 m (omega arith) b
-slots-numbered Arg2 (OutRange m) a b = to_range 9 m (omega arith)
-slots-numbered Arg2 t a b = refl
-slots-numbered SecretIn (OutReg m) a b = to_register 10 m (omega arith) b
-slots-numbered SecretIn (OutRange m) a b = to_range 10 m (omega arith)
-slots-numbered SecretIn t a b = refl
-slots-numbered ByteOut (OutReg m) a b = to_register 11 m (omega arith) b
-slots-numbered ByteOut (OutRange m) a b = to_range 11 m (omega arith)
-slots-numbered ByteOut t a b = refl
-slots-numbered Status (OutReg m) a b = to_register 12 m (omega arith) b
-slots-numbered Status (OutRange m) a b = to_range 12 m (omega arith)
-slots-numbered Status t a b = refl
-slots-numbered (OutReg n) (OutReg m) a b = is_lt-number n m ∙ shifted 12 n m
-slots-numbered (OutReg n) (OutRange m) a b = sym (register_range n m a)
-slots-numbered (OutReg n) t a b = behind (slot_number t) (12 + n) (omega arith)
-slots-numbered (OutRange n) (OutRange m) a b = is_lt-number n m ∙ shifted 44 n m
-slots-numbered (OutRange n) (OutReg m) a b =
+slots_numbered First (OutReg m) a b = to_register 1 m (omega arith) b
+slots_numbered First (OutRange m) a b = to_range 1 m (omega arith)
+slots_numbered First t a b = refl
+slots_numbered Second (OutReg m) a b = to_register 2 m (omega arith) b
+slots_numbered Second (OutRange m) a b = to_range 2 m (omega arith)
+slots_numbered Second t a b = refl
+slots_numbered Address (OutReg m) a b = to_register 3 m (omega arith) b
+slots_numbered Address (OutRange m) a b = to_range 3 m (omega arith)
+slots_numbered Address t a b = refl
+slots_numbered Result (OutReg m) a b = to_register 4 m (omega arith) b
+slots_numbered Result (OutRange m) a b = to_range 4 m (omega arith)
+slots_numbered Result t a b = refl
+slots_numbered Decision (OutReg m) a b = to_register 5 m (omega arith) b
+slots_numbered Decision (OutRange m) a b = to_range 5 m (omega arith)
+slots_numbered Decision t a b = refl
+slots_numbered Number (OutReg m) a b = to_register 6 m (omega arith) b
+slots_numbered Number (OutRange m) a b = to_range 6 m (omega arith)
+slots_numbered Number t a b = refl
+slots_numbered Arg0 (OutReg m) a b = to_register 7 m (omega arith) b
+slots_numbered Arg0 (OutRange m) a b = to_range 7 m (omega arith)
+slots_numbered Arg0 t a b = refl
+slots_numbered Arg1 (OutReg m) a b = to_register 8 m (omega arith) b
+slots_numbered Arg1 (OutRange m) a b = to_range 8 m (omega arith)
+slots_numbered Arg1 t a b = refl
+slots_numbered Arg2 (OutReg m) a b = to_register 9 m (omega arith) b
+slots_numbered Arg2 (OutRange m) a b = to_range 9 m (omega arith)
+slots_numbered Arg2 t a b = refl
+slots_numbered SecretIn (OutReg m) a b = to_register 10 m (omega arith) b
+slots_numbered SecretIn (OutRange m) a b = to_range 10 m (omega arith)
+slots_numbered SecretIn t a b = refl
+slots_numbered ByteOut (OutReg m) a b = to_register 11 m (omega arith) b
+slots_numbered ByteOut (OutRange m) a b = to_range 11 m (omega arith)
+slots_numbered ByteOut t a b = refl
+slots_numbered Status (OutReg m) a b = to_register 12 m (omega arith) b
+slots_numbered Status (OutRange m) a b = to_range 12 m (omega arith)
+slots_numbered Status t a b = refl
+slots_numbered (OutReg n) (OutReg m) a b = is_lt_number n m ∙ shifted 12 n m
+slots_numbered (OutReg n) (OutRange m) a b = sym (register_range n m a)
+slots_numbered (OutReg n) t a b = behind (slot_number t) (12 + n) (omega arith)
+slots_numbered (OutRange n) (OutRange m) a b = is_lt_number n m ∙ shifted 44 n m
+slots_numbered (OutRange n) (OutReg m) a b =
     let before : nat_lt (12 + m) (44 + n) ≡ true = register_range m n b in
     behind (12 + m) (44 + n) (let low : 12 + m < 44 + n = ltb-true (12 + m) (44 + n) before in omega (arith, low))
-slots-numbered (OutRange n) t a b = behind (slot_number t) (44 + n) (omega arith)
+slots_numbered (OutRange n) t a b = behind (slot_number t) (44 + n) (omega arith)
 
-pub points-numbered : (p q : Point) → is_slot p.slot ≡ true → is_slot q.slot ≡ true →
+pub points_numbered : (p q : Point) → is_slot p.slot ≡ true → is_slot q.slot ≡ true →
     is_below p q ≡ is_below_by_number p q
-points-numbered p q a b =
+points_numbered p q a b =
     let inner : Ordering = ordering_then (nat_cmp p.address q.address) (slot_cmp p.slot q.slot) in
     then_less (nat_lt p.region q.region) (p.region == q.region) inner
     ∙ ap (λ later. nat_lt p.region q.region || ((p.region == q.region) && later))
     (then_less (nat_lt p.address q.address) (p.address == q.address) (slot_cmp p.slot q.slot)
     ∙ ap (λ later. nat_lt p.address q.address || ((p.address == q.address) && later))
-    (slots-numbered p.slot q.slot a b))
+    (slots_numbered p.slot q.slot a b))
 
 -- ---- the order
 
@@ -203,22 +203,22 @@ less Less e = refl
 less Equal e = absurd (cc)
 less Greater e = absurd (cc)
 
-pub below-trans : (a b c : Point) → is_below a b ≡ true → is_below b c ≡ true → is_below a c ≡ true
-below-trans a b c first second =
+pub below_trans : (a b c : Point) → is_below a b ≡ true → is_below b c ≡ true → is_below a c ≡ true
+below_trans a b c first second =
     ap is_lt (point_total.trans a b c (less (point_cmp a b) first) (less (point_cmp b c) second))
 
-pub below-other : (a b : Point) → is_below a b ≡ true → is_same a b ≡ false
-below-other a b below = ap is_eq (less (point_cmp a b) below)
+pub below_other : (a b : Point) → is_below a b ≡ true → is_same a b ≡ false
+below_other a b below = ap is_eq (less (point_cmp a b) below)
 
-pub other-sym : (a b : Point) → is_same a b ≡ false → is_same b a ≡ false
-other-sym a b other = elim (cases_Bool (is_same b a)) [
-  | inl same ↦ let turned : is_same a b ≡ true = one-same a b (sym (same-one b a same)) in absurd (cc)
+pub other_sym : (a b : Point) → is_same a b ≡ false → is_same b a ≡ false
+other_sym a b other = elim (cases_Bool (is_same b a)) [
+  | inl same ↦ let turned : is_same a b ≡ true = one_same a b (sym (one_if_same b a same)) in absurd (cc)
   | inr apart ↦ apart
 ]
 
 -- of two points that are not the same one is below the other
-pub below-total : (c p : Point) → is_same c p ≡ false → is_below p c ≡ false → is_below c p ≡ true
-below-total c p other high = pick (point_cmp c p) refl
+pub below_total : (c p : Point) → is_same c p ≡ false → is_below p c ≡ false → is_below c p ≡ true
+below_total c p other high = pick (point_cmp c p) refl
   where
     pick : (o : Ordering) → point_cmp c p ≡ o → is_below c p ≡ true
     pick Less e = ap is_lt e

@@ -16,23 +16,23 @@ rest_or : List ℕ → Option (List ℕ) → List ℕ
 rest_or other None = other
 rest_or other (Some rest) = rest
 
-same-rest : (a b : List ℕ) → a_rest a ≡ a_rest b → a ≡ b
+same_rest : (a b : List ℕ) → a_rest a ≡ a_rest b → a ≡ b
 unfolding rest_or
-same-rest a b e = ap (rest_or a) e
+same_rest a b e = ap (rest_or a) e
 
-pub after-found : (wanted bytes rest : List ℕ) → after_text wanted bytes ≡ Some rest → bytes ≡ wanted ++ rest
-after-found [] bytes rest e = same-rest bytes rest e
-after-found (first ∷ wanted) [] rest e = absurd cc
-after-found (first ∷ wanted) (byte ∷ more) rest e = grind (arith, after-found wanted more rest)
+pub after_found : (wanted bytes rest : List ℕ) → after_text wanted bytes ≡ Some rest → bytes ≡ wanted ++ rest
+after_found [] bytes rest e = same_rest bytes rest e
+after_found (first ∷ wanted) [] rest e = absurd cc
+after_found (first ∷ wanted) (byte ∷ more) rest e = grind (arith, after_found wanted more rest)
 
-pub after-own : (wanted rest : List ℕ) → after_text wanted (wanted ++ rest) ≡ Some rest
-after-own [] rest = refl
-after-own (first ∷ wanted) rest = grind (arith, after-own wanted rest)
+pub after_own : (wanted rest : List ℕ) → after_text wanted (wanted ++ rest) ≡ Some rest
+after_own [] rest = refl
+after_own (first ∷ wanted) rest = grind (arith, after_own wanted rest)
 
-after-none : (wanted bytes : List ℕ) (found : Option (List ℕ)) → after_text wanted bytes ≡ found →
+after_none : (wanted bytes : List ℕ) (found : Option (List ℕ)) → after_text wanted bytes ≡ found →
     ((rest : List ℕ) → bytes ≢ wanted ++ rest) → found ≡ None
-after-none wanted bytes None e never = refl
-after-none wanted bytes (Some rest) e never = absurd (never rest (after-found wanted bytes rest e))
+after_none wanted bytes None e never = refl
+after_none wanted bytes (Some rest) e never = absurd (never rest (after_found wanted bytes rest e))
 
 pub stripped_prefix : (wanted bytes : List ℕ) (found : Option (Bor (List ℕ))) →
     MatchOption found (pointwise (λ a b. a == b) (take (length wanted) bytes) wanted ≡ false)
@@ -40,6 +40,6 @@ pub stripped_prefix : (wanted bytes : List ℕ) (found : Option (Bor (List ℕ))
     (rest.now ≡ drop (length wanted) bytes) × (length rest.now + length wanted ≡ length bytes)) →
     option_map (λ rest. rest.now) found ≡ after_text wanted bytes
 stripped_prefix wanted bytes None is =
-    sym (after-none wanted bytes (after_text wanted bytes) refl (strip_prefix_is Decides-eqb bytes wanted None is))
+    sym (after_none wanted bytes (after_text wanted bytes) refl (strip_prefix_is Decides-eqb bytes wanted None is))
 stripped_prefix wanted bytes (Some rest) is =
-    sym (ap (after_text wanted) (strip_prefix_is Decides-eqb bytes wanted (Some rest) is) ∙ after-own wanted rest.now)
+    sym (ap (after_text wanted) (strip_prefix_is Decides-eqb bytes wanted (Some rest) is) ∙ after_own wanted rest.now)

@@ -4,32 +4,32 @@ use Rattle.std.proofs.Common.{List, length, get_or, slice_index, refl, sym, ap, 
 use Rattle.std.proofs.Common.{length-append}
 use Rattle.std.proofs.lemmas.List.{get_or_append_left, get_or-append_right}
 use Rattle.max_flow.specs.Networks.{at_node, sum_below}
-use Rattle.max_flow.proofs.Sums.{sum-none, sum-suc, sum_same}
+use Rattle.max_flow.proofs.Sums.{sum_none, sum_suc, sum_same}
 use Rattle.flow_certificate.specs.Private.Sums.{AreAdded, AreSmall, AreZero, HaveRoom, HaveSums, brought, differ_at}
 use Rattle.flow_certificate.specs.Verdicts.{HasNone, IsFirst}
-use Rattle.flow_certificate.proofs.Counters.{brought-small}
+use Rattle.flow_certificate.proofs.Counters.{brought_small}
 
-sum-split : (m n : ℕ) (f : ℕ → ℕ) → sum_below (m + n) f ≡ sum_below m f + sum_below n (λ i. f (m + i))
-sum-split m zero f =
-    let none : sum_below 0 (λ i. f (m + i)) ≡ 0 = sum-none (λ i. f (m + i)) in
+sum_split : (m n : ℕ) (f : ℕ → ℕ) → sum_below (m + n) f ≡ sum_below m f + sum_below n (λ i. f (m + i))
+sum_split m zero f =
+    let none : sum_below 0 (λ i. f (m + i)) ≡ 0 = sum_none (λ i. f (m + i)) in
     let same : sum_below (m + 0) f ≡ sum_below m f = ap (λ k. sum_below k f) (let e : m + 0 ≡ m = omega arith in e) in
     omega (arith, none, same)
-sum-split m (suc n) f =
-    let earlier : sum_below (m + n) f ≡ sum_below m f + sum_below n (λ i. f (m + i)) = sum-split m n f in
-    let long : sum_below (m + n + 1) f ≡ sum_below (m + n) f + f (m + n) = sum-suc (m + n) f in
+sum_split m (suc n) f =
+    let earlier : sum_below (m + n) f ≡ sum_below m f + sum_below n (λ i. f (m + i)) = sum_split m n f in
+    let long : sum_below (m + n + 1) f ≡ sum_below (m + n) f + f (m + n) = sum_suc (m + n) f in
     let short : sum_below (n + 1) (λ i. f (m + i)) ≡ sum_below n (λ i. f (m + i)) + f (m + n) =
-    sum-suc n (λ i. f (m + i)) in
+    sum_suc n (λ i. f (m + i)) in
     let whole : sum_below (m + n + 1) f ≡ sum_below m f + sum_below (n + 1) (λ i. f (m + i)) =
     omega (arith, earlier, long, short) in
     ap (λ k. sum_below k f) (let e : m + suc n ≡ m + n + 1 = omega arith in e) ∙ (whole
     ∙ ap (λ k. sum_below m f + sum_below k (λ i. f (m + i))) (add-one n))
 
-pub at_node-split : (a b x y : List ℕ) (v : ℕ) → length a ≡ length x →
+pub at_node_split : (a b x y : List ℕ) (v : ℕ) → length a ≡ length x →
     at_node (a ++ b) (x ++ y) v ≡ brought a x (length a) v + brought b y (length b) v
 unfolding at_node brought
-at_node-split a b x y v same =
+at_node_split a b x y v same =
     let whole : ℕ → ℕ = λ i. cond (eqb (slice_index (a ++ b) i) v) (slice_index (x ++ y) i) 0 in
-    let split = ap (λ k. sum_below k whole) (length-append a b) ∙ sum-split (length a) (length b) whole in
+    let split = ap (λ k. sum_below k whole) (length-append a b) ∙ sum_split (length a) (length b) whole in
     let front : sum_below (length a) whole ≡ sum_below (length a) (λ i. cond (eqb (slice_index a i) v)
     (slice_index x i) 0) =
     sum_same (length a) whole (λ i. cond (eqb (slice_index a i) v) (slice_index x i) 0)
@@ -55,7 +55,7 @@ room_after base keys flows n old new none_yet few small added k below =
     let inside : k < length old = omega (arith, count, below) in
     let none : slice_index old k ≡ 0 = none_yet k inside in
     let more : slice_index new k ≡ slice_index old k + brought keys flows n (base + k) = added.each k inside in
-    let most : brought keys flows n (base + k) ≤ n * 2 ^ 48 = brought-small keys flows n (base + k) small in
+    let most : brought keys flows n (base + k) ≤ n * 2 ^ 48 = brought_small keys flows n (base + k) small in
     omega (arith, none, more, most, few)
 
 pub sums_whole : (base : ℕ) (a b x y old mid new : List ℕ) → length a ≡ length x → AreZero old →
@@ -70,17 +70,17 @@ sums_whole base a b x y old mid new same none_yet first second k below =
     let two : slice_index new k ≡ slice_index mid k + brought b y (length b) (base + k) =
     second.each k (omega (arith, count, inside)) in
     let split : at_node (a ++ b) (x ++ y) (base + k) ≡ brought a x (length a) (base + k) + brought b y (length b)
-    (base + k) = at_node-split a b x y (base + k) same in
+    (base + k) = at_node_split a b x y (base + k) same in
     omega (arith, none, one, two, split)
 
 -- the node of a counter
 abbrev differs : List ℕ → List ℕ → List ℕ → ℕ → Bool
 differs heads tails flows v = not (at_node heads flows v == at_node tails flows v)
 
-counted-at : (heads tails flows into out : List ℕ) (base v : ℕ) → HaveSums heads flows base into →
+counted_at : (heads tails flows into out : List ℕ) (base v : ℕ) → HaveSums heads flows base into →
     HaveSums tails flows base out → base ≤ v → v - base < length into → v - base < length out →
     differ_at into out (v - base) ≡ differs heads tails flows v
-counted-at heads tails flows into out base v inflow outflow from first second =
+counted_at heads tails flows into out base v inflow outflow from first second =
     let node : base + (v - base) ≡ v = omega arith in
     ap (λ (n : ℕ). not (n == slice_index out (v - base))) (inflow (v - base) first ∙ ap (λ (k : ℕ). at_node heads
     flows k) node)
@@ -91,7 +91,7 @@ pub none_differs : (heads tails flows into out : List ℕ) (base width : ℕ) �
     HaveSums tails flows base out → width ≤ length into → width ≤ length out → HasNone (differ_at into out) 0 width →
     HasNone (differs heads tails flows) base (base + width)
 none_differs heads tails flows into out base width inflow outflow first second none v from below =
-    sym (counted-at heads tails flows into out base v inflow outflow from (omega arith) (omega arith))
+    sym (counted_at heads tails flows into out base v inflow outflow from (omega arith) (omega arith))
     ∙ none (v - base) (omega arith) (omega arith)
 
 pub first_differs : (heads tails flows into out : List ℕ) (base width k : ℕ) → HaveSums heads flows base into →
@@ -103,8 +103,8 @@ first_differs heads tails flows into out base width k inflow outflow first secon
     record {
       from_on = omega arith;
       below = omega arith;
-      passes = sym (counted-at heads tails flows into out base (base + k) inflow outflow (omega arith)
+      passes = sym (counted_at heads tails flows into out base (base + k) inflow outflow (omega arith)
           (omega arith) (omega arith)) ∙ (ap (λ (j : ℕ). differ_at into out j) back ∙ is.passes);
-      before = λ v from earlier. sym (counted-at heads tails flows into out base v inflow outflow from
+      before = λ v from earlier. sym (counted_at heads tails flows into out base v inflow outflow from
           (omega arith) (omega arith)) ∙ is.before (v - base) (omega arith) (omega arith);
     }

@@ -3,38 +3,38 @@ use Rattle.std.proofs.Common.{◌≡◌, ℕ, zero, suc, ◌+◌, ◌*◌, ◌^�
 use Rattle.std.proofs.Common.{length, map, get_or, slice_index, refl, ap, ◌∙◌, subst, arith, add-one}
 use Rattle.flow_graph.specs.declared.ends.Arc.{Arc}
 use Rattle.max_flow.specs.Flows.{head_of, tail_of}
-use Rattle.max_flow.proofs.Sums.{sum-none, sum-suc}
+use Rattle.max_flow.proofs.Sums.{sum_none, sum_suc}
 use Rattle.flow_certificate.specs.Private.Sums.{AreAdded, AreSmall, HaveRoom, brought, given, heads_of, tails_of}
 
-pub brought-none : (keys flows : List ℕ) (node : ℕ) → brought keys flows 0 node ≡ 0
+pub brought_none : (keys flows : List ℕ) (node : ℕ) → brought keys flows 0 node ≡ 0
 unfolding brought
-brought-none keys flows node = sum-none (λ i. cond (eqb (slice_index keys i) node) (slice_index flows i) 0)
+brought_none keys flows node = sum_none (λ i. cond (eqb (slice_index keys i) node) (slice_index flows i) 0)
 
-pub brought-more : (keys flows : List ℕ) (n node : ℕ) →
+pub brought_more : (keys flows : List ℕ) (n node : ℕ) →
     brought keys flows (n + 1) node ≡ brought keys flows n node + given (slice_index keys n) (slice_index flows n) node
 unfolding brought
-brought-more keys flows n node = sum-suc n (λ i. cond (eqb (slice_index keys i) node) (slice_index flows i) 0)
+brought_more keys flows n node = sum_suc n (λ i. cond (eqb (slice_index keys i) node) (slice_index flows i) 0)
 
-given-small : (test : Bool) (amount : ℕ) → amount < 2 ^ 48 → cond test amount 0 < 2 ^ 48
-given-small true amount small = small
-given-small false amount small = omega arith
+given_small : (test : Bool) (amount : ℕ) → amount < 2 ^ 48 → cond test amount 0 < 2 ^ 48
+given_small true amount small = small
+given_small false amount small = omega arith
 
-pub brought-small : (keys flows : List ℕ) (n node : ℕ) → AreSmall flows → brought keys flows n node ≤ n * 2 ^ 48
-brought-small keys flows zero node small =
-    let none : brought keys flows 0 node ≡ 0 = brought-none keys flows node in omega (arith, none)
-brought-small keys flows (suc n) node small =
+pub brought_small : (keys flows : List ℕ) (n node : ℕ) → AreSmall flows → brought keys flows n node ≤ n * 2 ^ 48
+brought_small keys flows zero node small =
+    let none : brought keys flows 0 node ≡ 0 = brought_none keys flows node in omega (arith, none)
+brought_small keys flows (suc n) node small =
     let more : brought keys flows (n + 1) node ≡ brought keys flows n node + given (slice_index keys n)
-    (slice_index flows n) node = brought-more keys flows n node in
-    let earlier : brought keys flows n node ≤ n * 2 ^ 48 = brought-small keys flows n node small in
+    (slice_index flows n) node = brought_more keys flows n node in
+    let earlier : brought keys flows n node ≤ n * 2 ^ 48 = brought_small keys flows n node small in
     let here : given (slice_index keys n) (slice_index flows n) node < 2 ^ 48 =
-    given-small (eqb (slice_index keys n) node) (slice_index flows n) (small n) in
+    given_small (eqb (slice_index keys n) node) (slice_index flows n) (small n) in
     let whole : brought keys flows (n + 1) node ≤ (n + 1) * 2 ^ 48 = omega (arith, more, earlier, here) in
     subst (λ (m : ℕ). brought keys flows m node ≤ m * 2 ^ 48) (add-one n) whole
 
 pub added_none : (base : ℕ) (keys flows sums : List ℕ) → AreAdded base (brought keys flows 0) sums sums
 added_none base keys flows sums = record {
   count = refl;
-  each = λ k below. let none : brought keys flows 0 (base + k) ≡ 0 = brought-none keys flows (base + k) in
+  each = λ k below. let none : brought keys flows 0 (base + k) ≡ 0 = brought_none keys flows (base + k) in
       omega (arith, none);
 }
 
@@ -52,7 +52,7 @@ added_more base keys flows n key amount old mid new key_is amount_is first secon
       ap (λ (v : ℕ). given v amount (base + k)) key_is ∙ ap (λ (v : ℕ). given (slice_index keys n) v (base + k))
       amount_is in
       let more : brought keys flows (n + 1) (base + k) ≡ brought keys flows n (base + k) + given (slice_index keys n)
-      (slice_index flows n) (base + k) = brought-more keys flows n (base + k) in
+      (slice_index flows n) (base + k) = brought_more keys flows n (base + k) in
       omega (arith, one, two, same, more);
 }
 
@@ -64,19 +64,19 @@ added_room base keys flows n old sums few small room added k below =
     let inside : k < length old = omega (arith, count, below) in
     let first : slice_index old k < 2 ^ 120 = room k inside in
     let more : slice_index sums k ≡ slice_index old k + brought keys flows n (base + k) = added.each k inside in
-    let most : brought keys flows n (base + k) ≤ n * 2 ^ 48 = brought-small keys flows n (base + k) small in
+    let most : brought keys flows n (base + k) ≤ n * 2 ^ 48 = brought_small keys flows n (base + k) small in
     omega (arith, first, more, most, few)
 
-mapped-at : (f : Arc → ℕ) (links : List Arc) (i : ℕ) (other : Arc) → i < length links →
+mapped_at : (f : Arc → ℕ) (links : List Arc) (i : ℕ) (other : Arc) → i < length links →
     get_or (map f links) i 0 ≡ f (get_or links i other)
-mapped-at f [] i other below = absurd (omega arith)
-mapped-at f (link ∷ links) zero other below = refl
-mapped-at f (link ∷ links) (suc i) other below = mapped-at f links i other (omega arith)
+mapped_at f [] i other below = absurd (omega arith)
+mapped_at f (link ∷ links) zero other below = refl
+mapped_at f (link ∷ links) (suc i) other below = mapped_at f links i other (omega arith)
 
-pub tails_of-at : (count : ℕ) (links : List Arc) (i : ℕ) (other : Arc) → i < length links →
+pub tails_of_at : (count : ℕ) (links : List Arc) (i : ℕ) (other : Arc) → i < length links →
     slice_index (tails_of count links) i ≡ tail_of count ((get_or links i other).source)
-tails_of-at count links i other below = mapped-at (λ link. tail_of count link.source) links i other below
+tails_of_at count links i other below = mapped_at (λ link. tail_of count link.source) links i other below
 
-pub heads_of-at : (count : ℕ) (links : List Arc) (i : ℕ) (other : Arc) → i < length links →
+pub heads_of_at : (count : ℕ) (links : List Arc) (i : ℕ) (other : Arc) → i < length links →
     slice_index (heads_of count links) i ≡ head_of count ((get_or links i other).target)
-heads_of-at count links i other below = mapped-at (λ link. head_of count link.target) links i other below
+heads_of_at count links i other below = mapped_at (λ link. head_of count link.target) links i other below

@@ -17,7 +17,7 @@ use Rattle.flow_certificate.specs.Certificates.{Picture, arc_of, lines_of, makes
 use Rattle.flow_certificate.specs.Private.Drafts.{Sketch, blank}
 use Rattle.flow_certificate.specs.Private.Drafts.{link_line_cmp, may_follow}
 use Rattle.flow_certificate.specs.Private.Drafts.{point_line_cmp, step, steps}
-use Rattle.flow_certificate.proofs.LastItems.{all-middle, ascend-middle, follow-map, map-append}
+use Rattle.flow_certificate.proofs.LastItems.{all_middle, ascend_middle, follow_map, map_over_both}
 
 -- ---- each certificate is drafted
 
@@ -27,55 +27,55 @@ opened value points relays links = record {
   picture = record { value = value; points = points; relays = relays; links = links };
 }
 
-draft-points : (value : ℕ) (before points : List PointLine) (rest : List Line) →
+draft_points : (value : ℕ) (before points : List PointLine) (rest : List Line) →
     ascend node_cmp (map node_of (before ++ points)) ≡ true →
     steps (opened value before [] []) (map Point points ++ rest) ≡ steps (opened value (before ++ points) [] []) rest
 unfolding step
-draft-points value before [] rest up =
+draft_points value before [] rest up =
     ap (λ (ps : List PointLine). steps (opened value ps [] []) rest) (sym (append-nil before))
-draft-points value before (line ∷ points) rest up =
-    let may : may_follow point_line_cmp before line ≡ true = sym (follow-map node_of node_cmp before line)
-    ∙ ascend-middle node_cmp (map node_of before) (map node_of points) (node_of line)
-    (sym (ap (ascend node_cmp) (map-append node_of before (line ∷ points))) ∙ up) in
+draft_points value before (line ∷ points) rest up =
+    let may : may_follow point_line_cmp before line ≡ true = sym (follow_map node_of node_cmp before line)
+    ∙ ascend_middle node_cmp (map node_of before) (map node_of points) (node_of line)
+    (sym (ap (ascend node_cmp) (map_over_both node_of before (line ∷ points))) ∙ up) in
     let moved = append_assoc before (line ∷ []) points in
-    let later = draft-points value (before ++ (line ∷ [])) points rest
+    let later = draft_points value (before ++ (line ∷ [])) points rest
     (ap (λ (ps : List PointLine). ascend node_cmp (map node_of ps)) moved ∙ up) in
     rw may (later ∙ ap (λ (ps : List PointLine). steps (opened value ps [] []) rest) moved)
 
-draft-relays : (value : ℕ) (points : List PointLine) (before relays : List RelayLine) (rest : List Line) →
+draft_relays : (value : ℕ) (points : List PointLine) (before relays : List RelayLine) (rest : List Line) →
     ascend nat_cmp (map region_of (before ++ relays)) ≡ true →
     steps (opened value points before []) (map Relay relays ++ rest) ≡ steps (opened value points (before ++ relays) [])
     rest
 unfolding step
-draft-relays value points before [] rest up =
+draft_relays value points before [] rest up =
     ap (λ (rs : List RelayLine). steps (opened value points rs []) rest) (sym (append-nil before))
-draft-relays value points before (line ∷ relays) rest up =
+draft_relays value points before (line ∷ relays) rest up =
     let may : may_follow nat_cmp (map region_of before) line.region ≡ true =
-    ascend-middle nat_cmp (map region_of before) (map region_of relays) (region_of line)
-    (sym (ap (ascend nat_cmp) (map-append region_of before (line ∷ relays))) ∙ up) in
+    ascend_middle nat_cmp (map region_of before) (map region_of relays) (region_of line)
+    (sym (ap (ascend nat_cmp) (map_over_both region_of before (line ∷ relays))) ∙ up) in
     let moved = append_assoc before (line ∷ []) relays in
-    let later = draft-relays value points (before ++ (line ∷ [])) relays rest
+    let later = draft_relays value points (before ++ (line ∷ [])) relays rest
     (ap (λ (rs : List RelayLine). ascend nat_cmp (map region_of rs)) moved ∙ up) in
     rw may (later ∙ ap (λ (rs : List RelayLine). steps (opened value points rs []) rest) moved)
 
-draft-links : (value : ℕ) (points : List PointLine) (relays : List RelayLine) (before links : List LinkLine)
+draft_links : (value : ℕ) (points : List PointLine) (relays : List RelayLine) (before links : List LinkLine)
     (rest : List Line) → ascend arc_cmp (map arc_of (before ++ links)) ≡ true →
     list_all (is_link (length points) (map region_of relays)) (map arc_of (before ++ links)) ≡ true →
     steps (opened value points relays before) (map Link links ++ rest) ≡ steps (opened value points relays
     (before ++ links)) rest
 unfolding step
-draft-links value points relays before [] rest up all =
+draft_links value points relays before [] rest up all =
     ap (λ (ls : List LinkLine). steps (opened value points relays ls) rest) (sym (append-nil before))
-draft-links value points relays before (line ∷ links) rest up all =
-    let split = map-append arc_of before (line ∷ links) in
-    let may : may_follow link_line_cmp before line ≡ true = sym (follow-map arc_of arc_cmp before line)
-    ∙ ascend-middle arc_cmp (map arc_of before) (map arc_of links) (arc_of line) (sym (ap (ascend arc_cmp) split)
+draft_links value points relays before (line ∷ links) rest up all =
+    let split = map_over_both arc_of before (line ∷ links) in
+    let may : may_follow link_line_cmp before line ≡ true = sym (follow_map arc_of arc_cmp before line)
+    ∙ ascend_middle arc_cmp (map arc_of before) (map arc_of links) (arc_of line) (sym (ap (ascend arc_cmp) split)
     ∙ up) in
     let joins : is_link (length points) (map region_of relays) line.link ≡ true =
-    all-middle (is_link (length points) (map region_of relays)) (map arc_of before) (map arc_of links) line.link
+    all_middle (is_link (length points) (map region_of relays)) (map arc_of before) (map arc_of links) line.link
     (sym (ap (list_all (is_link (length points) (map region_of relays))) split) ∙ all) in
     let moved = append_assoc before (line ∷ []) links in
-    let later = draft-links value points relays (before ++ (line ∷ [])) links rest
+    let later = draft_links value points relays (before ++ (line ∷ [])) links rest
     (ap (λ (ls : List LinkLine). ascend arc_cmp (map arc_of ls)) moved ∙ up)
     (ap (λ (ls : List LinkLine). list_all (is_link (length points) (map region_of relays)) (map arc_of ls)) moved
     ∙ all) in
@@ -105,7 +105,7 @@ drafted picture made =
     ∙ ap (λ (ls : List Line). map Point picture.points ++ ls) (append_assoc (map Relay picture.relays)
     (map Link picture.links) (End ∷ [])) in
     ap (steps (opened picture.value [] [] [])) regroup
-    ∙ (draft-points picture.value [] picture.points (map Relay picture.relays ++ (map Link picture.links ++ (End ∷
+    ∙ (draft_points picture.value [] picture.points (map Relay picture.relays ++ (map Link picture.links ++ (End ∷
     []))) up.1
-    ∙ (draft-relays picture.value picture.points [] picture.relays (map Link picture.links ++ (End ∷ [])) more.0
-    ∙ draft-links picture.value picture.points picture.relays [] picture.links (End ∷ []) last.0 all))
+    ∙ (draft_relays picture.value picture.points [] picture.relays (map Link picture.links ++ (End ∷ [])) more.0
+    ∙ draft_links picture.value picture.points picture.relays [] picture.links (End ∷ []) last.0 all))

@@ -21,68 +21,68 @@ use Rattle.flow_certificate.specs.Private.Guessing.{line_in}
 use Rattle.flow_certificate.specs.Lines.{is_line, line_text}
 use Rattle.flow_certificate.specs.Private.Reading.{IsReading, is_whole}
 use Rattle.flow_certificate.proofs.DraftedPictures.{drafted, whole}
-use Rattle.flow_certificate.proofs.Guesses.{line-found, line-own, pair-same}
-use Rattle.flow_certificate.proofs.LastItems.{all-middle, all-push}
-use Rattle.flow_certificate.proofs.Prefixes.{front-of, text-append, text-more, text-none, whole-longer}
-use Rattle.flow_certificate.proofs.DraftSteps.{sketch-same, steps-append, steps-one, steps-whole}
+use Rattle.flow_certificate.proofs.Guesses.{line_found, line_own, pair_same}
+use Rattle.flow_certificate.proofs.LastItems.{all_middle, all_push}
+use Rattle.flow_certificate.proofs.Prefixes.{front_of, text_append, text_more, text_none, whole_longer}
+use Rattle.flow_certificate.proofs.DraftSteps.{sketch_same, steps_append, steps_one, steps_whole}
 
-whole-is : (stage : Stage) → is_whole stage ≡ true → stage ≡ stages.Whole
-whole-is stages.Nothing is = absurd cc
-whole-is stages.Version is = absurd cc
-whole-is stages.Open is = absurd cc
-whole-is stages.Whole is = refl
+whole_is : (stage : Stage) → is_whole stage ≡ true → stage ≡ stages.Whole
+whole_is stages.Nothing is = absurd cc
+whole_is stages.Version is = absurd cc
+whole_is stages.Open is = absurd cc
+whole_is stages.Whole is = refl
 
-all-take : (lines : List Line) (n : ℕ) → list_all is_line lines ≡ true → list_all is_line (take n lines) ≡ true
-all-take lines zero all = refl
-all-take [] (suc n) all = refl
-all-take (line ∷ lines) (suc n) all =
+all_take : (lines : List Line) (n : ℕ) → list_all is_line lines ≡ true → list_all is_line (take n lines) ≡ true
+all_take lines zero all = refl
+all_take [] (suc n) all = refl
+all_take (line ∷ lines) (suc n) all =
     let parts = and_parts (is_line line) (list_all is_line lines) all in
-    and_from (is_line line) (list_all is_line (take n lines)) parts.0 (all-take lines n parts.1)
+    and_from (is_line line) (list_all is_line (take n lines)) parts.0 (all_take lines n parts.1)
 
 -- the text of a line has a byte, before its line feed
-line-some : (line : Line) → 1 ≤ length (line_text line)
+line_some : (line : Line) → 1 ≤ length (line_text line)
 unfolding line_text
-line-some Version = omega arith
-line-some (Value value) = omega arith
-line-some (Point line) = omega arith
-line-some (Relay line) = omega arith
-line-some (Link line) = omega arith
-line-some End = omega arith
+line_some Version = omega arith
+line_some (Value value) = omega arith
+line_some (Point line) = omega arith
+line_some (Relay line) = omega arith
+line_some (Link line) = omega arith
+line_some End = omega arith
 
 -- ---- the loop
 
-pub reading-first : (file : List ℕ) (draft : Draft) → sketch_of draft ≡ blank → IsDraft draft →
+pub reading_first : (file : List ℕ) (draft : Draft) → sketch_of draft ≡ blank → IsDraft draft →
     IsReading file file draft 1
-reading-first file draft none is = record {
+reading_first file draft none is = record {
   lines = [];
   known = refl;
   drafted = ap (λ s. Some s) (sym none);
-  text = ap (λ (l : List ℕ). l ++ file) (sym text-none);
+  text = ap (λ (l : List ℕ). l ++ file) (sym text_none);
   counted = refl;
   shorter = omega arith;
   is_draft = is;
 }
 
-pub reading-more : (file rest more : List ℕ) (draft next : Draft) (number : ℕ) (line : Line) →
+pub reading_more : (file rest more : List ℕ) (draft next : Draft) (number : ℕ) (line : Line) →
     IsReading file rest draft number → line_in rest ≡ Some (line, more) →
     step (sketch_of draft) line ≡ Some (sketch_of next) → IsDraft next → IsReading file more next (number + 1)
-reading-more file rest more draft next number line reading found taken is =
-    let one = line-found rest line more found in
+reading_more file rest more draft next number line reading found taken is =
+    let one = line_found rest line more found in
     let counted = reading.counted in
     let shorter = reading.shorter in
-    let some = line-some line in
+    let some = line_some line in
     let size : length rest ≡ length (line_text line) + (length more + 1) = ap length one.text
     ∙ (length-append (line_text line) (10 ∷ more) ∙ omega arith) in
     record {
       lines = reading.lines ++ (line ∷ []);
-      known = all-push is_line reading.lines line reading.known one.known;
-      drafted = steps-one (sketch_of draft) line (sketch_of next) reading.lines reading.drafted taken;
+      known = all_push is_line reading.lines line reading.known one.known;
+      drafted = steps_one (sketch_of draft) line (sketch_of next) reading.lines reading.drafted taken;
       text = reading.text ∙ (ap (λ (l : List ℕ). lines_text reading.lines ++ l) one.text
           ∙ (sym (append_assoc (lines_text reading.lines) (line_text line ++ (10 ∷ [])) more
           ∙ ap (λ (l : List ℕ). lines_text reading.lines ++ l) (append_assoc (line_text line) (10 ∷ []) more))
-          ∙ ap (λ (l : List ℕ). l ++ more) (sym (text-append reading.lines (line ∷ [])
-          ∙ ap (λ (l : List ℕ). lines_text reading.lines ++ l) (text-more line []
-          ∙ ap (λ (l : List ℕ). line_text line ++ (10 ∷ l)) text-none)))));
+          ∙ ap (λ (l : List ℕ). l ++ more) (sym (text_append reading.lines (line ∷ [])
+          ∙ ap (λ (l : List ℕ). lines_text reading.lines ++ l) (text_more line []
+          ∙ ap (λ (l : List ℕ). line_text line ++ (10 ∷ l)) text_none)))));
       counted = let long : length (reading.lines ++ (line ∷ [])) ≡ length reading.lines + 1 = length-append
           reading.lines (line ∷ []) in omega (arith, counted, long);
       shorter = omega (arith, shorter, some, size);
@@ -90,12 +90,12 @@ reading-more file rest more draft next number line reading found taken is =
     }
 
 -- the whole file is read
-pub reading-done : (file rest : List ℕ) (draft : Draft) (number : ℕ) → IsReading file rest draft number →
+pub reading_done : (file rest : List ℕ) (draft : Draft) (number : ℕ) → IsReading file rest draft number →
     is_whole draft.stage ≡ true → rest ≡ [] → CertText file ((sketch_of draft).picture)
-reading-done file rest draft number reading end none =
-    let made = steps-whole reading.lines (sketch_of draft) reading.known reading.drafted in
+reading_done file rest draft number reading end none =
+    let made = steps_whole reading.lines (sketch_of draft) reading.known reading.drafted in
     let lines : lines_of (sketch_of draft).picture ≡ reading.lines =
-    ap (λ (stage : Stage). lines_in stage (sketch_of draft).picture) (sym (whole-is draft.stage end))
+    ap (λ (stage : Stage). lines_in stage (sketch_of draft).picture) (sym (whole_is draft.stage end))
     ∙ made.lines_are in
     record {
       valid = and_from (list_all is_line (lines_of (sketch_of draft).picture)) (makes_graph (sketch_of draft).picture)
@@ -116,28 +116,28 @@ record GoesOn (lines : List Line) : Type 0 where
 abbrev bare : Picture
 bare = record { value = 0; points = []; relays = []; links = [] }
 
-goes-on : (lines : List Line) (stage : Stage) (picture : Picture) → lines_in stage picture ≡ lines →
+goes_on_so : (lines : List Line) (stage : Stage) (picture : Picture) → lines_in stage picture ≡ lines →
     makes_graph picture ≡ true → list_all is_line lines ≡ true → GoesOn lines
-goes-on lines stages.Nothing picture are made known = record {
+goes_on_so lines stages.Nothing picture are made known = record {
   picture = bare;
   valid = refl;
   tail = Version ∷ (Value 0 ∷ (End ∷ []));
   split = ap (λ (ls : List Line). ls ++ (Version ∷ (Value 0 ∷ (End ∷ [])))) are;
 }
-goes-on lines stages.Version picture are made known = record {
+goes_on_so lines stages.Version picture are made known = record {
   picture = bare;
   valid = refl;
   tail = Value 0 ∷ (End ∷ []);
   split = ap (λ (ls : List Line). ls ++ (Value 0 ∷ (End ∷ []))) are;
 }
-goes-on lines stages.Open picture are made known = record {
+goes_on_so lines stages.Open picture are made known = record {
   picture = picture;
-  valid = and_from (list_all is_line (lines_of picture)) (makes_graph picture) (all-push is_line (open_lines picture)
+  valid = and_from (list_all is_line (lines_of picture)) (makes_graph picture) (all_push is_line (open_lines picture)
       End (ap (list_all is_line) are ∙ known) refl) made;
   tail = End ∷ [];
   split = ap (λ (ls : List Line). ls ++ (End ∷ [])) are;
 }
-goes-on lines stages.Whole picture are made known = record {
+goes_on_so lines stages.Whole picture are made known = record {
   picture = picture;
   valid = and_from (list_all is_line (lines_of picture)) (makes_graph picture) (ap (list_all is_line) are ∙ known)
       made;
@@ -150,81 +150,81 @@ abbrev pub IsStuck : Draft → List ℕ → Type 0
 IsStuck draft rest = (line : Line) (more : List ℕ) → line_in rest ≡ Some (line, more) →
     step (sketch_of draft) line ≡ None
 
-no-next : (draft : Draft) (lines more : List Line) (rest other : List ℕ) (picture : Picture) (line : Line) →
+no_next : (draft : Draft) (lines more : List Line) (rest other : List ℕ) (picture : Picture) (line : Line) →
     steps blank lines ≡ Some (sketch_of draft) → makes_graph picture ≡ true →
     lines_of picture ≡ lines ++ (line ∷ more) → is_line line ≡ true → rest ≡ line_text line ++ (10 ∷ other) →
     IsStuck draft rest → ⊥
-no-next draft lines more rest other picture line so_far made split known text stuck =
-    let none = stuck line other (ap line_in text ∙ line-own line other known) in
-    let whole_way : steps blank (lines_of picture) ≡ None = ap (steps blank) split ∙ (steps-append blank lines
+no_next draft lines more rest other picture line so_far made split known text stuck =
+    let none = stuck line other (ap line_in text ∙ line_own line other known) in
+    let whole_way : steps blank (lines_of picture) ≡ None = ap (steps blank) split ∙ (steps_append blank lines
     (line ∷ more) ∙ (ap (option_and_then (λ s. steps s (line ∷ more))) so_far
     ∙ ap (option_and_then (λ s. steps s more)) none)) in
     let both : None ≡ Some (whole picture) = sym whole_way ∙ drafted picture made in
     absurd cc
 
-ends-here : (draft : Draft) (lines more tail : List Line) (rest other : List ℕ) (picture : Picture) (line : Line) →
+ends_here : (draft : Draft) (lines more tail : List Line) (rest other : List ℕ) (picture : Picture) (line : Line) →
     steps blank lines ≡ Some (sketch_of draft) → is_certificate_picture picture ≡ true →
     lines_of picture ≡ lines ++ (line ∷ (more ++ tail)) → rest ≡ lines_text (line ∷ more) ++ other →
     IsStuck draft rest → ⊥
-ends-here draft lines more tail rest other picture line so_far valid split text stuck =
+ends_here draft lines more tail rest other picture line so_far valid split text stuck =
     let parts = and_parts (list_all is_line (lines_of picture)) (makes_graph picture) valid in
-    let known = all-middle is_line lines (more ++ tail) line (ap (list_all is_line) (sym split) ∙ parts.0) in
-    no-next draft lines (more ++ tail) rest (lines_text more ++ other) picture line so_far parts.1 split known
-    (text ∙ (ap (λ (l : List ℕ). l ++ other) (text-more line more) ∙ append_assoc (line_text line)
+    let known = all_middle is_line lines (more ++ tail) line (ap (list_all is_line) (sym split) ∙ parts.0) in
+    no_next draft lines (more ++ tail) rest (lines_text more ++ other) picture line so_far parts.1 split known
+    (text ∙ (ap (λ (l : List ℕ). l ++ other) (text_more line more) ∙ append_assoc (line_text line)
     (10 ∷ lines_text more) other)) stuck
 
-fails-by : (draft : Draft) (lines more : List Line) (rest other : List ℕ) (number : ℕ) (picture : Picture) →
+fails_by : (draft : Draft) (lines more : List Line) (rest other : List ℕ) (number : ℕ) (picture : Picture) →
     steps blank lines ≡ Some (sketch_of draft) → is_certificate_picture picture ≡ true → number ≡ length lines + 1 →
     length (take number (lines_of picture)) ≡ number → take number (lines_of picture) ≡ lines ++ more →
     rest ≡ lines_text more ++ other → IsStuck draft rest → ⊥
-fails-by draft lines [] rest other number picture so_far valid counted size split text stuck =
+fails_by draft lines [] rest other number picture so_far valid counted size split text stuck =
     let few : length (take number (lines_of picture)) ≡ length lines = ap length split ∙ ap length (append-nil lines) in
     absurd (omega (arith, few, size, counted))
-fails-by draft lines (line ∷ more) rest other number picture so_far valid counted size split text stuck =
+fails_by draft lines (line ∷ more) rest other number picture so_far valid counted size split text stuck =
     let tail = drop number (lines_of picture) in
-    ends-here draft lines more (drop number (lines_of picture)) rest other picture line so_far valid
+    ends_here draft lines more (drop number (lines_of picture)) rest other picture line so_far valid
     (sym (take-append-drop number (lines_of picture)) ∙ (ap (λ (ls : List Line). ls ++ drop number
     (lines_of picture)) split ∙ append_assoc lines (line ∷ more) (drop number (lines_of picture)))) text stuck
 
-fails-at : (file rest : List ℕ) (draft : Draft) (number : ℕ) → IsReading file rest draft number →
+fails_at : (file rest : List ℕ) (draft : Draft) (number : ℕ) → IsReading file rest draft number →
     IsStuck draft rest → (picture : Picture) → BeginsWith file number picture → ⊥
-fails-at file rest draft number reading stuck picture begins =
+fails_at file rest draft number reading stuck picture begins =
     let parts = and_parts (list_all is_line (lines_of picture)) (makes_graph picture) begins.valid in
-    let all = all-take (lines_of picture) number parts.0 in
+    let all = all_take (lines_of picture) number parts.0 in
     let size : length (take number (lines_of picture)) ≡ number = length-take-le number (lines_of picture)
     begins.count in
     let counted = reading.counted in
-    let front = front-of reading.lines (take number (lines_of picture)) rest begins.rest reading.known all
+    let front = front_of reading.lines (take number (lines_of picture)) rest begins.rest reading.known all
     (omega (arith, size, counted)) (sym reading.text ∙ begins.text) in
-    fails-by draft reading.lines front.more rest begins.rest number picture reading.drafted begins.valid counted size
+    fails_by draft reading.lines front.more rest begins.rest number picture reading.drafted begins.valid counted size
     front.lines front.text stuck
 
-ends-by : (draft : Draft) (lines more : List Line) (rest : List ℕ) (picture : Picture) →
+ends_by : (draft : Draft) (lines more : List Line) (rest : List ℕ) (picture : Picture) →
     steps blank lines ≡ Some (sketch_of draft) → is_certificate_picture picture ≡ true → lines_of picture ≡ lines ++ more →
     rest ≡ lines_text more ++ [] → IsStuck draft rest → (is_whole draft.stage ≡ true → rest ≡ [] → ⊥) → ⊥
-ends-by draft lines [] rest picture so_far valid split text stuck going =
+ends_by draft lines [] rest picture so_far valid split text stuck going =
     let parts = and_parts (list_all is_line (lines_of picture)) (makes_graph picture) valid in
-    let same = sketch-same (sketch_of draft) (whole picture) (sym so_far ∙ (ap (steps blank) (sym (split
+    let same = sketch_same (sketch_of draft) (whole picture) (sym so_far ∙ (ap (steps blank) (sym (split
     ∙ append-nil lines)) ∙ drafted picture parts.1)) in
-    going (ap (λ s. is_whole s.stage) same) (text ∙ ap (λ (l : List ℕ). l ++ []) text-none)
-ends-by draft lines (line ∷ more) rest picture so_far valid split text stuck going =
-    ends-here draft lines more [] rest [] picture line so_far valid
+    going (ap (λ s. is_whole s.stage) same) (text ∙ ap (λ (l : List ℕ). l ++ []) text_none)
+ends_by draft lines (line ∷ more) rest picture so_far valid split text stuck going =
+    ends_here draft lines more [] rest [] picture line so_far valid
     (split ∙ ap (λ (ls : List Line). lines ++ (line ∷ ls)) (sym (append-nil more))) text stuck
 
-no-text-at : (file rest : List ℕ) (draft : Draft) (number : ℕ) → IsReading file rest draft number →
+no_text_at : (file rest : List ℕ) (draft : Draft) (number : ℕ) → IsReading file rest draft number →
     IsStuck draft rest → (is_whole draft.stage ≡ true → rest ≡ [] → ⊥) → (picture : Picture) →
     CertText file picture → ⊥
-no-text-at file rest draft number reading stuck going picture text =
+no_text_at file rest draft number reading stuck going picture text =
     let parts = and_parts (list_all is_line (lines_of picture)) (makes_graph picture) text.valid in
     let both = sym reading.text ∙ text.text in
-    let few = whole-longer reading.lines (lines_of picture) rest reading.known parts.0 both in
-    let front = front-of reading.lines (lines_of picture) rest [] reading.known parts.0 few
+    let few = whole_longer reading.lines (lines_of picture) rest reading.known parts.0 both in
+    let front = front_of reading.lines (lines_of picture) rest [] reading.known parts.0 few
     (both ∙ sym (append-nil (lines_text (lines_of picture)))) in
-    ends-by draft reading.lines front.more rest picture reading.drafted text.valid front.lines front.text stuck going
+    ends_by draft reading.lines front.more rest picture reading.drafted text.valid front.lines front.text stuck going
 
-begins-before : (file rest : List ℕ) (number : ℕ) (lines : List Line) → file ≡ lines_text lines ++ rest →
+begins_before : (file rest : List ℕ) (number : ℕ) (lines : List Line) → file ≡ lines_text lines ++ rest →
     number ≡ length lines + 1 → (on : GoesOn lines) → BeginsWith file (number - 1) on.picture
-begins-before file rest number lines text counted on =
+begins_before file rest number lines text counted on =
     let size : number - 1 ≡ length lines = omega (arith, counted) in
     let long : length (lines_of on.picture) ≡ length lines + length on.tail = ap length on.split
     ∙ length-append lines on.tail in
@@ -236,67 +236,67 @@ begins-before file rest number lines text counted on =
           size ∙ (ap (take (length lines)) on.split ∙ take-append_seam lines on.tail)));
     }
 
-pub reading-fails : (file rest : List ℕ) (draft : Draft) (number : ℕ) → IsReading file rest draft number →
+pub reading_fails : (file rest : List ℕ) (draft : Draft) (number : ℕ) → IsReading file rest draft number →
     IsStuck draft rest → (is_whole draft.stage ≡ true → rest ≡ [] → ⊥) → IsFirstFailure file number
-reading-fails file rest draft number reading stuck going =
-    let made = steps-whole reading.lines (sketch_of draft) reading.known reading.drafted in
-    let on = goes-on reading.lines draft.stage ((sketch_of draft).picture) made.lines_are made.made reading.known in
+reading_fails file rest draft number reading stuck going =
+    let made = steps_whole reading.lines (sketch_of draft) reading.known reading.drafted in
+    let on = goes_on_so reading.lines draft.stage ((sketch_of draft).picture) made.lines_are made.made reading.known in
     let counted = reading.counted in
     record {
       counted = omega (arith, counted);
       before = on.picture;
-      begins = begins-before file rest number reading.lines reading.text reading.counted on;
-      fails = fails-at file rest draft number reading stuck;
-      no_text = no-text-at file rest draft number reading stuck going;
+      begins = begins_before file rest number reading.lines reading.text reading.counted on;
+      fails = fails_at file rest draft number reading stuck;
+      no_text = no_text_at file rest draft number reading stuck going;
     }
 
 -- where no line stands in front, none may come next
-pub stuck-none : (draft : Draft) (rest : List ℕ) → line_in rest ≡ None → IsStuck draft rest
-stuck-none draft rest none line more found =
+pub stuck_none : (draft : Draft) (rest : List ℕ) → line_in rest ≡ None → IsStuck draft rest
+stuck_none draft rest none line more found =
     let both : ◌≡◌ {A = Option (Line × List ℕ)} None (Some (line, more)) = sym none ∙ found in absurd cc
 
 -- where the line in front may not come next, none may
-pub stuck-there : (draft : Draft) (rest more : List ℕ) (line : Line) → line_in rest ≡ Some (line, more) →
+pub stuck_there : (draft : Draft) (rest more : List ℕ) (line : Line) → line_in rest ≡ Some (line, more) →
     step (sketch_of draft) line ≡ None → IsStuck draft rest
-stuck-there draft rest more line found refused other behind also =
-    let same = pair-same other line behind more (sym also ∙ found) in
+stuck_there draft rest more line found refused other behind also =
+    let same = pair_same other line behind more (sym also ∙ found) in
     ap (step (sketch_of draft)) same.0 ∙ refused
 
 -- a file in whose front a line stands is not at its end
-pub line-stands : (rest more : List ℕ) (line : Line) → line_in rest ≡ Some (line, more) → rest ≡ [] → ⊥
-line-stands rest more line found none =
-    let one = line-found rest line more found in
+pub line_stands : (rest more : List ℕ) (line : Line) → line_in rest ≡ Some (line, more) → rest ≡ [] → ⊥
+line_stands rest more line found none =
+    let one = line_found rest line more found in
     let size : length rest ≡ length (line_text line) + (length more + 1) = ap length one.text
     ∙ (length-append (line_text line) (10 ∷ more) ∙ omega arith) in
     let empty : length rest ≡ 0 = ap length none in
     omega (arith, size, empty)
 
-pub line-shorter : (rest more : List ℕ) (line : Line) → line_in rest ≡ Some (line, more) → length more + 2 ≤ length rest
-line-shorter rest more line found =
-    let one = line-found rest line more found in
+pub line_shorter : (rest more : List ℕ) (line : Line) → line_in rest ≡ Some (line, more) → length more + 2 ≤ length rest
+line_shorter rest more line found =
+    let one = line_found rest line more found in
     let size : length rest ≡ length (line_text line) + (length more + 1) = ap length one.text
     ∙ (length-append (line_text line) (10 ∷ more) ∙ omega arith) in
-    let some = line-some line in
+    let some = line_some line in
     omega (arith, some, size)
 
-pub none-left : (rest : List ℕ) → (length rest == 0) ≡ true → rest ≡ []
-none-left [] none = refl
-none-left (byte ∷ rest) none = absurd (grind arith)
+pub none_left : (rest : List ℕ) → (length rest == 0) ≡ true → rest ≡ []
+none_left [] none = refl
+none_left (byte ∷ rest) none = absurd (grind arith)
 
-pub none-there : (stage : Stage) (rest : List ℕ) → (is_whole stage && (length rest == 0)) ≡ false →
+pub none_there : (stage : Stage) (rest : List ℕ) → (is_whole stage && (length rest == 0)) ≡ false →
     is_whole stage ≡ true → rest ≡ [] → ⊥
-none-there stage rest going whole none =
+none_there stage rest going whole none =
     let done : (is_whole stage && (length rest == 0)) ≡ true = and_from (is_whole stage) (length rest == 0) whole
     (ap (λ (l : List ℕ). length l == 0) none) in
     let both : true ≡ false = sym done ∙ going in
     absurd cc
 
-pub points-few : (file rest : List ℕ) (draft : Draft) (number : ℕ) → IsReading file rest draft number →
+pub points_few : (file rest : List ℕ) (draft : Draft) (number : ℕ) → IsReading file rest draft number →
     is_whole draft.stage ≡ true → length file < 2 ^ 32 → length draft.points < 2 ^ 32
-points-few file rest draft number reading end small =
-    let made = steps-whole reading.lines (sketch_of draft) reading.known reading.drafted in
+points_few file rest draft number reading end small =
+    let made = steps_whole reading.lines (sketch_of draft) reading.known reading.drafted in
     let lines : lines_of (sketch_of draft).picture ≡ reading.lines =
-    ap (λ (stage : Stage). lines_in stage (sketch_of draft).picture) (sym (whole-is draft.stage end))
+    ap (λ (stage : Stage). lines_in stage (sketch_of draft).picture) (sym (whole_is draft.stage end))
     ∙ made.lines_are in
     let count : length (lines_of (sketch_of draft).picture) ≡ length reading.lines = ap length lines in
     let whole_count = length-append (open_lines (sketch_of draft).picture) (End ∷ []) in

@@ -9,7 +9,7 @@ use Rattle.std.proofs.lemmas.Bool.{and_parts, lt-ltb, ltb-true}
 use Rattle.flow_base.specs.HexWords.{hex_digit, hex_digits, hex_word}
 use Rattle.flow_base.specs.Points.{is_slot, slot_text}
 use Rattle.flow_base.specs.TextPieces.{after_text}
-use Rattle.flow_base.proofs.WantedTexts.{after-found, after-own}
+use Rattle.flow_base.proofs.WantedTexts.{after_found, after_own}
 use Rattle.flow_base.specs.declared.points.Slot.{Slot}
 use Rattle.flow_base.specs.declared.points.Slot.TheVariants.{First, Second, Address, Result, Decision, Number, Arg0}
 use Rattle.flow_base.specs.declared.points.Slot.TheVariants.{Arg1, Arg2, SecretIn, ByteOut, Status, OutReg, OutRange}
@@ -31,17 +31,17 @@ use Rattle.flow_certificate.specs.VerdictTexts.{end_text}
 
 -- ---- numbers
 
-digit-step : (number digit : ℕ) (rest : List ℕ) → digit < 10 → number < 2 ^ 48 →
+digit_step : (number digit : ℕ) (rest : List ℕ) → digit < 10 → number < 2 ^ 48 →
     digits_at number ((48 + digit) ∷ rest) ≡ digits_at (number * 10 + digit) rest
 unfolding grown
-digit-step number digit rest small fits = grind arith
+digit_step number digit rest small fits = grind arith
 
 abbrev ReadsBack : ℕ → List ℕ → Type 0
 ReadsBack number digits = (rest : List ℕ) → number < 2 ^ 48 → digits_at 0 (digits ++ rest) ≡ digits_at number rest
 
 one_digit : (number : ℕ) → number < 10 → ReadsBack number ((48 + number) ∷ [])
 one_digit number small rest fits =
-    digit-step 0 number rest small (omega arith)
+    digit_step 0 number rest small (omega arith)
     ∙ ap (λ (n : ℕ). digits_at n rest) (let e : 0 * 10 + number ≡ number = omega arith in e)
 
 more_digits : (number : ℕ) (digits : List ℕ) → 10 ≤ number → ReadsBack (number / 10) digits →
@@ -49,36 +49,36 @@ more_digits : (number : ℕ) (digits : List ℕ) → 10 ≤ number → ReadsBack
 more_digits number digits large ih rest fits =
     let e : number / 10 * 10 + number % 10 ≡ number = omega arith in
     rw append_assoc (ih ((48 + number % 10) ∷ rest) (omega arith)
-    ∙ digit-step (number / 10) (number % 10) rest (omega arith) (omega arith) ∙ ap (λ (n : ℕ). digits_at n rest) e)
+    ∙ digit_step (number / 10) (number % 10) rest (omega arith) (omega arith) ∙ ap (λ (n : ℕ). digits_at n rest) e)
 
 stops : (number byte : ℕ) (rest : List ℕ) → is_digit byte ≡ false → digits_at number (byte ∷ rest) ≡ (number, byte ∷ rest)
 stops number byte rest other = rw other refl
 
-pub number-own : (number byte : ℕ) (rest : List ℕ) → number < 2 ^ 48 → is_digit byte ≡ false →
+pub number_own : (number byte : ℕ) (rest : List ℕ) → number < 2 ^ 48 → is_digit byte ≡ false →
     number_at (decimal number ++ (byte ∷ rest)) ≡ (number, byte ∷ rest)
 unfolding number_at
-number-own number byte rest small other =
+number_own number byte rest small other =
     decimal_by_steps ReadsBack one_digit more_digits number (omega arith) (byte ∷ rest) small
     ∙ stops number byte rest other
 
-pub below-own : (limit number : ℕ) → nat_lt number limit ≡ true → below limit number ≡ number
-below-own limit number small = rw small refl
+pub below_own : (limit number : ℕ) → nat_lt number limit ≡ true → below limit number ≡ number
+below_own limit number small = rw small refl
 
 -- ---- words
 
-digit-own : (digit : ℕ) → digit < 16 → digit_of (hex_digit digit) ≡ digit
-digit-own digit small = grind arith
+digit_own : (digit : ℕ) → digit < 16 → digit_of (hex_digit digit) ≡ digit
+digit_own digit small = grind arith
 
 linear : (a b c d e f g h i j k l m n o p : ℕ) → a ≡ 16 * b + i → b ≡ 16 * c + j → c ≡ 16 * d + k → d ≡ 16 * e + l →
     e ≡ 16 * f + m → f ≡ 16 * g + n → g ≡ 16 * h + o → p ≡ h →
     p * 268435456 + o * 16777216 + n * 1048576 + m * 65536 + l * 4096 + k * 256 + j * 16 + i ≡ a
 linear a b c d e f g h i j k l m n o p q r s t u v w x = omega arith
 
-digits-sum : (word : ℕ) → word < 4294967296 →
+digits_sum : (word : ℕ) → word < 4294967296 →
     word / 268435456 % 16 * 268435456 + word / 16777216 % 16 * 16777216 + word / 1048576 % 16 * 1048576
     + word / 65536 % 16 * 65536 + word / 4096 % 16 * 4096 + word / 256 % 16 * 256 + word / 16 % 16 * 16 + word % 16 ≡
     word
-digits-sum word small =
+digits_sum word small =
     let a : word ≡ 16 * (word / 16) + word % 16 = omega arith in
     let b : word / 16 ≡ 16 * (word / 256) + word / 16 % 16 = omega arith in
     let c : word / 256 ≡ 16 * (word / 4096) + word / 256 % 16 = omega arith in
@@ -92,22 +92,22 @@ digits-sum word small =
     (word % 16) (word / 16 % 16) (word / 256 % 16) (word / 4096 % 16) (word / 65536 % 16) (word / 1048576 % 16)
     (word / 16777216 % 16) (word / 268435456 % 16) a b c d e f g h
 
-pub word-own : (word : ℕ) (rest : List ℕ) → nat_lt word (2 ^ 32) ≡ true → word_at (hex_digits word ++ rest) ≡ word
+pub word_own : (word : ℕ) (rest : List ℕ) → nat_lt word (2 ^ 32) ≡ true → word_at (hex_digits word ++ rest) ≡ word
 unfolding word_at
-word-own word rest known =
+word_own word rest known =
     let small : word < 4294967296 = ltb-true word (2 ^ 32) known in
     let low : (quotient : ℕ) → quotient % 16 < 16 = λ quotient. omega arith in
     rw (
-      digit-own _ (low (word / 268435456)),
-      digit-own _ (low (word / 16777216)),
-      digit-own _ (low (word / 1048576)),
-      digit-own _ (low (word / 65536)),
-      digit-own _ (low (word / 4096)),
-      digit-own _ (low (word / 256)),
-      digit-own _ (low (word / 16)),
-      digit-own _ (low word),
+      digit_own _ (low (word / 268435456)),
+      digit_own _ (low (word / 16777216)),
+      digit_own _ (low (word / 1048576)),
+      digit_own _ (low (word / 65536)),
+      digit_own _ (low (word / 4096)),
+      digit_own _ (low (word / 256)),
+      digit_own _ (low (word / 16)),
+      digit_own _ (low word),
     )
-    (digits-sum word small)
+    (digits_sum word small)
 
 -- ---- slots and ends
 
@@ -124,102 +124,102 @@ more_begin : (number : ℕ) (digits : List ℕ) → 10 ≤ number → Begins (nu
 more_begin number [] large ih = absurd (let some = ih.some in omega (arith, some))
 more_begin number (digit ∷ digits) large ih = record { some = omega arith; digit = ih.digit }
 
-begins-before : (digits rest : List ℕ) → 0 < length digits → is_digit (get_or digits 0 0) ≡ true →
+begins_before : (digits rest : List ℕ) → 0 < length digits → is_digit (get_or digits 0 0) ≡ true →
     is_digit (get_or (digits ++ rest) 0 0) ≡ true
-begins-before [] rest some begins = absurd (omega arith)
-begins-before (digit ∷ digits) rest some begins = begins
+begins_before [] rest some begins = absurd (omega arith)
+begins_before (digit ∷ digits) rest some begins = begins
 
-decimal-begins : (number : ℕ) (rest : List ℕ) → number < 2 ^ 48 →
+decimal_begins : (number : ℕ) (rest : List ℕ) → number < 2 ^ 48 →
     is_digit (get_or (decimal number ++ rest) 0 0) ≡ true
-decimal-begins number rest small =
+decimal_begins number rest small =
     let begins = decimal_by_steps Begins one_begins more_begin number (omega arith) in
-    begins-before (decimal number) rest begins.some begins.digit
+    begins_before (decimal number) rest begins.some begins.digit
 
-pub slot-own : (slot : Slot) (byte : ℕ) (rest : List ℕ) → is_slot slot ≡ true → is_digit byte ≡ false →
+pub slot_own : (slot : Slot) (byte : ℕ) (rest : List ℕ) → is_slot slot ≡ true → is_digit byte ≡ false →
     slot_at (slot_text slot ++ (byte ∷ rest)) ≡ (slot, byte ∷ rest)
 unfolding slot_at
-slot-own First byte rest known other = refl
-slot-own Second byte rest known other = refl
-slot-own Address byte rest known other = refl
-slot-own Result byte rest known other = refl
-slot-own Decision byte rest known other = refl
-slot-own Number byte rest known other = refl
-slot-own Arg0 byte rest known other = refl
-slot-own Arg1 byte rest known other = refl
-slot-own Arg2 byte rest known other = refl
-slot-own SecretIn byte rest known other = refl
-slot-own ByteOut byte rest known other = refl
-slot-own Status byte rest known other = refl
-slot-own (OutReg register) byte rest known other =
+slot_own First byte rest known other = refl
+slot_own Second byte rest known other = refl
+slot_own Address byte rest known other = refl
+slot_own Result byte rest known other = refl
+slot_own Decision byte rest known other = refl
+slot_own Number byte rest known other = refl
+slot_own Arg0 byte rest known other = refl
+slot_own Arg1 byte rest known other = refl
+slot_own Arg2 byte rest known other = refl
+slot_own SecretIn byte rest known other = refl
+slot_own ByteOut byte rest known other = refl
+slot_own Status byte rest known other = refl
+slot_own (OutReg register) byte rest known other =
     let small : register < 256 = grind arith in
-    rw (number-own register byte rest (omega arith) other, below-own 256 register (lt-ltb register 256 small)) refl
-slot-own (OutRange range) byte rest known other =
+    rw (number_own register byte rest (omega arith) other, below_own 256 register (lt-ltb register 256 small)) refl
+slot_own (OutRange range) byte rest known other =
     let small : range < 64 = ltb-true range 64 known in
     rw (
-      decimal-begins range (byte ∷ rest) (omega arith),
-      number-own range byte rest (omega arith) other,
-      below-own 256 range (lt-ltb range 256 (omega arith)),
+      decimal_begins range (byte ∷ rest) (omega arith),
+      number_own range byte rest (omega arith) other,
+      below_own 256 range (lt-ltb range 256 (omega arith)),
     ) refl
 
-pub end-own : (end : End) (byte : ℕ) (rest : List ℕ) → is_end end ≡ true → is_digit byte ≡ false →
+pub end_own : (end : End) (byte : ℕ) (rest : List ℕ) → is_end end ≡ true → is_digit byte ≡ false →
     end_at (end_text end ++ (byte ∷ rest)) ≡ (end, byte ∷ rest)
 unfolding end_at
-end-own ends.Source byte rest known other = refl
-end-own (ends.Point index) byte rest known other =
+end_own ends.Source byte rest known other = refl
+end_own (ends.Point index) byte rest known other =
     let small : index < 4294967296 = ltb-true index (2 ^ 32) known in
-    rw (number-own index byte rest (omega arith) other, below-own 4294967296 index known) refl
-end-own (ends.Relay region) byte rest known other =
+    rw (number_own index byte rest (omega arith) other, below_own 4294967296 index known) refl
+end_own (ends.Relay region) byte rest known other =
     let small : region < 65536 = ltb-true region 65536 known in
-    rw (number-own region byte rest (omega arith) other, below-own 65536 region known) refl
-end-own ends.Sink byte rest known other = refl
+    rw (number_own region byte rest (omega arith) other, below_own 65536 region known) refl
+end_own ends.Sink byte rest known other = refl
 
 -- ---- lines
 
-half-own : (half : Half) (rest : List ℕ) → half_of (slice_index (codes " side " ++ (half_text half ++ rest)) 6) ≡ half
-half-own Both rest = refl
-half-own FirstOnly rest = refl
-half-own SecondOnly rest = refl
-half-own Neither rest = refl
+half_own : (half : Half) (rest : List ℕ) → half_of (slice_index (codes " side " ++ (half_text half ++ rest)) 6) ≡ half
+half_own Both rest = refl
+half_own FirstOnly rest = refl
+half_own SecondOnly rest = refl
+half_own Neither rest = refl
 
-inside-own : (inside : Bool) (rest : List ℕ) →
+inside_own : (inside : Bool) (rest : List ℕ) →
     (slice_index (codes " side " ++ (inside_text inside ++ rest)) 6 == 115) ≡ inside
-inside-own true rest = refl
-inside-own false rest = refl
+inside_own true rest = refl
+inside_own false rest = refl
 
 small_of : (number : ℕ) → is_number number ≡ true → number < 2 ^ 48
 small_of number known = ltb-true number (2 ^ 48) known
 
-link-split : (line : LinkLine) (rest : List ℕ) →
+link_split : (line : LinkLine) (rest : List ℕ) →
     link_text line ++ rest ≡ codes "link " ++ (end_text line.link.source ++ (codes " " ++ (end_text line.link.target
     ++ (codes " flow " ++ (decimal line.flow ++ rest)))))
-link-split line rest = simp append_assoc
+link_split line rest = simp append_assoc
 
-link-own : (line : LinkLine) (rest : List ℕ) → is_line (forms.Link line) ≡ true →
+link_own : (line : LinkLine) (rest : List ℕ) → is_line (forms.Link line) ≡ true →
     link_at (end_text line.link.source ++ (codes " " ++ (end_text line.link.target ++ (codes " flow "
     ++ (decimal line.flow ++ (10 ∷ rest)))))) ≡ line
 unfolding link_at
-link-own line rest known =
+link_own line rest known =
     let parts = and_parts (is_end line.link.source) _ known in
     let more = and_parts (is_end line.link.target) (is_number line.flow) parts.1 in
     let behind : List ℕ = codes "flow " ++ (decimal line.flow ++ (10 ∷ rest)) in
-    let source = end-own line.link.source 32 (end_text line.link.target ++ (32 ∷ (codes "flow " ++ (decimal line.flow
+    let source = end_own line.link.source 32 (end_text line.link.target ++ (32 ∷ (codes "flow " ++ (decimal line.flow
     ++ (10 ∷ rest))))) parts.0 refl in
-    let target = end-own line.link.target 32 (codes "flow " ++ (decimal line.flow ++ (10 ∷ rest))) more.0 refl in
-    let flow = number-own line.flow 10 rest (small_of line.flow more.1) refl in
+    let target = end_own line.link.target 32 (codes "flow " ++ (decimal line.flow ++ (10 ∷ rest))) more.0 refl in
+    let flow = number_own line.flow 10 rest (small_of line.flow more.1) refl in
     rw (source, target, flow) refl
 
-relay-split : (line : RelayLine) (rest : List ℕ) →
+relay_split : (line : RelayLine) (rest : List ℕ) →
     relay_text line ++ rest ≡ codes "relay " ++ (decimal line.region ++ (codes " side " ++ (inside_text line.inside
     ++ rest)))
-relay-split line rest = simp append_assoc
+relay_split line rest = simp append_assoc
 
-relay-own : (line : RelayLine) (rest : List ℕ) → is_line (forms.Relay line) ≡ true →
+relay_own : (line : RelayLine) (rest : List ℕ) → is_line (forms.Relay line) ≡ true →
     relay_at (decimal line.region ++ (codes " side " ++ (inside_text line.inside ++ rest))) ≡ line
 unfolding relay_at
-relay-own line rest known =
+relay_own line rest known =
     let small : line.region < 65536 = ltb-true line.region 65536 known in
-    let region = number-own line.region 32 (codes "side " ++ (inside_text line.inside ++ rest)) (omega arith) refl in
-    rw (region, below-own 65536 line.region known, inside-own line.inside rest) refl
+    let region = number_own line.region 32 (codes "side " ++ (inside_text line.inside ++ rest)) (omega arith) refl in
+    rw (region, below_own 65536 line.region known, inside_own line.inside rest) refl
 
 -- the line of a point after its first word
 abbrev point_tail : PointLine → List ℕ → List ℕ
@@ -228,13 +228,13 @@ point_tail line rest =
     ++ (codes " capacity " ++ (decimal line.capacity ++ (codes " flow " ++ (decimal line.flow ++ (codes " side "
     ++ (half_text line.half ++ rest))))))))))
 
-point-split : (line : PointLine) (rest : List ℕ) → point_text line ++ rest ≡ codes "point " ++ point_tail line rest
-point-split line rest = simp append_assoc
+point_split : (line : PointLine) (rest : List ℕ) → point_text line ++ rest ≡ codes "point " ++ point_tail line rest
+point_split line rest = simp append_assoc
 
-point-own : (line : PointLine) (rest : List ℕ) → is_line (forms.Point line) ≡ true →
+point_own : (line : PointLine) (rest : List ℕ) → is_line (forms.Point line) ≡ true →
     point_at (point_tail line rest) ≡ line
 unfolding point_at
-point-own line rest known =
+point_own line rest known =
     let place = and_parts (is_certificate_point line.point) _ known in
     let address = and_parts (is_region_or_outside line.point.region) _ place.0 in
     let slot_known = and_parts (nat_lt line.point.address (2 ^ 32)) (is_slot line.point.slot) address.1 in
@@ -242,41 +242,41 @@ point-own line rest known =
     let numbers = and_parts (is_number line.capacity) (is_number line.flow) some.1 in
     let region_small : line.point.region < 65536 = ltb-true line.point.region 65536 address.0 in
     let half_part : List ℕ = codes "side " ++ (half_text line.half ++ rest) in
-    let region = number-own line.point.region 32 (hex_word line.point.address ++ (32 ∷ (slot_text line.point.slot
+    let region = number_own line.point.region 32 (hex_word line.point.address ++ (32 ∷ (slot_text line.point.slot
     ++ (codes " capacity " ++ (decimal line.capacity ++ (codes " flow " ++ (decimal line.flow ++ (codes " side "
     ++ (half_text line.half ++ rest))))))))) (omega arith) refl in
-    let word = word-own line.point.address (32 ∷ (slot_text line.point.slot ++ (codes " capacity "
+    let word = word_own line.point.address (32 ∷ (slot_text line.point.slot ++ (codes " capacity "
     ++ (decimal line.capacity ++ (codes " flow " ++ (decimal line.flow ++ (codes " side " ++ (half_text line.half
     ++ rest)))))))) slot_known.0 in
-    let slot = slot-own line.point.slot 32 (codes "capacity " ++ (decimal line.capacity ++ (codes " flow "
+    let slot = slot_own line.point.slot 32 (codes "capacity " ++ (decimal line.capacity ++ (codes " flow "
     ++ (decimal line.flow ++ (codes " side " ++ (half_text line.half ++ rest)))))) slot_known.1 refl in
-    let capacity = number-own line.capacity 32 (codes "flow " ++ (decimal line.flow ++ (codes " side "
+    let capacity = number_own line.capacity 32 (codes "flow " ++ (decimal line.flow ++ (codes " side "
     ++ (half_text line.half ++ rest)))) (small_of line.capacity numbers.0) refl in
-    let flow = number-own line.flow 32 (codes "side " ++ (half_text line.half ++ rest)) (small_of line.flow numbers.1)
+    let flow = number_own line.flow 32 (codes "side " ++ (half_text line.half ++ rest)) (small_of line.flow numbers.1)
     refl in
     rw (
       region,
-      below-own 65536 line.point.region address.0,
+      below_own 65536 line.point.region address.0,
       word,
       slot,
       capacity,
       flow,
-      half-own line.half rest,
+      half_own line.half rest,
     ) refl
 
-pub guess-own : (line : Line) (rest : List ℕ) → is_line line ≡ true → guess (line_text line ++ (10 ∷ rest)) ≡ line
+pub guess_own : (line : Line) (rest : List ℕ) → is_line line ≡ true → guess (line_text line ++ (10 ∷ rest)) ≡ line
 unfolding guess line_text
-guess-own forms.Version rest known = refl
-guess-own (forms.Value value) rest known =
-    let number = number-own value 10 rest (small_of value known) refl in
+guess_own forms.Version rest known = refl
+guess_own (forms.Value value) rest known =
+    let number = number_own value 10 rest (small_of value known) refl in
     rw number refl
-guess-own (forms.Point line) rest known =
-    ap guess (point-split line (10 ∷ rest)) ∙ ap forms.Point (point-own line (10 ∷ rest) known)
-guess-own (forms.Relay line) rest known =
-    ap guess (relay-split line (10 ∷ rest)) ∙ ap forms.Relay (relay-own line (10 ∷ rest) known)
-guess-own (forms.Link line) rest known =
-    ap guess (link-split line (10 ∷ rest)) ∙ ap forms.Link (link-own line rest known)
-guess-own forms.End rest known = refl
+guess_own (forms.Point line) rest known =
+    ap guess (point_split line (10 ∷ rest)) ∙ ap forms.Point (point_own line (10 ∷ rest) known)
+guess_own (forms.Relay line) rest known =
+    ap guess (relay_split line (10 ∷ rest)) ∙ ap forms.Relay (relay_own line (10 ∷ rest) known)
+guess_own (forms.Link line) rest known =
+    ap guess (link_split line (10 ∷ rest)) ∙ ap forms.Link (link_own line rest known)
+guess_own forms.End rest known = refl
 
 -- ---- both ways
 
@@ -287,21 +287,21 @@ line_or : Line × List ℕ → Option (Line × List ℕ) → Line × List ℕ
 line_or other None = other
 line_or other (Some p) = p
 
-pub pair-same : (a b : Line) (x y : List ℕ) → a_line (a, x) ≡ a_line (b, y) → (a ≡ b) × (x ≡ y)
+pub pair_same : (a b : Line) (x y : List ℕ) → a_line (a, x) ≡ a_line (b, y) → (a ≡ b) × (x ≡ y)
 unfolding line_or
-pair-same a b x y e =
+pair_same a b x y e =
     let same : (a, x) ≡ (b, y) = ap (line_or (a, x)) e in
     (ap (λ p. p.0) same, ap (λ p. p.1) same)
 
 -- the text of a line is read as that line
-pub line-own : (line : Line) (rest : List ℕ) → is_line line ≡ true →
+pub line_own : (line : Line) (rest : List ℕ) → is_line line ≡ true →
     line_in (line_text line ++ (10 ∷ rest)) ≡ Some (line, rest)
 unfolding line_in
-line-own line rest known =
-    let found = guess-own line rest known in
+line_own line rest known =
+    let found = guess_own line rest known in
     let after : after_text (line_text line ++ (10 ∷ [])) (line_text line ++ (10 ∷ rest)) ≡ Some rest =
     ap (after_text (line_text line ++ (10 ∷ []))) (sym (append_assoc (line_text line) (10 ∷ []) rest))
-    ∙ after-own (line_text line ++ (10 ∷ [])) rest in
+    ∙ after_own (line_text line ++ (10 ∷ [])) rest in
     rw (found, known, after) refl
 
 -- what is read was written
@@ -309,23 +309,23 @@ pub record IsLineOf (bytes : List ℕ) (line : Line) (rest : List ℕ) : Type 0 
   pub known : is_line line ≡ true
   pub text : bytes ≡ line_text line ++ (10 ∷ rest)
 
-line-from : (known : Bool) (line : Line) (bytes : List ℕ) (found : Option (List ℕ)) (answer : Line) (rest : List ℕ) →
+line_from : (known : Bool) (line : Line) (bytes : List ℕ) (found : Option (List ℕ)) (answer : Line) (rest : List ℕ) →
     is_line line ≡ known → after_text (line_text line ++ (10 ∷ [])) bytes ≡ found →
     (if known then option_map (with_line line) found else None) ≡ Some (answer, rest) → IsLineOf bytes answer rest
-line-from false line bytes found answer rest is after e = absurd cc
-line-from true line bytes None answer rest is after e = absurd cc
-line-from true line bytes (Some more) answer rest is after e =
-    let same = pair-same line answer more rest e in
+line_from false line bytes found answer rest is after e = absurd cc
+line_from true line bytes None answer rest is after e = absurd cc
+line_from true line bytes (Some more) answer rest is after e =
+    let same = pair_same line answer more rest e in
     subst (λ (l : Line). IsLineOf bytes l rest) same.0 (subst (λ (r : List ℕ). IsLineOf bytes line r) same.1
     (record {
       known = is;
-      text = after-found (line_text line ++ (10 ∷ [])) bytes more after ∙ append_assoc
+      text = after_found (line_text line ++ (10 ∷ [])) bytes more after ∙ append_assoc
           (line_text line) (10 ∷ []) more;
     }))
 
-pub line-found : (bytes : List ℕ) (answer : Line) (rest : List ℕ) → line_in bytes ≡ Some (answer, rest) →
+pub line_found : (bytes : List ℕ) (answer : Line) (rest : List ℕ) → line_in bytes ≡ Some (answer, rest) →
     IsLineOf bytes answer rest
 unfolding line_in
-line-found bytes answer rest e =
-    line-from (is_line (guess bytes)) (guess bytes) bytes (after_text (line_text (guess bytes) ++ (10 ∷ [])) bytes)
+line_found bytes answer rest e =
+    line_from (is_line (guess bytes)) (guess bytes) bytes (after_text (line_text (guess bytes) ++ (10 ∷ [])) bytes)
     answer rest refl refl e

@@ -26,9 +26,9 @@ follows (line ∷ lines) (suc n) (suc k) rest few =
     }
 
 -- a file that begins with some lines begins with fewer of them
-begins-fewer : (file : List ℕ) (n k : ℕ) (picture : Picture) → n ≤ k → BeginsWith file k picture →
+begins_fewer : (file : List ℕ) (n k : ℕ) (picture : Picture) → n ≤ k → BeginsWith file k picture →
     BeginsWith file n picture
-begins-fewer file n k picture few begins =
+begins_fewer file n k picture few begins =
     let go = follows (lines_of picture) n k begins.rest few in
     record {
       valid = begins.valid;
@@ -37,19 +37,19 @@ begins-fewer file n k picture few begins =
       text = begins.text ∙ go.is;
     }
 
-not-earlier : (file : List ℕ) (n m : ℕ) → IsFirstFailure file n → IsFirstFailure file m → n < m → ⊥
-not-earlier file n m first second earlier =
-    first.fails second.before (begins-fewer file n (m - 1) second.before (omega (arith, earlier)) second.begins)
+not_earlier : (file : List ℕ) (n m : ℕ) → IsFirstFailure file n → IsFirstFailure file m → n < m → ⊥
+not_earlier file n m first second earlier =
+    first.fails second.before (begins_fewer file n (m - 1) second.before (omega (arith, earlier)) second.begins)
 
-pub one-failure : (file : List ℕ) (n m : ℕ) → IsFirstFailure file n → IsFirstFailure file m → n ≡ m
-one-failure file n m first second =
-    let not_below : n < m → ⊥ = not-earlier file n m first second in
-    let not_above : m < n → ⊥ = not-earlier file m n second first in
+pub one_failure : (file : List ℕ) (n m : ℕ) → IsFirstFailure file n → IsFirstFailure file m → n ≡ m
+one_failure file n m first second =
+    let not_below : n < m → ⊥ = not_earlier file n m first second in
+    let not_above : m < n → ⊥ = not_earlier file m n second first in
     omega arith
 
-pub one-form_fault : (file : List ℕ) (a b : FormFault) → IsFormFault file a → IsFormFault file b →
+pub one_form_fault : (file : List ℕ) (a b : FormFault) → IsFormFault file a → IsFormFault file b →
     a ≢ faults.Memory → b ≢ faults.Memory → a ≡ b
-one-form_fault file (faults.Line n) (faults.Line m) first second free other =
-    ap (λ (line : ℕ). faults.Line line) (one-failure file n m first second)
-one-form_fault file (faults.Line n) faults.Memory first second free other = absurd (other refl)
-one-form_fault file faults.Memory b first second free other = absurd (free refl)
+one_form_fault file (faults.Line n) (faults.Line m) first second free other =
+    ap (λ (line : ℕ). faults.Line line) (one_failure file n m first second)
+one_form_fault file (faults.Line n) faults.Memory first second free other = absurd (other refl)
+one_form_fault file faults.Memory b first second free other = absurd (free refl)

@@ -10,85 +10,85 @@ use Rattle.max_flow.specs.declared.answers.Half.{Half}
 use Rattle.max_flow.specs.declared.answers.Solved.{Solved}
 use Rattle.max_flow.specs.Flows.{halves_from, has_first, has_second, member, network_of}
 use Rattle.max_flow.specs.Networks.{capacity_of, leaves, sum_below}
-use Rattle.max_flow.proofs.Graphs.{half-at, length-halves}
-use Rattle.max_flow.proofs.Sums.{sum-none, sum-suc}
+use Rattle.max_flow.proofs.Graphs.{half_at, length_halves}
+use Rattle.max_flow.proofs.Sums.{sum_none, sum_suc}
 use Rattle.flow_certificate.specs.Keeping.{is_node}
 use Rattle.flow_certificate.specs.Private.Sides.{cut_below}
 use Rattle.flow_certificate.specs.Private.Sums.{heads_of, tails_of}
 use Rattle.flow_certificate.specs.Verdicts.{cut_in}
-use Rattle.flow_certificate.proofs.Sides.{member-first, member-second}
+use Rattle.flow_certificate.proofs.Sides.{member_first, member_second}
 
 abbrev is_split : Half → Bool
 is_split half = has_first half && not (has_second half)
 
-pub cut-none : (graph : Graph) (solved : Solved) → cut_below graph solved 0 ≡ 0
+pub cut_none : (graph : Graph) (solved : Solved) → cut_below graph solved 0 ≡ 0
 unfolding cut_below
-cut-none graph solved = sum-none _
+cut_none graph solved = sum_none _
 
-pub cut-whole : (graph : Graph) (solved : Solved) → cut_below graph solved (length graph.points) ≡ cut_in graph solved
+pub cut_whole : (graph : Graph) (solved : Solved) → cut_below graph solved (length graph.points) ≡ cut_in graph solved
 unfolding cut_below capacity_of
-cut-whole graph solved = ap (λ n. sum_below n (λ i. cond (leaves (network_of graph) (member graph solved.side.points
+cut_whole graph solved = ap (λ n. sum_below n (λ i. cond (leaves (network_of graph) (member graph solved.side.points
     solved.side.relays) i) (slice_index (network_of graph).limits i) 0))
     (sym (length-map graph.points (λ node. node.capacity)))
 
-leaves-at : (graph : Graph) (solved : Solved) (i : ℕ) (half : Half) → i < length graph.points →
+leaves_at : (graph : Graph) (solved : Solved) (i : ℕ) (half : Half) → i < length graph.points →
     length solved.side.points ≡ length graph.points →
     leaves (network_of graph) (member graph solved.side.points solved.side.relays) i ≡ is_split
     (get_or solved.side.points i half)
-leaves-at graph solved i half below same =
+leaves_at graph solved i half below same =
     let tail : slice_index (network_of graph).tails i ≡ 2 + 2 * i =
     get_or_append_left (halves_from 2 (length graph.points)) (tails_of (length graph.points) graph.links) 0 i
-    (let n = length-halves 2 (length graph.points) in omega (arith, n, below))
-    ∙ half-at 2 (length graph.points) i below in
+    (let n = length_halves 2 (length graph.points) in omega (arith, n, below))
+    ∙ half_at 2 (length graph.points) i below in
     let head : slice_index (network_of graph).heads i ≡ 3 + 2 * i =
     get_or_append_left (halves_from 3 (length graph.points)) (heads_of (length graph.points) graph.links) 0 i
-    (let n = length-halves 3 (length graph.points) in omega (arith, n, below))
-    ∙ half-at 3 (length graph.points) i below in
+    (let n = length_halves 3 (length graph.points) in omega (arith, n, below))
+    ∙ half_at 3 (length graph.points) i below in
     ap (λ (a : Bool). a && not (member graph solved.side.points solved.side.relays (slice_index
-    (network_of graph).heads i))) (ap (member graph solved.side.points solved.side.relays) tail ∙ member-first graph
+    (network_of graph).heads i))) (ap (member graph solved.side.points solved.side.relays) tail ∙ member_first graph
     solved.side.points solved.side.relays i half below same)
     ∙ ap (λ (b : Bool). has_first (get_or solved.side.points i half) && not b)
-    (ap (member graph solved.side.points solved.side.relays) head ∙ member-second graph
+    (ap (member graph solved.side.points solved.side.relays) head ∙ member_second graph
     solved.side.points solved.side.relays i half below same)
 
-pub cut-more : (graph : Graph) (solved : Solved) (i : ℕ) (half : Half) (node : Node) → i < length graph.points →
+pub cut_more : (graph : Graph) (solved : Solved) (i : ℕ) (half : Half) (node : Node) → i < length graph.points →
     length solved.side.points ≡ length graph.points →
     cut_below graph solved (i + 1) ≡ cut_below graph solved i + cond (is_split (get_or solved.side.points i half))
     ((get_or graph.points i node).capacity) 0
 unfolding cut_below
-cut-more graph solved i half node below same =
+cut_more graph solved i half node below same =
     let term : ℕ → ℕ = λ k. cond (leaves (network_of graph) (member graph solved.side.points
     solved.side.relays) k) (slice_index (network_of graph).limits k) 0 in
     let here : term i ≡ cond (is_split (get_or solved.side.points i half)) ((get_or graph.points i node).capacity) 0 =
-    ap (λ (b : Bool). cond b (slice_index (network_of graph).limits i) 0) (leaves-at graph solved i half below same)
+    ap (λ (b : Bool). cond b (slice_index (network_of graph).limits i) 0) (leaves_at graph solved i half below same)
     ∙ ap (λ (n : ℕ). cond (is_split (get_or solved.side.points i half)) n 0)
     (get_or-map (λ (node : Node). node.capacity) graph.points i node 0 below) in
-    sum-suc i term ∙ ap (λ (n : ℕ). sum_below i term + n) here
+    sum_suc i term ∙ ap (λ (n : ℕ). sum_below i term + n) here
 
-pub capacity-small : (points : List Node) (i : ℕ) (node : Node) → list_all is_node points ≡ true →
+pub capacity_small : (points : List Node) (i : ℕ) (node : Node) → list_all is_node points ≡ true →
     i < length points → (get_or points i node).capacity < 2 ^ 48
-capacity-small [] i node all below = absurd (omega arith)
-capacity-small (p ∷ ps) zero node all below =
+capacity_small [] i node all below = absurd (omega arith)
+capacity_small (p ∷ ps) zero node all below =
     ltb-true p.capacity (2 ^ 48) (and_parts _ _ (and_parts (is_node p) (list_all is_node ps) all).0).0
-capacity-small (p ∷ ps) (suc i) node all below =
-    capacity-small ps i node (and_parts (is_node p) (list_all is_node ps) all).1 (omega arith)
+capacity_small (p ∷ ps) (suc i) node all below =
+    capacity_small ps i node (and_parts (is_node p) (list_all is_node ps) all).1 (omega arith)
 
-pub part-small : (b : Bool) (n : ℕ) → n < 2 ^ 48 → cond b n 0 < 2 ^ 48
-part-small true n small = small
-part-small false n small = omega arith
+pub part_small : (b : Bool) (n : ℕ) → n < 2 ^ 48 → cond b n 0 < 2 ^ 48
+part_small true n small = small
+part_small false n small = omega arith
 
 pub record IsCutStep (graph : Graph) (solved : Solved) (i total : ℕ) : Type 0 where
   pub sum : total ≡ cut_below graph solved (i + 1)
   pub small : total ≤ (i + 1) * 2 ^ 48
 
-pub cut-step : (graph : Graph) (solved : Solved) (i total part : ℕ) (half : Half) (node : Node) →
+pub cut_step : (graph : Graph) (solved : Solved) (i total part : ℕ) (half : Half) (node : Node) →
     i < length graph.points → length solved.side.points ≡ length graph.points →
     list_all is_node graph.points ≡ true → total ≡ cut_below graph solved i → total ≤ i * 2 ^ 48 →
     part ≡ cond (is_split (get_or solved.side.points i half)) ((get_or graph.points i node).capacity) 0 →
     IsCutStep graph solved i (total + part)
-cut-step graph solved i total part half node below same named sum small is =
-    let more = cut-more graph solved i half node below same in
+cut_step graph solved i total part half node below same named sum small is =
+    let more = cut_more graph solved i half node below same in
     let low : cond (is_split (get_or solved.side.points i half)) ((get_or graph.points i node).capacity) 0 < 2 ^ 48 =
-    part-small (is_split (get_or solved.side.points i half)) ((get_or graph.points i node).capacity)
-    (capacity-small graph.points i node named below) in
+    part_small (is_split (get_or solved.side.points i half)) ((get_or graph.points i node).capacity)
+    (capacity_small graph.points i node named below) in
     record { sum = omega (arith, sum, is, more); small = omega (arith, small, is, low) }

@@ -5,9 +5,9 @@ use Rattle.flow_graph.specs.declared.events.Event.{Event}
 use Rattle.flow_graph.specs.declared.events.Event.TheVariants.{Pass, Link, Out}
 use Rattle.flow_graph.specs.Again.{again_events}
 
-pub again-in-turn : (events : List Event) (point : Point) (mask : ℕ) →
+pub again_in_turn : (events : List Event) (point : Point) (mask : ℕ) →
     ((events ++ Pass point mask ∷ []) ++ Link point point ∷ []) ++ Out point.region point ∷ []
     ≡ events ++ again_events point mask
-again-in-turn events point mask =
+again_in_turn events point mask =
     ap (λ list. list ++ Out point.region point ∷ []) (append_assoc events (Pass point mask ∷ []) (Link point point ∷ []))
     ∙ append_assoc events (Pass point mask ∷ Link point point ∷ []) (Out point.region point ∷ [])

@@ -27,7 +27,7 @@ use Rattle.flow_graph.specs.Builders.{has_point, ArePositive, StandsFor}
 use Rattle.flow_graph.specs.Keeping.{is_positive, is_sound}
 use Rattle.flow_base.proofs.PointOrders.{point_total}
 use Rattle.flow_graph.proofs.Indices.{is_in}
-use Rattle.flow_graph.proofs.KeptAfterEvent.{all_more, known-same}
+use Rattle.flow_graph.proofs.KeptAfterEvent.{all_more, known_same}
 
 abbrev pub pair_of : Node → Point × ℕ
 pair_of node = (node.point, node.capacity)
@@ -36,11 +36,11 @@ choose : (b : Bool) (n m : ℕ) (o : Option ℕ) → m ≡ unwrap_or o 0 → con
 choose true n m o e = refl
 choose false n m o e = e
 
-pub capacity-lookup : (nodes : List Node) (q : Point) → capacity_at nodes q ≡ unwrap_or
+pub capacity_lookup : (nodes : List Node) (q : Point) → capacity_at nodes q ≡ unwrap_or
     (lookup (is_at (point_cmp q)) (map pair_of nodes)) 0
-capacity-lookup [] q = refl
-capacity-lookup (n ∷ ns) q = choose (is_same q n.point) n.capacity (capacity_at ns q)
-    (lookup (is_at (point_cmp q)) (map pair_of ns)) (capacity-lookup ns q)
+capacity_lookup [] q = refl
+capacity_lookup (n ∷ ns) q = choose (is_same q n.point) n.capacity (capacity_at ns q)
+    (lookup (is_at (point_cmp q)) (map pair_of ns)) (capacity_lookup ns q)
 
 eq_reversed : (o : Ordering) → is_eq (ordering_reverse o) ≡ is_eq o
 eq_reversed Less = refl
@@ -51,12 +51,12 @@ known : (b : Bool) (n : ℕ) (o : Option ℕ) (c : Bool) → is_some o ≡ c →
 known true n o c e = refl
 known false n o c e = e
 
-pub in-names : (nodes : List Node) (p : Point) → is_some (lookup (is_at (point_cmp p)) (map pair_of nodes)) ≡ is_in
+pub in_names : (nodes : List Node) (p : Point) → is_some (lookup (is_at (point_cmp p)) (map pair_of nodes)) ≡ is_in
     (map (λ n. n.point) nodes) p
-in-names [] p = refl
-in-names (n ∷ ns) p =
+in_names [] p = refl
+in_names (n ∷ ns) p =
     known (is_eq (point_cmp p n.point)) n.capacity (lookup (is_at (point_cmp p)) (map pair_of ns))
-    (is_in (map (λ n. n.point) ns) p) (in-names ns p)
+    (is_in (map (λ n. n.point) ns) p) (in_names ns p)
     ∙ ap (λ b. b || is_in (map (λ n. n.point) ns) p) (ap is_eq (point_total.antisymm p n.point) ∙
     eq_reversed (point_cmp n.point p))
 
@@ -66,18 +66,18 @@ pub sound_names : (builder : Builder) (nodes : List Node) → map pair_of nodes 
     list_all (is_sound (is_in (map (λ n. n.point) nodes))) builder.links.keys ≡ true
 sound_names builder nodes same sound =
     all_more (has_point builder) (is_in (map (λ n. n.point) nodes))
-    (λ p has. sym (in-names nodes p) ∙ (ap (λ es. is_some (lookup (is_at (point_cmp p)) es)) same ∙ has))
+    (λ p has. sym (in_names nodes p) ∙ (ap (λ es. is_some (lookup (is_at (point_cmp p)) es)) same ∙ has))
     builder.links.keys sound
 
-names-keys : (nodes : List Node) → map (λ n. n.point) nodes ≡ map (λ e. e.0) (map pair_of nodes)
-names-keys [] = refl
-names-keys (n ∷ ns) = ap (λ l. n.point ∷ l) (names-keys ns)
+names_keys : (nodes : List Node) → map (λ n. n.point) nodes ≡ map (λ e. e.0) (map pair_of nodes)
+names_keys [] = refl
+names_keys (n ∷ ns) = ap (λ l. n.point ∷ l) (names_keys ns)
 
 pub names_ordered : (map_of : BTreeMap Point ℕ) (nodes : List Node) → map pair_of nodes ≡ map_of.entries →
     tree.IsOrdered point_cmp map_of →
     IsStrictlySortedBy point_cmp (map (λ n. n.point) nodes)
 names_ordered map_of nodes same ordered =
-    subst (IsStrictlySortedBy point_cmp) (sym (names-keys nodes ∙ ap (map (λ e. e.0)) same)) ordered
+    subst (IsStrictlySortedBy point_cmp) (sym (names_keys nodes ∙ ap (map (λ e. e.0)) same)) ordered
 
 nodes_ascend : (nodes : List Node) → IsStrictlySortedBy point_cmp (map (λ n. n.point) nodes) → ascend node_cmp nodes ≡
     true
@@ -118,7 +118,7 @@ few_kept builder events stands few ordered =
     let small : length (tree.keys builder.capacities) < 2 ^ 32 = few (tree.keys builder.capacities) ordered
     (all_by_index (has_passed events) (tree.keys builder.capacities)
     (λ k d below.
-    sym (known-same builder.capacities.entries builder.links.keys events stands
+    sym (known_same builder.capacities.entries builder.links.keys events stands
     (get_or (tree.keys builder.capacities) k d))
     ∙ some_true (tree.get point_cmp builder.capacities (get_or (tree.keys builder.capacities) k d))
     (All-keys_found point_total builder.capacities ordered k d below))) in

@@ -15,24 +15,24 @@ use Rattle.flow_base.specs.PointOrders.{point_cmp, is_same}
 use Rattle.flow_base.proofs.PointOrders.{point_total, is_equal}
 use Rattle.flow_graph.specs.Builders.{index_in}
 
-pub found-index : (names : List Point) (p : Point) (i : ℕ) (d : Point) → IsStrictlySortedBy point_cmp names →
+pub found_index : (names : List Point) (p : Point) (i : ℕ) (d : Point) → IsStrictlySortedBy point_cmp names →
     i < length names →
     point_cmp (get_or names i d) p ≡ Equal → index_in names p ≡ i
-found-index [] p i d ordered below e = absurd (omega arith)
-found-index (x ∷ xs) p zero d ordered below e = cond-true (is_same x p) 0 (index_in xs p + 1) (ap is_eq e)
-found-index (x ∷ xs) p (suc i) d ordered below e =
+found_index [] p i d ordered below e = absurd (omega arith)
+found_index (x ∷ xs) p zero d ordered below e = cond-true (is_same x p) 0 (index_in xs p + 1) (ap is_eq e)
+found_index (x ∷ xs) p (suc i) d ordered below e =
     let less : point_cmp x (get_or xs i d) ≡ Less = Less-from_sorted point_cmp (x ∷ xs) 0 (suc i) d ordered
     (omega arith) below in
     let before : point_cmp x p ≡ Less = sym (alike_right point_total (get_or xs i d) p x e) ∙ less in
     cond-false (is_same x p) 0 (index_in xs p + 1) (ap is_eq before)
-    ∙ (ap (λ n. n + 1) (found-index xs p i d (sorted_tail point_cmp x xs ordered) (omega arith) e) ∙ omega arith)
+    ∙ (ap (λ n. n + 1) (found_index xs p i d (sorted_tail point_cmp x xs ordered) (omega arith) e) ∙ omega arith)
 
-pub missing-index : (names : List Point) (p : Point) → ((k : ℕ) (d : Point) → k < length names →
+pub missing_index : (names : List Point) (p : Point) → ((k : ℕ) (d : Point) → k < length names →
     is_same (get_or names k d) p ≡ false) → index_in names p ≡ length names
-missing-index [] p none = refl
-missing-index (x ∷ xs) p none =
+missing_index [] p none = refl
+missing_index (x ∷ xs) p none =
     cond-false (is_same x p) 0 (index_in xs p + 1) (none 0 x (omega arith))
-    ∙ (ap (λ n. n + 1) (missing-index xs p (λ k d below. none (suc k) d (omega arith))) ∙ omega arith)
+    ∙ (ap (λ n. n + 1) (missing_index xs p (λ k d below. none (suc k) d (omega arith))) ∙ omega arith)
 
 index_le : (o r : Ordering) → (r ≡ Equal → o ≡ Less) → (r ≡ Less → o ≡ Less) → ordering_index o ≤ ordering_index r
 index_le Less r equal less = omega arith
@@ -58,11 +58,11 @@ rises names p ordered i j d within below =
     (λ e. point_total.trans (get_or names i d) (get_or names j d) p less e))
     (cases_eq i j)
 
-pub apart-index : (names : List Point) (p : Point) (i : ℕ) →
+pub apart_index : (names : List Point) (p : Point) (i : ℕ) →
     IsPartitionPoint (λ y. point_cmp y p ≡ Less) (λ y. point_cmp y p ≡ Greater) names i → index_in names p ≡ length
     names
-apart-index names p i point =
-    missing-index names p (λ k d below.
+apart_index names p i point =
+    missing_index names p (λ k d below.
     ⊎_elim
     (λ (early : k < i). ap is_eq (point.0 k d (omega arith) early))
     (λ (late : i ≤ k). ap is_eq (point.1 k d late below))
@@ -116,33 +116,33 @@ later_less x (y ∷ ys) p all there =
     (λ (t : is_same y p ≡ false). later_less x ys p all.1 (rest_in y ys p there t))
     (cases_Bool (is_same y p))
 
-nat_cmp-less : (a b : ℕ) → a < b → nat_cmp a b ≡ Less
-nat_cmp-less a b h = cond-true (ltb a b) Less _ (lt-ltb a b h)
+nat_cmp_less : (a b : ℕ) → a < b → nat_cmp a b ≡ Less
+nat_cmp_less a b h = cond-true (ltb a b) Less _ (lt-ltb a b h)
 
-nat_cmp-greater : (a b : ℕ) → b < a → nat_cmp a b ≡ Greater
-nat_cmp-greater a b h =
+nat_cmp_greater : (a b : ℕ) → b < a → nat_cmp a b ≡ Greater
+nat_cmp_greater a b h =
     cond-false (ltb a b) Less _ (le-ltb a b (omega arith)) ∙ cond-false (eqb a b) Equal Greater
     (ne_eqb a b (λ e. omega (arith, e, h)))
 
-pub nat_cmp-itself : (a : ℕ) → nat_cmp a a ≡ Equal
-nat_cmp-itself a = cond-false (ltb a a) Less _ (le-ltb a a (omega arith)) ∙ cond-true (eqb a a) Equal Greater
+pub nat_cmp_itself : (a : ℕ) → nat_cmp a a ≡ Equal
+nat_cmp_itself a = cond-false (ltb a a) Less _ (le-ltb a a (omega arith)) ∙ cond-true (eqb a a) Equal Greater
     (eq-eqb a a refl)
 
-nat_cmp-shift : (a b : ℕ) → nat_cmp (a + 1) (b + 1) ≡ nat_cmp a b
-nat_cmp-shift a b =
+nat_cmp_shift : (a b : ℕ) → nat_cmp (a + 1) (b + 1) ≡ nat_cmp a b
+nat_cmp_shift a b =
     ⊎_elim
     (λ (e : a ≡ b). ap (λ n. nat_cmp (n + 1) (b + 1)) e ∙
-    (nat_cmp-itself (b + 1) ∙ (sym (nat_cmp-itself b) ∙ ap (λ n. nat_cmp n b) (sym e))))
+    (nat_cmp_itself (b + 1) ∙ (sym (nat_cmp_itself b) ∙ ap (λ n. nat_cmp n b) (sym e))))
     (λ (o : (a < b) ⊎ (b < a)).
-    ⊎_elim (λ (h : a < b). nat_cmp-less (a + 1) (b + 1) (omega arith) ∙ sym (nat_cmp-less a b h))
-    (λ (h : b < a). nat_cmp-greater (a + 1) (b + 1) (omega arith) ∙ sym (nat_cmp-greater a b h)) o)
+    ⊎_elim (λ (h : a < b). nat_cmp_less (a + 1) (b + 1) (omega arith) ∙ sym (nat_cmp_less a b h))
+    (λ (h : b < a). nat_cmp_greater (a + 1) (b + 1) (omega arith) ∙ sym (nat_cmp_greater a b h)) o)
     (cases_order a b)
 
-pub index-order : (names : List Point) → IsStrictlySortedBy point_cmp names → (p q : Point) → is_in names p ≡ true →
+pub index_order : (names : List Point) → IsStrictlySortedBy point_cmp names → (p q : Point) → is_in names p ≡ true →
     is_in names q ≡ true →
     nat_cmp (index_in names p) (index_in names q) ≡ point_cmp p q
-index-order [] ordered p q in_p in_q = absurd (cc)
-index-order (x ∷ xs) ordered p q in_p in_q =
+index_order [] ordered p q in_p in_q = absurd (cc)
+index_order (x ∷ xs) ordered p q in_p in_q =
     let head = sorted_head point_cmp x xs ordered in
     ⊎_elim
     (λ (tp : is_same x p ≡ true).
@@ -157,7 +157,7 @@ index-order (x ∷ xs) ordered p q in_p in_q =
     (λ (tq : is_same x q ≡ false).
     let iq : index_in (x ∷ xs) q ≡ index_in xs q + 1 = cond-false (is_same x q) 0 (index_in xs q + 1) tq in
     ap (λ i. nat_cmp i (index_in (x ∷ xs) q)) ip
-    ∙ (ap (λ i. nat_cmp 0 i) iq ∙ (nat_cmp-less 0 (index_in xs q + 1) (omega arith) ∙
+    ∙ (ap (λ i. nat_cmp 0 i) iq ∙ (nat_cmp_less 0 (index_in xs q + 1) (omega arith) ∙
     (sym (later_less x xs q head (rest_in x xs q in_q tq)) ∙ same))))
     (cases_Bool (is_same x q)))
     (λ (tp : is_same x p ≡ false).
@@ -169,13 +169,13 @@ index-order (x ∷ xs) ordered p q in_p in_q =
     let back : point_cmp q p ≡ Less = sym (point_total.congr x q p (is_equal (point_cmp x q) tq)) ∙ less in
     ap (λ i. nat_cmp i (index_in (x ∷ xs) q)) ip
     ∙ (ap (λ i. nat_cmp (index_in xs p + 1) i) iq
-    ∙ (nat_cmp-greater (index_in xs p + 1) 0 (omega arith) ∙
+    ∙ (nat_cmp_greater (index_in xs p + 1) 0 (omega arith) ∙
     sym (point_total.antisymm p q ∙ ap ordering_reverse back))))
     (λ (tq : is_same x q ≡ false).
     let iq : index_in (x ∷ xs) q ≡ index_in xs q + 1 = cond-false (is_same x q) 0 (index_in xs q + 1) tq in
     ap (λ i. nat_cmp i (index_in (x ∷ xs) q)) ip
     ∙ (ap (λ i. nat_cmp (index_in xs p + 1) i) iq
-    ∙ (nat_cmp-shift (index_in xs p) (index_in xs q)
-    ∙ index-order xs (sorted_tail point_cmp x xs ordered) p q (rest_in x xs p in_p tp) (rest_in x xs q in_q tq))))
+    ∙ (nat_cmp_shift (index_in xs p) (index_in xs q)
+    ∙ index_order xs (sorted_tail point_cmp x xs ordered) p q (rest_in x xs p in_p tp) (rest_in x xs q in_q tq))))
     (cases_Bool (is_same x q)))
     (cases_Bool (is_same x p))

@@ -22,9 +22,9 @@ use Rattle.flow_graph.specs.Keeping.{Keeps, TakesLinks, capacity_in, count_in, i
 use Rattle.flow_graph.specs.Keeping.{is_sound, is_there, may_lead}
 use Rattle.flow_graph.proofs.MaskBitCounts.{bit_count_bound}
 
-pub passed-push : (events : List Event) (e : Event) (q : Point) → passed (events ++ e ∷ []) q ≡ passed events q + bits_at
+pub passed_push : (events : List Event) (e : Event) (q : Point) → passed (events ++ e ∷ []) q ≡ passed events q + bits_at
     q e
-passed-push events e q =
+passed_push events e q =
     let all : sum_by (bits_at q) (events ++ e ∷ []) ≡ sum_by (bits_at q) events + sum_by (bits_at q) (e ∷ []) =
     sum_by-append (bits_at q) events (e ∷ []) in
     let one : sum_by (bits_at q) (e ∷ []) ≡ bits_at q e = omega arith in
@@ -50,24 +50,24 @@ passed_bound (e ∷ es) q =
     let all : passed (e ∷ es) q ≡ bits_at q e + passed es q = sum_by-cons (bits_at q) e es in
     omega (arith, one, rest, all)
 
-links_after-push : (before events : List Event) (e : Event) → links_after before (events ++ e ∷ []) ≡ links_after
+links_after_push : (before events : List Event) (e : Event) → links_after before (events ++ e ∷ []) ≡ links_after
     before events ++ links_by (has_passed (before ++ events)) e
-links_after-push before [] e =
+links_after_push before [] e =
     append-nil (links_by (has_passed before) e) ∙ ap (λ b. links_by (has_passed b) e) (sym (append-nil before))
-links_after-push before (x ∷ xs) e =
-    ap (λ l. links_by (has_passed before) x ++ l) (links_after-push (before ++ x ∷ []) xs e)
+links_after_push before (x ∷ xs) e =
+    ap (λ l. links_by (has_passed before) x ++ l) (links_after_push (before ++ x ∷ []) xs e)
     ∙ (sym (append_assoc (links_by (has_passed before) x) (links_after (before ++ x ∷ []) xs)
     (links_by (has_passed ((before ++ x ∷ []) ++ xs)) e))
     ∙ ap (λ b. (links_by (has_passed before) x ++ links_after (before ++ x ∷ []) xs) ++ links_by (has_passed b) e)
     (append_assoc before (x ∷ []) xs))
 
-named_links-push : (events : List Event) (e : Event) → named_links (events ++ e ∷ []) ≡ named_links events ++ links_by
+named_links_push : (events : List Event) (e : Event) → named_links (events ++ e ∷ []) ≡ named_links events ++ links_by
     (has_passed events) e
-named_links-push events e = links_after-push [] events e
+named_links_push events e = links_after_push [] events e
 
-pub among-push : (events : List Event) (e : Event) (j : NamedLink) → is_among (named_links (events ++ e ∷ [])) j ≡
+pub among_push : (events : List Event) (e : Event) (j : NamedLink) → is_among (named_links (events ++ e ∷ [])) j ≡
     (is_among (named_links events) j || is_among (links_by (has_passed events) e) j)
-among-push events e j = ap (λ js. is_among js j) (named_links-push events e) ∙ list_any-append _ (named_links events)
+among_push events e j = ap (λ js. is_among js j) (named_links_push events e) ∙ list_any-append _ (named_links events)
     (links_by (has_passed events) e)
 
 there_more : (has more : Point → Bool) → ((p : Point) → has p ≡ true → more p ≡ true) → (end : NamedEnd) →
@@ -89,15 +89,15 @@ all_more has more grows (j ∷ js) all =
     (and_from (is_there more j.target) (may_lead j.source j.target) (there_more has more grows j.target rest.0) rest.1))
     (all_more has more grows js parts.1)
 
-pub has-known : (o : Option ℕ) → is_positive o ≡ true → is_some o ≡ not (unwrap_or o 0 == 0)
-has-known None e = refl
-has-known (Some n) e = let some : 0 < n = ltb-true 0 n e in ap not (sym (ne_eqb n 0 (λ z. omega (arith, z, some))))
+pub has_known : (o : Option ℕ) → is_positive o ≡ true → is_some o ≡ not (unwrap_or o 0 == 0)
+has_known None e = refl
+has_known (Some n) e = let some : 0 < n = ltb-true 0 n e in ap not (sym (ne_eqb n 0 (λ z. omega (arith, z, some))))
 
 -- the points that are kept are those that have passed a mask
-pub known-same : (capacities : List (Point × ℕ)) (links : List NamedLink) (events : List Event) → Keeps capacities links
+pub known_same : (capacities : List (Point × ℕ)) (links : List NamedLink) (events : List Event) → Keeps capacities links
     events → (p : Point) → is_known capacities p ≡ has_passed events p
-known-same capacities links events keeps p =
-    has-known (capacity_in capacities p) (keeps.positive p) ∙ ap (λ n. not (n == 0)) (keeps.counted p)
+known_same capacities links events keeps p =
+    has_known (capacity_in capacities p) (keeps.positive p) ∙ ap (λ n. not (n == 0)) (keeps.counted p)
 
 pub keeps_pass : (old new : List (Point × ℕ)) (links : List NamedLink) (p : Point) (mask : ℕ) (events : List Event) →
     Keeps old links events → ((q : Point) → is_positive (capacity_in new q) ≡ true) →
@@ -106,8 +106,8 @@ pub keeps_pass : (old new : List (Point × ℕ)) (links : List NamedLink) (p : P
 keeps_pass old new links p mask events keeps positive counted grows = record {
   positive = positive;
   counted = λ q. counted q ∙ (ap (λ n. n + cond (is_same p q) (bit_count mask) 0) (keeps.counted q) ∙
-      sym (passed-push events (Pass p mask) q));
-  linked = λ j. keeps.linked j ∙ sym (ap (λ js. is_among js j) (named_links-push events (Pass p mask) ∙
+      sym (passed_push events (Pass p mask) q));
+  linked = λ j. keeps.linked j ∙ sym (ap (λ js. is_among js j) (named_links_push events (Pass p mask) ∙
       append-nil (named_links events)));
   sound = all_more (is_known old) (is_known new) grows links keeps.sound;
 }
@@ -144,16 +144,16 @@ pub keeps_links : (capacities : List (Point × ℕ)) (old new : List NamedLink) 
     Keeps capacities old events → TakesLinks old new (links_by (is_known capacities) e) →
     ((q : Point) → bits_at q e ≡ 0) → Keeps capacities new (events ++ e ∷ [])
 keeps_links capacities old new e events keeps takes none =
-    let has : is_known capacities ≡ has_passed events = λ i p. known-same capacities old events keeps p i in
+    let has : is_known capacities ≡ has_passed events = λ i p. known_same capacities old events keeps p i in
     record {
       positive = keeps.positive;
       counted = λ q.
           keeps.counted q
           ∙ (let z : bits_at q e ≡ 0 = none q in let p : passed (events ++ e ∷ []) q ≡ passed
-          events q + bits_at q e = passed-push events e q in omega (arith, z, p));
+          events q + bits_at q e = passed_push events e q in omega (arith, z, p));
       linked = λ j.
           takes.linked j
           ∙ (ap (λ b. b || is_among (links_by (is_known capacities) e) j) (keeps.linked j)
-          ∙ (ap (λ h. is_among (named_links events) j || is_among (links_by h e) j) has ∙ sym (among-push events e j)));
+          ∙ (ap (λ h. is_among (named_links events) j || is_among (links_by h e) j) has ∙ sym (among_push events e j)));
       sound = takes.sound (is_sound (is_known capacities)) keeps.sound (links_by_sound (is_known capacities) e);
     }

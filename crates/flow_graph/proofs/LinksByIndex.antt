@@ -25,7 +25,7 @@ use Rattle.flow_graph.specs.EventGraphs.{link_cmp, is_among, named_end, named, i
 use Rattle.flow_graph.specs.EventGraphs.{names_relay}
 use Rattle.flow_graph.specs.Builders.{index_in, end_at, arc_at}
 use Rattle.flow_graph.specs.Keeping.{is_there, may_lead, is_sound}
-use Rattle.flow_graph.proofs.Indices.{is_in, index-order, index_inside, same_at_index, nat_cmp-itself}
+use Rattle.flow_graph.proofs.Indices.{is_in, index_order, index_inside, same_at_index, nat_cmp_itself}
 use Rattle.flow_base.specs.Points.{nowhere}
 
 abbrev end_cmp : End → End → Ordering
@@ -37,37 +37,37 @@ named_end_cmp = (named_end_ord.ghosts).cmp
 pub link_total : IsTotalOrder link_cmp
 link_total = total-law
 
-end-order : (names : List Point) → IsStrictlySortedBy point_cmp names → (s t : NamedEnd) → is_there (is_in names) s ≡
+end_order : (names : List Point) → IsStrictlySortedBy point_cmp names → (s t : NamedEnd) → is_there (is_in names) s ≡
     true → is_there (is_in names) t ≡ true →
     end_cmp (end_at names s) (end_at names t) ≡ named_end_cmp s t
-end-order names ordered Source Source a b = refl
-end-order names ordered Source (At q) a b = refl
-end-order names ordered Source (Relay r) a b = refl
-end-order names ordered Source Sink a b = refl
-end-order names ordered (At p) Source a b = refl
-end-order names ordered (At p) (At q) a b = index-order names ordered p q a b
-end-order names ordered (At p) (Relay r) a b = refl
-end-order names ordered (At p) Sink a b = refl
-end-order names ordered (Relay r) Source a b = refl
-end-order names ordered (Relay r) (At q) a b = refl
-end-order names ordered (Relay r) (Relay t) a b = refl
-end-order names ordered (Relay r) Sink a b = refl
-end-order names ordered Sink Source a b = refl
-end-order names ordered Sink (At q) a b = refl
-end-order names ordered Sink (Relay r) a b = refl
-end-order names ordered Sink Sink a b = refl
+end_order names ordered Source Source a b = refl
+end_order names ordered Source (At q) a b = refl
+end_order names ordered Source (Relay r) a b = refl
+end_order names ordered Source Sink a b = refl
+end_order names ordered (At p) Source a b = refl
+end_order names ordered (At p) (At q) a b = index_order names ordered p q a b
+end_order names ordered (At p) (Relay r) a b = refl
+end_order names ordered (At p) Sink a b = refl
+end_order names ordered (Relay r) Source a b = refl
+end_order names ordered (Relay r) (At q) a b = refl
+end_order names ordered (Relay r) (Relay t) a b = refl
+end_order names ordered (Relay r) Sink a b = refl
+end_order names ordered Sink Source a b = refl
+end_order names ordered Sink (At q) a b = refl
+end_order names ordered Sink (Relay r) a b = refl
+end_order names ordered Sink Sink a b = refl
 
-arc-order : (names : List Point) → IsStrictlySortedBy point_cmp names → (j k : NamedLink) → is_sound (is_in names) j ≡
+arc_order : (names : List Point) → IsStrictlySortedBy point_cmp names → (j k : NamedLink) → is_sound (is_in names) j ≡
     true → is_sound (is_in names) k ≡ true →
     arc_cmp (arc_at names j) (arc_at names k) ≡ link_cmp j k
-arc-order names ordered j k a b =
+arc_order names ordered j k a b =
     let js = and_parts (is_there (is_in names) j.source) _ a in
     let ks = and_parts (is_there (is_in names) k.source) _ b in
     let jt = and_parts (is_there (is_in names) j.target) _ js.1 in
     let kt = and_parts (is_there (is_in names) k.target) _ ks.1 in
     ap (λ o. ordering_then o (end_cmp (end_at names j.target) (end_at names k.target)))
-    (end-order names ordered j.source k.source js.0 ks.0)
-    ∙ ap (λ o. ordering_then (named_end_cmp j.source k.source) o) (end-order names ordered j.target k.target jt.0 kt.0)
+    (end_order names ordered j.source k.source js.0 ks.0)
+    ∙ ap (λ o. ordering_then (named_end_cmp j.source k.source) o) (end_order names ordered j.target k.target jt.0 kt.0)
 
 pub arcs_ascend : (names : List Point) → IsStrictlySortedBy point_cmp names → (links : List NamedLink) → IsStrictlySortedBy
     link_cmp links →
@@ -79,13 +79,13 @@ arcs_ascend names ordered (j ∷ (k ∷ ks)) sorted sound =
     let second = and_parts (is_sound (is_in names) k) (list_all (is_sound (is_in names)) ks) first.1 in
     let less : link_cmp j k ≡ Less = (sorted_head link_cmp j (k ∷ ks) sorted).0 in
     and_from (is_lt (arc_cmp (arc_at names j) (arc_at names k))) (ascend arc_cmp (map (arc_at names) (k ∷ ks)))
-    (ap is_lt (arc-order names ordered j k first.0 second.0 ∙ less))
+    (ap is_lt (arc_order names ordered j k first.0 second.0 ∙ less))
     (arcs_ascend names ordered (k ∷ ks) (sorted_tail link_cmp j (k ∷ ks) sorted) first.1)
 
 -- ---- each link is one
 
-nat_eq-itself : (r : ℕ) → nat_eq r r ≡ true
-nat_eq-itself r = eq-eqb r r refl
+nat_eq_itself : (r : ℕ) → nat_eq r r ≡ true
+nat_eq_itself r = eq-eqb r r refl
 
 origin_there : (names : List Point) (relays : List ℕ) (s t : NamedEnd) → is_there (is_in names) s ≡ true → may_lead s t ≡
     true →
@@ -94,7 +94,7 @@ origin_there : (names : List Point) (relays : List ℕ) (s t : NamedEnd) → is_
 origin_there names relays Source t there may known = refl
 origin_there names relays (At p) t there may known = lt-ltb (index_in names p) (length names)
     (index_inside names p there)
-origin_there names relays (Relay r) t there may known = known r (nat_eq-itself r)
+origin_there names relays (Relay r) t there may known = known r (nat_eq_itself r)
 origin_there names relays Sink t there may known = absurd (cc)
 
 target_there : (names : List Point) (relays : List ℕ) (s t : NamedEnd) → is_there (is_in names) t ≡ true → may_lead s t ≡
@@ -107,7 +107,7 @@ target_there names relays (Relay r) Source there may known = absurd (cc)
 target_there names relays Sink Source there may known = absurd (cc)
 target_there names relays s (At p) there may known = lt-ltb (index_in names p) (length names)
     (index_inside names p there)
-target_there names relays s (Relay r) there may known = known r (nat_eq-itself r)
+target_there names relays s (Relay r) there may known = known r (nat_eq_itself r)
 target_there names relays s Sink there may known = refl
 
 leads_there : (names : List Point) (s t : NamedEnd) → may_lead s t ≡ true → leads_on (end_at names s) (end_at names t) ≡
@@ -151,7 +151,7 @@ end_same : (nodes : List Node) (s : NamedEnd) → is_there (is_in (map (λ n. n.
     named_end_cmp (named_end nodes (end_at (map (λ n. n.point) nodes) s)) s ≡ Equal
 end_same nodes Source there = refl
 end_same nodes (At p) there = same_at_index (map (λ n. n.point) nodes) p nowhere there
-end_same nodes (Relay r) there = nat_cmp-itself r
+end_same nodes (Relay r) there = nat_cmp_itself r
 end_same nodes Sink there = refl
 
 link_same : (nodes : List Node) (j : NamedLink) → is_sound (is_in (map (λ n. n.point) nodes)) j ≡ true →
@@ -163,14 +163,14 @@ link_same nodes j sound =
     (end_same nodes j.source s.0)
     ∙ end_same nodes j.target t.0
 
-pub named-among : (nodes : List Node) (links : List NamedLink) (j : NamedLink) →
+pub named_among : (nodes : List Node) (links : List NamedLink) (j : NamedLink) →
     list_all (is_sound (is_in (map (λ n. n.point) nodes))) links ≡ true →
     is_among (map (named nodes) (map (arc_at (map (λ n. n.point) nodes)) links)) j ≡ is_among links j
-named-among nodes [] j sound = refl
-named-among nodes (k ∷ ks) j sound =
+named_among nodes [] j sound = refl
+named_among nodes (k ∷ ks) j sound =
     let parts = and_parts (is_sound (is_in (map (λ n. n.point) nodes)) k)
     (list_all (is_sound (is_in (map (λ n. n.point) nodes))) ks) sound in
     let same : link_cmp (named nodes (arc_at (map (λ n. n.point) nodes) k)) j ≡ link_cmp k j =
     link_total.congr (named nodes (arc_at (map (λ n. n.point) nodes) k)) k j (link_same nodes k parts.0) in
     ap (λ o. is_eq o || is_among (map (named nodes) (map (arc_at (map (λ n. n.point) nodes)) ks)) j) same
-    ∙ ap (λ b. is_eq (link_cmp k j) || b) (named-among nodes ks j parts.1)
+    ∙ ap (λ b. is_eq (link_cmp k j) || b) (named_among nodes ks j parts.1)

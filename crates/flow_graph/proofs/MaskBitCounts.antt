@@ -53,14 +53,14 @@ count_below_bound (suc p) m = elim (parity m) [
   | inr e ↦ omega (arith, count_odd p m e, count_below_bound p (m / 2))
 ]
 
-pub bit_count-zero : bit_count 0 ≡ 0
-bit_count-zero = count_zero 32
+pub bit_count_zero : bit_count 0 ≡ 0
+bit_count_zero = count_zero 32
 
 pub bit_count_bound : (m : ℕ) → bit_count m ≤ 32
 bit_count_bound m = count_below_bound 32 m
 
-pub bit_count-ones : (m : ℕ) → m < 2 ^ 32 → bit_count m ≡ ones m
-bit_count-ones m h = count_is_ones 32 m h
+pub bit_count_ones : (m : ℕ) → m < 2 ^ 32 → bit_count m ≡ ones m
+bit_count_ones m h = count_is_ones 32 m h
 
 pub ones_some : (m : ℕ) → 0 < m → 0 < count_ones m
 ones_some m some =

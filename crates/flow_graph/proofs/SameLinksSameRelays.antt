@@ -92,15 +92,15 @@ eq_reversed Equal = refl
 eq_reversed Greater = refl
 
 -- the set has what is among its keys
-keys-among : (keys : List NamedLink) (j : NamedLink) → list_any (λ k. is_eq (link_cmp j k)) keys ≡ is_among keys j
-keys-among [] j = refl
-keys-among (k ∷ ks) j =
+keys_among : (keys : List NamedLink) (j : NamedLink) → list_any (λ k. is_eq (link_cmp j k)) keys ≡ is_among keys j
+keys_among [] j = refl
+keys_among (k ∷ ks) j =
     ap (λ o. is_eq o || list_any (λ x. is_eq (link_cmp j x)) ks) (link_total.antisymm j k)
     ∙ (ap (λ b. b || list_any (λ x. is_eq (link_cmp j x)) ks) (eq_reversed (link_cmp k j)) ∙
-    ap (λ b. is_eq (link_cmp k j) || b) (keys-among ks j))
+    ap (λ b. is_eq (link_cmp k j) || b) (keys_among ks j))
 
-pub contains-among : (set : BTreeSet NamedLink) (j : NamedLink) → sorted.contains link_cmp set j ≡ is_among set.keys j
-contains-among set j = keys-among set.keys j
+pub contains_among : (set : BTreeSet NamedLink) (j : NamedLink) → sorted.contains link_cmp set j ≡ is_among set.keys j
+contains_among set j = keys_among set.keys j
 
 -- ---- the numbers of regions
 

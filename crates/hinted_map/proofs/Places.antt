@@ -44,7 +44,7 @@ pub last_at : {X : Type 0} (xs : List X) (x : X) (index : ℕ) → index ≡ len
 last_at xs x index e = ap (slice_get (xs ++ x ∷ [])) e ∙ last_here xs x
 
 -- and its key after theirs
-pub keys-added : {K V : Type 0} (entries : List (K × V)) (key : K) (value : V) →
+pub keys_added : {K V : Type 0} (entries : List (K × V)) (key : K) (value : V) →
     keys_of (entries ++ (key, value) ∷ []) ≡ keys_of entries ++ key ∷ []
-keys-added [] key value = refl
-keys-added (e ∷ es) key value = ap (λ keys. e.0 ∷ keys) (keys-added es key value)
+keys_added [] key value = refl
+keys_added (e ∷ es) key value = ap (λ keys. e.0 ∷ keys) (keys_added es key value)

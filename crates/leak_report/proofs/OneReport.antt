@@ -9,7 +9,7 @@ use Rattle.flow_base.specs.declared.outputs.Output.{Output}
 use Rattle.flow_graph.specs.declared.graphs.Graph.{Graph}
 use Rattle.max_flow.specs.declared.answers.Side.{Side}
 use Rattle.measuring.specs.declared.measured.Measured.{Measured}
-use Rattle.measuring.proofs.OneMeasure.{AreSameMeasures, told-alike}
+use Rattle.measuring.proofs.OneMeasure.{AreSameMeasures, told_alike}
 use Rattle.leak_report.specs.JsonReports.{cut_data, report_json, skip_data, whole}
 use Rattle.leak_report.specs.Reports.{cut_lines, report_text, skip_lines}
 
@@ -23,9 +23,9 @@ told_text value turns output graph side cut =
     ++ (codes " status " ++ (decimal output.status ++ codes "\n")))))))))
     ++ (skip_lines cut.skip ++ cut_lines graph.points cut.points)
 
-pub one-report_text : (one other : Measured) → AreSameMeasures one other → report_text one ≡ report_text other
+pub one_report_text : (one other : Measured) → AreSameMeasures one other → report_text one ≡ report_text other
 unfolding told_text
-one-report_text one other same = told-alike told_text one other same
+one_report_text one other same = told_alike told_text one other same
 
 told_data : ℕ → ℕ → Output → Graph → Side → CutPicture → Data
 told_data value turns output graph side cut =
@@ -43,6 +43,6 @@ told_json : ℕ → ℕ → Output → Graph → Side → CutPicture → List �
 told_json value turns output graph side cut =
     compact_text (told_data value turns output graph side cut) ++ codes "\n"
 
-pub one-report_json : (one other : Measured) → AreSameMeasures one other → report_json one ≡ report_json other
+pub one_report_json : (one other : Measured) → AreSameMeasures one other → report_json one ≡ report_json other
 unfolding told_data told_json
-one-report_json one other same = told-alike told_json one other same
+one_report_json one other same = told_alike told_json one other same

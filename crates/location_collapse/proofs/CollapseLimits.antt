@@ -19,7 +19,7 @@ use Rattle.flow_graph.specs.declared.events.Event.TheVariants.{Pass}
 use Rattle.flow_graph.specs.declared.named_links.NamedLink.{NamedLink}
 use Rattle.flow_graph.specs.EventGraphs.{bits_at, passed, has_passed, named_links, is_among, links_by}
 use Rattle.flow_graph.specs.Keeping.{Keeps, count_in, is_known}
-use Rattle.flow_graph.proofs.KeptAfterEvent.{known-same, passed-push, among-push}
+use Rattle.flow_graph.proofs.KeptAfterEvent.{known_same, passed_push, among_push}
 use Rattle.location_collapse.specs.Limits.{ExceedsLimit, HasMorePoints, HasMoreLinks, HasCapacity}
 use Rattle.location_collapse.specs.Limits.{HasAllLinks, LacksRoom, is_same_link, is_kept_capacity}
 use Rattle.flow_base.proofs.PointEquality.{points_alike, same_tests}
@@ -44,10 +44,10 @@ points_within : (capacities : List (Point × ℕ)) (links : List NamedLink) (eve
 points_within capacities links events keeps points differ passed =
     let within : length points ≤ length (keys_of capacities) =
     length-le_from_is_member points_alike points (keys_of capacities) differ
-    (λ q member. sym (is_some-lookup (is_same q) capacities) ∙ (known-same capacities links events keeps q ∙
+    (λ q member. sym (is_some-lookup (is_same q) capacities) ∙ (known_same capacities links events keeps q ∙
     of_members is_same (has_passed events)
-    (λ x p e has. sym (known-same capacities links events keeps p) ∙ (ap (λ test. is_some (lookup test capacities))
-    (same_tests p x e) ∙ (known-same capacities links events keeps x ∙ has)))
+    (λ x p e has. sym (known_same capacities links events keeps p) ∙ (ap (λ test. is_some (lookup test capacities))
+    (same_tests p x e) ∙ (known_same capacities links events keeps x ∙ has)))
     points passed q member)) in
     let count : length (keys_of capacities) ≡ length capacities = length-map capacities (λ e. e.0) in
     omega (arith, within, count)
@@ -117,14 +117,14 @@ still n m has =
 
 pub still_passed : (events : List Event) (e : Event) (q : Point) → has_passed events q ≡ true → has_passed
     (events ++ e ∷ []) q ≡ true
-still_passed events e q has = ap (λ n. not (n == 0)) (passed-push events e q) ∙ still (passed events q) (bits_at q e) has
+still_passed events e q has = ap (λ n. not (n == 0)) (passed_push events e q) ∙ still (passed events q) (bits_at q e) has
 
 now_passed : (events : List Event) (p : Point) (mask : ℕ) → 0 < bit_count mask → has_passed
     (events ++ Pass p mask ∷ []) p ≡ true
 now_passed events p mask some =
     let bits : bits_at p (Pass p mask) ≡ bit_count mask = ap (λ b. cond b (bit_count mask) 0) (points_alike.refl p) in
     let all : passed (events ++ Pass p mask ∷ []) p ≡ passed events p + bits_at p (Pass p mask) =
-    passed-push events (Pass p mask) p in
+    passed_push events (Pass p mask) p in
     ap not (ne_eqb (passed (events ++ Pass p mask ∷ []) p) 0 (λ z. omega (arith, z, all, bits, some)))
 
 pub exceeds_points : (capacities : List (Point × ℕ)) (links : List NamedLink) (events : List Event) (p : Point) (mask :
@@ -143,7 +143,7 @@ exceeds_points capacities links events p mask keeps lacks =
       passed = list_all-append (has_passed (events ++ Pass p mask ∷ [])) (keys_of capacities) (p ∷ [])
           ∙ and_from (list_all (has_passed (events ++ Pass p mask ∷ [])) (keys_of capacities)) _
           (all_more (λ q. list_any (is_same q) (keys_of capacities)) (has_passed (events ++ Pass p mask ∷ []))
-          (λ q any. still_passed events (Pass p mask) q (sym (known-same capacities links events keeps q) ∙
+          (λ q any. still_passed events (Pass p mask) q (sym (known_same capacities links events keeps q) ∙
           (is_some-lookup (is_same q) capacities ∙ any))) (keys_of capacities) own)
           (and_from (has_passed (events ++ Pass p mask ∷ []) p) true (now_passed events p mask lacks.some) refl);
       more = let full : 65536 ≤ length capacities = lacks.full.full in omega (arith, full, count, both);
@@ -157,7 +157,7 @@ exceeds_capacity capacities links events p mask keeps large = record {
   reached =
       let bits : bits_at p (Pass p mask) ≡ bit_count mask = ap (λ b. cond b (bit_count mask) 0) (points_alike.refl p) in
       let all : passed (events ++ Pass p mask ∷ []) p ≡ passed events p + bits_at p (Pass p mask) =
-      passed-push events (Pass p mask) p in
+      passed_push events (Pass p mask) p in
       let same : count_in capacities p ≡ passed events p = keeps.counted p in omega (arith, large, bits, all, same);
 }
 
@@ -165,7 +165,7 @@ pub exceeds_links : (capacities : List (Point × ℕ)) (links : List NamedLink) 
     NamedLink) → Keeps capacities links events → links_by (is_known capacities) e ≡ link ∷ [] → is_among links link ≡
     false → HasAllLinks links → HasMoreLinks (events ++ e ∷ []) 1048576
 exceeds_links capacities links events e link keeps made absent full =
-    let has : is_known capacities ≡ has_passed events = λ i p. known-same capacities links events keeps p i in
+    let has : is_known capacities ≡ has_passed events = λ i p. known_same capacities links events keeps p i in
     let none : list_any (is_same_link link) links ≡ false = any_flipped links link ∙ absent in
     let own : list_all (λ q. list_any (is_same_link q) links) links ≡ true = all_own is_same_link links_alike.refl links in
     let both : length (links ++ link ∷ []) ≡ length links + 1 = length-append links (link ∷ []) in
@@ -175,10 +175,10 @@ exceeds_links capacities links events e link keeps made absent full =
       occur = list_all-append (is_among (named_links (events ++ e ∷ []))) links (link ∷ [])
           ∙ and_from (list_all (is_among (named_links (events ++ e ∷ []))) links) _
           (all_more (λ q. list_any (is_same_link q) links) (is_among (named_links (events ++ e ∷ [])))
-          (λ q any. among-push events e q ∙ or_left (is_among (named_links events) q)
+          (λ q any. among_push events e q ∙ or_left (is_among (named_links events) q)
           (is_among (links_by (has_passed events) e) q) (sym (keeps.linked q) ∙ (sym (any_flipped links q) ∙ any))) links own)
           (and_from (is_among (named_links (events ++ e ∷ [])) link) true
-          (among-push events e link ∙ or_right (is_among (named_links events) link)
+          (among_push events e link ∙ or_right (is_among (named_links events) link)
           (is_among (links_by (has_passed events) e) link)
           (ap (λ h. is_among (links_by h e) link) (sym has) ∙ (ap (λ l. is_among l link) made ∙
           or_left (is_same_link link link) false (links_alike.refl link)))) refl);

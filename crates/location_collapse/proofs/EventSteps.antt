@@ -11,7 +11,7 @@ use Rattle.flow_graph.specs.declared.named_links.NamedEnd.TheVariants.{Source, A
 use Rattle.flow_graph.specs.Again.{again_events}
 use Rattle.flow_graph.specs.EventGraphs.{is_among, links_by, one_if, outlet_of}
 use Rattle.flow_graph.specs.Keeping.{Keeps, TakesLinks, is_known, is_there}
-use Rattle.flow_graph.proofs.Again.{again-in-turn}
+use Rattle.flow_graph.proofs.Again.{again_in_turn}
 use Rattle.flow_graph.proofs.KeptAfterEvent.{keeps_links}
 use Rattle.location_collapse.specs.Collapses.{MakesLink, has_ends}
 use Rattle.location_collapse.specs.LatestLinks.{has_flow, has_output}
@@ -106,4 +106,4 @@ taken_again capacities links p mask events some flow output keeps =
     let third : Keeps capacities links (((events ++ Pass p mask ∷ []) ++ Link p p ∷ []) ++ Out p.region p ∷ []) =
     known_link capacities links (Out p.region p) (record { source = Relay p.region; target = At p })
     ((events ++ Pass p mask ∷ []) ++ Link p p ∷ []) (makes_output (is_known capacities) p.region p some) output second in
-    subst (Keeps capacities links) (again-in-turn events p mask) third
+    subst (Keeps capacities links) (again_in_turn events p mask) third

@@ -14,7 +14,7 @@ use Rattle.flow_graph.specs.declared.named_links.NamedLink.{NamedLink}
 use Rattle.flow_graph.specs.declared.nodes.Node.{Node}
 use Rattle.flow_graph.specs.EventGraphs.{bits_at, passed, has_passed, named_links, is_among, links_by, capacity_at}
 use Rattle.flow_graph.specs.EventGraphs.{named, IsGraphOf}
-use Rattle.flow_graph.proofs.KeptAfterEvent.{passed-push, among-push}
+use Rattle.flow_graph.proofs.KeptAfterEvent.{passed_push, among_push}
 use Rattle.location_collapse.specs.Limits.{ExceedsLimit, is_same_link}
 use Rattle.location_collapse.specs.LimitLaws.{IsWithinLimits, has_small_capacity}
 use Rattle.flow_base.proofs.PointEquality.{points_alike}
@@ -101,14 +101,14 @@ one_more events e (inr (inl many)) = inr (inl (record {
   links = many.links;
   differ = many.differ;
   occur = all_more (is_among (named_links events)) (is_among (named_links (events ++ e ∷ [])))
-      (λ j occurs. among-push events e j ∙ or_left (is_among (named_links events) j)
+      (λ j occurs. among_push events e j ∙ or_left (is_among (named_links events) j)
       (is_among (links_by (has_passed events) e) j) occurs) many.links many.occur;
   more = many.more;
 }))
 one_more events e (inr (inr large)) = inr (inr (record {
   point = large.point;
   reached = let all : passed (events ++ e ∷ []) large.point ≡ passed events large.point + bits_at large.point e =
-      passed-push events e large.point in
+      passed_push events e large.point in
       let over : 2 ^ 48 ≤ passed events large.point = large.reached in omega (arith, all, over);
 }))
 

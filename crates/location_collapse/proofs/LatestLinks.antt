@@ -9,7 +9,7 @@ use Rattle.flow_graph.specs.EventGraphs.{is_among}
 use Rattle.flow_base.specs.PointOrders.{is_same}
 use Rattle.location_collapse.specs.LatestLinks.{has_flow, has_output, is_latest_flow, is_latest_output}
 use Rattle.flow_base.proofs.PointEquality.{point_eq, points_same}
-use Rattle.flow_base.proofs.PointOrders.{same-one}
+use Rattle.flow_base.proofs.PointOrders.{one_if_same}
 use Rattle.location_collapse.proofs.EqualityByOrder.{link_eq, links_same}
 use Rattle.location_collapse.proofs.LinkMarks.{among_alike}
 
@@ -28,7 +28,7 @@ output_eq : (r region : ℕ) (p to : Point) → link_eq (record { source = Relay
 output_eq r region p to = refl
 
 same_point : (p q : Point) → point_eq p q ≡ true → p ≡ q
-same_point p q e = same-one p q (ap (λ eq. eq p q) (sym points_same) ∙ e)
+same_point p q e = one_if_same p q (ap (λ eq. eq p q) (sym points_same) ∙ e)
 
 -- a link whose ends equal two points leads from the one to the other
 pub led : (link : NamedLink) (from to s t : Point) → link.source ≡ At from → link.target ≡ At to →

@@ -18,7 +18,7 @@ use Rattle.std.specs.declared.cmp.Ordering.TheVariants.{Less, Equal, Greater}
 use Rattle.flow_base.specs.declared.points.Point.{Point}
 use Rattle.flow_base.specs.PointOrders.{is_same, point_cmp}
 use Rattle.flow_base.proofs.PointEquality.{points_alike}
-use Rattle.flow_base.proofs.PointOrders.{point_total, same-one}
+use Rattle.flow_base.proofs.PointOrders.{point_total, one_if_same}
 use Rattle.flow_graph.specs.declared.events.Event.{Event}
 use Rattle.flow_graph.specs.declared.named_links.NamedEnd.{NamedEnd}
 use Rattle.flow_graph.specs.declared.named_links.NamedEnd.TheVariants.{Source, At, Relay, Sink}
@@ -26,7 +26,7 @@ use Rattle.flow_graph.specs.declared.named_links.NamedLink.{NamedLink}
 use Rattle.flow_graph.specs.EventGraphs.{link_cmp}
 use Rattle.flow_graph.specs.Keeping.{Keeps, TakesLinks, capacity_in, is_known, is_positive, is_sound}
 use Rattle.flow_graph.proofs.LinksByIndex.{link_total, named_end_cmp}
-use Rattle.flow_graph.proofs.SameLinksSameRelays.{contains-among}
+use Rattle.flow_graph.proofs.SameLinksSameRelays.{contains_among}
 use Rattle.location_collapse.specs.Limits.{is_kept_capacity}
 use Rattle.location_collapse.specs.Private.Sorting.{HasSame}
 use Rattle.location_collapse.proofs.CapacityMaps.{found_positive}
@@ -51,7 +51,7 @@ end_exact Source (At q) e = absurd (cc)
 end_exact Source (Relay r) e = absurd (cc)
 end_exact Source Sink e = absurd (cc)
 end_exact (At p) Source e = absurd (cc)
-end_exact (At p) (At q) e = ap At (same-one p q (ap is_eq e))
+end_exact (At p) (At q) e = ap At (one_if_same p q (ap is_eq e))
 end_exact (At p) (Relay r) e = absurd (cc)
 end_exact (At p) Sink e = absurd (cc)
 end_exact (Relay r) Source e = absurd (cc)
@@ -74,7 +74,7 @@ link_exact j k e =
 pub links_sorted : (links : List NamedLink) (set : BTreeSet NamedLink) → sorted.IsFromIterResult link_cmp links set →
     TakesLinks [] set.keys links
 links_sorted links set made = record {
-  linked = λ j. sym (contains-among set j) ∙ (made.0 j ∙ any_flipped links j);
+  linked = λ j. sym (contains_among set j) ∙ (made.0 j ∙ any_flipped links j);
   sound = λ test none all.
       list_all-from_AllPass test set.keys (All-weaker (λ k. sorted.contains link_cmp set k ≡ true) (λ k. test k ≡ true)
       (λ k has. All-contains (λ x. test x ≡ true) links k (AllPass-from_list_all test links all)

@@ -30,7 +30,7 @@ use Rattle.lockstep_replay.specs.Private.Turning.{why_compared, Joins, InStep}
 use Rattle.lockstep_replay.specs.Verdicts.{why_output, why_marks, why_stopped, why_copy, why_replay}
 use Rattle.lockstep_replay.proofs.Conditions.{NotStopped, SameMarks, marks_same, first_none, none_output, none_marks}
 use Rattle.lockstep_replay.proofs.Conditions.{none_copy, no_byte, feed_rest}
-use Rattle.replay_machine.proofs.MasksAhead.{ahead-self}
+use Rattle.replay_machine.proofs.MasksAhead.{ahead_self}
 use Rattle.std.specs.Option.{option_or}
 
 one_turn : (first second : Stepped) → mode_answer first ≡ mode_answer second → first ≡ second
@@ -74,20 +74,20 @@ range_of (Some outside) mode region range e =
     ∙ ap (λ r. Some (record { region = region; range = r })) second
 
 -- a turn that does not want bits is one that misses none
-pub missing-none : (missing : ℕ) (outside : Option Outside) (mode other : Stepped) (answer : ReplayTurn) →
+pub missing_none : (missing : ℕ) (outside : Option Outside) (mode other : Stepped) (answer : ReplayTurn) →
     answer ≡ turn_answer missing outside mode → answer ≡ mode_answer other → missing ≡ 0
-missing-none zero outside mode other answer e is = refl
-missing-none (suc missing) outside mode other answer e is = absurd (wants_none other (suc missing) (sym e ∙ is))
+missing_none zero outside mode other answer e is = refl
+missing_none (suc missing) outside mode other answer e is = absurd (wants_none other (suc missing) (sym e ∙ is))
 
 -- the place of a run at which a replay stands
 abbrev pub self_place : Standing → ReplayPlace
 self_place standing = record { state = standing.state; past = []; outside = standing.outside }
 
 -- the masks that are ahead are ones under which it stands
-pub stands-self : (standing : Standing) → standing.missing ≡ 0 →
+pub stands_self : (standing : Standing) → standing.missing ≡ 0 →
     Stands standing (MaskAt standing.ahead) (self_place standing)
-stands-self standing none =
-    record { state = refl; outside = refl; ahead = ahead-self standing.ahead; missing = none }
+stands_self standing none =
+    record { state = refl; outside = refl; ahead = ahead_self standing.ahead; missing = none }
 
 -- no more bits are left than were
 fewer : (masks : Masks) (asker : Asker ReplayPlace) (left : List Bool) (after : Standing) (stream : Stream)
@@ -99,13 +99,13 @@ fewer masks asker left after stream mode answer (Short missing) e h is = absurd
 fewer masks asker left after stream mode answer (Fed' place rest) e h is =
     omega (arith, ap length h.left, feed_rest asker left place rest e)
 
-pub taken-of : (masks : Masks) (asker : Asker ReplayPlace) (before : Standing) (old : Stream) (after : Standing)
+pub taken_of : (masks : Masks) (asker : Asker ReplayPlace) (before : Standing) (old : Stream) (after : Standing)
     (stream : Stream)
     (mode : Stepped) (answer : ReplayTurn) (needed : ℕ) → needed < 4294967296 →
     before.taken + length (left_of old) ≡ needed → after.taken ≡ taken_after before.taken old stream →
     Turned masks (feed asker (left_of old)) after stream answer → answer ≡ mode_answer mode →
     after.taken + length (left_of stream) ≡ needed
-taken-of masks asker before old after stream mode answer needed small used taken h is =
+taken_of masks asker before old after stream mode answer needed small used taken h is =
     omega (arith, used, taken, fewer masks asker (left_of old) after stream mode answer _ refl h is)
 
 copy_running : (mode : Stepped) (real copy : Mark) (difference : Option Difference) → NotStopped mode →
@@ -115,14 +115,14 @@ copy_running (Exited status) real copy difference running = refl
 copy_running (Stopped fault) real copy difference running = absurd (running fault refl)
 
 -- the replay is not stopped, and has enough bits
-pub beside-runs :
+pub beside_runs :
     (real : State) (needed : ℕ) (masks : Masks) (after : Standing) (stream : Stream) (mode : Stepped)
     (answer : ReplayTurn) (fed : Fed ReplayPlace) → Turned masks fed after stream answer → answer ≡ mode_answer mode →
     NotStopped mode → after.taken + length (left_of stream) ≡ needed →
     why_compared real needed after mode ≡ why_replay real needed fed
-beside-runs real needed masks after stream mode answer (Short missing) h is running used =
+beside_runs real needed masks after stream mode answer (Short missing) h is running used =
     absurd (wants_none mode missing (sym h.answers ∙ is))
-beside-runs real needed masks after stream mode answer (Fed' place rest) h is running used =
+beside_runs real needed masks after stream mode answer (Fed' place rest) h is running used =
     let told : (place.outside ≡ None) × (place.state.control.mode ≡ mode) =
     ends_of place.outside place.state.control.mode mode (sym h.answers ∙ is) in
     let ends : place.state.control.mode ≡ mode = told.1 in
@@ -149,24 +149,24 @@ beside-runs real needed masks after stream mode answer (Fed' place rest) h is ru
     ∙ ap (λ d. why_marks (mark_of real needed) (mark_of after.state after.taken) d) difference))
 
 -- too few bits are left
-pub beside-wants :
+pub beside_wants :
     (real : State) (needed : ℕ) (masks : Masks) (after : Standing) (stream : Stream) (missing : ℕ)
     (answer : ReplayTurn) (fed : Fed ReplayPlace) → Turned masks fed after stream answer → answer ≡ Wants missing →
     Some (ReplayFault (TooShort missing)) ≡ why_replay real needed fed
-beside-wants real needed masks after stream missing answer (Short more) h is =
+beside_wants real needed masks after stream missing answer (Short more) h is =
     let same : Wants more ≡ Wants missing = sym h.answers ∙ is in
     let count : missing ≡ more = cc in ap (λ n. Some (ReplayFault (TooShort n))) count
-beside-wants real needed masks after stream missing answer (Fed' place rest) h is =
+beside_wants real needed masks after stream missing answer (Fed' place rest) h is =
     absurd (wants_end place.outside place.state.control.mode missing (sym is ∙ h.answers))
 
 -- the replay is stopped
-pub beside-stops :
+pub beside_stops :
     (real : State) (needed : ℕ) (masks : Masks) (after : Standing) (stream : Stream) (fault : Fault)
     (answer : ReplayTurn) (fed : Fed ReplayPlace) → Turned masks fed after stream answer → answer ≡ DidStop fault →
     Some (ReplayFault (Guest fault)) ≡ why_replay real needed fed
-beside-stops real needed masks after stream fault answer (Short missing) h is =
+beside_stops real needed masks after stream fault answer (Short missing) h is =
     absurd (wants_none (Stopped fault) missing (sym h.answers ∙ is))
-beside-stops real needed masks after stream fault answer (Fed' place rest) h is =
+beside_stops real needed masks after stream fault answer (Fed' place rest) h is =
     let told : (place.outside ≡ None) × (place.state.control.mode ≡ Stopped fault) =
     ends_of place.outside place.state.control.mode (Stopped fault) (sym h.answers ∙ is) in
     sym (ap (λ o. why_copy o place.state.control.mode (mark_of real needed) (mark_of place.state (needed - length rest))
@@ -175,25 +175,25 @@ beside-stops real needed masks after stream fault answer (Fed' place rest) h is 
     (difference_of real place.state)) told.1)
 
 -- a range is outside of guest memory
-pub beside-outside :
+pub beside_outside :
     (real : State) (needed : ℕ) (masks : Masks) (after : Standing) (stream : Stream) (region range : ℕ)
     (answer : ReplayTurn) (fed : Fed ReplayPlace) → Turned masks fed after stream answer →
     answer ≡ DidRange region range →
     Some (ReplayFault (RangeOutside region range)) ≡ why_replay real needed fed
-beside-outside real needed masks after stream region range answer (Short missing) h is =
+beside_outside real needed masks after stream region range answer (Short missing) h is =
     let never : Wants missing ≡ DidRange region range = sym h.answers ∙ is in absurd (cc)
-beside-outside real needed masks after stream region range answer (Fed' place rest) h is =
+beside_outside real needed masks after stream region range answer (Fed' place rest) h is =
     sym (ap (λ o. why_copy o place.state.control.mode (mark_of real needed) (mark_of place.state (needed - length rest))
     (difference_of real place.state))
     (range_of place.outside place.state.control.mode region range (sym h.answers ∙ is)))
 
 -- nothing fails
-pub joins-of :
+pub joins_of :
     (real : State) (needed : ℕ) (masks : Masks) (after : Standing) (stream : Stream) (answer : ReplayTurn)
     (fed : Fed ReplayPlace) → Turned masks fed after stream answer → after.taken + length (left_of stream) ≡ needed →
     why_replay real needed fed ≡ None → Joins after masks fed
-joins-of real needed masks after stream answer (Short missing) h used none = absurd (cc)
-joins-of real needed masks after stream answer (Fed' place rest) h used none =
+joins_of real needed masks after stream answer (Short missing) h used none = absurd (cc)
+joins_of real needed masks after stream answer (Fed' place rest) h used none =
     let parts : (place.outside ≡ None) × (NotStopped place.state.control.mode
     × ((is_same_mark (mark_of real needed) (mark_of place.state (needed - length rest)) ≡ true)
     × (difference_of real place.state ≡ None))) =
@@ -207,11 +207,11 @@ joins-of real needed masks after stream answer (Fed' place rest) h used none =
       stands = h.stands;
     }
 
-pub in_step-of :
+pub in_step_of :
     (real : State) (needed : ℕ) (after : Standing) (stream : Stream) (mode : Stepped) → after.missing ≡ 0 →
     after.taken + length (left_of stream) ≡ needed → stream.taken ≤ length stream.bits →
     why_compared real needed after mode ≡ None → InStep real after stream needed
-in_step-of real needed after stream mode missing used inside none =
+in_step_of real needed after stream mode missing used inside none =
     let parts : (is_same_mark (mark_of real needed) (mark_of after.state after.taken) ≡ true)
     × (why_output (option_or (byte_difference 0 real.control.output after.state.control.output)
     (status_difference (length real.control.output) real.control.mode mode)) ≡ None) =
@@ -228,56 +228,56 @@ in_step-of real needed after stream mode missing used inside none =
 
 -- ---- by what the replay has answered
 
-pub beside-why :
+pub beside_why :
     (real : State) (needed : ℕ) (masks : Masks) (asker : Asker ReplayPlace) (before : Standing) (old : Stream)
     (after : Standing) (stream : Stream) (answer : ReplayTurn) → needed < 4294967296 →
     before.taken + length (left_of old) ≡ needed → after.taken ≡ taken_after before.taken old stream →
     Turned masks (feed asker (left_of old)) after stream answer →
     why_answered real needed after answer ≡ why_replay real needed (feed asker (left_of old))
-beside-why real needed masks asker before old after stream DidRun small used taken h =
-    beside-runs real needed masks after stream Ran DidRun (feed asker (left_of old)) h refl (λ fault same. cc)
-    (taken-of masks asker before old after stream Ran DidRun needed small used taken h refl)
-beside-why real needed masks asker before old after stream (DidExit status) small used taken h =
-    beside-runs real needed masks after stream (Exited status) (DidExit status) (feed asker (left_of old)) h refl
+beside_why real needed masks asker before old after stream DidRun small used taken h =
+    beside_runs real needed masks after stream Ran DidRun (feed asker (left_of old)) h refl (λ fault same. cc)
+    (taken_of masks asker before old after stream Ran DidRun needed small used taken h refl)
+beside_why real needed masks asker before old after stream (DidExit status) small used taken h =
+    beside_runs real needed masks after stream (Exited status) (DidExit status) (feed asker (left_of old)) h refl
     (λ fault same. cc)
-    (taken-of masks asker before old after stream (Exited status) (DidExit status) needed small used taken h refl)
-beside-why real needed masks asker before old after stream (Wants missing) small used taken h =
-    beside-wants real needed masks after stream missing (Wants missing) (feed asker (left_of old)) h refl
-beside-why real needed masks asker before old after stream (DidStop fault) small used taken h =
-    beside-stops real needed masks after stream fault (DidStop fault) (feed asker (left_of old)) h refl
-beside-why real needed masks asker before old after stream (DidRange region range) small used taken h =
-    beside-outside real needed masks after stream region range (DidRange region range) (feed asker (left_of old)) h refl
+    (taken_of masks asker before old after stream (Exited status) (DidExit status) needed small used taken h refl)
+beside_why real needed masks asker before old after stream (Wants missing) small used taken h =
+    beside_wants real needed masks after stream missing (Wants missing) (feed asker (left_of old)) h refl
+beside_why real needed masks asker before old after stream (DidStop fault) small used taken h =
+    beside_stops real needed masks after stream fault (DidStop fault) (feed asker (left_of old)) h refl
+beside_why real needed masks asker before old after stream (DidRange region range) small used taken h =
+    beside_outside real needed masks after stream region range (DidRange region range) (feed asker (left_of old)) h refl
 
 -- the answer of a replay of which nothing fails is that it runs, or has exited
-pub runs-of : (real : State) (needed : ℕ) (after : Standing) (answer : ReplayTurn) →
+pub runs_of : (real : State) (needed : ℕ) (after : Standing) (answer : ReplayTurn) →
     why_answered real needed after answer ≡ None →
     (mode : Stepped) × ((answer ≡ mode_answer mode) × (why_compared real needed after mode ≡ None))
-runs-of real needed after DidRun none = (Ran, (refl, none))
-runs-of real needed after (DidExit status) none = (Exited status, (refl, none))
-runs-of real needed after (Wants missing) none = absurd (cc)
-runs-of real needed after (DidStop fault) none = absurd (cc)
-runs-of real needed after (DidRange region range) none = absurd (cc)
+runs_of real needed after DidRun none = (Ran, (refl, none))
+runs_of real needed after (DidExit status) none = (Exited status, (refl, none))
+runs_of real needed after (Wants missing) none = absurd (cc)
+runs_of real needed after (DidStop fault) none = absurd (cc)
+runs_of real needed after (DidRange region range) none = absurd (cc)
 
 -- ---- a quick look
 
-running-status : (index : ℕ) (real : Stepped) → status_difference index real Ran ≡ None
-running-status index Ran = refl
-running-status index (Exited status) = refl
-running-status index (Stopped fault) = refl
+running_status : (index : ℕ) (real : Stepped) → status_difference index real Ran ≡ None
+running_status index Ran = refl
+running_status index (Exited status) = refl
+running_status index (Stopped fault) = refl
 
-pub compared-none : (real : State) (needed : ℕ) (after : Standing) →
+pub compared_none : (real : State) (needed : ℕ) (after : Standing) →
     is_same_mark (mark_of real needed) (mark_of after.state after.taken) ≡ true →
     byte_difference 0 real.control.output after.state.control.output ≡ None →
     why_compared real needed after Ran ≡ None
-compared-none real needed after same bytes =
-    rw (same, bytes, running-status (length real.control.output) real.control.mode) refl
+compared_none real needed after same bytes =
+    rw (same, bytes, running_status (length real.control.output) real.control.mode) refl
 
 -- two outputs that begin with the same one
-pub begins-alike : (first a b : List ℕ) → ((more : List ℕ) × (a ≡ first ++ more)) →
+pub begins_alike : (first a b : List ℕ) → ((more : List ℕ) × (a ≡ first ++ more)) →
     ((more : List ℕ) × (b ≡ first ++ more)) → take (length first) a ≡ take (length first) b
-begins-alike first a b h k =
+begins_alike first a b h k =
     ap (λ (l : List ℕ). take (length first) l) h.1 ∙ take-append_seam first h.0
     ∙ sym (ap (λ (l : List ℕ). take (length first) l) k.1 ∙ take-append_seam first k.0)
 
-pub begins-short : (first b : List ℕ) → ((more : List ℕ) × (b ≡ first ++ more)) → length first ≤ length b
-begins-short first b k = omega (arith, ap length k.1, length-append first k.0)
+pub begins_short : (first b : List ℕ) → ((more : List ℕ) × (b ≡ first ++ more)) → length first ≤ length b
+begins_short first b k = omega (arith, ap length k.1, length-append first k.0)

@@ -21,7 +21,7 @@ use Rattle.replay_machine.specs.Visits.{IsAhead}
 use Rattle.region_machine.specs.Within.{may_leave}
 use Rattle.region_machine.proofs.OutputGrows.{real_grows}
 use Rattle.region_machine.proofs.RangesStayInside.{guest_keeps}
-use Rattle.replay_machine.proofs.MasksAhead.{ahead-self}
+use Rattle.replay_machine.proofs.MasksAhead.{ahead_self}
 use Rattle.lockstep_replay.specs.declared.tallies.Tallying.{Tallying}
 use Rattle.region_machine.specs.declared.real_turns.RealTurn.{RealTurn}
 use Rattle.lockstep_replay.specs.declared.verdicts.Why.{Why}
@@ -30,34 +30,34 @@ use Rattle.lockstep_replay.specs.Sides.{tally_of}
 use Rattle.lockstep_replay.specs.Private.Standings.{why_beside, why_standing}
 use Rattle.lockstep_replay.specs.Private.Turning.{MakesReal, Keeps, Rounds, InStep, Joins, Joined, crossed, fed_turn}
 use Rattle.lockstep_replay.specs.Verdicts.{counted_bits, why_budget, why_mode, why_broken, why_common, why_replay}
-use Rattle.lockstep_replay.proofs.Turns.{Within, within-of, why-within}
+use Rattle.lockstep_replay.proofs.Turns.{Within, within_of, why_within}
 use Rattle.lockstep_replay.proofs.Conditions.{NotStopped, none_broken, none_mode}
 
 -- ---- what fails of the real run alone
 
-budget-fails : (test : Bool) (budget total count : ℕ) (later : Option Why) (why : Why) → count ≡ counted_bits total →
+budget_fails : (test : Bool) (budget total count : ℕ) (later : Option Why) (why : Why) → count ≡ counted_bits total →
     nat_lt budget count ≡ test → why_budget test budget count None ≡ Some why →
     why_budget (nat_lt budget total) budget total later ≡ Some why
-budget-fails true budget total count later why c t e =
+budget_fails true budget total count later why c t e =
     let over : budget < count = ltb-true budget count t in
     let more : budget < total = omega (arith, over, c) in
     let same : counted_bits total ≡ counted_bits count = omega (arith, c) in
     rw (lt-ltb budget total more, same) e
-budget-fails false budget total count later why c t e = absurd (cc)
+budget_fails false budget total count later why c t e = absurd (cc)
 
-mode-fails : (mode : Stepped) (budget total count : ℕ) (later : Option Why) (why : Why) → count ≡ counted_bits total →
+mode_fails : (mode : Stepped) (budget total count : ℕ) (later : Option Why) (why : Why) → count ≡ counted_bits total →
     why_mode mode budget count None ≡ Some why → why_mode mode budget total later ≡ Some why
-mode-fails Ran budget total count later why c e = budget-fails (nat_lt budget count) budget total count later why c
+mode_fails Ran budget total count later why c e = budget_fails (nat_lt budget count) budget total count later why c
     refl e
-mode-fails (Exited status) budget total count later why c e =
-    budget-fails (nat_lt budget count) budget total count later why c refl e
-mode-fails (Stopped fault) budget total count later why c e = e
+mode_fails (Exited status) budget total count later why c e =
+    budget_fails (nat_lt budget count) budget total count later why c refl e
+mode_fails (Stopped fault) budget total count later why c e = e
 
-real-fails : (broken : Option Break) (mode : Stepped) (budget total count : ℕ) (later : Option Why) (why : Why) →
+real_fails : (broken : Option Break) (mode : Stepped) (budget total count : ℕ) (later : Option Why) (why : Why) →
     count ≡ counted_bits total → why_broken broken (why_mode mode budget count None) ≡ Some why →
     why_broken broken (why_mode mode budget total later) ≡ Some why
-real-fails None mode budget total count later why c e = mode-fails mode budget total count later why c e
-real-fails (Some broken) mode budget total count later why c e = e
+real_fails None mode budget total count later why c e = mode_fails mode budget total count later why c e
+real_fails (Some broken) mode budget total count later why c e = e
 
 -- nothing fails of it
 record Passes (broken : Option Break) (mode : Stepped) (budget total count : ℕ) : Type 0 where
@@ -66,10 +66,10 @@ record Passes (broken : Option Break) (mode : Stepped) (budget total count : ℕ
   pub within : total ≤ budget
   pub small : count ≤ budget
 
-real-passes : (broken : Option Break) (mode : Stepped) (budget total count : ℕ) → budget < 4294967295 →
+real_passes : (broken : Option Break) (mode : Stepped) (budget total count : ℕ) → budget < 4294967295 →
     count ≡ counted_bits total → why_broken broken (why_mode mode budget count None) ≡ None →
     Passes broken mode budget total count
-real-passes broken mode budget total count small c e =
+real_passes broken mode budget total count small c e =
     let whole : (broken ≡ None) × (why_mode mode budget count None ≡ None) = none_broken broken _ e in
     let parts = none_mode mode budget count None whole.1 in
     let few : count ≤ budget = ltb-false budget count parts.1.0 in record {
@@ -79,11 +79,11 @@ real-passes broken mode budget total count small c e =
       small = few;
     }
 
-later-passes : (broken : Option Break) (mode : Stepped) (budget total count : ℕ) (later : Option Why) →
+later_passes : (broken : Option Break) (mode : Stepped) (budget total count : ℕ) (later : Option Why) →
     Passes broken mode budget total count → why_broken broken (why_mode mode budget total later) ≡ later
-later-passes broken mode budget total count later p =
+later_passes broken mode budget total count later p =
     ap (λ b. why_broken b (why_mode mode budget total later)) p.unbroken
-    ∙ why-within mode budget total later p.running p.within
+    ∙ why_within mode budget total later p.running p.within
 
 -- ---- a turn of the real run, before which the two runs kept step
 
@@ -99,61 +99,61 @@ pub record Played (before : State) (tally : Tallying) (standing : Standing) (rea
 abbrev pub real_why : State → Tallying → RealTurn → Option Why
 real_why reached after turn = why_broken turn.broken (why_mode reached.control.mode after.budget after.needed None)
 
-own-why : (before : State) (tally : Tallying) (standing : Standing) (reached : State) (after : Tallying)
+own_why : (before : State) (tally : Tallying) (standing : Standing) (reached : State) (after : Tallying)
     (turn : RealTurn) → (p : Played before tally standing reached after turn) →
     real_why reached after turn ≡ why_broken (Breaks standing.enclosures.regions before)
     (why_mode reached.control.mode tally.budget after.needed None)
-own-why before tally standing reached after turn p =
+own_why before tally standing reached after turn p =
     ap (λ b. why_broken b (why_mode reached.control.mode after.budget after.needed None)) p.makes.broken
     ∙ ap (λ b. why_broken (Breaks standing.enclosures.regions before)
     (why_mode reached.control.mode b after.needed None)) p.makes.budget
 
-pub round-fails : (before : State) (tally : Tallying) (standing : Standing) (reached : State) (after : Tallying)
+pub round_fails : (before : State) (tally : Tallying) (standing : Standing) (reached : State) (after : Tallying)
     (turn : RealTurn) (why : Why) → Played before tally standing reached after turn →
     real_why reached after turn ≡ Some why →
     Rounds standing.enclosures before tally standing reached after standing
     (record { enclosed = turn.enclosed; why = Some why })
-round-fails before tally standing reached after turn why p e = record {
+round_fails before tally standing reached after turn why p e = record {
   state = p.makes.state;
   enclosed = p.makes.enclosed;
   budget = p.makes.budget;
   regions_stay = refl;
   ahead = p.makes.ahead;
   why = λ masks past place ahead stands.
-      sym (real-fails (Breaks standing.enclosures.regions before) reached.control.mode tally.budget
+      sym (real_fails (Breaks standing.enclosures.regions before) reached.control.mode tally.budget
       (tally.needed + length (crossed standing.enclosures masks past before)) after.needed _ why
-      (p.makes.tallies masks past ahead).needed (sym (own-why before tally standing reached after turn p) ∙ e));
+      (p.makes.tallies masks past ahead).needed (sym (own_why before tally standing reached after turn p) ∙ e));
   joins = λ masks past place ahead stands none. absurd (cc);
   bits = λ masks past ahead none. absurd (cc);
   keeps = λ none. absurd (cc);
 }
 
-passes-of : (before : State) (tally : Tallying) (standing : Standing) (reached : State) (after : Tallying)
+passes_of : (before : State) (tally : Tallying) (standing : Standing) (reached : State) (after : Tallying)
     (turn : RealTurn) (masks : Masks) (past : List Point) → Played before tally standing reached after turn →
     real_why reached after turn ≡ None →
     IsAhead tally.masks masks past →
     Passes (Breaks standing.enclosures.regions before) reached.control.mode tally.budget
     (tally.needed + length (crossed standing.enclosures masks past before)) after.needed
-passes-of before tally standing reached after turn masks past p e ahead =
-    real-passes (Breaks standing.enclosures.regions before) reached.control.mode tally.budget
+passes_of before tally standing reached after turn masks past p e ahead =
+    real_passes (Breaks standing.enclosures.regions before) reached.control.mode tally.budget
     (tally.needed + length (crossed standing.enclosures masks past before)) after.needed p.small
-    (p.makes.tallies masks past ahead).needed (sym (own-why before tally standing reached after turn p) ∙ e)
+    (p.makes.tallies masks past ahead).needed (sym (own_why before tally standing reached after turn p) ∙ e)
 
-pub within-played : (before : State) (tally : Tallying) (standing : Standing) (reached : State) (after : Tallying)
+pub within_played : (before : State) (tally : Tallying) (standing : Standing) (reached : State) (after : Tallying)
     (turn : RealTurn) (masks : Masks) (past : List Point) → Played before tally standing reached after turn →
     real_why reached after turn ≡ None →
     IsAhead tally.masks masks past →
     Within (tally_of tally) (crossed standing.enclosures masks past before) (tally_of after)
-within-played before tally standing reached after turn masks past p e ahead =
-    within-of (tally_of tally) (tally_of after) (crossed standing.enclosures masks past before)
+within_played before tally standing reached after turn masks past p e ahead =
+    within_of (tally_of tally) (tally_of after) (crossed standing.enclosures masks past before)
     (p.makes.tallies masks past ahead) p.small
-    (passes-of before tally standing reached after turn masks past p e ahead).small p.keeps.taken
+    (passes_of before tally standing reached after turn masks past p e ahead).small p.keeps.taken
 
 -- the real run's output still begins with the replay's
-pub output-begins : (before : State) (tally : Tallying) (standing : Standing) (reached : State) (after : Tallying)
+pub output_begins : (before : State) (tally : Tallying) (standing : Standing) (reached : State) (after : Tallying)
     (turn : RealTurn) → Played before tally standing reached after turn →
     (more : List ℕ) × (reached.control.output ≡ standing.state.control.output ++ more)
-output-begins before tally standing reached after turn p =
+output_begins before tally standing reached after turn p =
     let grown = real_grows standing.enclosures.regions before in
     let old = p.keeps.output in (
       old.0 ++ grown.0,
@@ -161,62 +161,62 @@ output-begins before tally standing reached after turn p =
           ∙ append_assoc standing.state.control.output old.0 grown.0)),
     )
 
-leaves-played : (before : State) (tally : Tallying) (standing : Standing) (reached : State) (after : Tallying)
+leaves_played : (before : State) (tally : Tallying) (standing : Standing) (reached : State) (after : Tallying)
     (turn : RealTurn) → Played before tally standing reached after turn → real_why reached after turn ≡ None →
     may_leave standing.enclosures.regions reached ≡ true
-leaves-played before tally standing reached after turn p e =
+leaves_played before tally standing reached after turn p e =
     let masks : Masks = MaskAt tally.masks in
     subst (λ (s : State). may_leave standing.enclosures.regions s ≡ true) (sym p.makes.state)
     (guest_keeps standing.enclosures.regions before p.rules p.keeps.leaves
-    (passes-of before tally standing reached after turn masks [] p e (ahead-self tally.masks)).unbroken)
+    (passes_of before tally standing reached after turn masks [] p e (ahead_self tally.masks)).unbroken)
 
-quiet-length : (enclosures : Enclosures) (masks : Masks) (past : List Point) (before : State) →
+quiet_length : (enclosures : Enclosures) (masks : Masks) (past : List Point) (before : State) →
     is_enclosed enclosures before.control ≡ true → length (crossed enclosures masks past before) ≡ 0
-quiet-length enclosures masks past before e =
+quiet_length enclosures masks past before e =
     ap (λ b. length (crossing_unless b masks past (guest_walk enclosures.regions before))) e
 
-joined-stays : (enclosed : Bool) (standing : Standing) (masks : Masks) (place : ReplayPlace) (bits : List Bool) →
+joined_stays : (enclosed : Bool) (standing : Standing) (masks : Masks) (place : ReplayPlace) (bits : List Bool) →
     enclosed ≡ true → Stands standing masks place →
     Joined enclosed standing masks place (fed_turn standing.enclosures masks place bits)
-joined-stays true standing masks place bits e stands = stands
-joined-stays false standing masks place bits e stands = absurd (cc)
+joined_stays true standing masks place bits e stands = stands
+joined_stays false standing masks place bits e stands = absurd (cc)
 
 -- the turn is enclosed, and nothing fails of the real run: the replay stays where it is
-pub round-enclosed : (before : State) (tally : Tallying) (standing : Standing) (reached : State) (after : Tallying)
+pub round_enclosed : (before : State) (tally : Tallying) (standing : Standing) (reached : State) (after : Tallying)
     (turn : RealTurn) →
     Played before tally standing reached after turn → real_why reached after turn ≡ None → turn.enclosed ≡ true →
     Rounds standing.enclosures before tally standing reached after standing
     (record { enclosed = turn.enclosed; why = None })
-round-enclosed before tally standing reached after turn p e is =
+round_enclosed before tally standing reached after turn p e is =
     let inside : is_enclosed standing.enclosures before.control ≡ true = sym p.makes.enclosed ∙ is in
     let first : Masks = MaskAt tally.masks in
     let w : Within (tally_of tally) (crossed standing.enclosures first [] before) (tally_of after) =
-    within-played before tally standing reached after turn first [] p e (ahead-self tally.masks) in
+    within_played before tally standing reached after turn first [] p e (ahead_self tally.masks) in
     let none : length (crossed standing.enclosures first [] before) ≡ 0 =
-    quiet-length standing.enclosures first [] before inside in record {
+    quiet_length standing.enclosures first [] before inside in record {
       state = p.makes.state;
       enclosed = p.makes.enclosed;
       budget = p.makes.budget;
       regions_stay = refl;
       ahead = p.makes.ahead;
       why = λ masks past place ahead stands.
-          sym (later-passes (Breaks standing.enclosures.regions before) reached.control.mode tally.budget
+          sym (later_passes (Breaks standing.enclosures.regions before) reached.control.mode tally.budget
           (tally.needed + length (crossed standing.enclosures masks past before)) after.needed _
-          (passes-of before tally standing reached after turn masks past p e ahead)
+          (passes_of before tally standing reached after turn masks past p e ahead)
           ∙ ap (λ b. why_common b (why_replay reached
           (tally.needed + length (crossed standing.enclosures masks past before))
           (fed_turn standing.enclosures masks place (crossed standing.enclosures masks past before)))) inside);
       joins = λ masks past place ahead stands nothing.
-          joined-stays (is_enclosed standing.enclosures before.control) standing masks place
+          joined_stays (is_enclosed standing.enclosures before.control) standing masks place
           (crossed standing.enclosures masks past before) inside stands;
       bits = λ masks past ahead nothing.
-          (within-played before tally standing reached after turn masks past p e ahead).bits;
+          (within_played before tally standing reached after turn masks past p e ahead).bits;
       keeps = λ nothing. record {
         wanted = p.keeps.wanted;
         used = omega (arith, p.keeps.used, w.needed, none);
         taken = omega (
           arith,
-          (p.makes.tallies first [] (ahead-self tally.masks)).taken,
+          (p.makes.tallies first [] (ahead_self tally.masks)).taken,
           p.keeps.taken,
           ap length w.bits,
           length-append tally.bits.bits (crossed standing.enclosures first [] before),
@@ -230,16 +230,16 @@ round-enclosed before tally standing reached after turn p e is =
           w.needed,
         );
         within = omega (arith, w.fits, w.needed, p.makes.budget);
-        output = output-begins before tally standing reached after turn p;
-        leaves = leaves-played before tally standing reached after turn p e;
+        output = output_begins before tally standing reached after turn p;
+        leaves = leaves_played before tally standing reached after turn p e;
       };
     }
 
-joined-joins : (enclosed : Bool) (standing : Standing) (masks : Masks) (place : ReplayPlace) (enclosures : Enclosures)
+joined_joins : (enclosed : Bool) (standing : Standing) (masks : Masks) (place : ReplayPlace) (enclosures : Enclosures)
     (bits : List Bool) → enclosed ≡ false → Joins standing masks (fed_turn enclosures masks place bits) →
     Joined enclosed standing masks place (fed_turn enclosures masks place bits)
-joined-joins true standing masks place enclosures bits e joins = absurd (cc)
-joined-joins false standing masks place enclosures bits e joins = joins
+joined_joins true standing masks place enclosures bits e joins = absurd (cc)
+joined_joins false standing masks place enclosures bits e joins = joins
 
 -- what the replay beside says
 pub record IsBeside (before : State) (tally : Tallying) (standing : Standing) (reached : State) (after : Tallying)
@@ -258,17 +258,17 @@ pub record IsBeside (before : State) (tally : Tallying) (standing : Standing) (r
   pub agrees : why ≡ None → InStep reached next last.bits after.needed
 
 -- the turn is not enclosed, and nothing fails of the real run: the replay has made its turn
-pub round-beside : (before : State) (tally : Tallying) (standing : Standing) (reached : State) (after : Tallying)
+pub round_beside : (before : State) (tally : Tallying) (standing : Standing) (reached : State) (after : Tallying)
     (turn : RealTurn) (next : Standing) (last : Tallying) (why : Option Why) →
     Played before tally standing reached after turn → real_why reached after turn ≡ None → turn.enclosed ≡ false →
     IsBeside before tally standing reached after turn next last why →
     Rounds standing.enclosures before tally standing reached last next
     (record { enclosed = turn.enclosed; why = why })
-round-beside before tally standing reached after turn next last why p e is b =
+round_beside before tally standing reached after turn next last why p e is b =
     let outside : is_enclosed standing.enclosures before.control ≡ false = sym p.makes.enclosed ∙ is in
     let first : Masks = MaskAt tally.masks in
     let w : Within (tally_of tally) (crossed standing.enclosures first [] before) (tally_of after) =
-    within-played before tally standing reached after turn first [] p e (ahead-self tally.masks) in record {
+    within_played before tally standing reached after turn first [] p e (ahead_self tally.masks) in record {
       state = p.makes.state;
       enclosed = p.makes.enclosed;
       budget = b.budget ∙ p.makes.budget;
@@ -278,27 +278,27 @@ round-beside before tally standing reached after turn next last why p e is b =
           (guest_walk standing.enclosures.regions before))) (sym b.masks) (p.makes.ahead masks past ahead);
       why = λ masks past place ahead stands.
           let v : Within (tally_of tally) (crossed standing.enclosures masks past before) (tally_of after) =
-          within-played before tally standing reached after turn masks past p e ahead in
+          within_played before tally standing reached after turn masks past p e ahead in
           b.says masks place stands
           ∙ (ap (λ n. why_replay reached n (fed_turn standing.enclosures masks place (left_of after.bits)))
           v.needed
           ∙ (ap (λ s. why_replay reached (tally.needed + length (crossed standing.enclosures masks past before))
           (fed_turn standing.enclosures masks place s)) v.left
-          ∙ sym (later-passes (Breaks standing.enclosures.regions before) reached.control.mode tally.budget
+          ∙ sym (later_passes (Breaks standing.enclosures.regions before) reached.control.mode tally.budget
           (tally.needed + length (crossed standing.enclosures masks past before)) after.needed _
-          (passes-of before tally standing reached after turn masks past p e ahead)
+          (passes_of before tally standing reached after turn masks past p e ahead)
           ∙ ap (λ t. why_common t (why_replay reached
           (tally.needed + length (crossed standing.enclosures masks past before))
           (fed_turn standing.enclosures masks place (crossed standing.enclosures masks past before)))) outside)));
       joins = λ masks past place ahead stands nothing.
           let v : Within (tally_of tally) (crossed standing.enclosures masks past before) (tally_of after) =
-          within-played before tally standing reached after turn masks past p e ahead in
-          joined-joins (is_enclosed standing.enclosures before.control) next masks place standing.enclosures
+          within_played before tally standing reached after turn masks past p e ahead in
+          joined_joins (is_enclosed standing.enclosures before.control) next masks place standing.enclosures
           (crossed standing.enclosures masks past before) outside
           (subst (λ s. Joins next masks (fed_turn standing.enclosures masks place s)) v.left
           (b.joins masks place stands nothing));
       bits = λ masks past ahead nothing.
-          b.bits ∙ (within-played before tally standing reached after turn masks past p e ahead).bits;
+          b.bits ∙ (within_played before tally standing reached after turn masks past p e ahead).bits;
       keeps = λ nothing.
           let agrees : InStep reached next last.bits after.needed = b.agrees nothing in record {
             wanted = agrees.wanted;
@@ -317,70 +317,70 @@ round-beside before tally standing reached after turn next last why p e is b =
             output = ([], agrees.output ∙ sym (append-nil next.state.control.output));
             leaves =
                 subst (λ (x : Enclosures). may_leave x.regions reached ≡ true) (sym b.enclosures)
-                (leaves-played before tally standing reached after turn p e);
+                (leaves_played before tally standing reached after turn p e);
           };
     }
 
 -- the bits that the replay has used and those that are left are those that have crossed
-pub used-played : (before : State) (tally : Tallying) (standing : Standing) (reached : State) (after : Tallying)
+pub used_played : (before : State) (tally : Tallying) (standing : Standing) (reached : State) (after : Tallying)
     (turn : RealTurn) → Played before tally standing reached after turn → real_why reached after turn ≡ None →
     standing.taken + length (left_of after.bits) ≡ after.needed
-used-played before tally standing reached after turn p e =
+used_played before tally standing reached after turn p e =
     let w : Within (tally_of tally) (crossed standing.enclosures (MaskAt tally.masks) [] before) (tally_of after) =
-    within-played before tally standing reached after turn (MaskAt tally.masks) [] p e (ahead-self tally.masks) in
+    within_played before tally standing reached after turn (MaskAt tally.masks) [] p e (ahead_self tally.masks) in
     omega (arith, p.keeps.used, ap length w.left, w.needed)
 
 -- ---- what fails of the real run alone, or else of what comes later
 
-later-budget : (test : Bool) (budget needed : ℕ) (later : Option Why) (why : Why) →
+later_budget : (test : Bool) (budget needed : ℕ) (later : Option Why) (why : Why) →
     why_budget test budget needed None ≡ Some why → why_budget test budget needed later ≡ Some why
-later-budget true budget needed later why e = e
-later-budget false budget needed later why e = absurd (cc)
+later_budget true budget needed later why e = e
+later_budget false budget needed later why e = absurd (cc)
 
-pub later-fails : (mode : Stepped) (budget needed : ℕ) (later : Option Why) (why : Why) →
+pub later_fails : (mode : Stepped) (budget needed : ℕ) (later : Option Why) (why : Why) →
     why_mode mode budget needed None ≡ Some why → why_mode mode budget needed later ≡ Some why
-later-fails Ran budget needed later why e = later-budget (nat_lt budget needed) budget needed later why e
-later-fails (Exited status) budget needed later why e = later-budget (nat_lt budget needed) budget needed later why e
-later-fails (Stopped fault) budget needed later why e = e
+later_fails Ran budget needed later why e = later_budget (nat_lt budget needed) budget needed later why e
+later_fails (Exited status) budget needed later why e = later_budget (nat_lt budget needed) budget needed later why e
+later_fails (Stopped fault) budget needed later why e = e
 
-none-budget : (test : Bool) (budget needed : ℕ) (later : Option Why) →
+none_budget : (test : Bool) (budget needed : ℕ) (later : Option Why) →
     why_budget test budget needed None ≡ None → why_budget test budget needed later ≡ later
-none-budget true budget needed later e = absurd (cc)
-none-budget false budget needed later e = refl
+none_budget true budget needed later e = absurd (cc)
+none_budget false budget needed later e = refl
 
-pub none-fails : (mode : Stepped) (budget needed : ℕ) (later : Option Why) →
+pub none_fails : (mode : Stepped) (budget needed : ℕ) (later : Option Why) →
     why_mode mode budget needed None ≡ None → why_mode mode budget needed later ≡ later
-none-fails Ran budget needed later e = none-budget (nat_lt budget needed) budget needed later e
-none-fails (Exited status) budget needed later e = none-budget (nat_lt budget needed) budget needed later e
-none-fails (Stopped fault) budget needed later e = absurd (cc)
+none_fails Ran budget needed later e = none_budget (nat_lt budget needed) budget needed later e
+none_fails (Exited status) budget needed later e = none_budget (nat_lt budget needed) budget needed later e
+none_fails (Stopped fault) budget needed later e = absurd (cc)
 
 -- a step of each run outside of regions
 abbrev pub outside_turn : RealTurn
 outside_turn = record { enclosed = false; broken = None }
 
-pub step-fails : (before : State) (tally : Tallying) (standing : Standing) (reached : State) (after : Tallying)
+pub step_fails : (before : State) (tally : Tallying) (standing : Standing) (reached : State) (after : Tallying)
     (why : Why) → Played before tally standing reached after outside_turn →
     why_mode reached.control.mode after.budget after.needed None ≡ Some why →
     Rounds standing.enclosures before tally standing reached after standing
     (record { enclosed = false; why = why_standing reached after standing })
-step-fails before tally standing reached after why p e =
+step_fails before tally standing reached after why p e =
     subst (λ (w : Option Why). Rounds standing.enclosures before tally standing reached after standing
     (record { enclosed = false; why = w }))
-    (sym (later-fails reached.control.mode after.budget after.needed (why_beside reached after.needed standing) why e))
-    (round-fails before tally standing reached after outside_turn why p e)
+    (sym (later_fails reached.control.mode after.budget after.needed (why_beside reached after.needed standing) why e))
+    (round_fails before tally standing reached after outside_turn why p e)
 
-pub step-beside : (before : State) (tally : Tallying) (standing : Standing) (reached : State) (after : Tallying)
+pub step_beside : (before : State) (tally : Tallying) (standing : Standing) (reached : State) (after : Tallying)
     (next : Standing) (last : Tallying) → Played before tally standing reached after outside_turn →
     why_mode reached.control.mode after.budget after.needed None ≡ None →
     IsBeside before tally standing reached after outside_turn next last (why_beside reached after.needed next) →
     Rounds standing.enclosures before tally standing reached last next
     (record { enclosed = false; why = why_standing reached last next })
-step-beside before tally standing reached after next last p e b =
+step_beside before tally standing reached after next last p e b =
     let same : why_standing reached last next ≡ why_beside reached after.needed next =
     ap (λ n. why_mode reached.control.mode last.budget n (why_beside reached n next)) b.needed
     ∙ (ap (λ n. why_mode reached.control.mode n after.needed (why_beside reached after.needed next)) b.budget
-    ∙ none-fails reached.control.mode after.budget after.needed (why_beside reached after.needed next) e) in
+    ∙ none_fails reached.control.mode after.budget after.needed (why_beside reached after.needed next) e) in
     subst (λ (w : Option Why). Rounds standing.enclosures before tally standing reached last next
     (record { enclosed = false; why = w })) (sym same)
-    (round-beside before tally standing reached after outside_turn next last (why_beside reached after.needed next) p e
+    (round_beside before tally standing reached after outside_turn next last (why_beside reached after.needed next) p e
     refl b)

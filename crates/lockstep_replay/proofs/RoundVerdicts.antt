@@ -45,11 +45,11 @@ pub record StandsAt (task : Task) (limits : Limits) (secret : List ℕ) (turns :
   pub stands : Stands standing task.masks place
   pub budget : tally.budget ≡ limits.budget
 
-pub stands-start : (task : Task) (limits : Limits) (secret : List ℕ) (runs : TwoRuns) → Begins runs task limits secret →
+pub stands_start : (task : Task) (limits : Limits) (secret : List ℕ) (runs : TwoRuns) → Begins runs task limits secret →
     runs.tally.bits.bits ≡ [] →
     StandsAt task limits secret zero runs.real runs.tally runs.replay
 unfolding Real common_turns cross_after Replay
-stands-start task limits secret runs begins empty = record {
+stands_start task limits secret runs begins empty = record {
   real_is = begins.real;
   unbroken = refl;
   enclosures = begins.enclosures;
@@ -63,54 +63,54 @@ stands-start task limits secret runs begins empty = record {
 
 -- ---- the real run's turn
 
-next-unbroken : (task : Task) (secret : List ℕ) (turns : ℕ) → (real_of task secret turns).broken ≡ None →
+next_unbroken : (task : Task) (secret : List ℕ) (turns : ℕ) → (real_of task secret turns).broken ≡ None →
     real_of task secret (suc turns) ≡ unbroken_turn task.enclosures (real_of task secret turns)
-next-unbroken task secret turns e =
+next_unbroken task secret turns e =
     real_next task.enclosures turns (real_start task secret)
     ∙ ap (λ b. turn_unless b task.enclosures (real_of task secret turns)) e
 
-reached-is : (task : Task) (secret : List ℕ) (turns : ℕ) (real reached : State) →
+reached_is : (task : Task) (secret : List ℕ) (turns : ℕ) (real reached : State) →
     (real_of task secret turns).broken ≡ None →
     (real_of task secret turns).state ≡ real → reached ≡ real_end (guest_walk task.enclosures.regions real) →
     (real_of task secret (suc turns)).state ≡ reached
-reached-is task secret turns real reached e is state =
-    ap (λ (p : Place). p.state) (next-unbroken task secret turns e)
+reached_is task secret turns real reached e is state =
+    ap (λ (p : Place). p.state) (next_unbroken task secret turns e)
     ∙ (ap (λ (s : State). real_end (guest_walk task.enclosures.regions s)) is ∙ sym state)
 
-breaks-is : (task : Task) (secret : List ℕ) (turns : ℕ) (real : State) → (real_of task secret turns).broken ≡ None →
+breaks_is : (task : Task) (secret : List ℕ) (turns : ℕ) (real : State) → (real_of task secret turns).broken ≡ None →
     (real_of task secret turns).state ≡ real → (real_of task secret (suc turns)).broken ≡ Breaks task.enclosures.regions
     real
-breaks-is task secret turns real e is =
-    ap (λ (p : Place). p.broken) (next-unbroken task secret turns e)
+breaks_is task secret turns real e is =
+    ap (λ (p : Place). p.broken) (next_unbroken task secret turns e)
     ∙ ap (λ (s : State). Breaks task.enclosures.regions s) is
 
-past-is : (task : Task) (secret : List ℕ) (turns : ℕ) (real : State) → (real_of task secret turns).broken ≡ None →
+past_is : (task : Task) (secret : List ℕ) (turns : ℕ) (real : State) → (real_of task secret turns).broken ≡ None →
     (real_of task secret turns).state ≡ real → visited (is_enclosed task.enclosures real.control)
     (real_of task secret turns).past (guest_walk task.enclosures.regions real) ≡ (real_of task secret (suc turns)).past
-past-is task secret turns real e is =
-    sym (ap (λ (p : Place). p.past) (next-unbroken task secret turns e)
+past_is task secret turns real e is =
+    sym (ap (λ (p : Place). p.past) (next_unbroken task secret turns e)
     ∙ ap (λ (s : State). visited (is_enclosed task.enclosures s.control) (real_of task secret turns).past
     (guest_walk task.enclosures.regions s)) is)
 
-crosses-is : (task : Task) (secret : List ℕ) (turns : ℕ) (real : State) → (real_of task secret turns).broken ≡ None →
+crosses_is : (task : Task) (secret : List ℕ) (turns : ℕ) (real : State) → (real_of task secret turns).broken ≡ None →
     (real_of task secret turns).state ≡ real → crossing_of task.enclosures task.masks
     (real_of task secret turns) ≡ crossed task.enclosures task.masks (real_of task secret turns).past real
-crosses-is task secret turns real e is =
+crosses_is task secret turns real e is =
     ap (λ b. crossing_unbroken b task.enclosures task.masks (real_of task secret turns)) e
     ∙ ap (λ (s : State). crossed task.enclosures task.masks (real_of task secret turns).past s) is
 
 -- ---- what fails
 
-common-why : (enclosed : Bool) (first second : Option Why) → (enclosed ≡ false → first ≡ second) →
+common_why : (enclosed : Bool) (first second : Option Why) → (enclosed ≡ false → first ≡ second) →
     why_common enclosed first ≡ why_common enclosed second
-common-why true first second h = refl
-common-why false first second h = h refl
+common_why true first second h = refl
+common_why false first second h = h refl
 
-plain-why : (budget needed : ℕ) (enclosed other : Bool) (real : Place) (broken : Option Break) (reached : State)
+plain_why : (budget needed : ℕ) (enclosed other : Bool) (real : Place) (broken : Option Break) (reached : State)
     (cross bits : List Bool) (f g : Fed ReplayPlace) → enclosed ≡ other → real.broken ≡ broken → real.state ≡ reached →
     length cross ≡ needed + length bits → (other ≡ false → f ≡ g) →
     why_of budget enclosed real cross f ≡ why_turned budget other broken needed reached bits g
-plain-why budget needed enclosed other real broken reached cross bits f g e b s l h =
+plain_why budget needed enclosed other real broken reached cross bits f g e b s l h =
     ap (λ t. why_of budget t real cross f) e
     ∙ (ap (λ t. why_broken t (why_mode real.state.control.mode budget (length cross)
     (why_common other (why_replay real.state (length cross) f)))) b
@@ -119,28 +119,28 @@ plain-why budget needed enclosed other real broken reached cross bits f g e b s 
     ∙ (ap (λ n. why_broken broken (why_mode reached.control.mode budget n (why_common other (why_replay reached n f))))
     l
     ∙ ap (λ w. why_broken broken (why_mode reached.control.mode budget (needed + length bits) w))
-    (common-why other (why_replay reached (needed + length bits) f) (why_replay reached (needed + length bits) g)
+    (common_why other (why_replay reached (needed + length bits) f) (why_replay reached (needed + length bits) g)
     (λ exposed. ap (λ k. why_replay reached (needed + length bits) k) (h exposed))))))
 
 -- the replay of the bits so far, where the turn is a common turn
-fed-is : (task : Task) (secret : List ℕ) (turns : ℕ) (real : State) (place : ReplayPlace) →
+fed_is : (task : Task) (secret : List ℕ) (turns : ℕ) (real : State) (place : ReplayPlace) →
     (real_of task secret turns).broken ≡ None →
     (real_of task secret turns).state ≡ real → IsAt task.enclosures task.masks (real_start task secret)
     (replay_start task) turns place → is_enclosed task.enclosures real.control ≡ false →
     fed_of task secret (suc turns) ≡ fed_turn task.enclosures task.masks place
     (crossed task.enclosures task.masks (real_of task secret turns).past real)
-fed-is task secret turns real place e is at exposed =
+fed_is task secret turns real place e is at exposed =
     fed_next task.enclosures task.masks turns (real_start task secret) (replay_start task) place
     (ap (λ (s : State). is_enclosed task.enclosures s.control) is ∙ exposed) at
-    ∙ ap (λ bits. fed_turn task.enclosures task.masks place bits) (crosses-is task secret turns real e is)
+    ∙ ap (λ bits. fed_turn task.enclosures task.masks place bits) (crosses_is task secret turns real e is)
 
 -- the next condition of a task is what a round says
-pub round-why : (task : Task) (limits : Limits) (secret : List ℕ) (turns : ℕ) (real : State) (tally : Tallying)
+pub round_why : (task : Task) (limits : Limits) (secret : List ℕ) (turns : ℕ) (real : State) (tally : Tallying)
     (standing : Standing) (reached : State)
     (after : Tallying) (next : Standing) (round : Round) → StandsAt task limits secret turns real tally standing →
     length tally.bits.bits ≡ tally.needed → Rounds task.enclosures real tally standing reached after next round →
     why_after task limits secret turns ≡ round.why
-round-why task limits secret turns real tally standing reached after next round s count r =
+round_why task limits secret turns real tally standing reached after next round s count r =
     let past : List Point = (real_of task secret turns).past in
     let bits : List Bool = crossed task.enclosures task.masks past real in
     let grown : length (Cross task secret (suc turns)) ≡ tally.needed + length bits =
@@ -148,14 +148,14 @@ round-why task limits secret turns real tally standing reached after next round 
     ∙ (length-append (Cross task secret turns) (crossing_of task.enclosures task.masks (real_of task secret turns))
     ∙ (ap (λ n. n + length (crossing_of task.enclosures task.masks (real_of task secret turns)))
     (ap length (sym s.bits_are) ∙ count)
-    ∙ ap (λ b. tally.needed + length b) (crosses-is task secret turns real s.unbroken s.real_is))) in
-    plain-why limits.budget tally.needed (enclosed_of task secret turns) (is_enclosed task.enclosures real.control)
+    ∙ ap (λ b. tally.needed + length b) (crosses_is task secret turns real s.unbroken s.real_is))) in
+    plain_why limits.budget tally.needed (enclosed_of task secret turns) (is_enclosed task.enclosures real.control)
     (real_of task secret (suc turns)) (Breaks task.enclosures.regions real) reached (Cross task secret (suc turns)) bits
     (fed_of task secret (suc turns)) (fed_turn task.enclosures task.masks s.place bits)
     (ap (λ (t : State). is_enclosed task.enclosures t.control) s.real_is)
-    (breaks-is task secret turns real s.unbroken s.real_is)
-    (reached-is task secret turns real reached s.unbroken s.real_is r.state) grown
-    (fed-is task secret turns real s.place s.unbroken s.real_is s.uses)
+    (breaks_is task secret turns real s.unbroken s.real_is)
+    (reached_is task secret turns real reached s.unbroken s.real_is r.state) grown
+    (fed_is task secret turns real s.place s.unbroken s.real_is s.uses)
     ∙ (ap (λ budget. why_turned budget (is_enclosed task.enclosures real.control) (Breaks task.enclosures.regions real)
     tally.needed reached bits (fed_turn task.enclosures task.masks s.place bits)) (sym s.budget)
     ∙ sym (r.why task.masks past s.place s.ahead s.stands))
@@ -167,50 +167,50 @@ record StandsThere (task : Task) (secret : List ℕ) (turns : ℕ) (standing : S
   pub uses : IsAt task.enclosures task.masks (real_start task secret) (replay_start task) turns place
   pub stands : Stands standing task.masks place
 
-stands-there : (enclosed : Bool) (task : Task) (secret : List ℕ) (turns : ℕ) (real : State) (next : Standing)
+stands_there : (enclosed : Bool) (task : Task) (secret : List ℕ) (turns : ℕ) (real : State) (next : Standing)
     (place : ReplayPlace) →
     is_enclosed task.enclosures real.control ≡ enclosed → (real_of task secret turns).broken ≡ None →
     (real_of task secret turns).state ≡ real → IsAt task.enclosures task.masks (real_start task secret)
     (replay_start task) turns place → Joined enclosed next task.masks place
     (fed_turn task.enclosures task.masks place (crossed task.enclosures task.masks (real_of task secret turns).past
     real)) → StandsThere task secret (suc turns) next
-stands-there true task secret turns real next place e broken is at joined = record {
+stands_there true task secret turns real next place e broken is at joined = record {
   place = place;
   uses =
       at_enclosed task.enclosures task.masks (real_start task secret) (replay_start task) turns place
       (ap (λ (s : State). is_enclosed task.enclosures s.control) is ∙ e) at;
   stands = joined;
 }
-stands-there false task secret turns real next place e broken is at joined = record {
+stands_there false task secret turns real next place e broken is at joined = record {
   place = joined.place;
-  uses = fed-is task secret turns real place broken is at e ∙ joined.uses;
+  uses = fed_is task secret turns real place broken is at e ∙ joined.uses;
   stands = joined.stands;
 }
 
-pub round-stands : (task : Task) (limits : Limits) (secret : List ℕ) (turns : ℕ) (real : State) (tally : Tallying)
+pub round_stands : (task : Task) (limits : Limits) (secret : List ℕ) (turns : ℕ) (real : State) (tally : Tallying)
     (standing : Standing) (reached : State)
     (after : Tallying) (next : Standing) (round : Round) → StandsAt task limits secret turns real tally standing →
     Rounds task.enclosures real tally standing reached after next round → round.why ≡ None →
     StandsAt task limits secret (suc turns) reached after next
-round-stands task limits secret turns real tally standing reached after next round s r none =
+round_stands task limits secret turns real tally standing reached after next round s r none =
     let masks : Masks = task.masks in
     let past : List Point = (real_of task secret turns).past in
     let there : StandsThere task secret (suc turns) next =
-    stands-there (is_enclosed task.enclosures real.control) task secret turns real next s.place refl s.unbroken
+    stands_there (is_enclosed task.enclosures real.control) task secret turns real next s.place refl s.unbroken
     s.real_is s.uses (r.joins masks past s.place s.ahead s.stands none) in
     let unbroken : Breaks task.enclosures.regions real ≡ None =
     (none_broken (Breaks task.enclosures.regions real) _ (sym (r.why masks past s.place s.ahead s.stands) ∙ none)).0 in
     record {
-      real_is = reached-is task secret turns real reached s.unbroken s.real_is r.state;
-      unbroken = breaks-is task secret turns real s.unbroken s.real_is ∙ unbroken;
+      real_is = reached_is task secret turns real reached s.unbroken s.real_is r.state;
+      unbroken = breaks_is task secret turns real s.unbroken s.real_is ∙ unbroken;
       enclosures = r.regions_stay ∙ s.enclosures;
       ahead =
-          subst (λ points. IsAhead after.masks masks points) (past-is task secret turns real s.unbroken s.real_is)
+          subst (λ points. IsAhead after.masks masks points) (past_is task secret turns real s.unbroken s.real_is)
           (r.ahead masks past s.ahead);
       bits_are =
           r.bits masks past s.ahead none
           ∙ (ap (λ b. b ++ crossed task.enclosures masks past real) s.bits_are
-          ∙ (ap (λ b. Cross task secret turns ++ b) (sym (crosses-is task secret turns real s.unbroken s.real_is))
+          ∙ (ap (λ b. Cross task secret turns ++ b) (sym (crosses_is task secret turns real s.unbroken s.real_is))
           ∙ sym (cross_next task.enclosures masks turns (real_start task secret))));
       place = there.place;
       uses = there.uses;
@@ -219,34 +219,34 @@ round-stands task limits secret turns real tally standing reached after next rou
     }
 
 -- the turn is enclosed where the round says so
-pub round-enclosed-is : (task : Task) (limits : Limits) (secret : List ℕ) (turns : ℕ) (real : State) (tally : Tallying)
+pub round_enclosed_is : (task : Task) (limits : Limits) (secret : List ℕ) (turns : ℕ) (real : State) (tally : Tallying)
     (standing : Standing)
     (reached : State) (after : Tallying) (next : Standing) (round : Round) →
     StandsAt task limits secret turns real tally standing →
     Rounds task.enclosures real tally standing reached after next round → enclosed_of task secret turns ≡ round.enclosed
-round-enclosed-is task limits secret turns real tally standing reached after next round s r =
+round_enclosed_is task limits secret turns real tally standing reached after next round s r =
     ap (λ (t : State). is_enclosed task.enclosures t.control) s.real_is ∙ sym r.enclosed
 
 -- ---- the judgement, round by round
 
 -- a condition fails
-pub judged-rejects : (task : Task) (limits : Limits) (secret : List ℕ) (left turns : ℕ) (why : Why) →
+pub judged_rejects : (task : Task) (limits : Limits) (secret : List ℕ) (left turns : ℕ) (why : Why) →
     why_after task limits secret turns ≡ Some why →
     judged_from task limits secret (suc left) turns ≡ Rejects why
 unfolding judged_from
-judged-rejects task limits secret left turns why e =
+judged_rejects task limits secret left turns why e =
     ap (λ w. judged_after w (enclosed_of task secret turns) (real_of task secret (suc turns)).state
     (Cross task secret (suc turns)) (judged_from task limits secret left (suc turns))) e
 
 -- none fails, and the run has exited
-pub judged-accepts : (task : Task) (limits : Limits) (secret : List ℕ) (left turns : ℕ) (real : State)
+pub judged_accepts : (task : Task) (limits : Limits) (secret : List ℕ) (left turns : ℕ) (real : State)
     (tally : Tallying) (standing : Standing)
     (status : ℕ) → why_after task limits secret turns ≡ None → enclosed_of task secret turns ≡ false →
     StandsAt task limits secret (suc turns) real tally standing → real.control.mode ≡ Exited status →
     judged_from task limits secret (suc left) turns ≡ Accepts tally.bits.bits
     (record { bytes = real.control.output; status = status })
 unfolding judged_from
-judged-accepts task limits secret left turns real tally standing status e exposed s mode =
+judged_accepts task limits secret left turns real tally standing status e exposed s mode =
     ap (λ w. judged_after w (enclosed_of task secret turns) (real_of task secret (suc turns)).state
     (Cross task secret (suc turns)) (judged_from task limits secret left (suc turns))) e
     ∙ (ap (λ b. judged_after None b (real_of task secret (suc turns)).state (Cross task secret (suc turns))
@@ -257,72 +257,72 @@ judged-accepts task limits secret left turns real tally standing status e expose
     ∙ ap (λ m. judged_mode m real tally.bits.bits (judged_from task limits secret left (suc turns))) mode)))
 
 -- none fails, and the run goes on
-goes-mode : (mode : Stepped) (reached : State) (bits : List Bool) (later : Judgement) →
+goes_mode : (mode : Stepped) (reached : State) (bits : List Bool) (later : Judgement) →
     ((status : ℕ) → mode ≡ Exited status → ⊥) → judged_mode mode reached bits later ≡ later
-goes-mode Ran reached bits later h = refl
-goes-mode (Exited status) reached bits later h = absurd (h status refl)
-goes-mode (Stopped fault) reached bits later h = refl
+goes_mode Ran reached bits later h = refl
+goes_mode (Exited status) reached bits later h = absurd (h status refl)
+goes_mode (Stopped fault) reached bits later h = refl
 
-goes-after : (enclosed : Bool) (reached : State) (bits : List Bool) (later : Judgement) →
+goes_after : (enclosed : Bool) (reached : State) (bits : List Bool) (later : Judgement) →
     (enclosed ≡ false → (status : ℕ) → reached.control.mode ≡ Exited status → ⊥) →
     judged_after None enclosed reached bits later ≡ later
-goes-after true reached bits later h = refl
-goes-after false reached bits later h = goes-mode reached.control.mode reached bits later (h refl)
+goes_after true reached bits later h = refl
+goes_after false reached bits later h = goes_mode reached.control.mode reached bits later (h refl)
 
-pub judged-goes : (task : Task) (limits : Limits) (secret : List ℕ) (left turns : ℕ) (real : State) (tally : Tallying)
+pub judged_goes : (task : Task) (limits : Limits) (secret : List ℕ) (left turns : ℕ) (real : State) (tally : Tallying)
     (standing : Standing) →
     why_after task limits secret turns ≡ None → StandsAt task limits secret (suc turns) real tally standing →
     (enclosed_of task secret turns ≡ false → (status : ℕ) → real.control.mode ≡ Exited status → ⊥) →
     judged_from task limits secret (suc left) turns ≡ judged_from task limits secret left (suc turns)
 unfolding judged_from
-judged-goes task limits secret left turns real tally standing e s running =
+judged_goes task limits secret left turns real tally standing e s running =
     ap (λ w. judged_after w (enclosed_of task secret turns) (real_of task secret (suc turns)).state
     (Cross task secret (suc turns)) (judged_from task limits secret left (suc turns))) e
     ∙ (ap (λ state. judged_after None (enclosed_of task secret turns) state (Cross task secret (suc turns))
     (judged_from task limits secret left (suc turns))) s.real_is
-    ∙ goes-after (enclosed_of task secret turns) real (Cross task secret (suc turns))
+    ∙ goes_after (enclosed_of task secret turns) real (Cross task secret (suc turns))
     (judged_from task limits secret left (suc turns)) running)
 
 -- the limit of turns
-pub judged-limit : (task : Task) (limits : Limits) (secret : List ℕ) (left turns : ℕ) → left ≡ 0 →
+pub judged_limit : (task : Task) (limits : Limits) (secret : List ℕ) (left turns : ℕ) → left ≡ 0 →
     judged_from task limits secret left turns ≡ Rejects (TurnLimit limits.turns)
 unfolding judged_from
-judged-limit task limits secret left turns e = rw e refl
+judged_limit task limits secret left turns e = rw e refl
 
-pub none-of : {A : Type 0} (option : Option A) → ((x : A) → option ≡ Some x → ⊥) → option ≡ None
-none-of None h = refl
-none-of (Some x) h = absurd (h x refl)
+pub none_of : {A : Type 0} (option : Option A) → ((x : A) → option ≡ Some x → ⊥) → option ≡ None
+none_of None h = refl
+none_of (Some x) h = absurd (h x refl)
 
 -- ---- whole rounds
 
-in-task : (task : Task) (limits : Limits) (secret : List ℕ) (turns : ℕ) (real : State) (tally : Tallying)
+in_task : (task : Task) (limits : Limits) (secret : List ℕ) (turns : ℕ) (real : State) (tally : Tallying)
     (standing : Standing) (reached : State)
     (after : Tallying) (next : Standing) (round : Round) → StandsAt task limits secret turns real tally standing →
     Rounds standing.enclosures real tally standing reached after next round →
     Rounds task.enclosures real tally standing reached after next round
-in-task task limits secret turns real tally standing reached after next round s r =
+in_task task limits secret turns real tally standing reached after next round s r =
     subst (λ (e : Enclosures). Rounds e real tally standing reached after next round) s.enclosures r
 
-pub step-stands : (task : Task) (limits : Limits) (secret : List ℕ) (turns : ℕ) (real : State) (tally : Tallying)
+pub step_stands : (task : Task) (limits : Limits) (secret : List ℕ) (turns : ℕ) (real : State) (tally : Tallying)
     (standing : Standing) (reached : State)
     (after : Tallying) (next : Standing) (round : Round) → StandsAt task limits secret turns real tally standing →
     Rounds standing.enclosures real tally standing reached after next round → round.why ≡ None →
     StandsAt task limits secret (suc turns) reached after next
-step-stands task limits secret turns real tally standing reached after next round s r none =
-    round-stands task limits secret turns real tally standing reached after next round s
-    (in-task task limits secret turns real tally standing reached after next round s r) none
+step_stands task limits secret turns real tally standing reached after next round s r none =
+    round_stands task limits secret turns real tally standing reached after next round s
+    (in_task task limits secret turns real tally standing reached after next round s r) none
 
-pub step-rejects : (task : Task) (limits : Limits) (secret : List ℕ) (left turns : ℕ) (real : State) (tally : Tallying)
+pub step_rejects : (task : Task) (limits : Limits) (secret : List ℕ) (left turns : ℕ) (real : State) (tally : Tallying)
     (standing : Standing)
     (reached : State) (after : Tallying) (next : Standing) (round : Round) (why : Why) →
     StandsAt task limits secret turns real tally standing → length tally.bits.bits ≡ tally.needed →
     Rounds standing.enclosures real tally standing reached after next round → round.why ≡ Some why →
     judged_from task limits secret (suc left) turns ≡ Rejects why
-step-rejects task limits secret left turns real tally standing reached after next round why s count r is =
-    judged-rejects task limits secret left turns why (round-why task limits secret turns real tally standing reached
-    after next round s count (in-task task limits secret turns real tally standing reached after next round s r) ∙ is)
+step_rejects task limits secret left turns real tally standing reached after next round why s count r is =
+    judged_rejects task limits secret left turns why (round_why task limits secret turns real tally standing reached
+    after next round s count (in_task task limits secret turns real tally standing reached after next round s r) ∙ is)
 
-pub step-accepts : (task : Task) (limits : Limits) (secret : List ℕ) (left turns : ℕ) (real : State) (tally : Tallying)
+pub step_accepts : (task : Task) (limits : Limits) (secret : List ℕ) (left turns : ℕ) (real : State) (tally : Tallying)
     (standing : Standing)
     (reached : State) (after : Tallying) (next : Standing) (round : Round) (status : ℕ) →
     StandsAt task limits secret turns real tally standing → length tally.bits.bits ≡ tally.needed →
@@ -330,26 +330,26 @@ pub step-accepts : (task : Task) (limits : Limits) (secret : List ℕ) (left tur
     round.enclosed ≡ false → reached.control.mode ≡ Exited status →
     judged_from task limits secret (suc left) turns ≡ Accepts after.bits.bits
     (record { bytes = reached.control.output; status = status })
-step-accepts task limits secret left turns real tally standing reached after next round status s count r none exposed
+step_accepts task limits secret left turns real tally standing reached after next round status s count r none exposed
     mode =
-    judged-accepts task limits secret left turns reached after next status
-    (round-why task limits secret turns real tally standing reached after next round s count
-    (in-task task limits secret turns real tally standing reached after next round s r) ∙ none)
-    (round-enclosed-is task limits secret turns real tally standing reached after next round s
-    (in-task task limits secret turns real tally standing reached after next round s r) ∙ exposed)
-    (step-stands task limits secret turns real tally standing reached after next round s r none) mode
+    judged_accepts task limits secret left turns reached after next status
+    (round_why task limits secret turns real tally standing reached after next round s count
+    (in_task task limits secret turns real tally standing reached after next round s r) ∙ none)
+    (round_enclosed_is task limits secret turns real tally standing reached after next round s
+    (in_task task limits secret turns real tally standing reached after next round s r) ∙ exposed)
+    (step_stands task limits secret turns real tally standing reached after next round s r none) mode
 
-pub step-goes : (task : Task) (limits : Limits) (secret : List ℕ) (left turns : ℕ) (real : State) (tally : Tallying)
+pub step_goes : (task : Task) (limits : Limits) (secret : List ℕ) (left turns : ℕ) (real : State) (tally : Tallying)
     (standing : Standing)
     (reached : State) (after : Tallying) (next : Standing) (round : Round) →
     StandsAt task limits secret turns real tally standing → length tally.bits.bits ≡ tally.needed →
     Rounds standing.enclosures real tally standing reached after next round → round.why ≡ None →
     (round.enclosed ≡ false → (status : ℕ) → reached.control.mode ≡ Exited status → ⊥) →
     judged_from task limits secret (suc left) turns ≡ judged_from task limits secret left (suc turns)
-step-goes task limits secret left turns real tally standing reached after next round s count r none running =
-    judged-goes task limits secret left turns reached after next
-    (round-why task limits secret turns real tally standing reached after next round s count
-    (in-task task limits secret turns real tally standing reached after next round s r) ∙ none)
-    (step-stands task limits secret turns real tally standing reached after next round s r none)
-    (λ exposed. running (sym (round-enclosed-is task limits secret turns real tally standing reached after next round s
-    (in-task task limits secret turns real tally standing reached after next round s r)) ∙ exposed))
+step_goes task limits secret left turns real tally standing reached after next round s count r none running =
+    judged_goes task limits secret left turns reached after next
+    (round_why task limits secret turns real tally standing reached after next round s count
+    (in_task task limits secret turns real tally standing reached after next round s r) ∙ none)
+    (step_stands task limits secret turns real tally standing reached after next round s r none)
+    (λ exposed. running (sym (round_enclosed_is task limits secret turns real tally standing reached after next round s
+    (in_task task limits secret turns real tally standing reached after next round s r)) ∙ exposed))

@@ -14,10 +14,10 @@ use Rattle.region_machine.specs.Guests.{guest_walk, kind_walk}
 use Rattle.region_machine.specs.Runs.{passed, visited}
 use Rattle.replay_machine.specs.Runs.{Masks}
 use Rattle.replay_machine.specs.Visits.{IsAhead}
-use Rattle.replay_machine.proofs.MasksAhead.{ahead-self}
+use Rattle.replay_machine.proofs.MasksAhead.{ahead_self}
 use Rattle.lockstep_replay.specs.declared.tallies.Tallying.{Tallying}
 use Rattle.lockstep_replay.specs.Crossing.{crossing, crossing_unless}
-use Rattle.lockstep_replay.specs.Ends.{tallies-none}
+use Rattle.lockstep_replay.specs.Ends.{tallies_none}
 use Rattle.lockstep_replay.specs.Sides.{tally_of}
 use Rattle.lockstep_replay.specs.Tapes.{Tally, Tallies, Crosses}
 use Rattle.lockstep_replay.specs.Private.Turning.{MakesReal}
@@ -38,25 +38,25 @@ record Leaves (enclosed : Bool) (walk : Walk) (tally after : Tallying) : Type 0 
       (masks : Masks) (past : List Point) → IsAhead tally.masks masks past →
       IsAhead after.masks masks (visited enclosed past walk)
 
-leaves-of : (Stop : Type 0) (enclosed : Bool) (walk : Walk) (tally after : Tallying) (reached : State) →
+leaves_of : (Stop : Type 0) (enclosed : Bool) (walk : Walk) (tally after : Tallying) (reached : State) →
     (enclosed ≡ true → after ≡ tally) →
     (enclosed ≡ false → Told {Stop = Stop} tally walk (Finished reached (tally_of after))) →
     Leaves enclosed walk tally after
-leaves-of Stop true walk tally after reached untold told = record {
+leaves_of Stop true walk tally after reached untold told = record {
   budget = ap (λ (t : Tallying). t.budget) (untold refl);
   tallies = λ masks past ahead.
       subst (λ (t : Tallying). Tallies (tally_of tally) [] (tally_of t)) (sym (untold refl))
-      (tallies-none (tally_of tally) tally.word);
+      (tallies_none (tally_of tally) tally.word);
   ahead = λ masks past ahead.
       subst (λ (t : Tallying). IsAhead t.masks masks past) (sym (untold refl)) ahead;
 }
-leaves-of Stop false walk tally after reached untold told = record {
-  budget = (told refl (MaskAt tally.masks) [] (ahead-self tally.masks)).1.1.budget;
+leaves_of Stop false walk tally after reached untold told = record {
+  budget = (told refl (MaskAt tally.masks) [] (ahead_self tally.masks)).1.1.budget;
   tallies = λ masks past ahead. (told refl masks past ahead).1.1;
   ahead = λ masks past ahead. (told refl masks past ahead).1.0;
 }
 
-pub makes-turn : (Stop : Type 0) (enclosures : Enclosures) (before : State) (tally : Tallying) (reached : State)
+pub makes_turn : (Stop : Type 0) (enclosures : Enclosures) (before : State) (tally : Tallying) (reached : State)
     (after : Tallying) (turn : RealTurn) →
     reached ≡ real_end (guest_walk enclosures.regions before) →
     turn.enclosed ≡ is_enclosed enclosures before.control →
@@ -65,9 +65,9 @@ pub makes-turn : (Stop : Type 0) (enclosures : Enclosures) (before : State) (tal
     (is_enclosed enclosures before.control ≡ false →
     Told {Stop = Stop} tally (guest_walk enclosures.regions before) (Finished reached (tally_of after))) →
     MakesReal enclosures (kind_of enclosures.regions before.control) before tally reached after turn
-makes-turn Stop enclosures before tally reached after turn state enclosed broken untold told =
+makes_turn Stop enclosures before tally reached after turn state enclosed broken untold told =
     let leaves : Leaves (is_enclosed enclosures before.control) (guest_walk enclosures.regions before) tally after =
-    leaves-of Stop (is_enclosed enclosures before.control) (guest_walk enclosures.regions before) tally after reached untold
+    leaves_of Stop (is_enclosed enclosures before.control) (guest_walk enclosures.regions before) tally after reached untold
     told in record {
       state = state;
       enclosed = enclosed;
@@ -78,17 +78,17 @@ makes-turn Stop enclosures before tally reached after turn state enclosed broken
     }
 
 -- a step outside of regions
-pub makes-step : (Stop : Type 0) (enclosures : Enclosures) (before : State) (tally : Tallying) (reached : State)
+pub makes_step : (Stop : Type 0) (enclosures : Enclosures) (before : State) (tally : Tallying) (reached : State)
     (after : Tallying) →
     Told {Stop = Stop} tally (walk_of before) (Finished reached (tally_of after)) →
     kind_of enclosures.regions before.control ≡ Steps None →
     MakesReal enclosures (kind_of enclosures.regions before.control) before tally reached after
     (record { enclosed = false; broken = None })
-makes-step Stop enclosures before tally reached after told outside =
+makes_step Stop enclosures before tally reached after told outside =
     let walk : guest_walk enclosures.regions before ≡ walk_of before = ap (λ kind. kind_walk kind before) outside in
     let exposed : is_enclosed enclosures before.control ≡ false = ap (λ kind. is_enclosed_kind enclosures kind) outside in
-    makes-turn Stop enclosures before tally reached after (record { enclosed = false; broken = None })
-    (sym (ap (λ w. real_end w) walk ∙ (told (MaskAt tally.masks) [] (ahead-self tally.masks)).0))
+    makes_turn Stop enclosures before tally reached after (record { enclosed = false; broken = None })
+    (sym (ap (λ w. real_end w) walk ∙ (told (MaskAt tally.masks) [] (ahead_self tally.masks)).0))
     (sym exposed)
     (sym (ap (λ kind. kind_break kind before) outside))
     (λ enclosed. absurd (cc))

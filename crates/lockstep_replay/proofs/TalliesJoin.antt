@@ -7,9 +7,9 @@ use Rattle.replay_machine.specs.Runs.{Masks}
 use Rattle.lockstep_replay.specs.Tapes.{Tally, Tallies, Crosses}
 
 -- bits that cross, and then others
-pub tallies-more : (a b c : Tally) (s t : List Bool) → a.budget < 4294967295 → Tallies a s b → Tallies b t c →
+pub tallies_more : (a b c : Tally) (s t : List Bool) → a.budget < 4294967295 → Tallies a s b → Tallies b t c →
     Tallies a (s ++ t) c
-tallies-more a b c s t small h k = record {
+tallies_more a b c s t small h k = record {
   budget = k.budget ∙ h.budget;
   needed = omega (arith, h.needed, k.needed, length-append s t);
   kept = λ fits.
@@ -19,9 +19,9 @@ tallies-more a b c s t small h k = record {
   taken = k.taken ∙ h.taken;
 }
 
-pub crosses-more : {Stop : Type 0} (a b : Tally) (masks : Masks) (past : List Point) (s t : List Bool) (state : State)
+pub crosses_more : {Stop : Type 0} (a b : Tally) (masks : Masks) (past : List Point) (s t : List Bool) (state : State)
     (out : Played Stop Tally) →
     a.budget < 4294967295 → Tallies a s b → Crosses b masks past t state out → Crosses a masks past (s ++ t) state out
-crosses-more a b masks past s t state (Finished reached c) small h k =
-    (k.0, (k.1.0, tallies-more a b c s t small h k.1.1))
-crosses-more a b masks past s t state (Halted stop) small h k = k
+crosses_more a b masks past s t state (Finished reached c) small h k =
+    (k.0, (k.1.0, tallies_more a b c s t small h k.1.1))
+crosses_more a b masks past s t state (Halted stop) small h k = k

@@ -18,12 +18,12 @@ use Rattle.lockstep_replay.specs.Verdicts.{counted_bits, why_mode}
 use Rattle.lockstep_replay.proofs.Conditions.{NotStopped}
 
 -- the real side always comes to its end
-pub crosses-outcome : {Stop : Type 0} (before : Tally) (masks : Masks) (past : List Point) (bits : List Bool)
+pub crosses_outcome : {Stop : Type 0} (before : Tally) (masks : Masks) (past : List Point) (bits : List Bool)
     (state reached : State) (r : Result (Unit {0}) Stop) (after : Tally) →
     Crosses before masks past bits state (outcome r reached after) →
     (state ≡ reached) × (IsAhead after.ahead masks past × Tallies before bits after)
-crosses-outcome before masks past bits state reached (Ok done) after h = h
-crosses-outcome before masks past bits state reached (Err stop) after h = absurd h
+crosses_outcome before masks past bits state reached (Ok done) after h = h
+crosses_outcome before masks past bits state reached (Err stop) after h = absurd h
 
 -- ---- within the budget
 
@@ -34,9 +34,9 @@ pub record Within (a : Tally) (s : List Bool) (b : Tally) : Type 0 where
   pub bits : b.stream.bits ≡ a.stream.bits ++ s
   pub left : left_of b.stream ≡ s
 
-pub within-of : (a b : Tally) (s : List Bool) → Tallies a s b → a.budget < 4294967295 → b.needed ≤ a.budget →
+pub within_of : (a b : Tally) (s : List Bool) → Tallies a s b → a.budget < 4294967295 → b.needed ≤ a.budget →
     a.stream.taken ≡ length a.stream.bits → Within a s b
-within-of a b s h small within used =
+within_of a b s h small within used =
     let fits : a.needed + length s ≤ a.budget = omega (arith, h.needed) in
     record {
       fits = fits;
@@ -45,16 +45,16 @@ within-of a b s h small within used =
       left = rw (h.kept fits, h.taken, used) (drop-append_seam a.stream.bits s);
     }
 
-pub why-within : (mode : Stepped) (budget needed : ℕ) (later : Option Why) → NotStopped mode → needed ≤ budget →
+pub why_within : (mode : Stepped) (budget needed : ℕ) (later : Option Why) → NotStopped mode → needed ≤ budget →
     why_mode mode budget needed later ≡ later
-why-within Ran budget needed later running within = rw (le-ltb budget needed within) refl
-why-within (Exited status) budget needed later running within = rw (le-ltb budget needed within) refl
-why-within (Stopped fault) budget needed later running within = absurd (running fault refl)
+why_within Ran budget needed later running within = rw (le-ltb budget needed within) refl
+why_within (Exited status) budget needed later running within = rw (le-ltb budget needed within) refl
+why_within (Stopped fault) budget needed later running within = absurd (running fault refl)
 
-pub why-over : (mode : Stepped) (budget needed count : ℕ) (later : Option Why) → NotStopped mode → budget < count →
+pub why_over : (mode : Stepped) (budget needed count : ℕ) (later : Option Why) → NotStopped mode → budget < count →
     count ≡ counted_bits needed → Some (BudgetOverrun budget count) ≡ why_mode mode budget needed later
-why-over Ran budget needed count later running over is =
+why_over Ran budget needed count later running over is =
     let more : budget < needed = omega (arith, over, is) in rw (lt-ltb budget needed more, is) refl
-why-over (Exited status) budget needed count later running over is =
+why_over (Exited status) budget needed count later running over is =
     let more : budget < needed = omega (arith, over, is) in rw (lt-ltb budget needed more, is) refl
-why-over (Stopped fault) budget needed count later running over is = absurd (running fault refl)
+why_over (Stopped fault) budget needed count later running over is = absurd (running fault refl)

@@ -126,7 +126,7 @@ impl Passer for Tallying {
     ghost use Rattle.lockstep_replay.specs.Crossing.{crossing};
     ghost use Rattle.lockstep_replay.specs.Tapes.{Tally, Crosses};
     ghost use Rattle.lockstep_replay.specs.Sides.{tally_of};
-    ghost use Rattle.lockstep_replay.specs.Ends.{crosses-Ended};
+    ghost use Rattle.lockstep_replay.specs.Ends.{crosses_Ended};
     ghost use Rattle.std.specs.declared.convert.Infallible.{Infallible as Never};
 
     type Stop = Infallible;
@@ -169,21 +169,21 @@ impl Passer for Tallying {
     }
 
     ghost at_end = { λ side state masks past ahead.
-        crosses-Ended Never (tally_of side) masks past state side.word ahead };
+        crosses_Ended Never (tally_of side) masks past state side.word ahead };
 }
 
 impl Observer for Tallying {
     ghost use Rattle.std.specs.Prelude.{[]};
-    ghost use Rattle.replay_machine.proofs.MasksAhead.{ahead-self};
+    ghost use Rattle.replay_machine.proofs.MasksAhead.{ahead_self};
     ghost use Rattle.cut_file.specs.Masks.{MaskAt};
     ghost use Rattle.rv32im_machine.specs.Folds.{real_end};
     ghost use Rattle.region_machine.specs.Runs.{passed};
     ghost use Rattle.lockstep_replay.specs.Crossing.{crossing};
-    ghost use Rattle.lockstep_replay.specs.Ends.{crosses-real};
+    ghost use Rattle.lockstep_replay.specs.Ends.{crosses_real};
     ghost use Rattle.lockstep_replay.specs.Sides.{tally_of};
     ghost use Rattle.std.specs.declared.convert.Infallible.{Infallible as Never};
 
     ghost real = { λ side walk state after told.
-        crosses-real Never (tally_of side) (MaskAt side.masks) (passed [] walk) (crossing (MaskAt side.masks) [] walk)
-        (real_end walk) state after (told (MaskAt side.masks) [] (ahead-self side.masks)) };
+        crosses_real Never (tally_of side) (MaskAt side.masks) (passed [] walk) (crossing (MaskAt side.masks) [] walk)
+        (real_end walk) state after (told (MaskAt side.masks) [] (ahead_self side.masks)) };
 }

@@ -8,60 +8,60 @@ use Rattle.measuring.specs.VisitRuns.{run_masks}
 use Rattle.many_runs.specs.Uniting.{united_masks}
 
 -- where the second run has no visit
-pub joined-none : (masks : List ℕ) → united_masks masks [] ≡ masks
+pub joined_none : (masks : List ℕ) → united_masks masks [] ≡ masks
 unfolding united_masks
-joined-none [] = refl
-joined-none (mask ∷ masks) = refl
+joined_none [] = refl
+joined_none (mask ∷ masks) = refl
 
-pub none-joined : (masks : List ℕ) → united_masks [] masks ≡ masks
+pub none_joined : (masks : List ℕ) → united_masks [] masks ≡ masks
 unfolding united_masks
-none-joined masks = refl
+none_joined masks = refl
 
 -- so many visits of both, each with one mask
-pub joined-replicate : (n x y : ℕ) (xs ys : List ℕ) →
+pub joined_replicate : (n x y : ℕ) (xs ys : List ℕ) →
     united_masks (replicate n x ++ xs) (replicate n y ++ ys) ≡ replicate n (bit_or x y) ++ united_masks xs ys
 unfolding united_masks
-joined-replicate zero x y xs ys = refl
-joined-replicate (suc n) x y xs ys = ap (λ masks. bit_or x y ∷ masks) (joined-replicate n x y xs ys)
+joined_replicate zero x y xs ys = refl
+joined_replicate (suc n) x y xs ys = ap (λ masks. bit_or x y ∷ masks) (joined_replicate n x y xs ys)
 
 -- which of three are united_masks first is all the same
-pub joined-chain : (a b c : List ℕ) → united_masks (united_masks a b) c ≡ united_masks a (united_masks b c)
+pub joined_chain : (a b c : List ℕ) → united_masks (united_masks a b) c ≡ united_masks a (united_masks b c)
 unfolding united_masks
-joined-chain [] b c = refl
-joined-chain (x ∷ a) [] c = refl
-joined-chain (x ∷ a) (y ∷ b) [] = refl
-joined-chain (x ∷ a) (y ∷ b) (z ∷ c) =
-    ap (λ m. m ∷ united_masks (united_masks a b) c) (or_assoc x y z) ∙ ap (λ masks. bit_or x (bit_or y z) ∷ masks) (joined-chain a b c)
+joined_chain [] b c = refl
+joined_chain (x ∷ a) [] c = refl
+joined_chain (x ∷ a) (y ∷ b) [] = refl
+joined_chain (x ∷ a) (y ∷ b) (z ∷ c) =
+    ap (λ m. m ∷ united_masks (united_masks a b) c) (or_assoc x y z) ∙ ap (λ masks. bit_or x (bit_or y z) ∷ masks) (joined_chain a b c)
 
 -- ---- runs
 
-pub masks-cons : (run : VisitRun) (runs : List VisitRun) →
+pub masks_cons : (run : VisitRun) (runs : List VisitRun) →
     run_masks (run ∷ runs) ≡ replicate run.count run.mask ++ run_masks runs
 unfolding run_masks
-masks-cons run runs = refl
+masks_cons run runs = refl
 
 -- a run without a visit
-pub masks-empty : (run : VisitRun) (runs : List VisitRun) → run.count ≡ 0 → run_masks (run ∷ runs) ≡ run_masks runs
-masks-empty run runs none = masks-cons run runs ∙ ap (λ n. replicate n run.mask ++ run_masks runs) none
+pub masks_empty : (run : VisitRun) (runs : List VisitRun) → run.count ≡ 0 → run_masks (run ∷ runs) ≡ run_masks runs
+masks_empty run runs none = masks_cons run runs ∙ ap (λ n. replicate n run.mask ++ run_masks runs) none
 
 -- a run of which so many visits are past
-pub masks-parted : (run left : VisitRun) (n : ℕ) (runs : List VisitRun) → run.count ≡ n + left.count →
+pub masks_parted : (run left : VisitRun) (n : ℕ) (runs : List VisitRun) → run.count ≡ n + left.count →
     left.mask ≡ run.mask → run_masks (run ∷ runs) ≡ replicate n run.mask ++ run_masks (left ∷ runs)
-masks-parted run left n runs count mask =
-    masks-cons run runs
+masks_parted run left n runs count mask =
+    masks_cons run runs
     ∙ (ap (λ k. replicate k run.mask ++ run_masks runs) count
     ∙ (ap (λ masks. masks ++ run_masks runs) (sym (replicate-append-replicate n left.count run.mask))
     ∙ (append_assoc (replicate n run.mask) (replicate left.count run.mask) (run_masks runs)
     ∙ (ap (λ m. replicate n run.mask ++ (replicate left.count m ++ run_masks runs)) (sym mask)
-    ∙ ap (λ masks. replicate n run.mask ++ masks) (sym (masks-cons left runs))))))
+    ∙ ap (λ masks. replicate n run.mask ++ masks) (sym (masks_cons left runs))))))
 
 -- so many visits of both runs
-pub joined-parted : (one left other right : VisitRun) (n : ℕ) (ones others : List VisitRun) →
+pub joined_parted : (one left other right : VisitRun) (n : ℕ) (ones others : List VisitRun) →
     one.count ≡ n + left.count → left.mask ≡ one.mask → other.count ≡ n + right.count → right.mask ≡ other.mask →
     united_masks (run_masks (one ∷ ones)) (run_masks (other ∷ others))
     ≡ replicate n (bit_or one.mask other.mask) ++ united_masks (run_masks (left ∷ ones)) (run_masks (right ∷ others))
-joined-parted one left other right n ones others count mask count_too mask_too =
-    ap (λ masks. united_masks masks (run_masks (other ∷ others))) (masks-parted one left n ones count mask)
+joined_parted one left other right n ones others count mask count_too mask_too =
+    ap (λ masks. united_masks masks (run_masks (other ∷ others))) (masks_parted one left n ones count mask)
     ∙ (ap (λ masks. united_masks (replicate n one.mask ++ run_masks (left ∷ ones)) masks)
-    (masks-parted other right n others count_too mask_too)
-    ∙ joined-replicate n one.mask other.mask (run_masks (left ∷ ones)) (run_masks (right ∷ others)))
+    (masks_parted other right n others count_too mask_too)
+    ∙ joined_replicate n one.mask other.mask (run_masks (left ∷ ones)) (run_masks (right ∷ others)))

@@ -1,8 +1,8 @@
 -- Runs that are measured together are accepted with the one cut and with its fold, and its text is short.
 use Rattle.std.proofs.Common.{◌≡◌, ◌∙◌, ℕ, ◌&&◌, ◌||◌, List, [], ◌∷◌, true, ap, inl, inr, refl, subst, sym, arith}
 use Rattle.std.specs.List.{AllByRecursion, list_all}
-use Rattle.cut_file.proofs.Following.{cut-valid}
-use Rattle.cut_file.proofs.Periods.{fold-mask}
+use Rattle.cut_file.proofs.Following.{cut_valid}
+use Rattle.cut_file.proofs.Periods.{fold_mask}
 use Rattle.cut_file.specs.declared.points.CutPoint.{CutPoint}
 use Rattle.cut_file.specs.Cuts.{CutPicture, has_slot}
 use Rattle.cut_file.specs.Folds.{AreFolded, IsFold, IsFolded}
@@ -18,68 +18,68 @@ use Rattle.acceptance_law.specs.ClosedEvents.{AreProperEvents}
 use Rattle.acceptance_law.specs.MeasuredLaws.{AreInputs, IsWholeRun}
 use Rattle.acceptance_law.specs.RunCuts.{IsCutOf, names_point}
 use Rattle.acceptance_law.specs.Sides.{named_side}
-use Rattle.acceptance_law.proofs.CutMeasured.{valid-slots}
-use Rattle.acceptance_law.proofs.CutVisits.{like-itself, mask-missing}
+use Rattle.acceptance_law.proofs.CutMeasured.{valid_slots}
+use Rattle.acceptance_law.proofs.CutVisits.{like_itself, mask_missing}
 use Rattle.acceptance_law.proofs.ProperRuns.{proper_events_law}
 use Rattle.acceptance_law.proofs.ProperStarts.{guest_start_law}
 use Rattle.many_runs.specs.declared.many.Many.{Many}
 use Rattle.many_runs.specs.Accepting.{AreAcceptedByFolds, AreAcceptedByTheCut, IsAcceptedBy}
 use Rattle.many_runs.specs.Measures.{AreRunsOn, HaveLength, MeasuresAll, Setup, first_length}
 use Rattle.many_runs.proofs.ManyCovered.{CutsAll, IsUsed, run-accepted}
-use Rattle.many_runs.proofs.MasksOfRuns.{IsPartOf, parts-of}
+use Rattle.many_runs.proofs.MasksOfRuns.{IsPartOf, parts_of}
 
 -- ---- the fold of a cut may be used in its place
 
-same-point : (cut_point folded : CutPoint) → IsFolded cut_point folded → folded.point ≡ cut_point.point
-same-point cut_point folded (inl (count, least, same, none, rest)) = same
-same-point cut_point folded (inr (none, same)) = ap (λ (p : CutPoint). p.point) same
+same_point : (cut_point folded : CutPoint) → IsFolded cut_point folded → folded.point ≡ cut_point.point
+same_point cut_point folded (inl (count, least, same, none, rest)) = same
+same_point cut_point folded (inr (none, same)) = ap (λ (p : CutPoint). p.point) same
 
-folded-names : (points folded : List CutPoint) (point : Point) → AreFolded points folded →
+folded_names : (points folded : List CutPoint) (point : Point) → AreFolded points folded →
     names_point folded point ≡ names_point points point
-folded-names [] [] point are = refl
-folded-names [] (first ∷ folded) point are = absurd are
-folded-names (cut_point ∷ points) [] point are = absurd are
-folded-names (cut_point ∷ points) (first ∷ folded) point are =
-    ap (λ (p : Point). is_same p point || names_point folded point) (same-point cut_point first are.0)
-    ∙ ap (λ b. is_same cut_point.point point || b) (folded-names points folded point are.1)
+folded_names [] [] point are = refl
+folded_names [] (first ∷ folded) point are = absurd are
+folded_names (cut_point ∷ points) [] point are = absurd are
+folded_names (cut_point ∷ points) (first ∷ folded) point are =
+    ap (λ (p : Point). is_same p point || names_point folded point) (same_point cut_point first are.0)
+    ∙ ap (λ b. is_same cut_point.point point || b) (folded_names points folded point are.1)
 
-folded-slots : (points folded : List CutPoint) → AreFolded points folded →
+folded_slots : (points folded : List CutPoint) → AreFolded points folded →
     list_all has_slot folded ≡ list_all has_slot points
-folded-slots [] [] are = refl
-folded-slots [] (first ∷ folded) are = absurd are
-folded-slots (cut_point ∷ points) [] are = absurd are
-folded-slots (cut_point ∷ points) (first ∷ folded) are =
-    ap (λ (p : Point). is_slot p.slot && list_all has_slot folded) (same-point cut_point first are.0)
-    ∙ ap (λ b. is_slot cut_point.point.slot && b) (folded-slots points folded are.1)
+folded_slots [] [] are = refl
+folded_slots [] (first ∷ folded) are = absurd are
+folded_slots (cut_point ∷ points) [] are = absurd are
+folded_slots (cut_point ∷ points) (first ∷ folded) are =
+    ap (λ (p : Point). is_slot p.slot && list_all has_slot folded) (same_point cut_point first are.0)
+    ∙ ap (λ b. is_slot cut_point.point.slot && b) (folded_slots points folded are.1)
 
-fold-used : (cut folded : CutPicture) → IsFold cut folded → list_all has_slot cut.points ≡ true → IsUsed cut folded
-fold-used cut folded fold slots = record {
+fold_used : (cut folded : CutPicture) → IsFold cut folded → list_all has_slot cut.points ≡ true → IsUsed cut folded
+fold_used cut folded fold slots = record {
   skip = fold.skip;
   length_is = fold.secret_len;
   like = record {
-    within = λ point visit one few. fold-mask cut folded point visit fold one few;
+    within = λ point visit one few. fold_mask cut folded point visit fold one few;
     missing = λ point visit slot none.
-        mask-missing folded.points point visit (folded-slots cut.points folded.points fold.points ∙ slots) slot
-        (folded-names cut.points folded.points point fold.points ∙ none);
+        mask_missing folded.points point visit (folded_slots cut.points folded.points fold.points ∙ slots) slot
+        (folded_names cut.points folded.points point fold.points ∙ none);
   };
 }
 
 -- ---- all runs
 
-all-proper : (setup : Setup) (secrets : List (List ℕ)) (runs : List (List Event)) →
+all_proper : (setup : Setup) (secrets : List (List ℕ)) (runs : List (List Event)) →
     AllByRecursion (AreInputs setup.program setup.public_input setup.regions) secrets →
     AreRunsOn setup secrets runs → AllByRecursion AreProperEvents runs
 unfolding AreRunsOn
-all-proper setup [] [] inputs are = tt
-all-proper setup [] (events ∷ runs) inputs are = absurd are
-all-proper setup (secret ∷ secrets) [] inputs are = absurd are
-all-proper setup (secret ∷ secrets) (events ∷ runs) inputs are = (
+all_proper setup [] [] inputs are = tt
+all_proper setup [] (events ∷ runs) inputs are = absurd are
+all_proper setup (secret ∷ secrets) [] inputs are = absurd are
+all_proper setup (secret ∷ secrets) (events ∷ runs) inputs are = (
   subst AreProperEvents (sym are.0.all)
       (proper_events_law setup.regions (are.0.exits.last ∷ are.0.exits.earlier)
       (guest setup.program setup.public_input secret) inputs.0.regions_valid
       (guest_start_law setup.program setup.public_input secret inputs.0.program_valid inputs.0.program_bytes
       inputs.0.public_bytes inputs.0.secret_bytes) are.0.exits.is_run.sound),
-  all-proper setup secrets runs inputs.1 are.1,
+  all_proper setup secrets runs inputs.1 are.1,
 )
 
 module _ (setup : Setup) (all_secrets : List (List ℕ)) (many : Many) (m : MeasuresAll setup all_secrets many)
@@ -92,8 +92,8 @@ module _ (setup : Setup) (all_secrets : List (List ℕ)) (many : Many) (m : Meas
     side_of = m.measure.side.side;
     cut_of = subst (λ bits. IsCutOf (first_length all_secrets) m.events (named_side many.graph many.side.points
         many.side.relays) bits (cut_picture many.cut)) (sym m.measure.capacity) m.measure.cut;
-    slots = valid-slots (cut_picture many.cut) (cut-valid many.cut);
-    proper = all-proper setup all_secrets m.runs inputs m.are_runs;
+    slots = valid_slots (cut_picture many.cut) (cut_valid many.cut);
+    proper = all_proper setup all_secrets m.runs inputs m.are_runs;
   }
 
   each-accepted : (used : CutPicture) → IsUsed (cut_picture many.cut) used → (secrets : List (List ℕ))
@@ -135,12 +135,12 @@ module _ (setup : Setup) (all_secrets : List (List ℕ)) (many : Many) (m : Meas
       (record {
         skip = refl;
         length_is = refl;
-        like = like-itself many.cut.points (valid-slots (cut_picture many.cut) (cut-valid many.cut));
+        like = like_itself many.cut.points (valid_slots (cut_picture many.cut) (cut_valid many.cut));
       })
-      all_secrets m.runs inputs m.alike m.are_runs (parts-of m.runs)
+      all_secrets m.runs inputs m.alike m.are_runs (parts_of m.runs)
 
   pub folds : AreAcceptedByFolds setup.program setup.public_input setup.regions all_secrets setup.limit many
   folds folded fold =
       each-accepted folded
-      (fold-used (cut_picture many.cut) folded fold (valid-slots (cut_picture many.cut) (cut-valid many.cut)))
-      all_secrets m.runs inputs m.alike m.are_runs (parts-of m.runs)
+      (fold_used (cut_picture many.cut) folded fold (valid_slots (cut_picture many.cut) (cut_valid many.cut)))
+      all_secrets m.runs inputs m.alike m.are_runs (parts_of m.runs)

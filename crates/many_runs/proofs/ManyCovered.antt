@@ -34,17 +34,17 @@ use Rattle.acceptance_law.specs.MeasuredLaws.{AreInputs, IsWholeRun, labelled_ru
 use Rattle.acceptance_law.specs.RunCuts.{IsCutOf, is_inner, visit_masks}
 use Rattle.acceptance_law.specs.Sides.{NamedSide, is_split, named_side}
 use Rattle.acceptance_law.proofs.CoveredRuns.{covered_law}
-use Rattle.acceptance_law.proofs.CutVisits.{Counts, IsLike, counts-more, visit_masks-append}
-use Rattle.acceptance_law.proofs.GraphEvents.{same-itself}
-use Rattle.acceptance_law.proofs.GraphSides.{side-closed, side-outside}
+use Rattle.acceptance_law.proofs.CutVisits.{Counts, IsLike, counts_more, visit_masks_append}
+use Rattle.acceptance_law.proofs.GraphEvents.{same_itself}
+use Rattle.acceptance_law.proofs.GraphSides.{side_closed, side_outside}
 use Rattle.many_runs.specs.Uniting.{IsUnited, joined_masks}
 use Rattle.acceptance_law.proofs.ProperRuns.{proper_events_law}
 use Rattle.acceptance_law.proofs.ProperStarts.{guest_start_law}
 use Rattle.acceptance_law.proofs.TurnKinds.{all_regions}
-use Rattle.many_runs.proofs.MasksOfRuns.{IsPartOf, joined-fits}
-use Rattle.many_runs.proofs.PastBits.{cross-bits}
-use Rattle.many_runs.proofs.RunPasts.{runs-beside}
-use Rattle.many_runs.proofs.SameLinks.{each-among, of-among}
+use Rattle.many_runs.proofs.MasksOfRuns.{IsPartOf, joined_fits}
+use Rattle.many_runs.proofs.PastBits.{cross_bits}
+use Rattle.many_runs.proofs.RunPasts.{runs_beside}
+use Rattle.many_runs.proofs.SameLinks.{each_among, of_among}
 use Rattle.many_runs.proofs.UnitedCuts.{Cuts, bits-within, exact-at}
 use Rattle.flow_base.specs.Listed.{is_listed}
 
@@ -59,9 +59,9 @@ module _ (runs : List (List Event)) (united_events : List Event) (united : IsUni
 
   closed : IsClosedFor (named_side graph halves relays) (named_links events)
   closed =
-      each-among (IsClosedLink (named_side graph halves relays)) (named_links events)
-      (λ link among. of-among (IsClosedLink (named_side graph halves relays)) (named_links united_events) link
-      (side-closed united_events graph halves relays cuts.graph_of cuts.side_of)
+      each_among (IsClosedLink (named_side graph halves relays)) (named_links events)
+      (λ link among. of_among (IsClosedLink (named_side graph halves relays)) (named_links united_events) link
+      (side_closed united_events graph halves relays cuts.graph_of cuts.side_of)
       (united.links link ∙ part.links link among))
 
   -- the mask of the run at a visit of a split point
@@ -89,11 +89,11 @@ module _ (runs : List (List Event)) (united_events : List Event) (united : IsUni
   contained-from seen (event ∷ rest) past are proper counts = (
     contained-event event are proper.0,
     contained-from (seen ++ event ∷ []) rest (past_after event past)
-        (are ∙ sym (append_assoc seen (event ∷ []) rest)) proper.1 (counts-more past seen event proper.0 counts),
+        (are ∙ sym (append_assoc seen (event ∷ []) rest)) proper.1 (counts_more past seen event proper.0 counts),
   )
     where
       here : (point : Point) (mask : ℕ) → visit_masks point (Pass point mask ∷ rest) ≡ mask ∷ visit_masks point rest
-      here point mask = ap (λ b. cond b (mask ∷ []) [] ++ visit_masks point rest) (same-itself point)
+      here point mask = ap (λ b. cond b (mask ∷ []) [] ++ visit_masks point rest) (same_itself point)
 
       contained-event : (event : Event) → events ≡ seen ++ (event ∷ rest) → IsProperEvent event →
           IsContained (named_side graph halves relays) cut.skip masks past event
@@ -101,7 +101,7 @@ module _ (runs : List (List Event)) (united_events : List Event) (united : IsUni
           λ split inner i none.
           let visits : visit_masks point events ≡ visit_masks point seen ++ (mask ∷ visit_masks point rest) =
           ap (λ es. visit_masks point es) are
-          ∙ (visit_masks-append point seen (Pass point mask ∷ rest)
+          ∙ (visit_masks_append point seen (Pass point mask ∷ rest)
           ∙ ap (λ list. visit_masks point seen ++ list) (here point mask)) in
           let count : length (visit_masks point events)
           ≡ length (visit_masks point seen) + suc (length (visit_masks point rest)) =
@@ -117,12 +117,12 @@ module _ (runs : List (List Event)) (united_events : List Event) (united : IsUni
       contained-event (Implicit point region) are proper = tt
       contained-event (Out region point) are proper = tt
 
-  no-counts : Counts [] []
+  no_counts : Counts [] []
   unfolding visit_masks
-  no-counts = λ point slot. refl
+  no_counts = λ point slot. refl
 
   pub contained : AreProperEvents events → AreContained (named_side graph halves relays) cut.skip masks [] events
-  contained proper = contained-from [] events [] refl proper no-counts
+  contained proper = contained-from [] events [] refl proper no_counts
 
   pub run-closed : IsClosedFor (named_side graph halves relays) (named_links events)
   run-closed = closed
@@ -164,7 +164,7 @@ module _ (runs : List (List Event)) (united_events : List Event) (graph : Graph)
     fits = λ point n below.
         let same = all.united.masks point in
         let count : length (visit_masks point united_events) ≡ length (joined_masks point runs) = ap length same in
-        let fits = joined-fits point runs n all.proper (omega (arith, below, count)) in
+        let fits = joined_fits point runs n all.proper (omega (arith, below, count)) in
         let at : get_or (visit_masks point united_events) n 0 ≡ get_or (joined_masks point runs) n 0 =
         ap (λ list. get_or list n 0) same in
         omega (arith, fits, at);
@@ -188,13 +188,13 @@ module _ (runs : List (List Event)) (united_events : List Event) (graph : Graph)
       let measured : IsMeasuredRun regions answers place output =
       record { guest = start; sound = run.sound; unrefused = run.unrefused; exits = run.exits } in
       let enclosures : Enclosures = record { regions = regions; skip = cut.skip } in
-      let beside = runs-beside regions cut.skip answers place refl refl run.unrefused proper in
+      let beside = runs_beside regions cut.skip answers place refl refl run.unrefused proper in
       let ended = over _ output.status (ap (λ s. s.control.mode) beside.state ∙ run.exits.status) in
       let same : cross_after enclosures (MaskAt used.points) turns place
       ≡ cross_after enclosures (MaskAt used.points) (length answers) place =
       cross_later enclosures (MaskAt used.points) place (length answers) turns enough ended in
       let count = ap length same in
-      let bits = cross-bits enclosures (MaskAt used.points) (length answers) place refl in
+      let bits = cross_bits enclosures (MaskAt used.points) (length answers) place refl in
       let within = bits-within united_events graph halves relays secret_len (side_capacity graph halves relays) cut
       (MaskAt used.points) cuts (Real enclosures (length answers) place).past beside.within.slots
       (λ point named.
@@ -210,7 +210,7 @@ module _ (runs : List (List Event)) (united_events : List Event) (graph : Graph)
       (record {
         closed = run-closed runs united_events all.united graph halves relays secret_len
             (side_capacity graph halves relays) cut (MaskAt used.points) cuts events part;
-        outside = skip 0 ∙ side-outside united_events graph halves relays all.graph_of;
+        outside = skip 0 ∙ side_outside united_events graph halves relays all.graph_of;
         skips = all_regions (λ n. is_listed used.skip n ≡ side.relay n) skip regions;
         contains = subst (λ (skip : List ℕ). AreContained side skip (MaskAt used.points) [] events) (sym is_used.skip)
             (contained runs united_events all.united graph halves relays secret_len (side_capacity graph halves relays)

@@ -2,7 +2,7 @@
 use Rattle.std.proofs.Common.{◌≡◌, ◌≢◌, ℕ, ◌+◌, ◌≤◌, ◌∷◌, [], List, length, refl, sym, ap, ap₂, ◌∙◌, subst, arith}
 use Rattle.std.specs.List.{AllByRecursion}
 use Rattle.acceptance_law.specs.Sides.{named_side}
-use Rattle.acceptance_law.proofs.GraphEvents.{all-parts}
+use Rattle.acceptance_law.proofs.GraphEvents.{all_parts}
 use Rattle.cut_file.specs.Pictures.{cut_picture}
 use Rattle.flow_graph.specs.declared.events.Event.{Event}
 use Rattle.flow_graph.specs.declared.graphs.Graph.{Graph}
@@ -12,9 +12,9 @@ use Rattle.max_flow.specs.Flows.{HasNoGreater, flow_value}
 use Rattle.run_labels.specs.declared.faults.MeasureFault.{MeasureFault}
 use Rattle.measuring.specs.declared.measured.Measured.{Measured}
 use Rattle.measuring.specs.Measures.{HasCause, IsMeasureOf}
-use Rattle.measuring.proofs.OneCause.{one-cause}
-use Rattle.measuring.proofs.OneGraph.{one-graph}
-use Rattle.measuring.proofs.OneMeasure.{AreSameGraphs, one-measure_of}
+use Rattle.measuring.proofs.OneCause.{one_cause}
+use Rattle.measuring.proofs.OneGraph.{one_graph}
+use Rattle.measuring.proofs.OneMeasure.{AreSameGraphs, one_measure_of}
 use Rattle.many_runs.specs.declared.faults.ManyFault.{ManyFault}
 use Rattle.many_runs.specs.declared.faults.ManyFault.TheVariants.{Length, Run, UnitedLimit, BudgetLimit, Memory}
 use Rattle.many_runs.specs.declared.many.Many.{Many}
@@ -22,8 +22,8 @@ use Rattle.many_runs.specs.Causes.{HasManyCause, HasMaximum, HasOtherLength, Hav
 use Rattle.many_runs.specs.Causes.{IsFirstRefused, IsTooLarge, IsTooMuch}
 use Rattle.many_runs.specs.Measures.{HaveLength, IsMeasureOfAll, MeasuresAll, Setup, first_length, start_on}
 use Rattle.many_runs.specs.Uniting.{IsUnited}
-use Rattle.many_runs.proofs.FirstPlaces.{AreSamePlaces, one-first}
-use Rattle.many_runs.proofs.OneUnion.{HasRun, cut-too, exceeds-too, graph-too, have-runs, no-cause, same-runs}
+use Rattle.many_runs.proofs.FirstPlaces.{AreSamePlaces, one_first}
+use Rattle.many_runs.proofs.OneUnion.{HasRun, cut-too, exceeds-too, graph-too, have_runs, no_cause, same_runs}
 use Rattle.transfer_rules.specs.Tables.{IsDeciding}
 
 -- ---- the measure of united events
@@ -44,10 +44,10 @@ as_one many = record {
   known = many.known;
 }
 
-measure-as_one : (secret_len : ℕ) (events : List Event) (many : Many) → IsMeasureOfAll secret_len events many →
+measure_as_one : (secret_len : ℕ) (events : List Event) (many : Many) → IsMeasureOfAll secret_len events many →
     IsMeasureOf secret_len events (as_one many)
 unfolding as_one
-measure-as_one secret_len events many is = record {
+measure_as_one secret_len events many is = record {
   graph = is.graph;
   within = is.within;
   flow = is.flow;
@@ -61,9 +61,9 @@ measure-as_one secret_len events many is = record {
 }
 
 -- other united events of the same runs have the same measure
-measure-too : (runs : List (List Event)) (events others : List Event) → IsUnited runs events → IsUnited runs others →
+measure_too : (runs : List (List Event)) (events others : List Event) → IsUnited runs events → IsUnited runs others →
     (secret_len : ℕ) (many : Many) → IsMeasureOfAll secret_len others many → IsMeasureOfAll secret_len events many
-measure-too runs events others one also secret_len many is = record {
+measure_too runs events others one also secret_len many is = record {
   graph = graph-too runs events others one also many.graph is.graph;
   within = λ exceeds. is.within (exceeds-too runs others events also one exceeds);
   flow = is.flow;
@@ -89,14 +89,14 @@ pub one_many_measure : (setup : Setup) (secrets : List (List ℕ)) (one other : 
     MeasuresAll setup secrets one → MeasuresAll setup secrets other → AreSameMany one other
 unfolding as_one
 one_many_measure setup secrets one other deciding is also =
-    let same = same-runs setup secrets also.runs is.runs deciding also.are_runs is.are_runs in
+    let same = same_runs setup secrets also.runs is.runs deciding also.are_runs is.are_runs in
     let united : IsUnited is.runs also.events = subst (λ runs. IsUnited runs also.events) same also.united in
     let measure : IsMeasureOfAll (first_length secrets) is.events other =
-    measure-too is.runs is.events also.events is.united united (first_length secrets) other also.measure in
+    measure_too is.runs is.events also.events is.united united (first_length secrets) other also.measure in
     let parts : AreSameGraphs (as_one one) (as_one other) =
-    one-measure_of (first_length secrets) is.events (as_one one) (as_one other)
-    (measure-as_one (first_length secrets) is.events one is.measure)
-    (measure-as_one (first_length secrets) is.events other measure) in
+    one_measure_of (first_length secrets) is.events (as_one one) (as_one other)
+    (measure_as_one (first_length secrets) is.events one is.measure)
+    (measure_as_one (first_length secrets) is.events other measure) in
     record { value = parts.value; graph = parts.graph; side = parts.side; cut = parts.cut }
 
 pub one_many : (setup : Setup) (secrets : List (List ℕ)) (one other : Many) → IsDeciding setup.table →
@@ -109,30 +109,30 @@ one_many setup secrets one other deciding is also = (one_many_measure setup secr
 abbrev IsAlike : List (List ℕ) → List ℕ → Type 0
 IsAlike secrets secret = length secret ≡ first_length secrets
 
-lengths-differ : (secrets : List (List ℕ)) (index first got : ℕ) (other : HasOtherLength secrets index first got) →
+lengths_differ : (secrets : List (List ℕ)) (index first got : ℕ) (other : HasOtherLength secrets index first got) →
     ¬ IsAlike secrets other.secret
-lengths-differ secrets index first got other alike = other.other (other.got_is ∙ (alike ∙ sym other.first_is))
+lengths_differ secrets index first got other alike = other.other (other.got_is ∙ (alike ∙ sym other.first_is))
 
-lengths-alike : (secrets : List (List ℕ)) (index first got : ℕ) (other : HasOtherLength secrets index first got) →
+lengths_alike : (secrets : List (List ℕ)) (index first got : ℕ) (other : HasOtherLength secrets index first got) →
     AllByRecursion (IsAlike secrets) other.earlier
-lengths-alike secrets index first got other =
+lengths_alike secrets index first got other =
     subst (λ (n : ℕ). HaveLength n other.earlier) other.first_is other.alike
 
-pub same-length : (secrets : List (List ℕ)) (index first got : ℕ) → HaveLength (first_length secrets) secrets →
+pub same_length : (secrets : List (List ℕ)) (index first got : ℕ) → HaveLength (first_length secrets) secrets →
     HasOtherLength secrets index first got → ⊥
-same-length secrets index first got alike other =
-    let parts = all-parts (IsAlike secrets) other.earlier (other.secret ∷ other.later)
+same_length secrets index first got alike other =
+    let parts = all_parts (IsAlike secrets) other.earlier (other.secret ∷ other.later)
     (subst (AllByRecursion (IsAlike secrets)) other.secrets_are alike) in
-    lengths-differ secrets index first got other parts.1.0
+    lengths_differ secrets index first got other parts.1.0
 
-one-length : (secrets : List (List ℕ)) (index first got number front found : ℕ) →
+one_length : (secrets : List (List ℕ)) (index first got number front found : ℕ) →
     HasOtherLength secrets index first got → HasOtherLength secrets number front found →
     Length index first got ≡ Length number front found
-one-length secrets index first got number front found one also =
+one_length secrets index first got number front found one also =
     let same : AreSamePlaces one.earlier also.earlier one.secret also.secret =
-    one-first (IsAlike secrets) one.earlier also.earlier one.later also.later one.secret also.secret
-    (lengths-alike secrets index first got one) (lengths-alike secrets number front found also)
-    (lengths-differ secrets index first got one) (lengths-differ secrets number front found also)
+    one_first (IsAlike secrets) one.earlier also.earlier one.later also.later one.secret also.secret
+    (lengths_alike secrets index first got one) (lengths_alike secrets number front found also)
+    (lengths_differ secrets index first got one) (lengths_differ secrets number front found also)
     (sym one.secrets_are ∙ also.secrets_are) in
     let indices : index ≡ number = one.counted ∙ (ap (λ n. n + 1) same.places ∙ sym also.counted) in
     let firsts : first ≡ front = one.first_is ∙ sym also.first_is in
@@ -145,49 +145,49 @@ module _ (setup : Setup) (secrets : List (List ℕ)) (deciding : IsDeciding setu
   has-none : (index : ℕ) (fault : MeasureFault) (refused : IsFirstRefused setup secrets index fault) →
       ¬ HasRun setup refused.secret
   has-none index fault refused has =
-      no-cause setup refused.secret has.events has.run deciding fault refused.cause refused.named
+      no_cause setup refused.secret has.events has.run deciding fault refused.cause refused.named
 
   pub none-refused : (index : ℕ) (fault : MeasureFault) (events : List Event) → HaveUnion setup secrets events →
       IsFirstRefused setup secrets index fault → ⊥
   none-refused index fault events union refused =
-      let parts = all-parts (HasRun setup) refused.earlier (refused.secret ∷ refused.later)
-      (subst (AllByRecursion (HasRun setup)) refused.secrets_are (have-runs setup secrets union.runs union.are_runs)) in
+      let parts = all_parts (HasRun setup) refused.earlier (refused.secret ∷ refused.later)
+      (subst (AllByRecursion (HasRun setup)) refused.secrets_are (have_runs setup secrets union.runs union.are_runs)) in
       has-none index fault refused parts.1.0
 
-  one-run : (index number : ℕ) (fault other : MeasureFault) → IsFirstRefused setup secrets index fault →
+  one_run : (index number : ℕ) (fault other : MeasureFault) → IsFirstRefused setup secrets index fault →
       IsFirstRefused setup secrets number other → Run index fault ≡ Run number other
-  one-run index number fault other one also =
+  one_run index number fault other one also =
       let same : AreSamePlaces one.earlier also.earlier one.secret also.secret =
-      one-first (HasRun setup) one.earlier also.earlier one.later also.later one.secret also.secret
-      (have-runs setup one.earlier one.runs one.are_runs) (have-runs setup also.earlier also.runs also.are_runs)
+      one_first (HasRun setup) one.earlier also.earlier one.later also.later one.secret also.secret
+      (have_runs setup one.earlier one.runs one.are_runs) (have_runs setup also.earlier also.runs also.are_runs)
       (has-none index fault one) (has-none number other also) (sym one.secrets_are ∙ also.secrets_are) in
       let indices : index ≡ number = one.counted ∙ (ap (λ n. n + 1) same.places ∙ sym also.counted) in
       let cause : HasCause setup.table setup.regions (start_on setup also.secret) setup.limit fault =
       subst (λ (s : List ℕ). HasCause setup.table setup.regions (start_on setup s) setup.limit fault) same.items
       one.cause in
       ap₂ (λ n f. Run n f) indices
-      (one-cause setup.table setup.regions (start_on setup also.secret) setup.limit fault other deciding cause
+      (one_cause setup.table setup.regions (start_on setup also.secret) setup.limit fault other deciding cause
       also.cause one.named also.named)
 
   -- ---- the cause in all runs together
 
-  united-too : (events others : List Event) (one : HaveUnion setup secrets events) →
+  united_too : (events others : List Event) (one : HaveUnion setup secrets events) →
       HaveUnion setup secrets others → IsUnited one.runs others
-  united-too events others one also =
+  united_too events others one also =
       subst (λ runs. IsUnited runs others)
-      (same-runs setup secrets also.runs one.runs deciding also.are_runs one.are_runs) also.united
+      (same_runs setup secrets also.runs one.runs deciding also.are_runs one.are_runs) also.united
 
   pub within-too : (events others : List Event) → HaveUnion setup secrets events → HaveUnion setup secrets others →
       ExceedsLimit others → ExceedsLimit events
   within-too events others one also exceeds =
-      exceeds-too one.runs events others one.united (united-too events others one also) exceeds
+      exceeds-too one.runs events others one.united (united_too events others one also) exceeds
 
-  pub value-most : (events others : List Event) (value other : ℕ) → HaveUnion setup secrets events →
+  pub value_most : (events others : List Event) (value other : ℕ) → HaveUnion setup secrets events →
       HaveUnion setup secrets others → HasMaximum events value → HasMaximum others other → value ≤ other
-  value-most events others value other one also is most =
+  value_most events others value other one also is most =
       let of : IsGraphOf events most.graph =
-      graph-too one.runs events others one.united (united-too events others one also) most.graph most.graph_of in
-      let same : most.graph ≡ is.graph = one-graph events most.graph is.graph of is.graph_of in
+      graph-too one.runs events others one.united (united_too events others one also) most.graph most.graph_of in
+      let same : most.graph ≡ is.graph = one_graph events most.graph is.graph of is.graph_of in
       let greatest : HasNoGreater is.graph other =
       subst (λ (g : Graph). HasNoGreater g other) same most.greatest in
       let flow : flow_value is.graph is.points is.links ≤ other = greatest is.points is.links is.flow in
@@ -197,12 +197,12 @@ module _ (setup : Setup) (secrets : List (List ℕ)) (deciding : IsDeciding setu
   one-value : (value other : ℕ) → IsTooMuch setup secrets value → IsTooMuch setup secrets other →
       BudgetLimit value ≡ BudgetLimit other
   one-value value other one also =
-      let most = value-most one.events also.events value other one.union also.union one.maximum also.maximum in
-      let least = value-most also.events one.events other value also.union one.union also.maximum one.maximum in
+      let most = value_most one.events also.events value other one.union also.union one.maximum also.maximum in
+      let least = value_most also.events one.events other value also.union one.union also.maximum one.maximum in
       let same : value ≡ other = omega (arith, most, least) in ap (λ (n : ℕ). BudgetLimit n) same
 
-  not-both : (value : ℕ) → IsTooLarge setup secrets → IsTooMuch setup secrets value → ⊥
-  not-both value large much =
+  not_both : (value : ℕ) → IsTooLarge setup secrets → IsTooMuch setup secrets value → ⊥
+  not_both value large much =
       much.within (within-too much.events large.events much.union large.union large.exceeds)
 
 -- ---- one cause
@@ -210,34 +210,34 @@ module _ (setup : Setup) (secrets : List (List ℕ)) (deciding : IsDeciding setu
 pub one_many_cause : (setup : Setup) (secrets : List (List ℕ)) (a b : ManyFault) → IsDeciding setup.table →
     HasManyCause setup secrets a → HasManyCause setup secrets b → a ≢ Memory → b ≢ Memory → a ≡ b
 one_many_cause setup secrets (Length index first got) (Length number front found) deciding one also free other =
-    one-length secrets index first got number front found one also
+    one_length secrets index first got number front found one also
 one_many_cause setup secrets (Length index first got) (Run number fault) deciding one also free other =
-    absurd (same-length secrets index first got also.0 one)
+    absurd (same_length secrets index first got also.0 one)
 one_many_cause setup secrets (Length index first got) UnitedLimit deciding one also free other =
-    absurd (same-length secrets index first got also.union.alike one)
+    absurd (same_length secrets index first got also.union.alike one)
 one_many_cause setup secrets (Length index first got) (BudgetLimit value) deciding one also free other =
-    absurd (same-length secrets index first got also.union.alike one)
+    absurd (same_length secrets index first got also.union.alike one)
 one_many_cause setup secrets (Run index fault) (Length number first got) deciding one also free other =
-    absurd (same-length secrets number first got one.0 also)
+    absurd (same_length secrets number first got one.0 also)
 one_many_cause setup secrets (Run index fault) (Run number found) deciding one also free other =
-    one-run setup secrets deciding index number fault found one.1 also.1
+    one_run setup secrets deciding index number fault found one.1 also.1
 one_many_cause setup secrets (Run index fault) UnitedLimit deciding one also free other =
     absurd (none-refused setup secrets deciding index fault also.events also.union one.1)
 one_many_cause setup secrets (Run index fault) (BudgetLimit value) deciding one also free other =
     absurd (none-refused setup secrets deciding index fault also.events also.union one.1)
 one_many_cause setup secrets UnitedLimit (Length number first got) deciding one also free other =
-    absurd (same-length secrets number first got one.union.alike also)
+    absurd (same_length secrets number first got one.union.alike also)
 one_many_cause setup secrets UnitedLimit (Run number fault) deciding one also free other =
     absurd (none-refused setup secrets deciding number fault one.events one.union also.1)
 one_many_cause setup secrets UnitedLimit UnitedLimit deciding one also free other = refl
 one_many_cause setup secrets UnitedLimit (BudgetLimit value) deciding one also free other =
-    absurd (not-both setup secrets deciding value one also)
+    absurd (not_both setup secrets deciding value one also)
 one_many_cause setup secrets (BudgetLimit value) (Length number first got) deciding one also free other =
-    absurd (same-length secrets number first got one.union.alike also)
+    absurd (same_length secrets number first got one.union.alike also)
 one_many_cause setup secrets (BudgetLimit value) (Run number fault) deciding one also free other =
     absurd (none-refused setup secrets deciding number fault one.events one.union also.1)
 one_many_cause setup secrets (BudgetLimit value) UnitedLimit deciding one also free other =
-    absurd (not-both setup secrets deciding value also one)
+    absurd (not_both setup secrets deciding value also one)
 one_many_cause setup secrets (BudgetLimit value) (BudgetLimit found) deciding one also free other =
     one-value setup secrets deciding value found one also
 one_many_cause setup secrets Memory b deciding one also free other = absurd (free refl)

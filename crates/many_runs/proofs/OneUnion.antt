@@ -25,7 +25,7 @@ use Rattle.measuring.specs.RunCauses.{GoesOn, IsRefused, mode_of}
 use Rattle.measuring.proofs.MeasuredWithoutCause.{exited_mode, exits_not_running, exits_unrefused, same_exits}
 use Rattle.many_runs.specs.Measures.{AreRunsOn, IsRunOn, Setup, start_on}
 use Rattle.many_runs.specs.Uniting.{IsUnited}
-use Rattle.many_runs.proofs.BitsOfUnions.{visit-bits}
+use Rattle.many_runs.proofs.BitsOfUnions.{visit_bits}
 use Rattle.transfer_rules.specs.Tables.{IsDeciding}
 
 -- ---- a run
@@ -52,21 +52,21 @@ module _ (setup : Setup) (secret : List ℕ) (events : List Event) (run : IsRunO
       goes_on.is_run.by_table goes_on.running (omega (arith, counted, within, all))
 
   -- it has no cause not to be measured
-  pub no-cause : (fault : MeasureFault) →
+  pub no_cause : (fault : MeasureFault) →
       HasCause setup.table setup.regions (start_on setup secret) setup.limit fault → fault ≢ Memory → ⊥
-  no-cause (TurnLimit turns) cause named = unlimited cause.1
-  no-cause (Guest fault) cause named = unrefused (Guest fault) cause
-  no-cause (RegionFault broken) cause named = unrefused (RegionFault broken) cause
-  no-cause (SecretCode pc) cause named = unrefused (SecretCode pc) cause
-  no-cause (BaseSecret region register) cause named = unrefused (BaseSecret region register) cause
-  no-cause GraphLimit cause named =
+  no_cause (TurnLimit turns) cause named = unlimited cause.1
+  no_cause (Guest fault) cause named = unrefused (Guest fault) cause
+  no_cause (RegionFault broken) cause named = unrefused (RegionFault broken) cause
+  no_cause (SecretCode pc) cause named = unrefused (SecretCode pc) cause
+  no_cause (BaseSecret region register) cause named = unrefused (BaseSecret region register) cause
+  no_cause GraphLimit cause named =
       run.within
       (subst ExceedsLimit (sym run.all)
       (subst (λ (other : LabelledRun). ExceedsLimit other.events)
       (same_exits setup.table setup.regions (start_on setup secret) setup.limit cause.turns run.turns cause.output
       run.output deciding cause.exits run.exits)
       cause.exceeds))
-  no-cause Memory cause named = named refl
+  no_cause Memory cause named = named refl
 
   pub same-events : (other : List Event) → IsRunOn setup secret other → events ≡ other
   same-events other also =
@@ -78,31 +78,31 @@ module _ (setup : Setup) (secret : List ℕ) (events : List Event) (run : IsRunO
 
 -- ---- the runs on several secrets
 
-pub same-runs : (setup : Setup) (secrets : List (List ℕ)) (runs others : List (List Event)) → IsDeciding setup.table →
+pub same_runs : (setup : Setup) (secrets : List (List ℕ)) (runs others : List (List Event)) → IsDeciding setup.table →
     AreRunsOn setup secrets runs → AreRunsOn setup secrets others → runs ≡ others
 unfolding AreRunsOn
-same-runs setup [] [] [] deciding are also = refl
-same-runs setup [] [] (other ∷ others) deciding are also = absurd also
-same-runs setup [] (events ∷ runs) others deciding are also = absurd are
-same-runs setup (secret ∷ secrets) [] others deciding are also = absurd are
-same-runs setup (secret ∷ secrets) (events ∷ runs) [] deciding are also = absurd also
-same-runs setup (secret ∷ secrets) (events ∷ runs) (other ∷ others) deciding are also =
+same_runs setup [] [] [] deciding are also = refl
+same_runs setup [] [] (other ∷ others) deciding are also = absurd also
+same_runs setup [] (events ∷ runs) others deciding are also = absurd are
+same_runs setup (secret ∷ secrets) [] others deciding are also = absurd are
+same_runs setup (secret ∷ secrets) (events ∷ runs) [] deciding are also = absurd also
+same_runs setup (secret ∷ secrets) (events ∷ runs) (other ∷ others) deciding are also =
     ap (λ first. first ∷ runs) (same-events setup secret events are.0 deciding other also.0)
-    ∙ ap (λ rest. other ∷ rest) (same-runs setup secrets runs others deciding are.1 also.1)
+    ∙ ap (λ rest. other ∷ rest) (same_runs setup secrets runs others deciding are.1 also.1)
 
 -- the run on one of the secrets
 pub record HasRun (setup : Setup) (secret : List ℕ) : Type 0 where
   pub events : List Event
   pub run : IsRunOn setup secret events
 
-pub have-runs : (setup : Setup) (secrets : List (List ℕ)) (runs : List (List Event)) → AreRunsOn setup secrets runs →
+pub have_runs : (setup : Setup) (secrets : List (List ℕ)) (runs : List (List Event)) → AreRunsOn setup secrets runs →
     AllByRecursion (HasRun setup) secrets
 unfolding AreRunsOn
-have-runs setup [] [] are = tt
-have-runs setup [] (events ∷ runs) are = absurd are
-have-runs setup (secret ∷ secrets) [] are = absurd are
-have-runs setup (secret ∷ secrets) (events ∷ runs) are =
-    (record { events = events; run = are.0 }, have-runs setup secrets runs are.1)
+have_runs setup [] [] are = tt
+have_runs setup [] (events ∷ runs) are = absurd are
+have_runs setup (secret ∷ secrets) [] are = absurd are
+have_runs setup (secret ∷ secrets) (events ∷ runs) are =
+    (record { events = events; run = are.0 }, have_runs setup secrets runs are.1)
 
 -- ---- united events of the same runs
 
@@ -113,8 +113,8 @@ module _ (runs : List (List Event)) (events others : List Event) (one : IsUnited
 
   same-passed : (point : Point) → passed others point ≡ passed events point
   same-passed point =
-      sym (visit-bits point others)
-      ∙ (ap (λ masks. sum_by bit_count masks) (same-masks point) ∙ visit-bits point events)
+      sym (visit_bits point others)
+      ∙ (ap (λ masks. sum_by bit_count masks) (same-masks point) ∙ visit_bits point events)
 
   same-links : (link : NamedLink) → is_among (named_links others) link ≡ is_among (named_links events) link
   same-links link = also.links link ∙ sym (one.links link)

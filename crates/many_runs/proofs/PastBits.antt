@@ -17,23 +17,23 @@ pub past_bits : Masks → List Point → ℕ
 past_bits masks [] = 0
 past_bits masks (point ∷ past) = bit_count (mask_at masks past point) + past_bits masks past
 
-pub past-none : (masks : Masks) → past_bits masks [] ≡ 0
+pub past_none : (masks : Masks) → past_bits masks [] ≡ 0
 unfolding past_bits
-past-none masks = refl
+past_none masks = refl
 
-pub past-more : (masks : Masks) (point : Point) (past : List Point) →
+pub past_more : (masks : Masks) (point : Point) (past : List Point) →
     past_bits masks (point ∷ past) ≡ bit_count (mask_at masks past point) + past_bits masks past
 unfolding past_bits
-past-more masks point past = refl
+past_more masks point past = refl
 
 -- ---- one turn
 
-walk-bits : (masks : Masks) (past : List Point) (walk : Walk) →
+walk_bits : (masks : Masks) (past : List Point) (walk : Walk) →
     length (crossing masks past walk) + past_bits masks past ≡ past_bits masks (passed past walk)
 unfolding crossing passed past_bits
-walk-bits masks past (Looked seen value walk) = walk-bits masks past walk
-walk-bits masks past (Passed passing go) =
-    let rest = walk-bits masks (passing.point ∷ past) (go passing.value) in
+walk_bits masks past (Looked seen value walk) = walk_bits masks past walk
+walk_bits masks past (Passed passing go) =
+    let rest = walk_bits masks (passing.point ∷ past) (go passing.value) in
     let here : length (bits_under passing.value (mask_at masks past passing.point))
     ≡ bit_count (mask_at masks past passing.point) =
     length_bits_under passing.value (mask_at masks past passing.point) in
@@ -44,35 +44,35 @@ walk-bits masks past (Passed passing go) =
     length-append (bits_under passing.value (mask_at masks past passing.point))
     (crossing masks (passing.point ∷ past) (go passing.value)) in
     omega (arith, rest, here, both)
-walk-bits masks past (Moved place shape source value walk) = walk-bits masks past walk
-walk-bits masks past (Saved walk) = walk-bits masks past walk
-walk-bits masks past (Restored registers walk replayed) = walk-bits masks past walk
-walk-bits masks past (Ended state) = omega arith
+walk_bits masks past (Moved place shape source value walk) = walk_bits masks past walk
+walk_bits masks past (Saved walk) = walk_bits masks past walk
+walk_bits masks past (Restored registers walk replayed) = walk_bits masks past walk
+walk_bits masks past (Ended state) = omega arith
 
-unless-bits : (enclosed : Bool) (masks : Masks) (past : List Point) (walk : Walk) →
+unless_bits : (enclosed : Bool) (masks : Masks) (past : List Point) (walk : Walk) →
     length (crossing_unless enclosed masks past walk) + past_bits masks past
     ≡ past_bits masks (visited enclosed past walk)
-unless-bits true masks past walk = omega arith
-unless-bits false masks past walk = walk-bits masks past walk
+unless_bits true masks past walk = omega arith
+unless_bits false masks past walk = walk_bits masks past walk
 
-turn-bits : (broken : Option Break) (enclosures : Enclosures) (masks : Masks) (place : Place) →
+turn_bits : (broken : Option Break) (enclosures : Enclosures) (masks : Masks) (place : Place) →
     length (crossing_unbroken broken enclosures masks place) + past_bits masks place.past
     ≡ past_bits masks (turn_unless broken enclosures place).past
-turn-bits None enclosures masks place =
-    unless-bits (is_enclosed enclosures place.state.control) masks place.past
+turn_bits None enclosures masks place =
+    unless_bits (is_enclosed enclosures place.state.control) masks place.past
     (guest_walk enclosures.regions place.state)
-turn-bits (Some broken) enclosures masks place = omega arith
+turn_bits (Some broken) enclosures masks place = omega arith
 
 -- ---- so many turns
 
-pub cross-bits : (enclosures : Enclosures) (masks : Masks) (turns : ℕ) (start : Place) → start.past ≡ [] →
+pub cross_bits : (enclosures : Enclosures) (masks : Masks) (turns : ℕ) (start : Place) → start.past ≡ [] →
     length (cross_after enclosures masks turns start) ≡ past_bits masks (Real enclosures turns start).past
 unfolding cross_after Real
-cross-bits enclosures masks zero start none = sym (ap (λ past. past_bits masks past) none ∙ past-none masks)
-cross-bits enclosures masks (suc turns) start none =
+cross_bits enclosures masks zero start none = sym (ap (λ past. past_bits masks past) none ∙ past_none masks)
+cross_bits enclosures masks (suc turns) start none =
     let place = Real enclosures turns start in
-    let before = cross-bits enclosures masks turns start none in
-    let turn = turn-bits place.broken enclosures masks place in
+    let before = cross_bits enclosures masks turns start none in
+    let turn = turn_bits place.broken enclosures masks place in
     let both : length (cross_after enclosures masks turns start ++ crossing_of enclosures masks place)
     ≡ length (cross_after enclosures masks turns start) + length (crossing_of enclosures masks place) =
     length-append (cross_after enclosures masks turns start) (crossing_of enclosures masks place) in

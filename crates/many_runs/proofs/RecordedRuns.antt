@@ -22,7 +22,7 @@ use Rattle.many_runs.specs.Following.{AreFollowed, IsFollowed, IsRunFault, many_
 use Rattle.many_runs.specs.Measures.{AreRunsOn, IsRunOn, Setup, setup_of, start_on}
 use Rattle.many_runs.specs.Private.Recordings.{AllKeep, AreSameTogether, Keeps, RecordsUnion}
 use Rattle.many_runs.specs.Uniting.{IsUnited, all_links, united_masks, joined_masks}
-use Rattle.many_runs.proofs.JoinedMasks.{joined-chain, joined-none, none-joined}
+use Rattle.many_runs.proofs.JoinedMasks.{joined_chain, joined_none, none_joined}
 use Rattle.std.proofs.Common.{◌||◌, Bool, append-nil}
 use Rattle.std.proofs.lemmas.List.Folds.{list_any-append}
 use Rattle.flow_base.specs.declared.points.Point.{Point}
@@ -30,22 +30,22 @@ use Rattle.flow_graph.specs.declared.named_links.NamedLink.{NamedLink}
 use Rattle.flow_graph.specs.EventGraphs.{is_among, named_links}
 use Rattle.acceptance_law.specs.RunCuts.{visit_masks}
 
-pub exit-exceeds : (table : ℕ) (regions : List Region) (start : LabelledRun) (limit : ℕ) (exit : Exit) →
+pub exit_exceeds : (table : ℕ) (regions : List Region) (start : LabelledRun) (limit : ℕ) (exit : Exit) →
     HasEnded table regions start limit exit → exit.recording.collapse.is_full ≡ true →
     IsTooLarge table regions start limit
-exit-exceeds table regions start limit exit ended full = record {
+exit_exceeds table regions start limit exit ended full = record {
   turns = exit.turns;
   output = exit.output;
   exits = ended.exits;
   exceeds = ended.records.exceeds full;
 }
 
-pub exit-followed : (table : ℕ) (program : Picture) (public_input : List ℕ) (regions : List Region) (limit : ℕ)
+pub exit_followed : (table : ℕ) (program : Picture) (public_input : List ℕ) (regions : List Region) (limit : ℕ)
     (secret : List ℕ) (exit : Exit) →
     HasEnded table regions (unlabelled (guest program public_input secret)) limit exit →
     exit.recording.collapse.is_full ≡ false →
     IsFollowed (setup_of table program public_input regions limit) secret exit.recording
-exit-followed table program public_input regions limit secret exit ended within = record {
+exit_followed table program public_input regions limit secret exit ended within = record {
   events = (run_after regions (ended.exits.last ∷ ended.exits.earlier)
       (unlabelled (guest program public_input secret))).events;
   run = record {
@@ -60,42 +60,42 @@ exit-followed table program public_input regions limit secret exit ended within 
 
 -- ---- one run more
 
-runs-more : (setup : Setup) (secrets : List (List ℕ)) (runs : List (List Event)) (secret : List ℕ)
+runs_more : (setup : Setup) (secrets : List (List ℕ)) (runs : List (List Event)) (secret : List ℕ)
     (events : List Event) → AreRunsOn setup secrets runs → IsRunOn setup secret events →
     AreRunsOn setup (secrets ++ secret ∷ []) (runs ++ events ∷ [])
 unfolding AreRunsOn
-runs-more setup [] [] secret events are run = (run, tt)
-runs-more setup [] (first ∷ runs) secret events are run = absurd are
-runs-more setup (first ∷ secrets) [] secret events are run = absurd are
-runs-more setup (first ∷ secrets) (other ∷ runs) secret events are run =
-    (are.0, runs-more setup secrets runs secret events are.1 run)
+runs_more setup [] [] secret events are run = (run, tt)
+runs_more setup [] (first ∷ runs) secret events are run = absurd are
+runs_more setup (first ∷ secrets) [] secret events are run = absurd are
+runs_more setup (first ∷ secrets) (other ∷ runs) secret events are run =
+    (are.0, runs_more setup secrets runs secret events are.1 run)
 
-keep-more : (recordings : List Recording) (runs : List (List Event)) (recording : Recording) (events : List Event) →
+keep_more : (recordings : List Recording) (runs : List (List Event)) (recording : Recording) (events : List Event) →
     AllKeep recordings runs → Keeps recording events → AllKeep (recordings ++ recording ∷ []) (runs ++ events ∷ [])
 unfolding AllKeep
-keep-more [] [] recording events keep also = (also, tt)
-keep-more [] (first ∷ runs) recording events keep also = absurd keep
-keep-more (first ∷ recordings) [] recording events keep also = absurd keep
-keep-more (first ∷ recordings) (other ∷ runs) recording events keep also =
-    (keep.0, keep-more recordings runs recording events keep.1 also)
+keep_more [] [] recording events keep also = (also, tt)
+keep_more [] (first ∷ runs) recording events keep also = absurd keep
+keep_more (first ∷ recordings) [] recording events keep also = absurd keep
+keep_more (first ∷ recordings) (other ∷ runs) recording events keep also =
+    (keep.0, keep_more recordings runs recording events keep.1 also)
 
 -- ---- a few recordings of many runs
 
-joined-append : (point : Point) (first second : List (List Event)) →
+joined_append : (point : Point) (first second : List (List Event)) →
     joined_masks point (first ++ second) ≡ united_masks (joined_masks point first) (joined_masks point second)
 unfolding joined_masks
-joined-append point [] second = sym (none-joined (joined_masks point second))
-joined-append point (events ∷ first) second =
-    ap (λ masks. united_masks (visit_masks point events) masks) (joined-append point first second)
-    ∙ sym (joined-chain (visit_masks point events) (joined_masks point first) (joined_masks point second))
+joined_append point [] second = sym (none_joined (joined_masks point second))
+joined_append point (events ∷ first) second =
+    ap (λ masks. united_masks (visit_masks point events) masks) (joined_append point first second)
+    ∙ sym (joined_chain (visit_masks point events) (joined_masks point first) (joined_masks point second))
 
-links-append : (first second : List (List Event)) (link : NamedLink) →
+links_append : (first second : List (List Event)) (link : NamedLink) →
     is_among (all_links (first ++ second)) link ≡ (is_among (all_links first) link || is_among (all_links second) link)
 unfolding all_links
-links-append [] second link = refl
-links-append (events ∷ first) second link =
+links_append [] second link = refl
+links_append (events ∷ first) second link =
     list_any-append _ (named_links events) (all_links (first ++ second))
-    ∙ (ap (λ b. is_among (named_links events) link || b) (links-append first second link)
+    ∙ (ap (λ b. is_among (named_links events) link || b) (links_append first second link)
     ∙ (or-chain (is_among (named_links events) link) (is_among (all_links first) link)
     (is_among (all_links second) link)
     ∙ ap (λ b. b || is_among (all_links second) link)
@@ -105,37 +105,37 @@ links-append (events ∷ first) second link =
     or-chain true b c = refl
     or-chain false b c = refl
 
-same-more : (runs others : List (List Event)) (events : List Event) → AreSameTogether runs others →
+same_more : (runs others : List (List Event)) (events : List Event) → AreSameTogether runs others →
     AreSameTogether (runs ++ events ∷ []) (others ++ events ∷ [])
-same-more runs others events same = record {
-  masks = λ point. joined-append point others (events ∷ [])
+same_more runs others events same = record {
+  masks = λ point. joined_append point others (events ∷ [])
       ∙ (ap (λ masks. united_masks masks (joined_masks point (events ∷ []))) (same.masks point)
-      ∙ sym (joined-append point runs (events ∷ [])));
-  links = λ link. links-append others (events ∷ []) link
+      ∙ sym (joined_append point runs (events ∷ [])));
+  links = λ link. links_append others (events ∷ []) link
       ∙ (ap (λ b. b || is_among (all_links (events ∷ [])) link) (same.links link)
-      ∙ sym (links-append runs (events ∷ []) link));
+      ∙ sym (links_append runs (events ∷ []) link));
 }
 
 -- united events of some runs are one run that has what all of them have
-same-union : (runs others : List (List Event)) (events : List Event) → AreSameTogether runs others →
+same_union : (runs others : List (List Event)) (events : List Event) → AreSameTogether runs others →
     IsUnited others events → AreSameTogether runs (events ∷ [])
 unfolding joined_masks all_links
-same-union runs others events same united = record {
-  masks = λ point. joined-none (visit_masks point events) ∙ (united.masks point ∙ same.masks point);
+same_union runs others events same united = record {
+  masks = λ point. joined_none (visit_masks point events) ∙ (united.masks point ∙ same.masks point);
   links = λ link. ap (λ links. is_among links link) (append-nil (named_links events))
       ∙ (united.links link ∙ same.links link);
 }
 
-pub united-too : (runs others : List (List Event)) (events : List Event) → AreSameTogether runs others →
+pub united_too : (runs others : List (List Event)) (events : List Event) → AreSameTogether runs others →
     IsUnited others events → IsUnited runs events
-united-too runs others events same united = record {
+united_too runs others events same united = record {
   masks = λ point. united.masks point ∙ same.masks point;
   links = λ link. united.links link ∙ same.links link;
 }
 
-pub none-followed : (setup : Setup) → AreFollowed setup [] []
+pub none_followed : (setup : Setup) → AreFollowed setup [] []
 unfolding AreRunsOn AllKeep
-none-followed setup = record {
+none_followed setup = record {
   runs = [];
   are_runs = tt;
   kept = [];
@@ -143,30 +143,30 @@ none-followed setup = record {
   same = record { masks = λ point. refl; links = λ link. refl };
 }
 
-pub followed-more : (setup : Setup) (secrets : List (List ℕ)) (recordings : List Recording) (secret : List ℕ)
+pub followed_more : (setup : Setup) (secrets : List (List ℕ)) (recordings : List Recording) (secret : List ℕ)
     (recording : Recording) → AreFollowed setup secrets recordings → IsFollowed setup secret recording →
     AreFollowed setup (secrets ++ secret ∷ []) (recordings ++ recording ∷ [])
-followed-more setup secrets recordings secret recording are is = record {
+followed_more setup secrets recordings secret recording are is = record {
   runs = are.runs ++ is.events ∷ [];
-  are_runs = runs-more setup secrets are.runs secret is.events are.are_runs is.run;
+  are_runs = runs_more setup secrets are.runs secret is.events are.are_runs is.run;
   kept = are.kept ++ is.events ∷ [];
-  keep = keep-more recordings are.kept recording is.events are.keep is.keeps;
-  same = same-more are.runs are.kept is.events are.same;
+  keep = keep_more recordings are.kept recording is.events are.keep is.keeps;
+  same = same_more are.runs are.kept is.events are.same;
 }
 
 -- a recording of what the recordings have together stands in their place
-pub followed-union : (setup : Setup) (secrets : List (List ℕ)) (recordings : List Recording) (union : Recording) →
+pub followed_union : (setup : Setup) (secrets : List (List ℕ)) (recordings : List Recording) (union : Recording) →
     ((runs : List (List Event)) → AllKeep recordings runs → RecordsUnion runs union) →
     union.collapse.is_full ≡ false → AreFollowed setup secrets recordings → AreFollowed setup secrets (union ∷ [])
 unfolding AllKeep
-followed-union setup secrets recordings union unites within are =
+followed_union setup secrets recordings union unites within are =
     let all = unites are.kept are.keep in
     record {
       runs = are.runs;
       are_runs = are.are_runs;
       kept = all.events ∷ [];
       keep = (record { within = within; records = all.records }, tt);
-      same = same-union are.runs are.kept all.events are.same all.united;
+      same = same_union are.runs are.kept all.events are.same all.united;
     }
 
 -- ---- the place in a list
@@ -182,9 +182,9 @@ parted xs i x below is =
     plus-one : (n : ℕ) → n + 1 ≡ suc n
     plus-one n = omega arith
 
-pub next-taken : {X : Type 0} (xs : List X) (i : ℕ) (x : X) → i < length xs → x ≡ get_or xs i x →
+pub next_taken : {X : Type 0} (xs : List X) (i : ℕ) (x : X) → i < length xs → x ≡ get_or xs i x →
     take (i + 1) xs ≡ take i xs ++ x ∷ []
-next-taken xs i x below is = take_more xs i x below ∙ ap (λ y. take i xs ++ y ∷ []) (sym is)
+next_taken xs i x below is = take_more xs i x below ∙ ap (λ y. take i xs ++ y ∷ []) (sym is)
 
 -- ---- a run that is refused
 
@@ -199,12 +199,12 @@ named GraphLimit setup secrets index refused = refused (λ e. cc)
 named RunMemory setup secrets index refused = tt
 
 -- the next run is the first that is refused
-pub first-refused : (setup : Setup) (secrets : List (List ℕ)) (recordings : List Recording) (index : ℕ)
+pub first_refused : (setup : Setup) (secrets : List (List ℕ)) (recordings : List Recording) (index : ℕ)
     (secret : List ℕ) (fault : MeasureFault) → index < length secrets → secret ≡ get_or secrets index secret →
     AreFollowed setup (take index secrets) recordings →
     HasCause setup.table setup.regions (start_on setup secret) setup.limit fault →
     IsRunFault setup secrets (many_fault_of (index + 1) fault)
-first-refused setup secrets recordings index secret fault below is are cause =
+first_refused setup secrets recordings index secret fault below is are cause =
     named fault setup secrets (index + 1) (λ other. record {
       earlier = take index secrets;
       secret = secret;

@@ -22,44 +22,44 @@ use Rattle.rv32im_machine.specs.Folds.{real_end}
 use Rattle.rv32im_machine.specs.Language.{Walk}
 use Rattle.acceptance_law.specs.ClosedEvents.{AreProperEvents, IsProperEvent}
 use Rattle.acceptance_law.specs.RunCuts.{visit_masks}
-use Rattle.acceptance_law.proofs.CutVisits.{visit_masks-append}
-use Rattle.acceptance_law.proofs.GraphEvents.{all-parts}
+use Rattle.acceptance_law.proofs.CutVisits.{visit_masks_append}
+use Rattle.acceptance_law.proofs.GraphEvents.{all_parts}
 use Rattle.acceptance_law.proofs.PastsOfEvents.{events_past, pasts}
-use Rattle.acceptance_law.proofs.Turns.{first-none}
+use Rattle.acceptance_law.proofs.Turns.{first_none}
 
 -- ---- the visits of events
 
 abbrev pub HaveSlots : List Point → Type 0
 HaveSlots past = AllByRecursion (λ (point : Point). is_slot point.slot ≡ true) past
 
-times-event : (point : Point) (b : Bool) (mask count : ℕ) (masks : List ℕ) →
+times_event : (point : Point) (b : Bool) (mask count : ℕ) (masks : List ℕ) →
     (if b then suc count else count) + length masks ≡ count + length (cond b (mask ∷ []) [] ++ masks)
-times-event point true mask count masks = omega arith
-times-event point false mask count masks = refl
+times_event point true mask count masks = omega arith
+times_event point false mask count masks = refl
 
 -- passings of a point are its visits
-pub times-pasts : (point : Point) (events : List Event) (past : List Point) →
+pub times_pasts : (point : Point) (events : List Event) (past : List Point) →
     times_passed point (pasts events past) ≡ times_passed point past + length (visit_masks point events)
 unfolding pasts visit_masks
-times-pasts point [] past = omega arith
-times-pasts point (Pass other mask ∷ events) past =
-    times-pasts point events (other ∷ past)
-    ∙ times-event point (is_same point other) mask (times_passed point past) (visit_masks point events)
-times-pasts point (Link source target ∷ events) past = times-pasts point events past
-times-pasts point (FromSecret other ∷ events) past = times-pasts point events past
-times-pasts point (Implicit other region ∷ events) past = times-pasts point events past
-times-pasts point (Out region other ∷ events) past = times-pasts point events past
+times_pasts point [] past = omega arith
+times_pasts point (Pass other mask ∷ events) past =
+    times_pasts point events (other ∷ past)
+    ∙ times_event point (is_same point other) mask (times_passed point past) (visit_masks point events)
+times_pasts point (Link source target ∷ events) past = times_pasts point events past
+times_pasts point (FromSecret other ∷ events) past = times_pasts point events past
+times_pasts point (Implicit other region ∷ events) past = times_pasts point events past
+times_pasts point (Out region other ∷ events) past = times_pasts point events past
 
-slots-pasts : (events : List Event) (past : List Point) → AreProperEvents events → HaveSlots past →
+slots_pasts : (events : List Event) (past : List Point) → AreProperEvents events → HaveSlots past →
     HaveSlots (pasts events past)
 unfolding pasts
-slots-pasts [] past proper slots = slots
-slots-pasts (Pass other mask ∷ events) past proper slots =
-    slots-pasts events (other ∷ past) proper.1 (proper.0.1, slots)
-slots-pasts (Link source target ∷ events) past proper slots = slots-pasts events past proper.1 slots
-slots-pasts (FromSecret other ∷ events) past proper slots = slots-pasts events past proper.1 slots
-slots-pasts (Implicit other region ∷ events) past proper slots = slots-pasts events past proper.1 slots
-slots-pasts (Out region other ∷ events) past proper slots = slots-pasts events past proper.1 slots
+slots_pasts [] past proper slots = slots
+slots_pasts (Pass other mask ∷ events) past proper slots =
+    slots_pasts events (other ∷ past) proper.1 (proper.0.1, slots)
+slots_pasts (Link source target ∷ events) past proper slots = slots_pasts events past proper.1 slots
+slots_pasts (FromSecret other ∷ events) past proper slots = slots_pasts events past proper.1 slots
+slots_pasts (Implicit other region ∷ events) past proper slots = slots_pasts events past proper.1 slots
+slots_pasts (Out region other ∷ events) past proper slots = slots_pasts events past proper.1 slots
 
 -- ---- one turn
 
@@ -68,35 +68,35 @@ pub record Within (past : List Point) (events : List Event) : Type 0 where
   pub few : (point : Point) → times_passed point past ≤ length (visit_masks point events)
   pub slots : HaveSlots past
 
-start-within : Within [] []
+start_within : Within [] []
 unfolding visit_masks
-start-within = record { few = λ point. omega arith; slots = tt }
+start_within = record { few = λ point. omega arith; slots = tt }
 
-turn-within : (enclosed : Bool) (past : List Point) (events : List Event) (labels : TurnLabels) (answers : List ℕ)
+turn_within : (enclosed : Bool) (past : List Point) (events : List Event) (labels : TurnLabels) (answers : List ℕ)
     (walk : Walk) → Within past events → AreProperEvents (events_in labels answers walk) →
     Within (visited enclosed past walk) (events ++ events_in labels answers walk)
-turn-within true past events labels answers walk within proper = record {
+turn_within true past events labels answers walk within proper = record {
   few = λ point.
       let all : length (visit_masks point (events ++ events_in labels answers walk))
       ≡ length (visit_masks point events) + length (visit_masks point (events_in labels answers walk)) =
-      ap length (visit_masks-append point events (events_in labels answers walk))
+      ap length (visit_masks_append point events (events_in labels answers walk))
       ∙ length-append (visit_masks point events) (visit_masks point (events_in labels answers walk)) in
       let few = within.few point in omega (arith, all, few);
   slots = within.slots;
 }
-turn-within false past events labels answers walk within proper = record {
+turn_within false past events labels answers walk within proper = record {
   few = λ point.
       let all : length (visit_masks point (events ++ events_in labels answers walk))
       ≡ length (visit_masks point events) + length (visit_masks point (events_in labels answers walk)) =
-      ap length (visit_masks-append point events (events_in labels answers walk))
+      ap length (visit_masks_append point events (events_in labels answers walk))
       ∙ length-append (visit_masks point events) (visit_masks point (events_in labels answers walk)) in
       let turn : times_passed point (passed past walk)
       ≡ times_passed point past + length (visit_masks point (events_in labels answers walk)) =
       ap (λ p. times_passed point p) (sym (events_past walk labels answers past))
-      ∙ times-pasts point (events_in labels answers walk) past in
+      ∙ times_pasts point (events_in labels answers walk) past in
       let few = within.few point in omega (arith, all, turn, few);
   slots = subst HaveSlots (events_past walk labels answers past)
-      (slots-pasts (events_in labels answers walk) past proper within.slots);
+      (slots_pasts (events_in labels answers walk) past proper within.slots);
 }
 
 -- ---- so many turns
@@ -110,30 +110,30 @@ pub record Beside (regions : List Region) (skip : List ℕ) (answers : List (Lis
   pub within : Within (Real (record { regions = regions; skip = skip }) (length answers) start).past
       (run_after regions answers (unlabelled start)).events
 
-fault-none : (broken : Option Break) → broken_fault broken ≡ None → broken ≡ None
-fault-none None e = refl
-fault-none (Some broken) e = absurd (cc)
+fault_none : (broken : Option Break) → broken_fault broken ≡ None → broken ≡ None
+fault_none None e = refl
+fault_none (Some broken) e = absurd (cc)
 
-pub runs-beside : (regions : List Region) (skip : List ℕ) (answers : List (List ℕ)) (start : Place) →
+pub runs_beside : (regions : List Region) (skip : List ℕ) (answers : List (List ℕ)) (start : Place) →
     start.past ≡ [] → start.broken ≡ None → IsUnrefused regions answers (unlabelled start) →
     AreProperEvents (run_after regions answers (unlabelled start)).events → Beside regions skip answers start
 unfolding run_after Real IsUnrefused
-runs-beside regions skip [] start none unbroken unrefused proper = record {
+runs_beside regions skip [] start none unbroken unrefused proper = record {
   state = refl;
   unbroken = unbroken;
   run_unbroken = unbroken;
-  within = subst (λ past. Within past []) (sym none) start-within;
+  within = subst (λ past. Within past []) (sym none) start_within;
 }
-runs-beside regions skip (last ∷ earlier) start none unbroken unrefused proper =
+runs_beside regions skip (last ∷ earlier) start none unbroken unrefused proper =
     let enclosures : Enclosures = record { regions = regions; skip = skip } in
     let run = run_after regions earlier (unlabelled start) in
     let place = Real enclosures (length earlier) start in
     let walk = next_walk regions run in
     let turn = turn_events regions last run in
-    let parts = all-parts IsProperEvent run.events turn proper in
-    let before = runs-beside regions skip earlier start none unbroken unrefused.0 parts.0 in
-    let faults = first-none _ _ (first-none _ _ unrefused.1).1 in
-    let whole : Breaks regions run.place.state ≡ None = fault-none (Breaks regions run.place.state) faults.0 in
+    let parts = all_parts IsProperEvent run.events turn proper in
+    let before = runs_beside regions skip earlier start none unbroken unrefused.0 parts.0 in
+    let faults = first_none _ _ (first_none _ _ unrefused.1).1 in
+    let whole : Breaks regions run.place.state ≡ None = fault_none (Breaks regions run.place.state) faults.0 in
     let goes : real_turn enclosures place ≡ unbroken_turn enclosures place =
     ap (λ b. turn_unless b enclosures place) before.unbroken in
     let run_goes : real_turn (enclosing regions) run.place ≡ unbroken_turn (enclosing regions) run.place =
@@ -146,6 +146,6 @@ runs-beside regions skip (last ∷ earlier) start none unbroken unrefused proper
       within = subst (λ past. Within past (run.events ++ turn))
           (sym (ap (λ (p : Place). p.past) goes
           ∙ ap (λ s. visited (is_enclosed enclosures s.control) place.past (guest_walk regions s)) before.state))
-          (turn-within (is_enclosed enclosures run.place.state.control) place.past run.events (at_start run.labels) last
+          (turn_within (is_enclosed enclosures run.place.state.control) place.past run.events (at_start run.labels) last
           walk before.within parts.1);
     }

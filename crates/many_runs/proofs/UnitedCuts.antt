@@ -13,24 +13,24 @@ use Rattle.flow_base.specs.Points.{is_slot, width_of}
 use Rattle.flow_base.specs.PointOrders.{is_same}
 use Rattle.flow_base.specs.Words.{bit_count}
 use Rattle.flow_base.proofs.PointEquality.{points_alike}
-use Rattle.flow_base.proofs.PointOrders.{same-one}
+use Rattle.flow_base.proofs.PointOrders.{one_if_same}
 use Rattle.flow_graph.specs.declared.events.Event.{Event}
 use Rattle.flow_graph.specs.declared.events.Event.TheVariants.{Pass, Link, FromSecret, Implicit, Out}
 use Rattle.flow_graph.specs.declared.graphs.Graph.{Graph}
 use Rattle.flow_graph.specs.declared.nodes.Node.{Node}
 use Rattle.flow_graph.specs.EventGraphs.{IsGraphOf, bits_at, passed}
-use Rattle.flow_graph.proofs.MaskBitCounts.{bit_count-zero}
+use Rattle.flow_graph.proofs.MaskBitCounts.{bit_count_zero}
 use Rattle.max_flow.specs.declared.answers.Half.{Half}
 use Rattle.max_flow.specs.Flows.{IsSideOf, has_first, side_capacity}
 use Rattle.replay_machine.specs.Runs.{Masks, mask_at, times_passed}
 use Rattle.acceptance_law.specs.RunCuts.{mask_at_event, HasVisitMasks, IsCutOf, is_inner, names_point, visit_masks}
 use Rattle.acceptance_law.specs.Sides.{NamedSide, halves_at, is_split, named_side}
-use Rattle.acceptance_law.proofs.CutVisits.{IsLike, like-exact}
+use Rattle.acceptance_law.proofs.CutVisits.{IsLike, like_exact}
 use Rattle.acceptance_law.proofs.GraphCapacities.{capacity_law}
 use Rattle.acceptance_law.proofs.PastsOfEvents.{pasts}
-use Rattle.many_runs.proofs.BitsOfUnions.{visit-bits}
-use Rattle.many_runs.proofs.PastBits.{past-more, past-none, past_bits}
-use Rattle.many_runs.proofs.RunPasts.{HaveSlots, times-pasts}
+use Rattle.many_runs.proofs.BitsOfUnions.{visit_bits}
+use Rattle.many_runs.proofs.PastBits.{past_more, past_none, past_bits}
+use Rattle.many_runs.proofs.RunPasts.{HaveSlots, times_pasts}
 
 -- ---- the event of a visit
 
@@ -43,10 +43,10 @@ record Visit (events : List Event) (point : Point) (n : ℕ) : Type 0 where
   count : length (visit_masks point seen) ≡ n
   at : get_or (visit_masks point events) n 0 ≡ mask
 
-visit-later : (event : Event) (events : List Event) (point : Point) (n : ℕ) → mask_at_event point event ≡ [] →
+visit_later : (event : Event) (events : List Event) (point : Point) (n : ℕ) → mask_at_event point event ≡ [] →
     Visit events point n → Visit (event ∷ events) point n
 unfolding visit_masks
-visit-later event events point n none visit = record {
+visit_later event events point n none visit = record {
   seen = event ∷ visit.seen;
   mask = visit.mask;
   rest = visit.rest;
@@ -55,10 +55,10 @@ visit-later event events point n none visit = record {
   at = ap (λ masks. get_or (masks ++ visit_masks point events) n 0) none ∙ visit.at;
 }
 
-visit-behind : (event : Event) (events : List Event) (point : Point) (mask n : ℕ) →
+visit_behind : (event : Event) (events : List Event) (point : Point) (mask n : ℕ) →
     mask_at_event point event ≡ mask ∷ [] → Visit events point n → Visit (event ∷ events) point (suc n)
 unfolding visit_masks
-visit-behind event events point mask n one visit = record {
+visit_behind event events point mask n one visit = record {
   seen = event ∷ visit.seen;
   mask = visit.mask;
   rest = visit.rest;
@@ -67,10 +67,10 @@ visit-behind event events point mask n one visit = record {
   at = ap (λ masks. get_or (masks ++ visit_masks point events) (suc n) 0) one ∙ visit.at;
 }
 
-visit-here : (other : Point) (mask : ℕ) (events : List Event) (point : Point) → point ≡ other →
+visit_here : (other : Point) (mask : ℕ) (events : List Event) (point : Point) → point ≡ other →
     mask_at_event point (Pass other mask) ≡ mask ∷ [] → Visit (Pass other mask ∷ events) point 0
 unfolding visit_masks
-visit-here other mask events point same one = record {
+visit_here other mask events point same one = record {
   seen = [];
   mask = mask;
   rest = events;
@@ -79,38 +79,38 @@ visit-here other mask events point same one = record {
   at = ap (λ masks. get_or (masks ++ visit_masks point events) 0 0) one;
 }
 
-visit-in : (events : List Event) (point : Point) (n : ℕ) → n < length (visit_masks point events) → Visit events point n
+visit_in : (events : List Event) (point : Point) (n : ℕ) → n < length (visit_masks point events) → Visit events point n
 unfolding visit_masks
-visit-in [] point n below = absurd (omega arith)
-visit-in (Pass other mask ∷ events) point n below =
-    pick (visit-in events point) (is_same point other) refl n below
+visit_in [] point n below = absurd (omega arith)
+visit_in (Pass other mask ∷ events) point n below =
+    pick (visit_in events point) (is_same point other) refl n below
   where
     pick : ((k : ℕ) → k < length (visit_masks point events) → Visit events point k) → (b : Bool) →
         is_same point other ≡ b → (n : ℕ) →
         n < length (mask_at_event point (Pass other mask) ++ visit_masks point events) →
         Visit (Pass other mask ∷ events) point n
     pick inner true same zero below =
-        visit-here other mask events point (same-one point other same) (ap (λ b. cond b (mask ∷ []) []) same)
+        visit_here other mask events point (one_if_same point other same) (ap (λ b. cond b (mask ∷ []) []) same)
     pick inner true same (suc n) below =
-        visit-behind (Pass other mask) events point mask n (ap (λ b. cond b (mask ∷ []) []) same)
+        visit_behind (Pass other mask) events point mask n (ap (λ b. cond b (mask ∷ []) []) same)
         (inner n
         (let all : length (mask_at_event point (Pass other mask) ++ visit_masks point events)
         ≡ suc (length (visit_masks point events)) =
         ap (λ b. length (cond b (mask ∷ []) [] ++ visit_masks point events)) same in omega (arith, below, all)))
     pick inner false other_point n below =
-        visit-later (Pass other mask) events point n (ap (λ b. cond b (mask ∷ []) []) other_point)
+        visit_later (Pass other mask) events point n (ap (λ b. cond b (mask ∷ []) []) other_point)
         (inner n
         (let all : length (mask_at_event point (Pass other mask) ++ visit_masks point events)
         ≡ length (visit_masks point events) =
         ap (λ b. length (cond b (mask ∷ []) [] ++ visit_masks point events)) other_point in omega (arith, below, all)))
-visit-in (Link source target ∷ events) point n below =
-    visit-later (Link source target) events point n refl (visit-in events point n below)
-visit-in (FromSecret other ∷ events) point n below =
-    visit-later (FromSecret other) events point n refl (visit-in events point n below)
-visit-in (Implicit other region ∷ events) point n below =
-    visit-later (Implicit other region) events point n refl (visit-in events point n below)
-visit-in (Out region other ∷ events) point n below =
-    visit-later (Out region other) events point n refl (visit-in events point n below)
+visit_in (Link source target ∷ events) point n below =
+    visit_later (Link source target) events point n refl (visit_in events point n below)
+visit_in (FromSecret other ∷ events) point n below =
+    visit_later (FromSecret other) events point n refl (visit_in events point n below)
+visit_in (Implicit other region ∷ events) point n below =
+    visit_later (Implicit other region) events point n refl (visit_in events point n below)
+visit_in (Out region other ∷ events) point n below =
+    visit_later (Out region other) events point n refl (visit_in events point n below)
 
 -- ---- what a cut has of united events
 
@@ -126,14 +126,14 @@ pub record Cuts (events : List Event) (graph : Graph) (halves : List Half) (rela
   pub fits : (point : Point) (n : ℕ) → n < length (visit_masks point events) →
       get_or (visit_masks point events) n 0 ≤ width_of point.slot
 
-pub named-slot : (points : List CutPoint) (point : Point) → list_all has_slot points ≡ true →
+pub named_slot : (points : List CutPoint) (point : Point) → list_all has_slot points ≡ true →
     names_point points point ≡ true → is_slot point.slot ≡ true
-named-slot [] point slots named = absurd (cc)
-named-slot (first ∷ points) point slots named =
+named_slot [] point slots named = absurd (cc)
+named_slot (first ∷ points) point slots named =
     let both = and_parts (has_slot first) (list_all has_slot points) slots in
     elim (or_cases (is_same first.point point) (names_point points point) named) [
-      | inl same ↦ ap (λ (p : Point). is_slot p.slot) (sym (same-one first.point point same)) ∙ both.0
-      | inr later ↦ named-slot points point both.1 later
+      | inl same ↦ ap (λ (p : Point). is_slot p.slot) (sym (one_if_same first.point point same)) ∙ both.0
+      | inr later ↦ named_slot points point both.1 later
     ]
 
 module _ (events : List Event) (graph : Graph) (halves : List Half) (relays : List Bool) (secret_len capacity : ℕ)
@@ -145,17 +145,17 @@ module _ (events : List Event) (graph : Graph) (halves : List Half) (relays : Li
   pub exact-at : (point : Point) (n : ℕ) → names_point cut.points point ≡ true →
       n < length (visit_masks point events) → masks point (suc n) ≡ get_or (visit_masks point events) n 0
   exact-at point n named below =
-      let visit = visit-in events point n below in
+      let visit = visit_in events point n below in
       let passings : times_passed point (pasts visit.seen []) ≡ length (visit_masks point visit.seen) =
       (let all : times_passed point (pasts visit.seen []) ≡ 0 + length (visit_masks point visit.seen) =
-      times-pasts point visit.seen [] in omega (arith, all)) in
+      times_pasts point visit.seen [] in omega (arith, all)) in
       let times : times_passed point (pasts visit.seen []) ≡ n = passings ∙ visit.count in
       let fits : visit.mask ≤ width_of point.slot =
       (let most = cuts.fits point n below in let at = visit.at in omega (arith, most, at)) in
       ap (λ k. masks point (suc k)) (sym times)
-      ∙ (like-exact cut.points masks cuts.like visit.seen visit.rest (pasts visit.seen []) point visit.mask
+      ∙ (like_exact cut.points masks cuts.like visit.seen visit.rest (pasts visit.seen []) point visit.mask
       (subst (λ es. AllByRecursion (HasVisitMasks es) cut.points) visit.are cuts.cut_of.masks) cuts.slots
-      (fits, named-slot cut.points point cuts.slots named) passings named
+      (fits, named_slot cut.points point cuts.slots named) passings named
       ∙ sym visit.at)
 
   -- ---- the passings of a run as events
@@ -182,7 +182,7 @@ module _ (events : List Event) (graph : Graph) (halves : List Half) (relays : Li
           cond (is_same point q) (bit_count (mask_at masks past point)) 0 + passed (past_events past) q
           ≡ sum_by bit_count (upto q (if b then suc (times_passed q past) else times_passed q past))
       pick rest true same =
-          let one : point ≡ q = sym (same-one q point same) in
+          let one : point ≡ q = sym (one_if_same q point same) in
           let here : cond (is_same point q) (bit_count (mask_at masks past point)) 0
           ≡ bit_count (mask_at masks past point) =
           cond-true (is_same point q) (bit_count (mask_at masks past point)) 0 (points_alike.symm point q ∙ same) in
@@ -228,7 +228,7 @@ module _ (events : List Event) (graph : Graph) (halves : List Half) (relays : Li
       let taken = upto-taken q (visit_masks q events) (times_passed q past) few
       (λ k below. exact-at q k named (omega (arith, few, below))) in
       let most = take-few (times_passed q past) (visit_masks q events) in
-      let all = visit-bits q events in
+      let all = visit_bits q events in
       omega (arith, upto_bits, taken, most, all)
 
   -- and none pass another point
@@ -244,8 +244,8 @@ module _ (events : List Event) (graph : Graph) (halves : List Half) (relays : Li
       pick : (b : Bool) → is_same point q ≡ b → cond b (bit_count (mask_at masks past point)) 0 ≡ 0
       pick true same =
           ap (λ m. bit_count m) (cuts.like.missing point (suc (times_passed point past)) slots.0
-          (ap (λ p. names_point cut.points p) (same-one point q same) ∙ none))
-          ∙ bit_count-zero
+          (ap (λ p. names_point cut.points p) (one_if_same point q same) ∙ none))
+          ∙ bit_count_zero
       pick false other = refl
 
   -- ---- their bits at the points of the graph
@@ -288,7 +288,7 @@ module _ (events : List Event) (graph : Graph) (halves : List Half) (relays : Li
       elim (cases_Bool (is_same point node.point)) [
         | inl same ↦
             let there : is_split side node.point ≡ true =
-            ap (λ p. is_split side p) (sym (same-one point node.point same)) ∙ split in
+            ap (λ p. is_split side p) (sym (one_if_same point node.point same)) ∙ split in
             let here : share_of (Pass point mask) node ≡ bit_count mask =
             cond-true (is_split side node.point) (cond (is_same point node.point) (bit_count mask) 0) 0 there
             ∙ cond-true (is_same point node.point) (bit_count mask) 0 same in
@@ -303,9 +303,9 @@ module _ (events : List Event) (graph : Graph) (halves : List Half) (relays : Li
   bits-shared : (past : List Point) → HaveSlots past →
       past_bits masks past ≤ sum_by (share (past_events past)) graph.points
   unfolding past_events
-  bits-shared [] slots = omega (arith, past-none masks)
+  bits-shared [] slots = omega (arith, past_none masks)
   bits-shared (point ∷ past) slots =
-      let more = past-more masks point past in
+      let more = past_more masks point past in
       let rest = bits-shared past slots.1 in
       let parts = sum-two (share (past_events (point ∷ past))) (share_of (Pass point (mask_at masks past point)))
       (share (past_events past)) (share-more (Pass point (mask_at masks past point)) (past_events past)) graph.points in
@@ -320,7 +320,7 @@ module _ (events : List Event) (graph : Graph) (halves : List Half) (relays : Li
         | inr other ↦
             let none : bit_count (mask_at masks past point) ≡ 0 =
             ap (λ m. bit_count m) (cuts.like.missing point (suc (times_passed point past)) slots.0 other)
-            ∙ bit_count-zero in
+            ∙ bit_count_zero in
             omega (arith, none)
       ] in
       omega (arith, more, rest, parts, here)

@@ -9,7 +9,7 @@ use Rattle.many_runs.specs.Causes.{HasManyCause}
 use Rattle.many_runs.specs.Following.{AreFollowed}
 use Rattle.many_runs.specs.Measures.{HaveLength, MeasuresAll, Setup, first_length}
 use Rattle.many_runs.specs.Private.Recordings.{AllKeep, RecordsUnion}
-use Rattle.many_runs.proofs.RecordedRuns.{united-too}
+use Rattle.many_runs.proofs.RecordedRuns.{united_too}
 use Rattle.many_runs.specs.Private.Weighing.{IsWeighFault, WeighsAll}
 
 module _ (setup : Setup) (secrets : List (List ℕ)) (recordings : List Recording) (union : Recording)
@@ -24,7 +24,7 @@ module _ (setup : Setup) (secrets : List (List ℕ)) (recordings : List Recordin
         runs = are.runs;
         are_runs = are.are_runs;
         events = all.events;
-        united = united-too are.runs are.kept all.events are.same all.united;
+        united = united_too are.runs are.kept all.events are.same all.united;
         measure = weighs all.events all.records;
         budget = budget;
       }
@@ -38,7 +38,7 @@ module _ (setup : Setup) (secrets : List (List ℕ)) (recordings : List Recordin
           alike = alike;
           runs = are.runs;
           are_runs = are.are_runs;
-          united = united-too are.runs are.kept all.events are.same all.united;
+          united = united_too are.runs are.kept all.events are.same all.united;
         };
         exceeds = all.records.exceeds full;
       }
@@ -51,7 +51,7 @@ module _ (setup : Setup) (secrets : List (List ℕ)) (recordings : List Recordin
           alike = alike;
           runs = are.runs;
           are_runs = are.are_runs;
-          united = united-too are.runs are.kept all.events are.same all.united;
+          united = united_too are.runs are.kept all.events are.same all.united;
         };
         within = much.within;
         maximum = much.maximum;

@@ -5,11 +5,11 @@ use Rattle.shadow_masks.specs.Labels.{clean}
 use Rattle.shadow_masks.specs.Pages.{AreClean}
 use Rattle.masked_turns.specs.declared.uses.SecretLook.TheVariants.{Code}
 
-pub equal-code : (bytes : ℕ → Label) (address : ℕ) → AreClean bytes address 4 →
+pub equal_code : (bytes : ℕ → Label) (address : ℕ) → AreClean bytes address 4 →
     None ≡ (if ((bytes address).mask == 0) && (((bytes (address + 1)).mask == 0)
     && (((bytes (address + 2)).mask == 0) && ((bytes (address + 3)).mask == 0)))
     then None else Some (Code address))
-equal-code bytes address are =
+equal_code bytes address are =
     let here : address ≡ address + 0 = omega arith in
     let first : bytes address ≡ clean = ap bytes here ∙ are 0 (omega arith) in
     let second : bytes (address + 1) ≡ clean = are 1 (omega arith) in

@@ -16,9 +16,9 @@ use Rattle.masked_turns.specs.declared.uses.SecretLook.{SecretLook}
 use Rattle.masked_turns.specs.declared.uses.SecretLook.TheVariants.{Code, BaseRegister}
 use Rattle.masked_turns.specs.Looking.{first_look, look_at}
 
-pub look-none : (first later : Option SecretLook) → first_look first later ≡ None → (first ≡ None) × (later ≡ None)
-look-none None later e = (refl, e)
-look-none (Some look) later e = absurd (cc)
+pub look_none : (first later : Option SecretLook) → first_look first later ≡ None → (first ≡ None) × (later ≡ None)
+look_none None later e = (refl, e)
+look_none (Some look) later e = absurd (cc)
 
 word_clean : (a b c d : ℕ) (address : ℕ) →
     (if (a == 0) && ((b == 0) && ((c == 0) && (d == 0))) then None else Some (Code address)) ≡ None →

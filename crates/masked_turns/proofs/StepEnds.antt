@@ -20,7 +20,7 @@ use Rattle.acceptance_law.specs.Proper.{AreBytes, IsProperPlace, place_limit, Is
 use Rattle.acceptance_law.proofs.WritesKeepRelation.{put_limits, put_registers, put_memory, put_kept, put_label_kept, not_alike}
 use Rattle.acceptance_law.proofs.Passings.{slot_word, made_fits}
 use Rattle.acceptance_law.proofs.Turns.{seen_word}
-use Rattle.acceptance_law.proofs.Unchanged.{EndsProper, declared, first-unbroken, may_write, put_other}
+use Rattle.acceptance_law.proofs.Unchanged.{EndsProper, declared, first_unbroken, may_write, put_other}
 use Rattle.acceptance_law.proofs.Unchanged.{start_limits, move_limit, move_place}
 use Rattle.masked_turns.specs.Clearing.{Cutting, cleared_in}
 use Rattle.std.specs.Option.{option_or}
@@ -53,7 +53,7 @@ module _ (setting : Setting) (secret : List ℕ) (bytes : AreBytes secret) (numb
         ∙ put_registers setting.base p value store;
     memory = ap (λ (s : State). length s.store.memory) end ∙ rest.memory ∙ put_memory setting.base p value store;
     same = λ region registers pc none q iq dq.
-        let parts = first-unbroken _ _ (sym (breaks region registers pc) ∙ none) in
+        let parts = first_unbroken _ _ (sym (breaks region registers pc) ∙ none) in
         let here = put_other setting.base region registers p q clean value (at_start default_map) store held ip iq
         (may_write region registers pc p parts.0) dq in
         ap (λ (s : State). at_place setting.base s.store none_held q) end
@@ -102,7 +102,7 @@ module _ (setting : Setting) (secret : List ℕ) (bytes : AreBytes secret) (numb
         limits = rest.limits;
         registers = rest.registers;
         memory = rest.memory;
-        same = λ region registers pc none q iq dq. rest.same region registers pc (first-unbroken _ _ none).1 q iq dq;
+        same = λ region registers pc none q iq dq. rest.same region registers pc (first_unbroken _ _ none).1 q iq dq;
       }
   step_ends (Moves place shape source turn) store held proper limits =
       let value = shaped shape (value_of setting secret store held source ∷ []) in

@@ -6,12 +6,12 @@ use Rattle.std.proofs.lemmas.List.{length-set, get_or-set_same, get_or-set_other
 use Rattle.max_flow.specs.Networks.{Net, IsNet, IsFlow, AreAtMost, at_node, source_flow}
 use Rattle.max_flow.specs.Private.Rooms.{bound}
 use Rattle.max_flow.specs.Private.Balances.{AreBalanced, AreSums, IsFlowOfValue, sum_at}
-use Rattle.max_flow.proofs.Sums.{sum-none, sum-suc}
+use Rattle.max_flow.proofs.Sums.{sum_none, sum_suc}
 
 pub sums_none : (keys numbers sums : List ℕ) → ((v : ℕ) → slice_index sums v ≡ 0) → AreSums keys numbers 0 sums
 sums_none keys numbers sums none = record {
   each = λ v below.
-      none v ∙ sym (sum-none (λ i. cond (eqb (slice_index keys i) v) (slice_index numbers i) 0));
+      none v ∙ sym (sum_none (λ i. cond (eqb (slice_index keys i) v) (slice_index numbers i) 0));
 }
 
 -- one more number, added at its key
@@ -21,7 +21,7 @@ sums_more keys numbers sums i k s before key inside sum = record {
   each = λ v below.
       let count : length (set sums k s) ≡ length sums = length-set sums k s in
       let more : sum_at keys numbers (i + 1) v ≡ sum_at keys numbers i v + cond (eqb (slice_index keys i) v)
-      (slice_index numbers i) 0 = sum-suc i (λ j. cond (eqb (slice_index keys j) v) (slice_index numbers j) 0) in
+      (slice_index numbers i) 0 = sum_suc i (λ j. cond (eqb (slice_index keys j) v) (slice_index numbers j) 0) in
       let old : slice_index sums v ≡ sum_at keys numbers i v = before.each v (omega (arith, count, below)) in
       ⊎_elim
       (λ (e : slice_index keys i ≡ v).
@@ -89,9 +89,9 @@ looked_top limits flow i within fits =
     omega (arith, is, fits))
     (cases_Bool (ltb i (length limits)))
 
-looked-value : (net : Net) (flow into out : List ℕ) (value : ℕ) → IsNet net →
+looked_value : (net : Net) (flow into out : List ℕ) (value : ℕ) → IsNet net →
     IsLookedOver net flow into out value → source_flow net flow ≡ value
-looked-value net flow into out value is looked =
+looked_value net flow into out value is looked =
     let out_count : length out ≡ net.nodes = looked.out_count in
     let some : 2 ≤ net.nodes = is.some in
     at_node_is net.tails flow out 0 looked.out_sums (omega (arith, out_count, some)) ∙ looked.value_is
@@ -104,6 +104,6 @@ looked_over net flow into out value is looked = record {
     count = looked.count;
     top = λ i below. looked_top net.limits flow i (looked.within i) (looked.fits i);
   };
-  value_is = looked-value net flow into out value is looked;
+  value_is = looked_value net flow into out value is looked;
   most = looked.most;
 }

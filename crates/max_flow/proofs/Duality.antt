@@ -17,15 +17,15 @@ part s k v = s v && ltb v k
 none_below : (s : ℕ → Bool) (x f : ℕ) → cond (s x && ltb x 0) f 0 ≡ 0
 none_below s x f = cond-false (s x && ltb x 0) f 0 (and_right (s x) (ltb x 0) (le-ltb x 0 (omega arith)))
 
-part-none : (keys flow : List ℕ) (s : ℕ → Bool) → at_set keys flow (part s 0) ≡ 0
+part_none : (keys flow : List ℕ) (s : ℕ → Bool) → at_set keys flow (part s 0) ≡ 0
 unfolding at_set
-part-none keys flow s =
+part_none keys flow s =
     sum_zero (length keys) (λ i. cond (part s 0 (slice_index keys i)) (slice_index flow i) 0)
     (λ i below. none_below s (slice_index keys i) (slice_index flow i))
 
-and-true : (a b : Bool) → b ≡ true → (a && b) ≡ a
-and-true true b e = e
-and-true false b e = refl
+and_true : (a b : Bool) → b ≡ true → (a && b) ≡ a
+and_true true b e = e
+and_true false b e = refl
 
 -- one number more: at the number itself, below it, and past it
 one_more : (s : ℕ → Bool) (k x f : ℕ) → s k ≡ true → cond (s x && ltb x (k + 1)) f 0 ≡ cond (s x && ltb x k) f 0 +
@@ -72,10 +72,10 @@ no_more s k x f outside =
     other)
     (cases_order x k)
 
-part-in : (keys flow : List ℕ) (s : ℕ → Bool) (k : ℕ) → s k ≡ true →
+part_in : (keys flow : List ℕ) (s : ℕ → Bool) (k : ℕ) → s k ≡ true →
     at_set keys flow (part s (k + 1)) ≡ at_set keys flow (part s k) + at_node keys flow k
 unfolding at_set at_node
-part-in keys flow s k in_set =
+part_in keys flow s k in_set =
     sum_same (length keys) (λ i. cond (part s (k + 1) (slice_index keys i)) (slice_index flow i) 0)
     (λ i. cond (part s k (slice_index keys i)) (slice_index flow i) 0 + cond (eqb (slice_index keys i) k)
     (slice_index flow i) 0)
@@ -83,22 +83,22 @@ part-in keys flow s k in_set =
     ∙ sum_add (length keys) (λ i. cond (part s k (slice_index keys i)) (slice_index flow i) 0)
     (λ i. cond (eqb (slice_index keys i) k) (slice_index flow i) 0)
 
-part-out : (keys flow : List ℕ) (s : ℕ → Bool) (k : ℕ) → s k ≡ false →
+part_out : (keys flow : List ℕ) (s : ℕ → Bool) (k : ℕ) → s k ≡ false →
     at_set keys flow (part s (k + 1)) ≡ at_set keys flow (part s k)
 unfolding at_set
-part-out keys flow s k outside =
+part_out keys flow s k outside =
     sum_same (length keys) (λ i. cond (part s (k + 1) (slice_index keys i)) (slice_index flow i) 0)
     (λ i. cond (part s k (slice_index keys i)) (slice_index flow i) 0)
     (λ i below. no_more s k (slice_index keys i) (slice_index flow i) outside)
 
-part-all : (keys flow : List ℕ) (s : ℕ → Bool) (n : ℕ) → ((i : ℕ) → i < length keys → slice_index keys i < n) →
+part_all : (keys flow : List ℕ) (s : ℕ → Bool) (n : ℕ) → ((i : ℕ) → i < length keys → slice_index keys i < n) →
     at_set keys flow (part s n) ≡ at_set keys flow s
 unfolding at_set
-part-all keys flow s n inside =
+part_all keys flow s n inside =
     sum_same (length keys) (λ i. cond (part s n (slice_index keys i)) (slice_index flow i) 0)
     (λ i. cond (s (slice_index keys i)) (slice_index flow i) 0)
     (λ i below. ap (λ b. cond b (slice_index flow i) 0)
-    (and-true (s (slice_index keys i)) (ltb (slice_index keys i) n) (lt-ltb (slice_index keys i) n (inside i below))))
+    (and_true (s (slice_index keys i)) (ltb (slice_index keys i) n) (lt-ltb (slice_index keys i) n (inside i below))))
 
 -- nothing enters the source
 pub source_entered : (net : Net) (flow : List ℕ) → IsNet net → at_node net.heads flow 0 ≡ 0
@@ -115,11 +115,11 @@ grows : (net : Net) (flow : List ℕ) → IsNet net → IsFlow net flow → (s :
     (part s (k + 1))
 grows net flow is flows s source sink zero below =
     let into : at_set net.heads flow (part s (0 + 1)) ≡ at_set net.heads flow (part s 0) + at_node net.heads flow 0 =
-    part-in net.heads flow s 0 source in
+    part_in net.heads flow s 0 source in
     let out : at_set net.tails flow (part s (0 + 1)) ≡ at_set net.tails flow (part s 0) + at_node net.tails flow 0 =
-    part-in net.tails flow s 0 source in
-    let a : at_set net.heads flow (part s 0) ≡ 0 = part-none net.heads flow s in
-    let b : at_set net.tails flow (part s 0) ≡ 0 = part-none net.tails flow s in
+    part_in net.tails flow s 0 source in
+    let a : at_set net.heads flow (part s 0) ≡ 0 = part_none net.heads flow s in
+    let b : at_set net.tails flow (part s 0) ≡ 0 = part_none net.tails flow s in
     let c : at_node net.heads flow 0 ≡ 0 = source_entered net flow is in
     omega arith
 grows net flow is flows s source sink (suc k) below =
@@ -129,9 +129,9 @@ grows net flow is flows s source sink (suc k) below =
     ⊎_elim
     (λ (in_set : s (suc k) ≡ true).
     let into : at_set net.heads flow (part s (suc k + 1)) ≡ at_set net.heads flow (part s (suc k)) + at_node net.heads
-    flow (suc k) = part-in net.heads flow s (suc k) in_set in
+    flow (suc k) = part_in net.heads flow s (suc k) in_set in
     let out : at_set net.tails flow (part s (suc k + 1)) ≡ at_set net.tails flow (part s (suc k)) + at_node net.tails
-    flow (suc k) = part-in net.tails flow s (suc k) in_set in
+    flow (suc k) = part_in net.tails flow s (suc k) in_set in
     let here : at_node net.heads flow (suc k) ≡ at_node net.tails flow (suc k) =
     ⊎_elim
     (λ (one : suc k ≡ 1). absurd (let no : true ≡ false = sym in_set ∙ (ap s one ∙ sink) in cc))
@@ -144,8 +144,8 @@ grows net flow is flows s source sink (suc k) below =
     omega arith)
     (λ (outside : s (suc k) ≡ false).
     let into : at_set net.heads flow (part s (suc k + 1)) ≡ at_set net.heads flow (part s (suc k)) =
-    part-out net.heads flow s (suc k) outside in
-    let out : at_set net.tails flow (part s (suc k + 1)) ≡ at_set net.tails flow (part s (suc k)) = part-out net.tails
+    part_out net.heads flow s (suc k) outside in
+    let out : at_set net.tails flow (part s (suc k + 1)) ≡ at_set net.tails flow (part s (suc k)) = part_out net.tails
     flow s (suc k) outside in
     let h : at_set net.heads flow (part s (k + 1)) ≡ at_set net.heads flow (part s (suc k)) =
     ap (λ n. at_set net.heads flow (part s n)) (sym e) in
@@ -164,8 +164,8 @@ conserved net flow is flows s source sink =
     (part s (net.nodes - 1 + 1)) =
     grows net flow is flows s source sink (net.nodes - 1) (omega arith) in
     let into : at_set net.heads flow (part s (net.nodes - 1 + 1)) ≡ at_set net.heads flow s =
-    ap (λ n. at_set net.heads flow (part s n)) e ∙ part-all net.heads flow s net.nodes
+    ap (λ n. at_set net.heads flow (part s n)) e ∙ part_all net.heads flow s net.nodes
     (λ i below. is.heads_inside i (let same : length net.heads ≡ length net.tails = is.same in omega arith)) in
     let out : at_set net.tails flow (part s (net.nodes - 1 + 1)) ≡ at_set net.tails flow s =
-    ap (λ n. at_set net.tails flow (part s n)) e ∙ part-all net.tails flow s net.nodes is.tails_inside in
+    ap (λ n. at_set net.tails flow (part s n)) e ∙ part_all net.tails flow s net.nodes is.tails_inside in
     omega arith

@@ -34,8 +34,8 @@ none_bounded net flow zeros = record {
   top = λ i below. let e : slice_index flow i ≡ 0 = zeros.each i in omega arith;
 }
 
-none-value : (net : Net) (flow : List ℕ) → AreZeros (length net.tails) flow → source_flow net flow ≡ 0
-none-value net flow zeros = none_at net.tails flow 0 (length net.tails) zeros
+none_value : (net : Net) (flow : List ℕ) → AreZeros (length net.tails) flow → source_flow net flow ≡ 0
+none_value net flow zeros = none_at net.tails flow 0 (length net.tails) zeros
 
 none_most : (n : ℕ) (flow : List ℕ) → AreZeros n flow → AreAtMost 0 flow
 none_most n flow zeros = λ i. let e : slice_index flow i ≡ 0 = zeros.each i in omega (arith, e)
@@ -62,12 +62,12 @@ last_side net flow value places arrivals rooms queue is small flows found none s
     side_of_closed net flow (is_found places) is flows (source_in net flow places arrivals rooms queue found)
     (sink_out places none) shut (value_small net flow is small flows)
 
-pub last-capacity : (net : Net) (flow : List ℕ) (value : ℕ) (places arrivals rooms queue : List ℕ) → IsNet net →
+pub last_capacity : (net : Net) (flow : List ℕ) (value : ℕ) (places arrivals rooms queue : List ℕ) → IsNet net →
     HasSmallSide net → IsFlow net flow →
     source_flow net flow ≡ value → IsFound net flow places arrivals rooms queue → slice_index places 1 ≡ 0 →
     IsClosed net flow (is_found places) →
     capacity_of net (is_found places) ≡ value
-last-capacity net flow value places arrivals rooms queue is small flows value_is found none shut =
+last_capacity net flow value places arrivals rooms queue is small flows value_is found none shut =
     capacity_of_closed net flow (is_found places) is flows (source_in net flow places arrivals rooms queue found)
     (sink_out places none) shut (value_small net flow is small flows)
     ∙ value_is
@@ -88,11 +88,11 @@ raised_side net flow value tree is small raised =
     last_side net flow value tree.places.items tree.arrivals.items tree.rooms.items tree.queue.items is small
     raised.flow_is raised.tree_is raised.sink raised.shut
 
-pub raised-capacity : (net : Net) (flow : List ℕ) (value : ℕ) (tree : Tree) → IsNet net → HasSmallSide net →
+pub raised_capacity : (net : Net) (flow : List ℕ) (value : ℕ) (tree : Tree) → IsNet net → HasSmallSide net →
     IsRaised net flow value tree →
     capacity_of net (is_found tree.places.items) ≡ value
-raised-capacity net flow value tree is small raised =
-    last-capacity net flow value tree.places.items tree.arrivals.items tree.rooms.items tree.queue.items is small
+raised_capacity net flow value tree is small raised =
+    last_capacity net flow value tree.places.items tree.arrivals.items tree.rooms.items tree.queue.items is small
     raised.flow_is raised.value_is raised.tree_is raised.sink raised.shut
 
 pub raised_least : (net : Net) (flow : List ℕ) (value : ℕ) (tree : Tree) → IsNet net → IsRaised net flow value tree →
@@ -105,6 +105,6 @@ pub none_of_value : (net : Net) (flow : List ℕ) → AreZeros (length net.tails
 none_of_value net flow zeros = record {
   flow_is = none_flow net flow zeros;
   bounded = none_bounded net flow zeros;
-  value_is = none-value net flow zeros;
+  value_is = none_value net flow zeros;
   most = none_most (length net.tails) flow zeros;
 }

@@ -19,32 +19,32 @@ use Rattle.max_flow.specs.Private.Searching.{is_found}
 use Rattle.max_flow.proofs.Sums.{sum_same}
 use Rattle.max_flow.proofs.Graphs.{ends_hold, graph_net}
 
-pub marks-push : (halves : List Half) (half : Half) → marks (halves ++ half ∷ []) ≡ marks halves ++
+pub marks_push : (halves : List Half) (half : Half) → marks (halves ++ half ∷ []) ≡ marks halves ++
     (has_first half ∷ has_second half ∷ [])
-marks-push [] half = refl
-marks-push (h ∷ hs) half = ap (λ bs. has_first h ∷ has_second h ∷ bs) (marks-push hs half)
+marks_push [] half = refl
+marks_push (h ∷ hs) half = ap (λ bs. has_first h ∷ has_second h ∷ bs) (marks_push hs half)
 
-pub found-more : (places : List ℕ) (n : ℕ) → found_marks places (n + 1) ≡ found_marks places n ++
+pub found_more : (places : List ℕ) (n : ℕ) → found_marks places (n + 1) ≡ found_marks places n ++
     (is_found places (2 + 2 * n) ∷ is_found places (3 + 2 * n) ∷ [])
 unfolding found_marks
-found-more places n = rw add-one refl
+found_more places n = rw add-one refl
 
-pub length-found : (places : List ℕ) (n : ℕ) → length (found_marks places n) ≡ 2 * n
+pub length_found : (places : List ℕ) (n : ℕ) → length (found_marks places n) ≡ 2 * n
 unfolding found_marks
-length-found places zero = refl
-length-found places (suc n) =
+length_found places zero = refl
+length_found places (suc n) =
     length-append (found_marks places n) (is_found places (2 + 2 * n) ∷ is_found places (3 + 2 * n) ∷ []) ∙
-    omega (arith, length-found places n)
+    omega (arith, length_found places n)
 
-found-at : (places : List ℕ) (n k : ℕ) → k < 2 * n → get_or (found_marks places n) k false ≡ is_found places (2 + k)
+found_at : (places : List ℕ) (n k : ℕ) → k < 2 * n → get_or (found_marks places n) k false ≡ is_found places (2 + k)
 unfolding found_marks
-found-at places zero k below = absurd (omega arith)
-found-at places (suc n) k below =
-    let count : length (found_marks places n) ≡ 2 * n = length-found places n in
+found_at places zero k below = absurd (omega arith)
+found_at places (suc n) k below =
+    let count : length (found_marks places n) ≡ 2 * n = length_found places n in
     ⊎_elim
     (λ (earlier : k < 2 * n).
     get_or_append_left (found_marks places n) (is_found places (2 + 2 * n) ∷ is_found places (3 + 2 * n) ∷ []) false k
-    (omega arith) ∙ found-at places n k earlier)
+    (omega arith) ∙ found_at places n k earlier)
     (λ (last : 2 * n ≤ k).
     ⊎_elim
     (λ (e : k ≡ 2 * n).
@@ -63,35 +63,35 @@ found-at places (suc n) k below =
     (cases_lt k (2 * n))
 
 -- of the source, the sink and the halves
-marks-at : (places : List ℕ) (n : ℕ) (bs : List Bool) → bs ≡ found_marks places n → is_found places 0 ≡ true →
+marks_at : (places : List ℕ) (n : ℕ) (bs : List Bool) → bs ≡ found_marks places n → is_found places 0 ≡ true →
     is_found places 1 ≡ false →
     (v : ℕ) → v < 2 + 2 * n → get_or (true ∷ false ∷ bs) v false ≡ is_found places v
-marks-at places n bs same source sink zero below = sym source
-marks-at places n bs same source sink (suc zero) below = sym sink
-marks-at places n bs same source sink (suc (suc k)) below =
-    ap (λ cs. get_or cs k false) same ∙ (found-at places n k (omega arith) ∙ ap (is_found places)
+marks_at places n bs same source sink zero below = sym source
+marks_at places n bs same source sink (suc zero) below = sym sink
+marks_at places n bs same source sink (suc (suc k)) below =
+    ap (λ cs. get_or cs k false) same ∙ (found_at places n k (omega arith) ∙ ap (is_found places)
     (let e : 2 + k ≡ suc (suc k) = omega arith in e))
 
-relay-found : (f : ℕ → Bool) (relays : List ℕ) (r : ℕ) → list_any (eqb r) relays ≡ true → relay_in relays
+relay_found : (f : ℕ → Bool) (relays : List ℕ) (r : ℕ) → list_any (eqb r) relays ≡ true → relay_in relays
     (map f relays) r ≡ f r
-relay-found f [] r any = absurd (cc)
-relay-found f (x ∷ xs) r any =
+relay_found f [] r any = absurd (cc)
+relay_found f (x ∷ xs) r any =
     ⊎_elim
     (λ (e : x ≡ r). cond-true (eqb x r) (f x) (relay_in xs (map f xs) r) (eq-eqb x r e) ∙ ap f e)
     (λ (ne : x ≢ r).
     cond-false (eqb x r) (f x) (relay_in xs (map f xs) r) (ne_eqb x r ne)
-    ∙ relay-found f xs r
+    ∙ relay_found f xs r
     (⊎_elim (λ (here : eqb r x ≡ true). absurd (ne (sym (eqb-true r x here))))
     (λ (rest : list_any (eqb r) xs ≡ true). rest)
     (or_cases (eqb r x) (list_any (eqb r) xs) any)))
     (cases_eq x r)
 
-relay-only : (f : ℕ → Bool) (relays : List ℕ) (r : ℕ) → relay_in relays (map f relays) r ≡ true → f r ≡ true
-relay-only f [] r is = absurd (cc)
-relay-only f (x ∷ xs) r is =
+relay_only : (f : ℕ → Bool) (relays : List ℕ) (r : ℕ) → relay_in relays (map f relays) r ≡ true → f r ≡ true
+relay_only f [] r is = absurd (cc)
+relay_only f (x ∷ xs) r is =
     ⊎_elim
     (λ (e : x ≡ r). ap f (sym e) ∙ (sym (cond-true (eqb x r) (f x) (relay_in xs (map f xs) r) (eq-eqb x r e)) ∙ is))
-    (λ (ne : x ≢ r). relay-only f xs r (sym (cond-false (eqb x r) (f x) (relay_in xs (map f xs) r) (ne_eqb x r ne)) ∙
+    (λ (ne : x ≢ r). relay_only f xs r (sym (cond-false (eqb x r) (f x) (relay_in xs (map f xs) r) (ne_eqb x r ne)) ∙
     is))
     (cases_eq x r)
 
@@ -108,15 +108,15 @@ low_same : (graph : Graph) (places : List ℕ) (halves : List Half) (answers : L
     (v : ℕ) → v < 2 + 2 * length graph.points → member graph halves answers v ≡ is_found places v
 low_same graph places halves answers made v below =
     cond-true (ltb v (2 + 2 * length graph.points)) _ _ (lt-ltb v (2 + 2 * length graph.points) below)
-    ∙ marks-at places (length graph.points) (marks halves) made.points made.source made.sink v below
+    ∙ marks_at places (length graph.points) (marks halves) made.points made.source made.sink v below
 
-high-relay : (graph : Graph) (places : List ℕ) (halves : List Half) (answers : List Bool) → IsMade graph places halves
+high_relay : (graph : Graph) (places : List ℕ) (halves : List Half) (answers : List Bool) → IsMade graph places halves
     answers →
     (v : ℕ) → 2 + 2 * length graph.points ≤ v →
     member graph halves answers v ≡ relay_in graph.relays
     (map (λ region. is_found places (2 + 2 * length graph.points + region)) graph.relays)
     (v - (2 + 2 * length graph.points))
-high-relay graph places halves answers made v from =
+high_relay graph places halves answers made v from =
     cond-false (ltb v (2 + 2 * length graph.points)) _ _ (le-ltb v (2 + 2 * length graph.points) from)
     ∙ ap (λ bs. relay_in graph.relays bs (v - (2 + 2 * length graph.points))) made.relays
 
@@ -126,10 +126,10 @@ relay_same : (graph : Graph) (places : List ℕ) (halves : List Half) (answers :
     is_found places (2 + 2 * length graph.points + r)
 relay_same graph places halves answers made r is =
     let d : 2 + 2 * length graph.points + r - (2 + 2 * length graph.points) ≡ r = omega arith in
-    high-relay graph places halves answers made (2 + 2 * length graph.points + r) (omega arith)
+    high_relay graph places halves answers made (2 + 2 * length graph.points + r) (omega arith)
     ∙ (ap (relay_in graph.relays (map (λ region. is_found places (2 + 2 * length graph.points + region))
     graph.relays)) d
-    ∙ relay-found (λ region. is_found places (2 + 2 * length graph.points + region)) graph.relays r
+    ∙ relay_found (λ region. is_found places (2 + 2 * length graph.points + region)) graph.relays r
     (and_parts _ _ is).1)
 
 pub member_found : (graph : Graph) (places : List ℕ) (halves : List Half) (answers : List Bool) → IsMade graph places
@@ -141,9 +141,9 @@ member_found graph places halves answers made v is =
     (λ (from : 2 + 2 * length graph.points ≤ v).
     let back : 2 + 2 * length graph.points + (v - (2 + 2 * length graph.points)) ≡ v = omega arith in
     ap (is_found places) (sym back)
-    ∙ relay-only (λ region. is_found places (2 + 2 * length graph.points + region)) graph.relays
+    ∙ relay_only (λ region. is_found places (2 + 2 * length graph.points + region)) graph.relays
     (v - (2 + 2 * length graph.points))
-    (sym (high-relay graph places halves answers made v from) ∙ is))
+    (sym (high_relay graph places halves answers made v from) ∙ is))
     (cases_lt v (2 + 2 * length graph.points))
 
 tail_same : (graph : Graph) (places : List ℕ) (halves : List Half) (answers : List Bool) → IsMade graph places halves
@@ -170,12 +170,12 @@ head_same graph places halves answers made (Point i) is =
 head_same graph places halves answers made (Relay r) is = relay_same graph places halves answers made r is
 head_same graph places halves answers made Sink is = low_same graph places halves answers made 1 (omega arith)
 
-pub tails-same : (graph : Graph) (places : List ℕ) (halves : List Half) (answers : List Bool) → IsMade graph places
+pub tails_same : (graph : Graph) (places : List ℕ) (halves : List Half) (answers : List Bool) → IsMade graph places
     halves answers →
     (i : ℕ) → i < length (network_of graph).tails →
     member graph halves answers (slice_index (network_of graph).tails i) ≡ is_found places
     (slice_index (network_of graph).tails i)
-tails-same graph places halves answers made =
+tails_same graph places halves answers made =
     ends_hold (λ v. member graph halves answers v ≡ is_found places v) 2 (length graph.points)
     (λ link. tail_of (length graph.points) link.source)
     (is_link (length graph.points) graph.relays) graph.links
@@ -183,12 +183,12 @@ tails-same graph places halves answers made =
     (λ link is. tail_same graph places halves answers made link.source (and_parts _ _ is).0)
     graph.links_are_valid
 
-pub heads-same : (graph : Graph) (places : List ℕ) (halves : List Half) (answers : List Bool) → IsMade graph places
+pub heads_same : (graph : Graph) (places : List ℕ) (halves : List Half) (answers : List Bool) → IsMade graph places
     halves answers →
     (i : ℕ) → i < length (network_of graph).heads →
     member graph halves answers (slice_index (network_of graph).heads i) ≡ is_found places
     (slice_index (network_of graph).heads i)
-heads-same graph places halves answers made =
+heads_same graph places halves answers made =
     ends_hold (λ v. member graph halves answers v ≡ is_found places v) 3 (length graph.points)
     (λ link. head_of (length graph.points) link.target)
     (is_link (length graph.points) graph.relays) graph.links
@@ -206,15 +206,15 @@ made_side graph places halves answers made side =
       source = low_same graph places halves answers made 0 (omega arith) ∙ made.source;
       sink = low_same graph places halves answers made 1 (omega arith) ∙ made.sink;
       closed = λ i from below is.
-          heads-same graph places halves answers made i (omega (arith, same, below))
-          ∙ side.closed i from below (sym (tails-same graph places halves answers made i below) ∙ is);
+          heads_same graph places halves answers made i (omega (arith, same, below))
+          ∙ side.closed i from below (sym (tails_same graph places halves answers made i below) ∙ is);
     }
 
-pub made-capacity : (graph : Graph) (places : List ℕ) (halves : List Half) (answers : List Bool) → IsMade graph places
+pub made_capacity : (graph : Graph) (places : List ℕ) (halves : List Half) (answers : List Bool) → IsMade graph places
     halves answers →
     capacity_of (network_of graph) (member graph halves answers) ≡ capacity_of (network_of graph) (is_found places)
 unfolding capacity_of
-made-capacity graph places halves answers made =
+made_capacity graph places halves answers made =
     let net : IsNet (network_of graph) = graph_net graph in
     let same : length (network_of graph).heads ≡ length (network_of graph).tails = net.same in
     let limited : length (network_of graph).limits ≤ length (network_of graph).tails = net.limited in
@@ -224,10 +224,10 @@ made-capacity graph places halves answers made =
     (λ i below.
     let t : member graph halves answers (slice_index (network_of graph).tails i) ≡ is_found places
     (slice_index (network_of graph).tails i) =
-    tails-same graph places halves answers made i (omega (arith, limited, below)) in
+    tails_same graph places halves answers made i (omega (arith, limited, below)) in
     let h : member graph halves answers (slice_index (network_of graph).heads i) ≡ is_found places
     (slice_index (network_of graph).heads i) =
-    heads-same graph places halves answers made i (omega (arith, limited, below, same)) in
+    heads_same graph places halves answers made i (omega (arith, limited, below, same)) in
     ap (λ a. cond (a && not (member graph halves answers (slice_index (network_of graph).heads i)))
     (slice_index (network_of graph).limits i) 0) t
     ∙ ap (λ b. cond (is_found places (slice_index (network_of graph).tails i) && not b)

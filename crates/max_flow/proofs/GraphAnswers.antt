@@ -12,16 +12,16 @@ use Rattle.max_flow.specs.Private.Rooms.{IsLeast}
 use Rattle.max_flow.specs.Flows.{halves_from, tail_of, network_of, member, IsFlowOf, Least, HasNoGreater}
 use Rattle.max_flow.specs.Flows.{IsWithinLimits, is_small, flow_value, side_capacity}
 use Rattle.max_flow.specs.Private.Searching.{is_found}
-use Rattle.max_flow.proofs.Graphs.{graph_net, length-halves, all_map}
-use Rattle.max_flow.proofs.FoundNodesAreMembers.{IsMade, made_side, made-capacity, member_found}
+use Rattle.max_flow.proofs.Graphs.{graph_net, length_halves, all_map}
+use Rattle.max_flow.proofs.FoundNodesAreMembers.{IsMade, made_side, made_capacity, member_found}
 use Rattle.max_flow.proofs.Tightness.{weak}
 
-pub edges-count : (graph : Graph) → length (network_of graph).tails ≡ length graph.points + length graph.links
-edges-count graph =
+pub edges_count : (graph : Graph) → length (network_of graph).tails ≡ length graph.points + length graph.links
+edges_count graph =
     length-append (halves_from 2 (length graph.points)) _
     ∙ omega (
       arith,
-      length-halves 2 (length graph.points),
+      length_halves 2 (length graph.points),
       length-map graph.links
           (λ link. tail_of (length graph.points) link.source),
     )
@@ -45,7 +45,7 @@ pub flow_from : (graph : Graph) (flows points links : List ℕ) → IsFlow (netw
     points ≡ take (length graph.points) flows →
     links ≡ drop (length graph.points) flows → IsFlowOf graph points links
 flow_from graph flows points links flow front back =
-    let count : length flows ≡ length graph.points + length graph.links = flow.count ∙ edges-count graph in
+    let count : length flows ≡ length graph.points + length graph.links = flow.count ∙ edges_count graph in
     record {
       points_count = ap length front ∙ length-take-le (length graph.points) flows (omega (arith, count));
       links_count = ap length back ∙ (length-drop (length graph.points) flows ∙ omega (arith, count));
@@ -92,7 +92,7 @@ pub least_from : (graph : Graph) (value : ℕ) (flows places : List ℕ) (halves
     IsLeast (network_of graph) value (is_found places) →
     Least graph halves answers
 least_from graph value flows places halves answers flow value_is made points_count relays_count side capacity least =
-    let mine : side_capacity graph halves answers ≡ value = made-capacity graph places halves answers made ∙ capacity in
+    let mine : side_capacity graph halves answers ≡ value = made_capacity graph places halves answers made ∙ capacity in
     record {
       side = record {
         points_count = points_count;

@@ -14,26 +14,26 @@ use Rattle.max_flow.specs.Networks.{IsNet}
 use Rattle.max_flow.specs.Private.Rooms.{AreFew}
 use Rattle.max_flow.specs.Flows.{halves_from, tail_of, head_of, network_of}
 
-pub length-halves : (start n : ℕ) → length (halves_from start n) ≡ n
+pub length_halves : (start n : ℕ) → length (halves_from start n) ≡ n
 unfolding halves_from
-length-halves start zero = refl
-length-halves start (suc n) =
-    let earlier : length (halves_from start n) ≡ n = length-halves start n in
+length_halves start zero = refl
+length_halves start (suc n) =
+    let earlier : length (halves_from start n) ≡ n = length_halves start n in
     length_push (halves_from start n) (start + 2 * n) ∙ omega arith
 
-pub halves-more : (start n : ℕ) → halves_from start (n + 1) ≡ halves_from start n ++ (start + 2 * n) ∷ []
+pub halves_more : (start n : ℕ) → halves_from start (n + 1) ≡ halves_from start n ++ (start + 2 * n) ∷ []
 unfolding halves_from
-halves-more start n = rw add-one refl
+halves_more start n = rw add-one refl
 
-pub half-at : (start n k : ℕ) → k < n → get_or (halves_from start n) k 0 ≡ start + 2 * k
+pub half_at : (start n k : ℕ) → k < n → get_or (halves_from start n) k 0 ≡ start + 2 * k
 unfolding halves_from
-half-at start zero k below = absurd (omega arith)
-half-at start (suc n) k below =
-    let count : length (halves_from start n) ≡ n = length-halves start n in
+half_at start zero k below = absurd (omega arith)
+half_at start (suc n) k below =
+    let count : length (halves_from start n) ≡ n = length_halves start n in
     ⊎_elim
     (λ (e : k ≡ n). rw e (get_or_push (halves_from start n) (start + 2 * n) 0 n count))
     (λ (ne : k ≢ n). get_or_append_left (halves_from start n) ((start + 2 * n) ∷ []) 0 k (omega arith) ∙
-    half-at start n k (omega arith))
+    half_at start n k (omega arith))
     (cases_eq k n)
 
 -- one item more, put at the end of a list to which the first items of another were put by a function
@@ -56,14 +56,14 @@ pub ends_hold : (P : ℕ → Type 0) (start n : ℕ) (f : Arc → ℕ) (test : A
     true →
     (i : ℕ) → i < length (halves_from start n ++ map f links) → P (slice_index (halves_from start n ++ map f links) i)
 ends_hold P start n f test links first others all i below =
-    let count : length (halves_from start n) ≡ n = length-halves start n in
+    let count : length (halves_from start n) ≡ n = length_halves start n in
     let both : length (halves_from start n ++ map f links) ≡ length (halves_from start n) + length (map f links) =
     length-append (halves_from start n) (map f links) in
     let mapped : length (map f links) ≡ length links = length-map links f in
     ⊎_elim
     (λ (half : i < n).
     let e : get_or (halves_from start n ++ map f links) i 0 ≡ start + 2 * i =
-    get_or_append_left (halves_from start n) (map f links) 0 i (omega arith) ∙ half-at start n i half in
+    get_or_append_left (halves_from start n) (map f links) 0 i (omega arith) ∙ half_at start n i half in
     subst P (sym e) (first i half))
     (λ (link : n ≤ i).
     let e : get_or (halves_from start n ++ map f links) i 0 ≡ get_or (map f links) (i - n) 0 =
@@ -124,13 +124,13 @@ graph_net graph =
     let tails : length (network_of graph).tails ≡ length graph.points + length graph.links =
     length-append (halves_from 2 (length graph.points)) _ ∙ omega (
       arith,
-      length-halves 2 (length graph.points),
+      length_halves 2 (length graph.points),
       length-map graph.links (λ link. tail_of (length graph.points) link.source),
     ) in
     let heads : length (network_of graph).heads ≡ length graph.points + length graph.links =
     length-append (halves_from 3 (length graph.points)) _ ∙ omega (
       arith,
-      length-halves 3 (length graph.points),
+      length_halves 3 (length graph.points),
       length-map graph.links (λ link. head_of (length graph.points) link.target),
     ) in
     let limits : length (network_of graph).limits ≡ length graph.points = length-map graph.points

@@ -17,11 +17,11 @@ sum_ones zero = refl
 sum_ones (suc n) = let earlier : sum_below n (λ v. 1) ≡ n = sum_ones n in omega arith
 
 -- where the source alone is found, each other node is not
-unfound-start : (nodes : ℕ) (places : List ℕ) → 0 < nodes → slice_index places 0 ≡ 1 →
+unfound_start : (nodes : ℕ) (places : List ℕ) → 0 < nodes → slice_index places 0 ≡ 1 →
     ((v : ℕ) → v ≢ 0 → slice_index places v ≡ 0) →
     1 + unfound places nodes ≡ nodes
 unfolding unfound
-unfound-start nodes places some source others =
+unfound_start nodes places some source others =
     let one : sum_below nodes (λ v. 1) ≡ nodes = sum_ones nodes in
     let here : ◌≡◌ {A = ℕ} (cond (eqb (slice_index places 0) 0) 1 0) 0 = rw source refl in
     let changed : sum_below nodes (λ v. cond (eqb (slice_index places v) 0) 1 0) + 1 ≡ sum_below nodes (λ v. 1) + cond
@@ -44,7 +44,7 @@ found_first net flow places arrivals rooms queue is start =
       places_count = start.places_count;
       arrivals_count = start.arrivals_count;
       rooms_count = start.rooms_count;
-      others = let u : 1 + unfound places net.nodes ≡ net.nodes = unfound-start net.nodes places (omega arith) source
+      others = let u : 1 + unfound places net.nodes ≡ net.nodes = unfound_start net.nodes places (omega arith) source
           start.others in omega (arith, u, count);
       source = omega arith;
       walks = record { arrives = λ v below ne found last. absurd (ne (only v found)) };

@@ -14,7 +14,7 @@ use Rattle.flow_graph.specs.Graphs.{is_origin, is_target, is_link, leads_on}
 use Rattle.max_flow.specs.Networks.{capacity_of, leaves, sum_below}
 use Rattle.max_flow.specs.Private.Rooms.{HasSmallSide}
 use Rattle.max_flow.specs.Flows.{halves_from, tail_of, head_of, network_of, is_small, IsWithinLimits}
-use Rattle.max_flow.proofs.Graphs.{length-halves, all_map}
+use Rattle.max_flow.proofs.Graphs.{length_halves, all_map}
 
 -- the source and the first halves, where there are so many points
 is_first : ℕ → ℕ → Bool
@@ -68,17 +68,17 @@ first_closed graph i from below =
     let tails : length (network_of graph).tails ≡ length graph.points + length graph.links =
     length-append (halves_from 2 (length graph.points)) _ ∙ omega (
       arith,
-      length-halves 2 (length graph.points),
+      length_halves 2 (length graph.points),
       length-map graph.links (λ link. tail_of (length graph.points) link.source),
     ) in
     let t : slice_index (network_of graph).tails i ≡ get_or (map (λ link. tail_of (length graph.points) link.source)
     graph.links) (i - length graph.points) 0 =
     get_or-append_right (halves_from 2 (length graph.points)) _ (length graph.points) i 0
-    (length-halves 2 (length graph.points)) (omega (arith, limits, from)) in
+    (length_halves 2 (length graph.points)) (omega (arith, limits, from)) in
     let h : slice_index (network_of graph).heads i ≡ get_or (map (λ link. head_of (length graph.points) link.target)
     graph.links) (i - length graph.points) 0 =
     get_or-append_right (halves_from 3 (length graph.points)) _ (length graph.points) i 0
-    (length-halves 3 (length graph.points)) (omega (arith, limits, from)) in
+    (length_halves 3 (length graph.points)) (omega (arith, limits, from)) in
     let pair = all_pairs (λ a b. is_first (length graph.points) a ≡ true → is_first (length graph.points) b ≡ true)
     (λ link. tail_of (length graph.points) link.source) (λ link. head_of (length graph.points) link.target)
     (is_link (length graph.points) graph.relays)

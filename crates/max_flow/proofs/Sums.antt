@@ -4,13 +4,13 @@ use Rattle.std.proofs.Common.{add-one}
 use Rattle.std.proofs.lemmas.Bool.{cases_eq}
 use Rattle.max_flow.specs.Networks.{sum_below}
 
-pub sum-none : (f : ℕ → ℕ) → sum_below 0 f ≡ 0
+pub sum_none : (f : ℕ → ℕ) → sum_below 0 f ≡ 0
 unfolding sum_below
-sum-none f = refl
+sum_none f = refl
 
-pub sum-suc : (n : ℕ) (f : ℕ → ℕ) → sum_below (n + 1) f ≡ sum_below n f + f n
+pub sum_suc : (n : ℕ) (f : ℕ → ℕ) → sum_below (n + 1) f ≡ sum_below n f + f n
 unfolding sum_below
-sum-suc n f = rw add-one refl
+sum_suc n f = rw add-one refl
 
 pub sum_same : (n : ℕ) (f g : ℕ → ℕ) → ((i : ℕ) → i < n → f i ≡ g i) → sum_below n f ≡ sum_below n g
 unfolding sum_below

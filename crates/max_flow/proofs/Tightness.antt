@@ -61,24 +61,24 @@ flow_out net flow s i = cond (s (slice_index net.tails i)) (slice_index flow i) 
 abbrev flow_in : Net → List ℕ → (ℕ → Bool) → ℕ → ℕ
 flow_in net flow s i = cond (s (slice_index net.heads i)) (slice_index flow i) 0
 
-capacity-all : (net : Net) (s : ℕ → Bool) → IsNet net → sum_below (length net.tails) (limit_out net s) ≡ capacity_of
+capacity_all : (net : Net) (s : ℕ → Bool) → IsNet net → sum_below (length net.tails) (limit_out net s) ≡ capacity_of
     net s
 unfolding capacity_of
-capacity-all net s is =
+capacity_all net s is =
     sum_front (length net.limits) (length net.tails) (limit_out net s) is.limited
     (λ i from below. cond-false (ltb i (length net.limits)) _ 0 (le-ltb i (length net.limits) from))
     ∙ sum_same (length net.limits) (limit_out net s) (λ i. cond (leaves net s i) (slice_index net.limits i) 0)
     (λ i below. cond-true (ltb i (length net.limits)) _ 0 (lt-ltb i (length net.limits) below))
 
-in-heads : (net : Net) (flow : List ℕ) (s : ℕ → Bool) → IsNet net → sum_below (length net.tails) (flow_in net flow s)
+in_heads : (net : Net) (flow : List ℕ) (s : ℕ → Bool) → IsNet net → sum_below (length net.tails) (flow_in net flow s)
     ≡ at_set net.heads flow s
 unfolding at_set
-in-heads net flow s is = ap (λ n. sum_below n (flow_in net flow s)) (sym is.same)
+in_heads net flow s is = ap (λ n. sum_below n (flow_in net flow s)) (sym is.same)
 
-out-tails : (net : Net) (flow : List ℕ) (s : ℕ → Bool) → sum_below (length net.tails) (flow_out net flow s) ≡ at_set
+out_tails : (net : Net) (flow : List ℕ) (s : ℕ → Bool) → sum_below (length net.tails) (flow_out net flow s) ≡ at_set
     net.tails flow s
 unfolding at_set
-out-tails net flow s = refl
+out_tails net flow s = refl
 
 -- an edge that leaves a side is limited, and within its limit
 edge_within : (net : Net) (flow : List ℕ) → IsNet net → IsFlow net flow → (s : ℕ → Bool) → IsSide net s → (i : ℕ) →
@@ -104,9 +104,9 @@ weak net flow s is flows side =
     let parts : sum_below (length net.tails) (λ i. flow_in net flow s i + limit_out net s i)
     ≡ sum_below (length net.tails) (flow_in net flow s) + sum_below (length net.tails) (limit_out net s) =
     sum_add (length net.tails) (flow_in net flow s) (limit_out net s) in
-    let a = in-heads net flow s is in
-    let b = out-tails net flow s in
-    let c = capacity-all net s is in
+    let a = in_heads net flow s is in
+    let b = out_tails net flow s in
+    let c = capacity_all net s is in
     omega (arith, a, b, c, all, each, parts)
 
 -- where the capacity is no more than the value, each edge brings out what it brings in and its limit
@@ -119,9 +119,9 @@ edges_tight net flow s is flows side full =
     let parts : sum_below (length net.tails) (λ i. flow_in net flow s i + limit_out net s i)
     ≡ sum_below (length net.tails) (flow_in net flow s) + sum_below (length net.tails) (limit_out net s) =
     sum_add (length net.tails) (flow_in net flow s) (limit_out net s) in
-    let a = in-heads net flow s is in
-    let b = out-tails net flow s in
-    let c = capacity-all net s is in
+    let a = in_heads net flow s is in
+    let b = out_tails net flow s in
+    let c = capacity_all net s is in
     sum_tight (length net.tails) (flow_out net flow s) (λ i. flow_in net flow s i + limit_out net s i)
     (λ i below. edge_le _ _ _ _ _ (edge_within net flow is flows s side i below))
     (omega (arith, a, b, c, all, parts, full))
@@ -181,8 +181,8 @@ leaving_le net flow s is flows source sink shut e below from to =
     (λ i. cond (eqb i e) (slice_index flow e) 0) =
     sum_item (length net.tails) (λ i. cond (eqb i e) (slice_index flow e) 0) e below in
     let here : cond (eqb e e) (slice_index flow e) 0 ≡ slice_index flow e = cond-true (eqb e e) _ 0 (eq-eqb e e refl) in
-    let a = in-heads net flow s is in
-    let b = out-tails net flow s in
+    let a = in_heads net flow s is in
+    let b = out_tails net flow s in
     omega (arith, a, b, all, each, parts, item, here)
 
 -- an edge that leaves such a set is limited and full
@@ -242,7 +242,7 @@ capacity_of_closed net flow s is flows source sink shut small =
     let parts : sum_below (length net.tails) (λ i. flow_in net flow s i + limit_out net s i)
     ≡ sum_below (length net.tails) (flow_in net flow s) + sum_below (length net.tails) (limit_out net s) =
     sum_add (length net.tails) (flow_in net flow s) (limit_out net s) in
-    let a = in-heads net flow s is in
-    let b = out-tails net flow s in
-    let c = capacity-all net s is in
+    let a = in_heads net flow s is in
+    let b = out_tails net flow s in
+    let c = capacity_all net s is in
     omega (arith, a, b, c, all, each, parts)

@@ -10,11 +10,11 @@ use Rattle.max_flow.specs.Private.Searching.{Arrives, Carries, IsWalking, IsFoun
 use Rattle.max_flow.proofs.Sums.{sum_changed}
 use Rattle.max_flow.proofs.Duality.{source_entered}
 
-pub at_node-set : (keys flow : List ℕ) (e f x : ℕ) → e < length keys → e < length flow →
+pub at_node_set : (keys flow : List ℕ) (e f x : ℕ) → e < length keys → e < length flow →
     at_node keys (set flow e f) x + cond (eqb (slice_index keys e) x) (slice_index flow e) 0 ≡ at_node keys flow x +
     cond (eqb (slice_index keys e) x) f 0
 unfolding at_node
-at_node-set keys flow e f x below inside =
+at_node_set keys flow e f x below inside =
     let changed : sum_below (length keys) (λ i. cond (eqb (slice_index keys i) x) (slice_index (set flow e f) i) 0) +
     cond (eqb (slice_index keys e) x) (slice_index flow e) 0
     ≡ sum_below (length keys) (λ i. cond (eqb (slice_index keys i) x) (slice_index flow i) 0) + cond
@@ -44,9 +44,9 @@ carries_on net flow value at d e is count carries below joins room = record {
       let same : length net.heads ≡ length net.tails = is.same in
       let old : at_node net.heads flow x + cond (eqb 0 x) value 0 + cond (eqb at x) d 0 ≡ at_node net.tails flow x =
       carries.carried x inside not_sink in
-      let h = at_node-set net.heads flow e (pushed net flow e at d) x (omega (arith, same, below))
+      let h = at_node_set net.heads flow e (pushed net flow e at d) x (omega (arith, same, below))
       (omega (arith, count, below)) in
-      let t = at_node-set net.tails flow e (pushed net flow e at d) x below (omega (arith, count, below)) in
+      let t = at_node_set net.tails flow e (pushed net flow e at d) x below (omega (arith, count, below)) in
       ⊎_elim
       (λ (head : slice_index net.heads e ≡ at).
       let test : eqb (slice_index net.heads e) at ≡ true = eq-eqb (slice_index net.heads e) at head in
@@ -305,9 +305,9 @@ walked_whole net flow places arrivals rooms value d is walking = record {
       omega (arith, a, b, c);
 }
 
-walked-sum : (net : Net) (flow places arrivals rooms : List ℕ) (value d : ℕ) → IsNet net → IsWalking net flow places
+walked_sum : (net : Net) (flow places arrivals rooms : List ℕ) (value d : ℕ) → IsNet net → IsWalking net flow places
     arrivals rooms value 0 d → source_flow net flow ≡ value + d
-walked-sum net flow places arrivals rooms value d is walking =
+walked_sum net flow places arrivals rooms value d is walking =
     let two : 2 ≤ net.nodes = is.some in
     let into : at_node net.heads flow 0 ≡ 0 = source_entered net flow is in
     let c : at_node net.heads flow 0 + value + d ≡ at_node net.tails flow 0 = walking.carries.carried 0 (omega arith)
@@ -320,10 +320,10 @@ walked_flow net flow places arrivals rooms value at d is end walking =
     walked_whole net flow places arrivals rooms value d is
     (subst (λ v. IsWalking net flow places arrivals rooms value v d) end walking)
 
-pub walked-value : (net : Net) (flow places arrivals rooms : List ℕ) (value at d : ℕ) → IsNet net → at ≡ 0 →
+pub walked_value : (net : Net) (flow places arrivals rooms : List ℕ) (value at d : ℕ) → IsNet net → at ≡ 0 →
     IsWalking net flow places arrivals rooms value at d → source_flow net flow ≡ value + d
-walked-value net flow places arrivals rooms value at d is end walking =
-    walked-sum net flow places arrivals rooms value d is
+walked_value net flow places arrivals rooms value at d is end walking =
+    walked_sum net flow places arrivals rooms value d is
     (subst (λ v. IsWalking net flow places arrivals rooms value v d) end walking)
 
 -- the amount of a tree is positive, since the sink was found

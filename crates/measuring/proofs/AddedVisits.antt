@@ -37,21 +37,21 @@ adds old new p after run puts masks q =
 
 -- ---- events
 
-pub visits-push : (q : Point) (events : List Event) (e : Event) →
+pub visits_push : (q : Point) (events : List Event) (e : Event) →
     visit_masks q (events ++ e ∷ []) ≡ visit_masks q events ++ mask_at_event q e
 unfolding visit_masks
-visits-push q [] e = append-nil (mask_at_event q e)
-visits-push q (other ∷ events) e =
-    ap (λ masks. mask_at_event q other ++ masks) (visits-push q events e)
+visits_push q [] e = append-nil (mask_at_event q e)
+visits_push q (other ∷ events) e =
+    ap (λ masks. mask_at_event q other ++ masks) (visits_push q events e)
     ∙ sym (append_assoc (mask_at_event q other) (visit_masks q events) (mask_at_event q e))
 
 -- of an output that gives out again what it gave before only the passing is a visit
-pub visits-again : (q : Point) (events : List Event) (p : Point) (mask : ℕ) →
+pub visits_again : (q : Point) (events : List Event) (p : Point) (mask : ℕ) →
     visit_masks q (events ++ again_events p mask) ≡ visit_masks q events ++ mask_at_event q (Pass p mask)
 unfolding visit_masks
-visits-again q [] p mask = append-nil (mask_at_event q (Pass p mask))
-visits-again q (other ∷ events) p mask =
-    ap (λ masks. mask_at_event q other ++ masks) (visits-again q events p mask)
+visits_again q [] p mask = append-nil (mask_at_event q (Pass p mask))
+visits_again q (other ∷ events) p mask =
+    ap (λ masks. mask_at_event q other ++ masks) (visits_again q events p mask)
     ∙ sym (append_assoc (mask_at_event q other) (visit_masks q events) (mask_at_event q (Pass p mask)))
 
 -- an event that adds these masks is taken where they are added
@@ -59,7 +59,7 @@ pub takes : (old new : KeptVisits) (e : Event) →
     ((q : Point) → all_masks new q ≡ all_masks old q ++ mask_at_event q e) → (events : List Event) →
     HasVisits old events → HasVisits new (events ++ e ∷ [])
 takes old new e adds events has q =
-    adds q ∙ (ap (λ masks. masks ++ mask_at_event q e) (has q) ∙ sym (visits-push q events e))
+    adds q ∙ (ap (λ masks. masks ++ mask_at_event q e) (has q) ∙ sym (visits_push q events e))
 
 pub no_visits : (q : Point) → visit_masks q [] ≡ []
 unfolding visit_masks

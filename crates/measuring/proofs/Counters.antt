@@ -9,7 +9,7 @@ use Rattle.std.proofs.lemmas.List.{get_or-replicate, get_or-set_same, get_or-set
 use Rattle.flow_base.specs.declared.points.Point.{Point}
 use Rattle.flow_base.specs.declared.points.Slot.{Slot}
 use Rattle.flow_base.specs.contracts.points.SlotPartialEq.TheImpl as slot_eq_impl
-use Rattle.flow_base.proofs.PointOrders.{same-one}
+use Rattle.flow_base.proofs.PointOrders.{one_if_same}
 use Rattle.flow_base.specs.Points.{is_output_slot}
 use Rattle.flow_base.specs.PointOrders.{is_same}
 use Rattle.hinted_map.specs.Places.{Puts}
@@ -146,7 +146,7 @@ same_place p q first second =
     ∙ (sym (eq_parts p q) ∙ ap (λ eq. eq p q) points_same))))
 
 counted_alike : (p q : Point) → is_same p q ≡ true → is_counted p ≡ is_counted q
-counted_alike p q e = ap is_counted (same-one p q e)
+counted_alike p q e = ap is_counted (one_if_same p q e)
 
 -- the counter of a point is written, and no other
 pub counted : (old new : VisitCounts) (p : Point) (n : ℕ) → is_counted p ≡ true → ((q : Point) (other : ℕ) →
@@ -172,7 +172,7 @@ counted old new p n own writes q =
 pub count_alike : (counts : VisitCounts) (p q : Point) → is_same p q ≡ true → count_of counts p ≡ count_of counts q
 unfolding count_of
 count_alike counts p q e =
-    let at : p.address ≡ q.address = ap (λ (x : Point). x.address) (same-one p q e) in
+    let at : p.address ≡ q.address = ap (λ (x : Point). x.address) (one_if_same p q e) in
     ⊎_elim
     (λ (own : is_counted p ≡ true).
     let other : is_counted q ≡ true = sym (counted_alike p q e) ∙ own in

@@ -18,14 +18,14 @@ use Rattle.flow_base.proofs.PointEquality.{points_alike}
 use Rattle.measuring.specs.CutRuns.{points_of}
 use Rattle.measuring.specs.Limits.{are_points_in, is_point_in}
 use Rattle.measuring.specs.Splits.{is_cut, split_points}
-use Rattle.flow_base.proofs.PointOrders.{below-other}
+use Rattle.flow_base.proofs.PointOrders.{below_other}
 use Rattle.measuring.proofs.Orders.{inner_alike}
 use Rattle.measuring.proofs.Splits.{above, all_split, all_weaker, behind, nodes_chain}
 
-names-points : (points : List CutPoint) (q : Point) → names_point points q ≡ list_any (λ p. is_same p q)
+names_points : (points : List CutPoint) (q : Point) → names_point points q ≡ list_any (λ p. is_same p q)
     (points_of points)
-names-points [] q = refl
-names-points (point ∷ points) q = ap (λ b. is_same point.point q || b) (names-points points q)
+names_points [] q = refl
+names_points (point ∷ points) q = ap (λ b. is_same point.point q || b) (names_points points q)
 
 is_split_half : Half → Bool
 is_split_half half = has_first half && not (has_second half)
@@ -78,7 +78,7 @@ differ_from node q nodes same all =
     all_weaker (λ other. is_lt (node_cmp node other)) (λ other. not (is_same other.point q))
     (λ other less. ap not (points_alike.symm other.point q
     ∙ (points_alike.congr q node.point other.point (points_alike.symm q node.point ∙ same)
-    ∙ below-other node.point other.point less))) nodes all
+    ∙ below_other node.point other.point less))) nodes all
 
 split_named : (skip : List ℕ) (nodes : List Node) (halves : List Half) (q : Point) → ascend node_cmp nodes ≡ true →
     list_any (λ p. is_same p q) (split_points skip nodes halves) ≡
@@ -105,7 +105,7 @@ pub cut_names : (skip : List ℕ) (nodes : List Node) (halves : List Half) (poin
     && not (is_inner skip q))
 unfolding is_split_half
 cut_names skip nodes halves points q up same =
-    names-points points q ∙ (ap (list_any (λ p. is_same p q)) same ∙ split_named skip nodes halves q up)
+    names_points points q ∙ (ap (list_any (λ p. is_same p q)) same ∙ split_named skip nodes halves q up)
 
 -- ---- the points of the cut are points of the graph
 

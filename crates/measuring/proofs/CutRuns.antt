@@ -9,7 +9,7 @@ use Rattle.cut_file.specs.Cuts.{neighbours_pass, is_run, are_runs, is_point, is_
 use Rattle.cut_file.specs.declared.points.CutPoint.{CutPoint}
 use Rattle.cut_file.specs.declared.points.Run.{Run}
 use Rattle.cut_file.specs.Masks.{listed_masks}
-use Rattle.cut_file.proofs.Following.{all-push, is_so}
+use Rattle.cut_file.proofs.Following.{all_push, is_so}
 use Rattle.flow_base.specs.declared.points.Point.{Point}
 use Rattle.std.proofs.lemmas.List.{take_all}
 use Rattle.acceptance_law.specs.RunCuts.{united}
@@ -19,26 +19,26 @@ use Rattle.measuring.specs.CutRuns.{as_run, as_runs, points_of, once, united_run
 use Rattle.measuring.specs.PointMasks.{all_runs}
 use Rattle.measuring.specs.VisitRuns.{run_masks, is_visit_run, have_other_masks as have_other_visits}
 
-pub runs-push : (runs : List VisitRun) (run : VisitRun) → as_runs (runs ++ run ∷ []) ≡ as_runs runs ++ as_run run ∷ []
-runs-push [] run = refl
-runs-push (first ∷ runs) run = ap (λ list. as_run first ∷ list) (runs-push runs run)
+pub runs_push : (runs : List VisitRun) (run : VisitRun) → as_runs (runs ++ run ∷ []) ≡ as_runs runs ++ as_run run ∷ []
+runs_push [] run = refl
+runs_push (first ∷ runs) run = ap (λ list. as_run first ∷ list) (runs_push runs run)
 
-pub masks-same : (runs : List VisitRun) → listed_masks (as_runs runs) ≡ run_masks runs
+pub masks_same : (runs : List VisitRun) → listed_masks (as_runs runs) ≡ run_masks runs
 unfolding listed_masks run_masks
-masks-same [] = refl
-masks-same (run ∷ runs) = ap (λ masks. replicate run.count run.mask ++ masks) (masks-same runs)
+masks_same [] = refl
+masks_same (run ∷ runs) = ap (λ masks. replicate run.count run.mask ++ masks) (masks_same runs)
 
-neighbours-same : (runs : List VisitRun) → neighbours_pass have_other_masks (as_runs runs) ≡ neighbours_pass
+neighbours_same : (runs : List VisitRun) → neighbours_pass have_other_masks (as_runs runs) ≡ neighbours_pass
     have_other_visits runs
-neighbours-same [] = refl
-neighbours-same (run ∷ []) = refl
-neighbours-same (run ∷ (next ∷ runs)) =
-    ap (λ b. have_other_visits run next && b) (neighbours-same (next ∷ runs))
+neighbours_same [] = refl
+neighbours_same (run ∷ []) = refl
+neighbours_same (run ∷ (next ∷ runs)) =
+    ap (λ b. have_other_visits run next && b) (neighbours_same (next ∷ runs))
 
 pub runs_valid : (visits : PointVisits) → list_all is_run (as_runs (all_runs visits)) ≡ true →
     are_runs (as_runs (all_runs visits)) ≡ true
 runs_valid visits all =
-    and_from _ _ all (neighbours-same (all_runs visits) ∙ (and_parts (list_all is_visit_run (all_runs visits))
+    and_from _ _ all (neighbours_same (all_runs visits) ∙ (and_parts (list_all is_visit_run (all_runs visits))
     (neighbours_pass have_other_visits (all_runs visits)) (is_so _ visits.sound)).1)
 
 pub some_each : (visits : PointVisits) → (list_all is_visit_run visits.earlier ≡ true) × (is_visit_run visits.latest ≡
@@ -46,7 +46,7 @@ pub some_each : (visits : PointVisits) → (list_all is_visit_run visits.earlier
 some_each visits =
     let all = and_parts (list_all is_visit_run (all_runs visits)) (neighbours_pass have_other_visits (all_runs visits))
     (is_so _ visits.sound) in
-    and_parts (list_all is_visit_run visits.earlier) (is_visit_run visits.latest) (sym (all-push is_visit_run
+    and_parts (list_all is_visit_run visits.earlier) (is_visit_run visits.latest) (sym (all_push is_visit_run
     visits.earlier visits.latest) ∙ all.0)
 
 -- ---- unions
@@ -55,29 +55,29 @@ pub or_assoc : (a b c : ℕ) → bit_or (bit_or a b) c ≡ bit_or a (bit_or b c)
 or_assoc a b c = same_from_bits (bit_or (bit_or a b) c) (bit_or a (bit_or b c)) (λ i.
     omega (arith, bit_at_or (bit_or a b) c i, bit_at_or a b i, bit_at_or a (bit_or b c) i, bit_at_or b c i))
 
-united-more : (n mask : ℕ) (masks : List ℕ) → united (replicate (suc n) mask ++ masks) ≡ bit_or mask (united masks)
+united_more : (n mask : ℕ) (masks : List ℕ) → united (replicate (suc n) mask ++ masks) ≡ bit_or mask (united masks)
 unfolding united
-united-more zero mask masks = refl
-united-more (suc n) mask masks =
-    ap (bit_or mask) (united-more n mask masks)
+united_more zero mask masks = refl
+united_more (suc n) mask masks =
+    ap (bit_or mask) (united_more n mask masks)
     ∙ (sym (or_assoc mask mask (united masks)) ∙ ap (λ m. bit_or m (united masks)) (or_self mask))
 
-united-some : (n mask : ℕ) (masks : List ℕ) → 0 < n → united (replicate n mask ++ masks) ≡ bit_or mask (united masks)
-united-some zero mask masks some = absurd (omega arith)
-united-some (suc n) mask masks some = united-more n mask masks
+united_some : (n mask : ℕ) (masks : List ℕ) → 0 < n → united (replicate n mask ++ masks) ≡ bit_or mask (united masks)
+united_some zero mask masks some = absurd (omega arith)
+united_some (suc n) mask masks some = united_more n mask masks
 
-pub united-runs : (runs : List Run) → list_all is_run runs ≡ true → united (listed_masks runs) ≡ united_runs runs
+pub runs_united : (runs : List Run) → list_all is_run runs ≡ true → united (listed_masks runs) ≡ united_runs runs
 unfolding united listed_masks
-united-runs [] valid = refl
-united-runs (run ∷ runs) valid =
+runs_united [] valid = refl
+runs_united (run ∷ runs) valid =
     let parts = and_parts (is_run run) (list_all is_run runs) valid in
     let some : 1 ≤ run.count = leb-true 1 run.count (and_parts (nat_le 1 run.count) _ parts.0).0 in
-    united-some run.count run.mask (listed_masks runs) (omega (arith, some))
-    ∙ ap (bit_or run.mask) (united-runs runs parts.1)
+    united_some run.count run.mask (listed_masks runs) (omega (arith, some))
+    ∙ ap (bit_or run.mask) (runs_united runs parts.1)
 
-pub masks-none : listed_masks [] ≡ []
+pub masks_none : listed_masks [] ≡ []
 unfolding listed_masks
-masks-none = refl
+masks_none = refl
 
 pub points_push : (made : List CutPoint) (next : CutPoint) → points_of (made ++ next ∷ []) ≡ points_of made ++
     next.point ∷ []
@@ -122,7 +122,7 @@ points_step made next (point ∷ rest) all other some own e =
 pub runs_made : (before after : List Run) (visits : PointVisits) → before ≡ [] ++ as_runs visits.earlier →
     after ≡ before ++ as_run visits.latest ∷ [] → after ≡ as_runs (all_runs visits)
 runs_made before after visits first second =
-    second ∙ (ap (λ list. list ++ as_run visits.latest ∷ []) first ∙ sym (runs-push visits.earlier visits.latest))
+    second ∙ (ap (λ list. list ++ as_run visits.latest ∷ []) first ∙ sym (runs_push visits.earlier visits.latest))
 
 single_valid : (mask : ℕ) → mask < 2 ^ 32 → is_rest (once mask) ≡ true
 single_valid mask word = and_from (is_run (record { count = 1; mask = mask }) && true) true

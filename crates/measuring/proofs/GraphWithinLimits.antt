@@ -28,7 +28,7 @@ use Rattle.measuring.specs.declared.recordings.Recording.{Recording}
 use Rattle.measuring.specs.Limits.{is_point_in}
 use Rattle.measuring.specs.Recordings.{HasEvents}
 use Rattle.measuring.proofs.NamedLinks.{links_differ, own_links}
-use Rattle.flow_base.proofs.PointOrders.{below-other}
+use Rattle.flow_base.proofs.PointOrders.{below_other}
 use Rattle.measuring.proofs.RunCut.{nodes_up}
 use Rattle.measuring.proofs.CutNames.{own_points}
 use Rattle.measuring.proofs.Splits.{above, nodes_chain, all_weaker}
@@ -40,7 +40,7 @@ differ_by : (n : Node) (ns : List Node) → list_all (λ m. is_lt (node_cmp n m)
 differ_by n [] all = tt
 differ_by n (m ∷ ms) all =
     let parts = and_parts (is_lt (node_cmp n m)) (list_all (λ k. is_lt (node_cmp n k)) ms) all in
-    (below-other n.point m.point parts.0, differ_by n ms parts.1)
+    (below_other n.point m.point parts.0, differ_by n ms parts.1)
 
 behind : {A : Type 0} (cmp : A → A → Ordering) (x : A) (xs : List A) → ascend cmp (x ∷ xs) ≡ true → ascend cmp xs ≡ true
 behind cmp x [] up = refl
@@ -126,7 +126,7 @@ capacities_own (n ∷ ns) up =
     (all_both (λ x. is_lt (node_cmp n x)) (λ x. capacity_at ns x.point == x.capacity)
     (λ x. capacity_at (n ∷ ns) x.point == x.capacity)
     (λ x less own. ap (λ c. c == x.capacity) (other_chosen (is_same x.point n.point) n.capacity
-    (capacity_at ns x.point) (points_alike.symm x.point n.point ∙ below-other n.point x.point less)) ∙ own)
+    (capacity_at ns x.point) (points_alike.symm x.point n.point ∙ below_other n.point x.point less)) ∙ own)
     ns (above node_cmp nodes_chain n ns up) (capacities_own ns (behind node_cmp n ns up)))
 
 small_capacities : (events : List Event) (graph : Graph) → IsGraphOf events graph → (ExceedsLimit events → ⊥) →

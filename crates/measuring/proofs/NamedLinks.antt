@@ -13,7 +13,7 @@ use Rattle.std.specs.Ordering.{ordering_reverse}
 use Rattle.std.proofs.lemmas.Cmp.{tied_itself}
 use Rattle.std.proofs.lemmas.Map.Keys.{Less-from_sorted}
 use Rattle.flow_graph.specs.contracts.ends.ArcOrd.TheImpl.Laws as arc_laws
-use Rattle.flow_graph.proofs.Indices.{nat_cmp-itself}
+use Rattle.flow_graph.proofs.Indices.{nat_cmp_itself}
 use Rattle.flow_base.proofs.PointOrders.{point_total}
 use Rattle.std.proofs.lemmas.List.{length-map}
 use Rattle.flow_base.specs.declared.points.Point.{Point}
@@ -88,19 +88,19 @@ indices : (names : List Point) → IsStrictlySortedBy point_cmp names → (i j :
     nat_cmp i j ≡ point_cmp (slice_index_or names i nowhere) (slice_index_or names j nowhere)
 indices names sorted i j a b =
     ⊎_elim
-    (λ (less : i < j). nat_cmp-less i j less ∙ sym (Less-from_sorted point_cmp names i j nowhere sorted less b))
+    (λ (less : i < j). nat_cmp_less i j less ∙ sym (Less-from_sorted point_cmp names i j nowhere sorted less b))
     (λ (rest : j ≤ i). ⊎_elim
     (λ (more : j < i). nat_cmp-more i j more
     ∙ (ap ordering_reverse (sym (Less-from_sorted point_cmp names j i nowhere sorted more a))
     ∙ sym (point_total.antisymm (slice_index_or names i nowhere) (slice_index_or names j nowhere))))
     (λ (same : i ≤ j). let e : i ≡ j = omega (arith, rest, same) in
-    ap (λ k. nat_cmp k j) e ∙ (nat_cmp-itself j ∙ (sym (tied_itself point_total (slice_index_or names j nowhere))
+    ap (λ k. nat_cmp k j) e ∙ (nat_cmp_itself j ∙ (sym (tied_itself point_total (slice_index_or names j nowhere))
     ∙ ap (λ k. point_cmp (slice_index_or names k nowhere) (slice_index_or names j nowhere)) (sym e))))
     (cases_lt j i))
     (cases_lt i j)
   where
-    nat_cmp-less : (x y : ℕ) → x < y → nat_cmp x y ≡ Less
-    nat_cmp-less x y less = sym (nat_cmp_is x y Less less)
+    nat_cmp_less : (x y : ℕ) → x < y → nat_cmp x y ≡ Less
+    nat_cmp_less x y less = sym (nat_cmp_is x y Less less)
 
     nat_cmp-more : (x y : ℕ) → y < x → nat_cmp x y ≡ Greater
     nat_cmp-more x y more = sym (nat_cmp_is x y Greater more)

@@ -127,9 +127,9 @@ same_cause table regions start limit a b deciding (inr (inr one)) (inr (inl othe
     absurd (large_unrefused table regions start limit b deciding one.1 other)
 same_cause table regions start limit a b deciding (inr (inr one)) (inr (inr other)) = one.0 ∙ sym other.0
 
-pub one-cause : (table : ℕ) (regions : List Region) (start : LabelledRun) (limit : ℕ) (a b : MeasureFault) →
+pub one_cause : (table : ℕ) (regions : List Region) (start : LabelledRun) (limit : ℕ) (a b : MeasureFault) →
     IsDeciding table → HasCause table regions start limit a → HasCause table regions start limit b → a ≢ Memory →
     b ≢ Memory → a ≡ b
-one-cause table regions start limit a b deciding one other free also =
+one_cause table regions start limit a b deciding one other free also =
     same_cause table regions start limit a b deciding (cause_of table regions start limit a one free)
     (cause_of table regions start limit b other also)

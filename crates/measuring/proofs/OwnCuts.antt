@@ -1,7 +1,7 @@
 -- A measured run is accepted with its own cut, within its own number of bits, which are at most eight for each byte of
 -- its secret; and that cut is small, and its text short.
 use Rattle.std.proofs.Common.{ℕ, ◌*◌, ◌≤◌, List, ◌∷◌, length, subst, sym, arith}
-use Rattle.cut_file.proofs.Following.{cut-valid}
+use Rattle.cut_file.proofs.Following.{cut_valid}
 use Rattle.cut_file.specs.Pictures.{cut_picture}
 use Rattle.elf32_loader.specs.Pictures.{Picture}
 use Rattle.enclosure_regions.specs.declared.region_parts.Region.{Region}
@@ -23,7 +23,7 @@ use Rattle.acceptance_law.proofs.SecretSides.{least_bits_law}
 use Rattle.measuring.specs.declared.measured.Measured.{Measured}
 use Rattle.measuring.specs.Accepting.{HasShortText, HasSmallCut, IsAcceptedByFolds, IsAcceptedByItsCut}
 use Rattle.measuring.specs.Measures.{Measures}
-use Rattle.measuring.proofs.ShortTexts.{fold-text, own-text}
+use Rattle.measuring.proofs.ShortTexts.{fold_text, own_text}
 
 module _ (table : ℕ) (program : Picture) (public_input : List ℕ) (regions : List Region) (secret : List ℕ) (turns : ℕ)
     (measured : Measured) (m : Measures table regions (unlabelled (guest program public_input secret)) (length secret)
@@ -49,7 +49,7 @@ module _ (table : ℕ) (program : Picture) (public_input : List ℕ) (regions : 
       (subst (λ bits. IsCutOf (length secret) (run_after regions (m.exits.last ∷ m.exits.earlier) (unlabelled (guest program public_input secret))).events
       (named_side measured.graph measured.side.points measured.side.relays) bits (cut_picture measured.cut))
       (sym m.measure.capacity) m.measure.cut)
-      (cut-valid measured.cut))
+      (cut_valid measured.cut))
 
   pub folds : AreInputs program public_input regions secret →
       IsAcceptedByFolds program public_input regions secret turns measured
@@ -68,7 +68,7 @@ module _ (table : ℕ) (program : Picture) (public_input : List ℕ) (regions : 
       (subst (λ bits. IsCutOf (length secret) (run_after regions (m.exits.last ∷ m.exits.earlier) (unlabelled (guest program public_input secret))).events
       (named_side measured.graph measured.side.points measured.side.relays) bits (cut_picture measured.cut))
       (sym m.measure.capacity) m.measure.cut)
-      (cut-valid measured.cut) fold)
+      (cut_valid measured.cut) fold)
 
   pub few : measured.value ≤ 8 * length secret
   few =
@@ -89,14 +89,14 @@ module _ (table : ℕ) (program : Picture) (public_input : List ℕ) (regions : 
       (cut_picture measured.cut) m.measure.graph m.measure.side.side
       (subst (λ bits. IsCutOf (length secret) events (named_side measured.graph measured.side.points
       measured.side.relays) bits (cut_picture measured.cut)) (sym m.measure.capacity) m.measure.cut)
-      (cut-valid measured.cut))
+      (cut_valid measured.cut))
 
   pub short : length secret ≤ 65536 → HasShortText measured
   short within =
       let bits : measured.value ≤ 524288 = let most = few in omega (arith, most, within) in
       record {
-        text = own-text measured.value (cut_picture measured.cut) (cut-valid measured.cut) m.measure.cut.version bits
+        text = own_text measured.value (cut_picture measured.cut) (cut_valid measured.cut) m.measure.cut.version bits
             small;
-        fold = λ folded own made. fold-text measured.value (cut_picture measured.cut) folded (cut-valid measured.cut)
+        fold = λ folded own made. fold_text measured.value (cut_picture measured.cut) folded (cut_valid measured.cut)
             m.measure.cut.version bits small own made;
       }

@@ -15,7 +15,7 @@ use Rattle.location_collapse.specs.declared.faults.CollapseFault.TheVariants.{Li
 use Rattle.measuring.specs.declared.kept_visits.KeptVisits.{KeptVisits}
 use Rattle.measuring.specs.Recordings.{Records}
 use Rattle.measuring.specs.Visits.{HasVisits}
-use Rattle.measuring.proofs.AddedVisits.{visits-again, visits-push}
+use Rattle.measuring.proofs.AddedVisits.{visits_again, visits_push}
 
 pub not_full : (old : Bool) (answer : Result (Unit {0}) CollapseFault) (done : Unit {0}) → answer ≡ Ok done →
     (old ≡ true → answer ≡ Err Limit) → old ≡ false
@@ -73,4 +73,4 @@ pub visited_again : (visits after : KeptVisits) (point : Point) (mask : ℕ) →
     ((events : List Event) → HasVisits visits events → HasVisits after (events ++ Pass point mask ∷ [])) →
     (events : List Event) → HasVisits visits events → HasVisits after (events ++ again_events point mask)
 visited_again visits after point mask has events visited q =
-    has events visited q ∙ (visits-push q events (Pass point mask) ∙ sym (visits-again q events point mask))
+    has events visited q ∙ (visits_push q events (Pass point mask) ∙ sym (visits_again q events point mask))

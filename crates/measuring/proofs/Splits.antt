@@ -9,7 +9,7 @@ use Rattle.std.proofs.lemmas.Bool.{and_parts, and_from, false≢true, lt-ltb, lt
 use Rattle.flow_base.specs.declared.points.Point.{Point}
 use Rattle.flow_base.specs.Points.{is_slot}
 use Rattle.flow_base.specs.PointOrders.{is_below, point_cmp}
-use Rattle.flow_base.proofs.PointOrders.{below-trans, is_lt-number}
+use Rattle.flow_base.proofs.PointOrders.{below_trans, is_lt_number}
 use Rattle.flow_graph.specs.declared.nodes.Node.{Node}
 use Rattle.flow_graph.specs.Graphs.{node_cmp, ascend}
 use Rattle.max_flow.specs.declared.answers.Half.{Half}
@@ -54,9 +54,9 @@ front test x (y ∷ ys) all passes =
 
 numbers_chain : (x y z : ℕ) → is_lt (nat_cmp x y) ≡ true → is_lt (nat_cmp y z) ≡ true → is_lt (nat_cmp x z) ≡ true
 numbers_chain x y z first second =
-    let a : x < y = ltb-true x y (sym (is_lt-number x y) ∙ first) in
-    let b : y < z = ltb-true y z (sym (is_lt-number y z) ∙ second) in
-    is_lt-number x z ∙ lt-ltb x z (omega (arith, a, b))
+    let a : x < y = ltb-true x y (sym (is_lt_number x y) ∙ first) in
+    let b : y < z = ltb-true y z (sym (is_lt_number y z) ∙ second) in
+    is_lt_number x z ∙ lt-ltb x z (omega (arith, a, b))
 
 -- ---- regions
 
@@ -82,7 +82,7 @@ chosen_front false relay more all passes = passes
 above_numbers : (relay : ℕ) (relays : List ℕ) → ascend nat_cmp (relay ∷ relays) ≡ true →
     list_all (nat_lt relay) relays ≡ true
 above_numbers relay relays up =
-    all_weaker (λ y. is_lt (nat_cmp relay y)) (nat_lt relay) (λ y less. sym (is_lt-number relay y) ∙ less) relays
+    all_weaker (λ y. is_lt (nat_cmp relay y)) (nat_lt relay) (λ y less. sym (is_lt_number relay y) ∙ less) relays
     (above nat_cmp numbers_chain relay relays up)
 
 pub skipped_ascend : (relays : List ℕ) (answers : List Bool) → ascend nat_cmp relays ≡ true →
@@ -156,7 +156,7 @@ all_split test skip (node ∷ nodes) (half ∷ halves) all =
 
 pub nodes_chain : (x y z : Node) → is_lt (node_cmp x y) ≡ true → is_lt (node_cmp y z) ≡ true →
     is_lt (node_cmp x z) ≡ true
-nodes_chain x y z first second = below-trans x.point y.point z.point first second
+nodes_chain x y z first second = below_trans x.point y.point z.point first second
 
 point_chosen_front : (b : Bool) (p : Point) (more : List Point) → list_all (λ q. is_lt (point_cmp p q)) more ≡ true →
     neighbours_pass (λ p' q. is_lt (point_cmp p' q)) more ≡ true →

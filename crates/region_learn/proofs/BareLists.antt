@@ -17,12 +17,12 @@ pub bare_twice : (regions : List Region) → map bare (map bare regions) ≡ map
 bare_twice [] = refl
 bare_twice (region ∷ regions) = ap (λ (l : List Region). bare region ∷ l) (bare_twice regions)
 
-le-of : (a b : ℕ) → nat_le a b ≡ true → a ≤ b
-le-of a b h = grind (arith, common_steps)
+le_of : (a b : ℕ) → nat_le a b ≡ true → a ≤ b
+le_of a b h = grind (arith, common_steps)
 
 -- guest memory ends before the last address
 pub base_room : (segments : List Segment) (base : ℕ) → is_base_of segments base ≡ true → base + 16777216 ≤ 4294967295
 base_room [] base h = absurd (cc)
 base_room (segment ∷ segments) base h =
-    let low = le-of base highest_base (and_parts (base == rounded_down segment.address) (nat_le base highest_base) h).1 in
+    let low = le_of base highest_base (and_parts (base == rounded_down segment.address) (nat_le base highest_base) h).1 in
     omega (arith, low)

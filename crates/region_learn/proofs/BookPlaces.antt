@@ -6,33 +6,33 @@ use Rattle.region_learn.specs.declared.notes.Notes.{Notes}
 use Rattle.region_learn.specs.Private.Books.{are_own, has_notes, numbers_of}
 use Rattle.flow_base.specs.Listed.{is_listed}
 
-true-false : ◌≡◌ {A = Bool} true false → ⊥
-true-false e = cc
+true_false : ◌≡◌ {A = Bool} true false → ⊥
+true_false e = cc
 
-none-false : (book : List Notes) (number : ℕ) →
+none_false : (book : List Notes) (number : ℕ) →
     ((place : ℕ) (none : Notes) → place < length book → (get_or book place none).region ≢ number) →
     has_notes book number ≡ false
-none-false [] number h = refl
-none-false (notes ∷ book) number h = elim (cases_Bool (notes.region == number)) [
+none_false [] number h = refl
+none_false (notes ∷ book) number h = elim (cases_Bool (notes.region == number)) [
   | inl same ↦ absurd (h 0 notes (omega arith) (eqb-true notes.region number same))
   | inr differs ↦
       ap (λ (b : Bool). b || has_notes book number) differs
-      ∙ none-false book number (λ place none below. h (suc place) none (omega arith))
+      ∙ none_false book number (λ place none below. h (suc place) none (omega arith))
 ]
 
 -- where there are notes of a region, not all are of others
 pub some_place : (book : List Notes) (number : ℕ) → has_notes book number ≡ true →
     ((place : ℕ) (none : Notes) → place < length book → (get_or book place none).region ≢ number) → ⊥
-some_place book number has h = let none = none-false book number h in true-false (sym has ∙ none)
+some_place book number has h = let none = none_false book number h in true_false (sym has ∙ none)
 
-stands-at : (book : List Notes) (place : ℕ) (none : Notes) → place < length book →
+stands_at : (book : List Notes) (place : ℕ) (none : Notes) → place < length book →
     is_listed (numbers_of book) (get_or book place none).region ≡ true
-stands-at [] place none below = absurd (omega arith)
-stands-at (notes ∷ book) zero none below =
+stands_at [] place none below = absurd (omega arith)
+stands_at (notes ∷ book) zero none below =
     or_left (notes.region == notes.region) (is_listed (numbers_of book) notes.region) (eq-eqb notes.region notes.region refl)
-stands-at (notes ∷ book) (suc place) none below =
+stands_at (notes ∷ book) (suc place) none below =
     or_right (notes.region == (get_or book place none).region) (is_listed (numbers_of book) (get_or book place none).region)
-    (stands-at book place none (omega arith))
+    (stands_at book place none (omega arith))
 
 -- different places have different regions
 pub one_place : (book : List Notes) (first second : ℕ) (none : Notes) → are_own book ≡ true → first < length book →
@@ -42,13 +42,13 @@ one_place (notes ∷ book) zero zero none own below within same = refl
 one_place (notes ∷ book) zero (suc second) none own below within same =
     let parts = and_parts (not (is_listed (numbers_of book) notes.region)) (are_own book) own in
     let stands : is_listed (numbers_of book) notes.region ≡ true =
-    subst (λ (n : ℕ). is_listed (numbers_of book) n ≡ true) (sym same) (stands-at book second none (omega arith)) in
-    absurd (true-false (sym parts.0 ∙ not_from_true (is_listed (numbers_of book) notes.region) stands))
+    subst (λ (n : ℕ). is_listed (numbers_of book) n ≡ true) (sym same) (stands_at book second none (omega arith)) in
+    absurd (true_false (sym parts.0 ∙ not_from_true (is_listed (numbers_of book) notes.region) stands))
 one_place (notes ∷ book) (suc first) zero none own below within same =
     let parts = and_parts (not (is_listed (numbers_of book) notes.region)) (are_own book) own in
     let stands : is_listed (numbers_of book) notes.region ≡ true =
-    subst (λ (n : ℕ). is_listed (numbers_of book) n ≡ true) same (stands-at book first none (omega arith)) in
-    absurd (true-false (sym parts.0 ∙ not_from_true (is_listed (numbers_of book) notes.region) stands))
+    subst (λ (n : ℕ). is_listed (numbers_of book) n ≡ true) same (stands_at book first none (omega arith)) in
+    absurd (true_false (sym parts.0 ∙ not_from_true (is_listed (numbers_of book) notes.region) stands))
 one_place (notes ∷ book) (suc first) (suc second) none own below within same =
     let parts = and_parts (not (is_listed (numbers_of book) notes.region)) (are_own book) own in
     ap suc (one_place book first second none parts.1 (omega arith) (omega arith) same)

@@ -18,9 +18,9 @@ use Rattle.region_learn.specs.Private.Noting.{Notes-walk, has_place, noted_of}
 use Rattle.region_learn.specs.Written.{is_leave_of, is_step_in, walk_writes}
 use Rattle.region_learn.proofs.BookPlaces.{one_place}
 
-or-none : (b more : Bool) → more ≡ false → b ≡ (b || more)
-or-none true more e = refl
-or-none false more e = sym e
+or_none : (b more : Bool) → more ≡ false → b ≡ (b || more)
+or_none true more e = refl
+or_none false more e = sym e
 
 -- notes of another region
 still : (kind : Kind) (state : State) (notes : Notes) → is_step_in notes.region kind ≡ false →
@@ -28,9 +28,9 @@ still : (kind : Kind) (state : State) (notes : Notes) → is_step_in notes.regio
 still kind state notes step leave = record {
   region = refl;
   base = refl;
-  places = λ place. or-none (has_place notes place) (is_step_in notes.region kind && walk_writes place (walk_of state))
+  places = λ place. or_none (has_place notes place) (is_step_in notes.region kind && walk_writes place (walk_of state))
       (ap (λ (b : Bool). b && walk_writes place (walk_of state)) step);
-  changed = λ register below. or-none (has_bit notes.changed register)
+  changed = λ register below. or_none (has_bit notes.changed register)
       (is_leave_of notes.region kind && has_changed state.store.kept state.store.registers register)
       (ap (λ (b : Bool). b && has_changed state.store.kept state.store.registers register) leave);
 }
@@ -40,23 +40,23 @@ pub record IsOf (number : ℕ) (kind : Kind) : Type 0 where
   pub step : (other : ℕ) → other ≢ number → is_step_in other kind ≡ false
   pub leave : (other : ℕ) → other ≢ number → is_leave_of other kind ≡ false
 
-other-number : (region : Region) (other : ℕ) → other ≢ region.id → (region.id == other) ≡ false
-other-number region other differs = elim (cases_Bool (region.id == other)) [
+other_number : (region : Region) (other : ℕ) → other ≢ region.id → (region.id == other) ≡ false
+other_number region other differs = elim (cases_Bool (region.id == other)) [
   | inl same ↦ absurd (differs (sym (eqb-true region.id other same)))
   | inr apart ↦ apart
 ]
 
-pub leaves-of : (region : Region) → IsOf region.id (Leaves region)
-leaves-of region = record { step = λ other differs. refl; leave = other-number region }
+pub leaves_of : (region : Region) → IsOf region.id (Leaves region)
+leaves_of region = record { step = λ other differs. refl; leave = other_number region }
 
-pub steps-of : (region : Region) → IsOf region.id (Steps (Some region))
-steps-of region = record { step = other-number region; leave = λ other differs. refl }
+pub steps_of : (region : Region) → IsOf region.id (Steps (Some region))
+steps_of region = record { step = other_number region; leave = λ other differs. refl }
 
-pub book-after : (kind : Kind) (state : State) (book : List Notes) (place number : ℕ) (notes : Notes) →
+pub book_after : (kind : Kind) (state : State) (book : List Notes) (place number : ℕ) (notes : Notes) →
     are_own book ≡ true → place < length book →
     ((none : Notes) → (get_or book place none).region ≡ number) → IsOf number kind →
     NotesAfter kind state (get_or book place notes) notes → BookAfter kind state book (set book place notes)
-book-after kind state book place number notes own within found of here = record {
+book_after kind state book place number notes own within found of here = record {
   count = length-set book place notes;
   each = λ k none below. elim (cases_Bool (k == place)) [
     | inl same ↦
@@ -81,13 +81,13 @@ book-after kind state book place number notes own within found of here = record 
 
 -- ---- the leave
 
-place-same : (before after : Notes) (place : Place) → after.written ≡ before.written → after.bytes ≡ before.bytes →
+place_same : (before after : Notes) (place : Place) → after.written ≡ before.written → after.bytes ≡ before.bytes →
     after.base ≡ before.base → has_place after place ≡ has_place before place
-place-same before after (Reg register) written bytes base = ap (λ (w : ℕ). has_bit w register) written
-place-same before after (Byte address) written bytes base = rw (bytes, base) refl
+place_same before after (Reg register) written bytes base = ap (λ (w : ℕ). has_bit w register) written
+place_same before after (Byte address) written bytes base = rw (bytes, base) refl
 
-is-number : (region : Region) (notes : Notes) → notes.region ≡ region.id → (region.id == notes.region) ≡ true
-is-number region notes e = eq-eqb region.id notes.region (sym e)
+is_number : (region : Region) (notes : Notes) → notes.region ≡ region.id → (region.id == notes.region) ≡ true
+is_number region notes e = eq-eqb region.id notes.region (sym e)
 
 pub left : (region : Region) (state : State) (before after : Notes) → before.region ≡ region.id →
     after.written ≡ before.written → after.bytes ≡ before.bytes → after.region ≡ before.region →
@@ -98,10 +98,10 @@ pub left : (region : Region) (state : State) (before after : Notes) → before.r
 left region state before after number written bytes same base changed = record {
   region = same;
   base = base;
-  places = λ place. place-same before after place written bytes base ∙ or-none (has_place before place) false refl;
+  places = λ place. place_same before after place written bytes base ∙ or_none (has_place before place) false refl;
   changed = λ register below. changed register below
       ∙ ap (λ (b : Bool). has_bit before.changed register || (b && has_changed state.store.kept state.store.registers register))
-      (sym (is-number region before number));
+      (sym (is_number region before number));
 }
 
 -- ---- a step inside
@@ -114,16 +114,16 @@ stepped region state end before after number h = record {
   base = h.base;
   places = λ place. h.places place
       ∙ ap (λ (b : Bool). has_place before place || (b && walk_writes place (walk_of state)))
-      (sym (is-number region before number));
+      (sym (is_number region before number));
   changed = λ register below. ap (λ (w : ℕ). has_bit w register) h.changed
-      ∙ or-none (has_bit before.changed register) false refl;
+      ∙ or_none (has_bit before.changed register) false refl;
 }
 
 -- a turn of no region
-pub book-still : (kind : Kind) (state : State) (book : List Notes) →
+pub book_still : (kind : Kind) (state : State) (book : List Notes) →
     ((number : ℕ) → is_step_in number kind ≡ false) → ((number : ℕ) → is_leave_of number kind ≡ false) →
     BookAfter kind state book book
-book-still kind state book step leave = record {
+book_still kind state book step leave = record {
   count = refl;
   each = λ place none below. still kind state (get_or book place none) (step (get_or book place none).region)
       (leave (get_or book place none).region);

@@ -32,24 +32,24 @@ split : (so : Break → Type 0) (broken : Option Break) → Fate so broken →
 split so None h = inl refl
 split so (Some broken) h = inr (broken, refl, h)
 
-more-none : (run : Run) (weaker : List Region) (turns : ℕ) →
+more_none : (run : Run) (weaker : List Region) (turns : ℕ) →
     ((turn : ℕ) → turn < turns → Breaks weaker (state_after run.regions turn run.start) ≡ None) →
     Breaks weaker (state_after run.regions turns run.start) ≡ None →
     (turn : ℕ) → turn < suc turns → Breaks weaker (state_after run.regions turn run.start) ≡ None
-more-none run weaker turns h last turn below = elim (cases_lt turn turns) [
+more_none run weaker turns h last turn below = elim (cases_lt turn turns) [
   | inl before ↦ h turn before
   | inr here ↦
       let e : turn ≡ turns = omega (arith, below, here) in
       ap (λ (n : ℕ). Breaks weaker (state_after run.regions n run.start)) e ∙ last
 ]
 
-course-turn : (so : Break → Type 0) (run : Run) (enclosures : Enclosures) (turns : ℕ) (at : RunPlace) →
+course_turn : (so : Break → Type 0) (run : Run) (enclosures : Enclosures) (turns : ℕ) (at : RunPlace) →
     turns < run.turns → map bare enclosures.regions ≡ run.regions → Fates so run enclosures.regions →
     IsSound run turns at →
     ((turn : ℕ) → turn < turns → Breaks enclosures.regions (state_after run.regions turn run.start) ≡ None) →
     Course so run enclosures.regions (suc turns) (unbroken_turn enclosures at)
 unfolding state_after
-course-turn so run enclosures turns at below same fates sound before =
+course_turn so run enclosures turns at below same fates sound before =
     let weaker = enclosures.regions in
     let state = state_after run.regions turns run.start in
     let here : Breaks weaker at.state ≡ Breaks weaker state = ap (λ (s : State). Breaks weaker s) sound.state in
@@ -60,7 +60,7 @@ course-turn so run enclosures turns at below same fates sound before =
           state = ap (λ (s : State). real_end (guest_walk weaker s)) sound.state
               ∙ (sym (edges_alike weaker state) ∙ ap (λ (l : List Region). real_end (guest_walk l state)) same);
         },
-        more-none run weaker turns before whole,
+        more_none run weaker turns before whole,
       )
       | inr broken ↦ inr (broken.0, here ∙ broken.1, broken.2)
     ]
@@ -77,7 +77,7 @@ course so run enclosures (suc turns) le same fates =
       | inl whole ↦
           subst (λ (b : Option Break). Course so run enclosures.regions (suc turns) (turn_unless b enclosures at))
           (sym whole.0.unbroken)
-          (course-turn so run enclosures turns at (omega arith) same fates whole.0 whole.1)
+          (course_turn so run enclosures turns at (omega arith) same fates whole.0 whole.1)
       | inr broken ↦
           subst (λ (b : Option Break). Course so run enclosures.regions (suc turns) (turn_unless b enclosures at))
           (sym broken.1) (inr broken)

@@ -27,41 +27,41 @@ bare_kind (Leaves region) = Leaves (bare region)
 bare_kind (Steps None) = Steps None
 bare_kind (Steps (Some region)) = Steps (Some (bare region))
 
-find-bare : (test : Region → Bool) (regions : List Region) → ((region : Region) → test (bare region) ≡ test region) →
+find_bare : (test : Region → Bool) (regions : List Region) → ((region : Region) → test (bare region) ≡ test region) →
     find test (map bare regions) ≡ option_map bare (find test regions)
-find-bare test [] same = refl
-find-bare test (region ∷ regions) same = elim (cases_Bool (test region)) [
+find_bare test [] same = refl
+find_bare test (region ∷ regions) same = elim (cases_Bool (test region)) [
   | inl here ↦
       cond-true (test (bare region)) (Some (bare region)) (find test (map bare regions)) (same region ∙ here)
       ∙ sym (ap (option_map bare) (cond-true (test region) (Some region) (find test regions) here))
   | inr later ↦
       cond-false (test (bare region)) (Some (bare region)) (find test (map bare regions)) (same region ∙ later)
-      ∙ (find-bare test regions same
+      ∙ (find_bare test regions same
       ∙ sym (ap (option_map bare) (cond-false (test region) (Some region) (find test regions) later)))
 ]
 
-numbered-bare : (regions : List Region) (number : ℕ) →
+numbered_bare : (regions : List Region) (number : ℕ) →
     region_numbered (map bare regions) number ≡ option_map bare (region_numbered regions number)
-numbered-bare regions number = elim (cases_Bool (number == 0)) [
+numbered_bare regions number = elim (cases_Bool (number == 0)) [
   | inl none ↦
       cond-true (number == 0) None (find (λ region. region.id == number) (map bare regions)) none
       ∙ sym (ap (option_map bare) (cond-true (number == 0) None (find (λ region. region.id == number) regions) none))
   | inr some ↦
       cond-false (number == 0) None (find (λ region. region.id == number) (map bare regions)) some
-      ∙ (find-bare (λ region. region.id == number) regions (λ region. refl)
+      ∙ (find_bare (λ region. region.id == number) regions (λ region. refl)
       ∙ sym (ap (option_map bare) (cond-false (number == 0) None (find (λ region. region.id == number) regions) some)))
 ]
 
-outside-bare : (found : Option Region) → kind_outside (option_map bare found) ≡ bare_kind (kind_outside found)
-outside-bare None = refl
-outside-bare (Some region) = refl
+outside_bare : (found : Option Region) → kind_outside (option_map bare found) ≡ bare_kind (kind_outside found)
+outside_bare None = refl
+outside_bare (Some region) = refl
 
-within-bare : (regions : List Region) (inside : Option Region) (pc : ℕ) →
+within_bare : (regions : List Region) (inside : Option Region) (pc : ℕ) →
     kind_within (map bare regions) (option_map bare inside) pc ≡ bare_kind (kind_within regions inside pc)
-within-bare regions None pc =
-    ap kind_outside (find-bare (λ region. region.enter == pc) regions (λ region. refl))
-    ∙ outside-bare (region_entered_at regions pc)
-within-bare regions (Some region) pc = elim (cases_Bool (region.leave == pc)) [
+within_bare regions None pc =
+    ap kind_outside (find_bare (λ region. region.enter == pc) regions (λ region. refl))
+    ∙ outside_bare (region_entered_at regions pc)
+within_bare regions (Some region) pc = elim (cases_Bool (region.leave == pc)) [
   | inl at ↦
       cond-true (region.leave == pc) (Leaves (bare region)) (Steps (Some (bare region))) at
       ∙ sym (ap bare_kind (cond-true (region.leave == pc) (Leaves region) (Steps (Some region)) at))
@@ -70,38 +70,38 @@ within-bare regions (Some region) pc = elim (cases_Bool (region.leave == pc)) [
       ∙ sym (ap bare_kind (cond-false (region.leave == pc) (Leaves region) (Steps (Some region)) off))
 ]
 
-in-bare : (mode : Stepped) (regions : List Region) (control : Control) →
+in_bare : (mode : Stepped) (regions : List Region) (control : Control) →
     kind_in mode (map bare regions) control ≡ bare_kind (kind_in mode regions control)
-in-bare Ran regions control =
-    ap (λ (o : Option Region). kind_within (map bare regions) o control.pc) (numbered-bare regions control.region)
-    ∙ within-bare regions (region_numbered regions control.region) control.pc
-in-bare (Exited status) regions control = refl
-in-bare (Stopped fault) regions control = refl
+in_bare Ran regions control =
+    ap (λ (o : Option Region). kind_within (map bare regions) o control.pc) (numbered_bare regions control.region)
+    ∙ within_bare regions (region_numbered regions control.region) control.pc
+in_bare (Exited status) regions control = refl
+in_bare (Stopped fault) regions control = refl
 
 pub kind_bare : (regions : List Region) (control : Control) →
     kind_of (map bare regions) control ≡ bare_kind (kind_of regions control)
-kind_bare regions control = in-bare control.mode regions control
+kind_bare regions control = in_bare control.mode regions control
 
 -- ---- looks, and outputs that pass
 
-look-one : (setting : Setting) (secret : List ℕ) (store : Store) (held : Held) (base : Option ℕ) (turn : Turn) →
+look_one : (setting : Setting) (secret : List ℕ) (store : Store) (held : Held) (base : Option ℕ) (turn : Turn) →
     real_end (walked setting secret (looks_at base turn) store held) ≡ real_end (walked setting secret turn store held)
 unfolding real_end walked
-look-one setting secret store held None turn = refl
-look-one setting secret store held (Some register) turn = refl
+look_one setting secret store held None turn = refl
+look_one setting secret store held (Some register) turn = refl
 
 looked : (setting : Setting) (secret : List ℕ) (store : Store) (held : Held) (ranges : List Range) (turn : Turn) →
     real_end (walked setting secret (looks ranges turn) store held) ≡ real_end (walked setting secret turn store held)
 unfolding real_end walked looks
 looked setting secret store held [] turn = refl
 looked setting secret store held (range ∷ ranges) turn =
-    look-one setting secret store held range.base (looks ranges turn)
+    look_one setting secret store held range.base (looks ranges turn)
     ∙ looked setting secret store held ranges turn
 
-register-same : (store : Store) (register : ℕ) →
+register_same : (store : Store) (register : ℕ) →
     with_register register (slice_index store.registers register) store ≡ store
 unfolding with_register
-register-same store register = elim (cases_Bool (register == 0)) [
+register_same store register = elim (cases_Bool (register == 0)) [
   | inl none ↦
       ap (λ (l : List ℕ). record store { registers = l })
       (cond-true (register == 0) store.registers
@@ -113,10 +113,10 @@ register-same store register = elim (cases_Bool (register == 0)) [
       ∙ set-get_or store.registers register 0)
 ]
 
-byte-same : (base address : ℕ) (store : Store) →
+byte_same : (base address : ℕ) (store : Store) →
     with_byte base address (slice_index store.memory (address - base)) store ≡ store
 unfolding with_byte
-byte-same base address store =
+byte_same base address store =
     ap (λ (l : List ℕ). record store { memory = l }) (set-get_or store.memory (address - base) 0)
 
 given_registers : (region : Region) (setting : Setting) (secret : List ℕ) (store : Store) (held : Held)
@@ -127,7 +127,7 @@ unfolding real_end walked gives_registers
 given_registers region setting secret store held [] turn = refl
 given_registers region setting secret store held (register ∷ registers) turn =
     ap (λ (s : Store). real_end (walked setting secret (gives_registers region registers turn) s held))
-    (register-same store register)
+    (register_same store register)
     ∙ given_registers region setting secret store held registers turn
 
 given_bytes : (region : Region) (number : ℕ) (setting : Setting) (secret : List ℕ) (store : Store) (held : Held)
@@ -138,7 +138,7 @@ unfolding real_end walked gives_bytes
 given_bytes region number setting secret store held address zero turn = refl
 given_bytes region number setting secret store held address (suc count) turn =
     ap (λ (s : Store). real_end (walked setting secret (gives_bytes region number (address + 1) count turn) s held))
-    (byte-same setting.base address store)
+    (byte_same setting.base address store)
     ∙ given_bytes region number setting secret store held (address + 1) count turn
 
 given_ranges : (region : Region) (kept : List ℕ) (number : ℕ) (setting : Setting) (secret : List ℕ) (store : Store)

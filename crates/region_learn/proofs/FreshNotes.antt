@@ -15,44 +15,44 @@ use Rattle.region_learn.specs.Private.Marks.{has_bit, marks_have}
 use Rattle.region_learn.specs.Private.Noting.{has_place}
 use Rattle.region_learn.specs.Written.{some_turn}
 
-and-none : (b : Bool) → (b && false) ≡ false
-and-none true = refl
-and-none false = refl
+and_none : (b : Bool) → (b && false) ≡ false
+and_none true = refl
+and_none false = refl
 
-no-bit : (index : ℕ) → has_bit 0 index ≡ false
-no-bit index = ap (λ (n : ℕ). n == 1) (bit_at-zero index)
+no_bit : (index : ℕ) → has_bit 0 index ≡ false
+no_bit index = ap (λ (n : ℕ). n == 1) (bit_at-zero index)
 
-no-place : (notes : Notes) (place : Place) → notes.written ≡ 0 →
+no_place : (notes : Notes) (place : Place) → notes.written ≡ 0 →
     ((index : ℕ) → marks_have notes.bytes index ≡ false) → has_place notes place ≡ false
-no-place notes (Reg register) e h = ap (λ (w : ℕ). has_bit w register) e ∙ no-bit register
-no-place notes (Byte address) e h =
-    ap (λ (b : Bool). nat_le notes.base address && b) (h (address - notes.base)) ∙ and-none (nat_le notes.base address)
+no_place notes (Reg register) e h = ap (λ (w : ℕ). has_bit w register) e ∙ no_bit register
+no_place notes (Byte address) e h =
+    ap (λ (b : Bool). nat_le notes.base address && b) (h (address - notes.base)) ∙ and_none (nat_le notes.base address)
 
 pub fresh : (notes : Notes) → notes.written ≡ 0 → notes.changed ≡ 0 →
     ((index : ℕ) → marks_have notes.bytes index ≡ false) → IsFresh notes.region notes.base notes
 fresh notes written changed h = record {
   number = refl;
   low = refl;
-  places = λ place. no-place notes place written h;
-  changed = λ register. ap (λ (w : ℕ). has_bit w register) changed ∙ no-bit register;
+  places = λ place. no_place notes place written h;
+  changed = λ register. ap (λ (w : ℕ). has_bit w register) changed ∙ no_bit register;
 }
 
-at-start : (regions : List Region) (start : State) (notes : Notes) → IsNew start.setting.base notes →
+starts_so : (regions : List Region) (start : State) (notes : Notes) → IsNew start.setting.base notes →
     NotesOf regions 0 start notes
 unfolding some_turn
-at-start regions start notes h =
+starts_so regions start notes h =
     record { base = h.low; places = h.places; changed = λ register below. h.changed register }
 
-each-at : (P : Notes → Type 0) (book : List Notes) (place : ℕ) (none : Notes) → AllByRecursion P book →
+each_at : (P : Notes → Type 0) (book : List Notes) (place : ℕ) (none : Notes) → AllByRecursion P book →
     place < length book → P (get_or book place none)
-each-at P [] place none h below = absurd (omega arith)
-each-at P (notes ∷ book) zero none h below = h.0
-each-at P (notes ∷ book) (suc place) none h below = each-at P book place none h.1 (omega arith)
+each_at P [] place none h below = absurd (omega arith)
+each_at P (notes ∷ book) zero none h below = h.0
+each_at P (notes ∷ book) (suc place) none h below = each_at P book place none h.1 (omega arith)
 
 pub new_book_of : (regions : List Region) (start : State) (book : List Notes) → numbers_of book ≡ ids_of regions →
     AllByRecursion (IsNew start.setting.base) book → BookOf regions 0 start book
 new_book_of regions start book numbers h = record {
   numbers = numbers;
-  each = λ place none below. at-start regions start (get_or book place none)
-      (each-at (IsNew start.setting.base) book place none h below);
+  each = λ place none below. starts_so regions start (get_or book place none)
+      (each_at (IsNew start.setting.base) book place none h below);
 }

@@ -74,46 +74,46 @@ turn_passes passes regions control h = in_passes passes control.mode regions con
 
 -- ---- regions without ranges can be left
 
-no-ranges : (ranges : List Range) (kept : List ℕ) (base : ℕ) → (length ranges == 0) ≡ true →
+no_ranges : (ranges : List Range) (kept : List ℕ) (base : ℕ) → (length ranges == 0) ≡ true →
     are_inside ranges kept base ≡ true
-no-ranges ranges kept base h =
+no_ranges ranges kept base h =
     ap (λ (l : List Range). are_inside l kept base) (nil_of ranges (eqb-true (length ranges) 0 h))
 
-bare-leaves : (inside : Option Region) (kept : List ℕ) (base : ℕ) →
+bare_leaves : (inside : Option Region) (kept : List ℕ) (base : ℕ) →
     option_passes (λ region. length region.ranges == 0) inside ≡ true → may_leave_of inside kept base ≡ true
-bare-leaves None kept base h = refl
-bare-leaves (Some region) kept base h = no-ranges region.ranges kept base h
+bare_leaves None kept base h = refl
+bare_leaves (Some region) kept base h = no_ranges region.ranges kept base h
 
 pub bare_leave : (regions : List Region) (state : State) → are_bare regions ≡ true → may_leave regions state ≡ true
 bare_leave regions state h =
-    bare-leaves (region_numbered regions state.control.region) state.store.kept state.setting.base
+    bare_leaves (region_numbered regions state.control.region) state.store.kept state.setting.base
     (numbered_passes (λ region. length region.ranges == 0) regions state.control.region h)
 
 -- ---- each region has notes
 
-any-number : (book : List Notes) (number : ℕ) → is_listed (numbers_of book) number ≡ has_notes book number
-any-number [] number = refl
-any-number (notes ∷ book) number = ap (λ (b : Bool). (notes.region == number) || b) (any-number book number)
+any_number : (book : List Notes) (number : ℕ) → is_listed (numbers_of book) number ≡ has_notes book number
+any_number [] number = refl
+any_number (notes ∷ book) number = ap (λ (b : Bool). (notes.region == number) || b) (any_number book number)
 
-all-within : (numbers : List ℕ) (regions : List Region) →
+all_within : (numbers : List ℕ) (regions : List Region) →
     ((number : ℕ) → is_listed (ids_of regions) number ≡ true → is_listed numbers number ≡ true) →
     list_all (λ region. is_listed numbers region.id) regions ≡ true
-all-within numbers [] h = refl
-all-within numbers (region ∷ regions) h =
+all_within numbers [] h = refl
+all_within numbers (region ∷ regions) h =
     rw (h region.id (or_left (region.id == region.id) (is_listed (ids_of regions) region.id) (eq-eqb region.id region.id refl)))
-    (all-within numbers regions
+    (all_within numbers regions
     (λ number stands. h number (or_right (region.id == number) (is_listed (ids_of regions) number) stands)))
 
-all-same : (passes other : Region → Bool) (regions : List Region) → ((region : Region) → passes region ≡ other region) →
+all_same : (passes other : Region → Bool) (regions : List Region) → ((region : Region) → passes region ≡ other region) →
     list_all passes regions ≡ list_all other regions
-all-same passes other [] e = refl
-all-same passes other (region ∷ regions) e = rw (e region, all-same passes other regions e) refl
+all_same passes other [] e = refl
+all_same passes other (region ∷ regions) e = rw (e region, all_same passes other regions e) refl
 
 pub notes_of_turn : (regions : List Region) (book : List Notes) (control : Control) →
     numbers_of book ≡ ids_of regions → has_kind_notes book (kind_of regions control) ≡ true
 notes_of_turn regions book control e =
     turn_passes (λ region. has_notes book region.id) regions control
-    (sym (all-same (λ region. is_listed (numbers_of book) region.id) (λ region. has_notes book region.id) regions
-    (λ region. any-number book region.id))
-    ∙ all-within (numbers_of book) regions
+    (sym (all_same (λ region. is_listed (numbers_of book) region.id) (λ region. has_notes book region.id) regions
+    (λ region. any_number book region.id))
+    ∙ all_within (numbers_of book) regions
     (λ number stands. subst (λ (l : List ℕ). is_listed l number ≡ true) (sym e) stands))

@@ -48,37 +48,37 @@ after_value_ends (boolean b ∷ ts) r ended = refl
 after_value_ends (null ∷ ts) r ended = refl
 after_value_ends (bad ∷ ts) r ended = refl
 
-lex-quoted : (s r : List ℕ) → lex between (quoted s ++ r) ≡ token (string s) ∷ lex between r
+lex_quoted : (s r : List ℕ) → lex between (quoted s ++ r) ≡ token (string s) ∷ lex between r
 unfolding lex
-lex-quoted s r =
+lex_quoted s r =
     let e = append_assoc (escape s) (34 ∷ []) r in
     ap (λ l. lex between (34 ∷ l)) e
     ∙ ap₂ (λ o l. token (string_token o) ∷ l) (content-escape s r) (lex-escape s r)
 
-lex-token_text : (t : Token) (r : List ℕ) → IsPrintable t → (ends t ≡ true → ends_word r ≡ true) →
+lex_token_text : (t : Token) (r : List ℕ) → IsPrintable t → (ends t ≡ true → ends_word r ≡ true) →
     lex between (token_text t ++ r) ≡ token_lexemes t ++ lex between r
 unfolding lex word
-lex-token_text begin_object r h ended = refl
-lex-token_text end_object r h ended = refl
-lex-token_text begin_array r h ended = refl
-lex-token_text end_array r h ended = refl
-lex-token_text (key s) r h ended =
-    ap (lex between) (append_assoc (quoted s) (58 ∷ []) r) ∙ lex-quoted s (58 ∷ r)
-lex-token_text (string s) r h ended = lex-quoted s r
-lex-token_text (number s) r h ended = lex-number s r h (ended refl)
-lex-token_text (boolean true) r h ended =
+lex_token_text begin_object r h ended = refl
+lex_token_text end_object r h ended = refl
+lex_token_text begin_array r h ended = refl
+lex_token_text end_array r h ended = refl
+lex_token_text (key s) r h ended =
+    ap (lex between) (append_assoc (quoted s) (58 ∷ []) r) ∙ lex_quoted s (58 ∷ r)
+lex_token_text (string s) r h ended = lex_quoted s r
+lex_token_text (number s) r h ended = lex-number s r h (ended refl)
+lex_token_text (boolean true) r h ended =
     ap₂ (λ b l. token (cond b (boolean true) bad) ∷ l) (ended refl) (in_word-ended r (ended refl))
-lex-token_text (boolean false) r h ended =
+lex_token_text (boolean false) r h ended =
     ap₂ (λ b l. token (cond b (boolean false) bad) ∷ l) (ended refl) (in_word-ended r (ended refl))
-lex-token_text null r h ended =
+lex_token_text null r h ended =
     ap₂ (λ b l. token (cond b null bad) ∷ l) (ended refl) (in_word-ended r (ended refl))
-lex-token_text bad r h ended = absurd h
+lex_token_text bad r h ended = absurd h
 
-lex-separator : (b : Bool) (r : List ℕ) →
+lex_separator : (b : Bool) (r : List ℕ) →
     lex between (cond b (44 ∷ []) [] ++ r) ≡ cond b (comma ∷ []) [] ++ lex between r
 unfolding lex
-lex-separator true r = refl
-lex-separator false r = refl
+lex_separator true r = refl
+lex_separator false r = refl
 
 regroup : (b : Bool) (u v r : List ℕ) →
     (cond b (44 ∷ []) [] ++ (u ++ v)) ++ r ≡ cond b (44 ∷ []) [] ++ (u ++ (v ++ r))
@@ -92,9 +92,9 @@ module _ (r : List ℕ) (ended : ends_word r ≡ true) where
   unfolding print_from
   lex-print_step c t ts h =
       ap (lex between) (regroup (c && begins t) (token_text t) (print_from (ends t) ts) r)
-      ∙ lex-separator (c && begins t) (token_text t ++ (print_from (ends t) ts ++ r))
+      ∙ lex_separator (c && begins t) (token_text t ++ (print_from (ends t) ts ++ r))
       ∙ ap (λ l. cond (c && begins t) (comma ∷ []) [] ++ l)
-      (lex-token_text t (print_from (ends t) ts ++ r) h
+      (lex_token_text t (print_from (ends t) ts ++ r) h
       (λ e. ap (λ b. ends_word (print_from b ts ++ r)) e ∙ after_value_ends ts r ended))
 
 module _ (r : List ℕ) (ended : ends_word r ≡ true) (blank : lex between r ≡ []) where

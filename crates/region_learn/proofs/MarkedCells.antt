@@ -9,13 +9,13 @@ use Rattle.std.proofs.lemmas.Nat.Bits.{bit_at_or, bit_at-zero, bit_at-pow_same, 
 use Rattle.std.proofs.lemmas.List.{get_or-replicate, get_or_past, length-replicate}
 use Rattle.region_learn.specs.Private.Marks.{has_bit, page_has}
 
-or-true : (b : Bool) → (b || true) ≡ true
-or-true true = refl
-or-true false = refl
+or_true : (b : Bool) → (b || true) ≡ true
+or_true true = refl
+or_true false = refl
 
-or-none : (b : Bool) → (b || false) ≡ b
-or-none true = refl
-or-none false = refl
+or_none : (b : Bool) → (b || false) ≡ b
+or_none true = refl
+or_none false = refl
 
 pub with_bit : (word index other : ℕ) →
     has_bit (bit_or word (2 ^ index)) other ≡ (has_bit word other || (other == index))
@@ -26,13 +26,13 @@ with_bit word index other = elim (cases_Bool (other == index)) [
       subst (λ (k : ℕ). bit_at (2 ^ index) k ≡ 1) (sym at) (bit_at-pow_same index) in
       let one : bit_at (bit_or word (2 ^ index)) other ≡ 1 =
       omega (arith, bit_at_or word (2 ^ index) other, set) in
-      ap (λ (n : ℕ). n == 1) one ∙ sym (ap (λ (b : Bool). has_bit word other || b) same ∙ or-true (has_bit word other))
+      ap (λ (n : ℕ). n == 1) one ∙ sym (ap (λ (b : Bool). has_bit word other || b) same ∙ or_true (has_bit word other))
   | inr differs ↦
       let none : bit_at (2 ^ index) other ≡ 0 = bit_at-pow_other index other (eqb-false other index differs) in
       let stays : bit_at (bit_or word (2 ^ index)) other ≡ bit_at word other =
       omega (arith, bit_at_or word (2 ^ index) other, none) in
       ap (λ (n : ℕ). n == 1) stays
-      ∙ sym (ap (λ (b : Bool). has_bit word other || b) differs ∙ or-none (has_bit word other))
+      ∙ sym (ap (λ (b : Bool). has_bit word other || b) differs ∙ or_none (has_bit word other))
 ]
 
 differ : (other index w : ℕ) → (other / w ≢ index / w) → (other == index) ≡ false
@@ -41,8 +41,8 @@ differ other index w ne = elim (cases_Bool (other == index)) [
   | inr other-one ↦ other-one
 ]
 
-rest-same : (other index w : ℕ) → other / w ≡ index / w → (other % w == index % w) ≡ (other == index)
-rest-same other index w at = elim (cases_Bool (other % w == index % w)) [
+rest_same : (other index w : ℕ) → other / w ≡ index / w → (other % w == index % w) ≡ (other == index)
+rest_same other index w at = elim (cases_Bool (other % w == index % w)) [
   | inl same ↦
       let one : other ≡ index =
       sym (div-add-mod' other w)
@@ -69,24 +69,24 @@ one_mark {X = X} has w cells new none index other within each = elim (cases_Bool
       ap (λ (x : X). has x (other % w)) here
       ∙ (each (other % w)
       ∙ (ap (λ (i : ℕ). has (get_or cells i none) (other % w) || (other % w == index % w)) (sym at)
-      ∙ ap (λ (b : Bool). has (get_or cells (other / w) none) (other % w) || b) (rest-same other index w at)))
+      ∙ ap (λ (b : Bool). has (get_or cells (other / w) none) (other % w) || b) (rest_same other index w at)))
   | inr differs ↦
       let ne : other / w ≢ index / w = eqb-false (other / w) (index / w) differs in
       ap (λ (x : X). has x (other % w)) (get_or-set_other cells (index / w) (other / w) new none ne)
       ∙ sym (ap (λ (b : Bool). has (get_or cells (other / w) none) (other % w) || b) (differ other index w ne)
-      ∙ or-none (has (get_or cells (other / w) none) (other % w)))
+      ∙ or_none (has (get_or cells (other / w) none) (other % w)))
 ]
 
 -- zeros have no bit, as no words have none
-zero-at : (count i : ℕ) → ◌≡◌ {A = ℕ} (get_or (replicate count 0) i 0) 0
-zero-at count i = elim (cases_lt i count) [
+zero_at : (count i : ℕ) → ◌≡◌ {A = ℕ} (get_or (replicate count 0) i 0) 0
+zero_at count i = elim (cases_lt i count) [
   | inl below ↦ get_or-replicate count i 0 0 below
   | inr past ↦ get_or_past (replicate count 0) i 0 (omega (arith, length-replicate {A = ℕ} count 0, past))
 ]
 
 pub zeros_have_none : (count index : ℕ) → page_has (replicate count 0) index ≡ false
 zeros_have_none count index =
-    ap (λ (word : ℕ). has_bit word (index % 32)) (zero-at count (index / 32))
+    ap (λ (word : ℕ). has_bit word (index % 32)) (zero_at count (index / 32))
     ∙ ap (λ (n : ℕ). n == 1) (bit_at-zero (index % 32))
 
 pub none_have_none : (index : ℕ) → page_has [] index ≡ false

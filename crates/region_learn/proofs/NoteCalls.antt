@@ -108,15 +108,15 @@ pub called : (passing : Passing) (go : ℕ → Walk) → is_number_slot passing.
 unfolding walk_calls
 called passing go is = ap (λ (b : Bool). b || walk_calls (go passing.value)) is
 
-or-none : (b : Bool) → b ≡ (b || false)
-or-none true = refl
-or-none false = refl
+or_none : (b : Bool) → b ≡ (b || false)
+or_none true = refl
+or_none false = refl
 
 -- a value that is put into no place is none to be noted
 pub unwritten : (noted : Noted) (aim : Aim) → ((place : Place) → puts_into place aim ≡ false) →
     NotesMore noted noted (λ place. puts_into place aim)
 unwritten noted aim none = record {
-  places = λ place. or-none (noted.has place) ∙ ap (λ (b : Bool). noted.has place || b) (sym (none place));
+  places = λ place. or_none (noted.has place) ∙ ap (λ (b : Bool). noted.has place || b) (sym (none place));
   changed = refl;
   region = refl;
   base = refl;

@@ -13,70 +13,70 @@ use Rattle.enclosure_regions.specs.Regions.{are_ranges, is_base_register, is_ran
 use Rattle.enclosure_regions.specs.Shapes.{number_within, register_at, word_at}
 use Rattle.enclosure_regions.specs.Words.{word_of}
 use Rattle.region_learn.specs.RegionTexts.{range_data, ranges_data, register_data, whole}
-use Rattle.region_learn.proofs.RegisterTexts.{register-own}
+use Rattle.region_learn.proofs.RegisterTexts.{register_own}
 
 -- ---- numbers
 
-pub number-own : (lowest highest number : ℕ) → (nat_le lowest number && nat_le number highest) ≡ true →
+pub number_own : (lowest highest number : ℕ) → (nat_le lowest number && nat_le number highest) ≡ true →
     number_within lowest highest (whole number) ≡ Some number
-number-own lowest highest number known = cond-true (nat_le lowest number && nat_le number highest) _ _ known
+number_own lowest highest number known = cond-true (nat_le lowest number && nat_le number highest) _ _ known
 
-offset-own : (offset : ℕ) → offset < 4294967296 → word_at (whole offset) ≡ Some offset
-offset-own offset small =
+offset_own : (offset : ℕ) → offset < 4294967296 → word_at (whole offset) ≡ Some offset
+offset_own offset small =
     ap (option_and_then word_of) (cond-true (nat_lt offset (2 ^ 63)) (Some (pos offset)) None
     (lt-ltb offset (2 ^ 63) (omega arith)))
     ∙ cond-true (nat_lt offset 4294967296) _ _ (lt-ltb offset 4294967296 small)
 
 -- ---- one range
 
-bare-range : (offset count : ℕ) → range_at (range_data (record { base = None; offset = offset; length = count })) ≡
+bare_range : (offset count : ℕ) → range_at (range_data (record { base = None; offset = offset; length = count })) ≡
     with_offset None (word_at (whole offset)) (number_within 1 65536 (whole count))
 unfolding serde_json_on_literals
-bare-range offset count = refl
+bare_range offset count = refl
 
-based-range : (register offset count : ℕ) →
+based_range : (register offset count : ℕ) →
     range_at (range_data (record { base = Some register; offset = offset; length = count })) ≡
     with_base (option_map Some (register_at (register_data register))) (word_at (whole offset))
     (number_within 1 65536 (whole count))
 unfolding serde_json_on_literals
-based-range register offset count = refl
+based_range register offset count = refl
 
-parts-own : (base : Option ℕ) (offset count : ℕ) → is_base_register base ≡ true → offset < 4294967296 →
+parts_own : (base : Option ℕ) (offset count : ℕ) → is_base_register base ≡ true → offset < 4294967296 →
     (nat_le 1 count && nat_le count 65536) ≡ true →
     range_at (range_data (record { base = base; offset = offset; length = count })) ≡
     Some (record { base = base; offset = offset; length = count })
-parts-own None offset count known small fits =
-    bare-range offset count
-    ∙ ap (λ (o : Option ℕ). with_offset None o (number_within 1 65536 (whole count))) (offset-own offset small)
-    ∙ ap (with_length None offset) (number-own 1 65536 count fits)
-parts-own (Some register) offset count known small fits =
-    based-range register offset count
+parts_own None offset count known small fits =
+    bare_range offset count
+    ∙ ap (λ (o : Option ℕ). with_offset None o (number_within 1 65536 (whole count))) (offset_own offset small)
+    ∙ ap (with_length None offset) (number_own 1 65536 count fits)
+parts_own (Some register) offset count known small fits =
+    based_range register offset count
     ∙ ap (λ (r : Option ℕ). with_base (option_map Some r) (word_at (whole offset)) (number_within 1 65536 (whole count)))
-    (register-own register known)
-    ∙ ap (λ (o : Option ℕ). with_offset (Some register) o (number_within 1 65536 (whole count))) (offset-own offset small)
-    ∙ ap (with_length (Some register) offset) (number-own 1 65536 count fits)
+    (register_own register known)
+    ∙ ap (λ (o : Option ℕ). with_offset (Some register) o (number_within 1 65536 (whole count))) (offset_own offset small)
+    ∙ ap (with_length (Some register) offset) (number_own 1 65536 count fits)
 
-range-own : (range : Range) → is_range range ≡ true → range_at (range_data range) ≡ Some range
-range-own range known =
+range_own : (range : Range) → is_range range ≡ true → range_at (range_data range) ≡ Some range
+range_own range known =
     let first = and_parts (is_base_register range.base)
     (nat_lt range.offset (2 ^ 32) && (nat_le 1 range.length && nat_le range.length 65536)) known in
     let second = and_parts (nat_lt range.offset (2 ^ 32)) (nat_le 1 range.length && nat_le range.length 65536) first.1 in
-    parts-own range.base range.offset range.length first.0 (ltb-true range.offset 4294967296 second.0) second.1
+    parts_own range.base range.offset range.length first.0 (ltb-true range.offset 4294967296 second.0) second.1
 
 -- ---- all ranges
 
-ranges-onto : (ranges found : List Range) → list_all is_range ranges ≡ true →
+ranges_put_onto : (ranges found : List Range) → list_all is_range ranges ≡ true →
     ranges_onto found (items_of (map range_data ranges)) ≡ Some (found ++ ranges)
-ranges-onto [] found known = ap Some (sym (append-nil found))
-ranges-onto (range ∷ ranges) found known =
+ranges_put_onto [] found known = ap Some (sym (append-nil found))
+ranges_put_onto (range ∷ ranges) found known =
     let parts = and_parts (is_range range) (list_all is_range ranges) known in
     ap (option_and_then (λ (r : Range). ranges_onto (found ++ r ∷ []) (items_of (map range_data ranges))))
-    (range-own range parts.0)
-    ∙ ranges-onto ranges (found ++ range ∷ []) parts.1
+    (range_own range parts.0)
+    ∙ ranges_put_onto ranges (found ++ range ∷ []) parts.1
     ∙ ap Some (append_assoc found (range ∷ []) ranges)
 
-pub ranges-own : (ranges : List Range) → are_ranges ranges ≡ true → ranges_at (ranges_data ranges) ≡ Some ranges
-ranges-own ranges known =
+pub ranges_own : (ranges : List Range) → are_ranges ranges ≡ true → ranges_at (ranges_data ranges) ≡ Some ranges
+ranges_own ranges known =
     let few_ranges = nat_le (length ranges) 64 && nat_le (sum_by (λ (range : Range). range.length) ranges) 65536 in
     let parts = and_parts (list_all is_range ranges) few_ranges known in
-    ap (option_and_then few) (ranges-onto ranges [] parts.0) ∙ cond-true few_ranges (Some ranges) None parts.1
+    ap (option_and_then few) (ranges_put_onto ranges [] parts.0) ∙ cond-true few_ranges (Some ranges) None parts.1

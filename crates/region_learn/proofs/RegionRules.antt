@@ -64,10 +64,10 @@ count_bare : (regions : List Region) → length (map bare regions) ≡ length re
 count_bare [] = refl
 count_bare (region ∷ regions) = let e = count_bare regions in omega (arith, e)
 
-list-rules : (first second : List Region) → length second ≡ length first → ids_of second ≡ ids_of first →
+list_rules : (first second : List Region) → length second ≡ length first → ids_of second ≡ ids_of first →
     enters_of second ≡ enters_of first → are_regions first ≡ true → list_all is_region second ≡ true →
     are_regions second ≡ true
-list-rules first second count ids enters h rules =
+list_rules first second count ids enters h rules =
     let a = and_parts (nat_le (length first) 256) _ h in
     let b = and_parts (list_all is_region first) _ a.1 in
     let c = and_parts (are_distinct (ids_of first)) (are_distinct (enters_of first)) b.1 in
@@ -79,18 +79,18 @@ list-rules first second count ids enters h rules =
 pub bare_regions_rules : (regions : List Region) → are_regions regions ≡ true → are_regions (map bare regions) ≡ true
 bare_regions_rules regions h =
     let rules = (and_parts (list_all is_region regions) _ (and_parts (nat_le (length regions) 256) _ h).1).0 in
-    list-rules regions (map bare regions) (count_bare regions) (ids_bare regions) (enters_bare regions) h
+    list_rules regions (map bare regions) (count_bare regions) (ids_bare regions) (enters_bare regions) h
     (bare_rules regions rules)
 
 -- ---- registers that are picked
 
-all-are : IsTrue (are_registers all_registers)
+all_are : IsTrue (are_registers all_registers)
 unfolding all_registers
-all-are = refl
+all_are = refl
 
-filter-all : (test pick : ℕ → Bool) (xs : List ℕ) → IsTrue (list_all test xs) → IsTrue (list_all test (filter pick xs))
-filter-all test pick [] h = h
-filter-all test pick (x ∷ xs) h = grind (arith, common_steps, filter-all test pick xs)
+filter_all : (test pick : ℕ → Bool) (xs : List ℕ) → IsTrue (list_all test xs) → IsTrue (list_all test (filter pick xs))
+filter_all test pick [] h = h
+filter_all test pick (x ∷ xs) h = grind (arith, common_steps, filter_all test pick xs)
 
 lower : (a b : ℕ) (xs : List ℕ) → a ≤ b → IsTrue (ascends_above b xs) → IsTrue (ascends_above a xs)
 lower a b [] le h = refl
@@ -103,38 +103,38 @@ ascends pick lowest (x ∷ xs) h = grind (arith, common_steps, lower, ascends pi
 
 pub picked : (pick : ℕ → Bool) → IsTrue (are_registers (filter pick all_registers))
 picked pick =
-    grind (arith, common_steps, all-are, filter-all is_register pick all_registers, ascends pick 0 all_registers)
+    grind (arith, common_steps, all_are, filter_all is_register pick all_registers, ascends pick 0 all_registers)
 
-pub stands-picked : (pick : ℕ → Bool) (r : ℕ) (xs : List ℕ) → IsTrue (is_listed (filter pick xs) r) → IsTrue (pick r)
-stands-picked pick r [] h = grind arith
-stands-picked pick r (x ∷ xs) h = grind (arith, common_steps, stands-picked pick r xs)
+pub stands_picked : (pick : ℕ → Bool) (r : ℕ) (xs : List ℕ) → IsTrue (is_listed (filter pick xs) r) → IsTrue (pick r)
+stands_picked pick r [] h = grind arith
+stands_picked pick r (x ∷ xs) h = grind (arith, common_steps, stands_picked pick r xs)
 
-apart-of : (first second : ℕ → Bool) (ys xs : List ℕ) → ((r : ℕ) → first r ≡ true → second r ≡ false) →
+apart_of : (first second : ℕ → Bool) (ys xs : List ℕ) → ((r : ℕ) → first r ≡ true → second r ≡ false) →
     IsTrue (are_apart (filter first xs) (filter second ys))
-apart-of first second ys [] h = refl
-apart-of first second ys (x ∷ xs) h =
-    grind (arith, common_steps, stands-picked second x ys, h x, apart-of first second ys xs h)
+apart_of first second ys [] h = refl
+apart_of first second ys (x ∷ xs) h =
+    grind (arith, common_steps, stands_picked second x ys, h x, apart_of first second ys xs h)
 
-not-both : (written changed : Bool) → (written && changed) ≡ true → (written && not changed) ≡ false
-not-both true true h = refl
-not-both true false h = absurd (cc)
-not-both false changed h = refl
+not_both : (written changed : Bool) → (written && changed) ≡ true → (written && not changed) ≡ false
+not_both true true h = refl
+not_both true false h = absurd (cc)
+not_both false changed h = refl
 
 pub apart : (first second : ℕ → Bool) → ((r : ℕ) → first r ≡ true → second r ≡ false) →
     are_apart (filter first all_registers) (filter second all_registers) ≡ true
-apart first second h = apart-of first second all_registers all_registers h
+apart first second h = apart_of first second all_registers all_registers h
 
 pub out_not_kept : (written changed register : ℕ) → out_bit written changed register ≡ true →
     kept_bit written changed register ≡ false
-out_not_kept written changed register h = not-both (has_bit written register) (has_bit changed register) h
+out_not_kept written changed register h = not_both (has_bit written register) (has_bit changed register) h
 
 -- ---- ranges
 
-le-true : (a b : ℕ) → a ≤ b → nat_le a b ≡ true
-le-true a b h = grind (arith, common_steps)
+le_true : (a b : ℕ) → a ≤ b → nat_le a b ≡ true
+le_true a b h = grind (arith, common_steps)
 
-lt-true : (a b : ℕ) → a < b → nat_lt a b ≡ true
-lt-true a b h = grind (arith, common_steps)
+lt_true : (a b : ℕ) → a < b → nat_lt a b ≡ true
+lt_true a b h = grind (arith, common_steps)
 
 range_rules : (lowest : ℕ) (ranges : List Range) → AreSpread lowest ranges → End 4294967295 ranges →
     sum_by (λ range. range.length) ranges ≤ 65536 → list_all is_range ranges ≡ true
@@ -145,13 +145,13 @@ range_rules lowest (range ∷ ranges) h end few =
     let total : range.length + sum_by (λ (r : Range). r.length) ranges ≤ 65536 =
     subst (λ (n : ℕ). n ≤ 65536) (sum_by-cons (λ (r : Range). r.length) range ranges) few in
     and_from _ _ (and_from _ _ (ap is_base_register h.0)
-    (and_from _ _ (lt-true range.offset (2 ^ 32) (omega (arith, one, high)))
-    (and_from _ _ (le-true 1 range.length one) (le-true range.length 65536 (omega (arith, total))))))
+    (and_from _ _ (lt_true range.offset (2 ^ 32) (omega (arith, one, high)))
+    (and_from _ _ (le_true 1 range.length one) (le_true range.length 65536 (omega (arith, total))))))
     (range_rules (range.offset + range.length + 1) ranges h.3 end.1 (omega (arith, total)))
 
-few-ranges : (region : Region) → region_fault region ≡ None →
+few_ranges : (region : Region) → region_fault region ≡ None →
     (nat_le (length region.ranges) 64 ≡ true) × (nat_le (byte_count region) 65536 ≡ true)
-few-ranges region h = elim (cases_Bool (nat_le (length region.ranges) 64)) [
+few_ranges region h = elim (cases_Bool (nat_le (length region.ranges) 64)) [
   | inl few ↦ elim (cases_Bool (nat_le (byte_count region) 65536)) [
     | inl small ↦ (few, small)
     | inr large ↦
@@ -163,26 +163,26 @@ few-ranges region h = elim (cases_Bool (nat_le (length region.ranges) 64)) [
       let both = sym e ∙ h in absurd (cc)
 ]
 
-le-of : (a b : ℕ) → nat_le a b ≡ true → a ≤ b
-le-of a b h = grind (arith, common_steps)
+le_of : (a b : ℕ) → nat_le a b ≡ true → a ≤ b
+le_of a b h = grind (arith, common_steps)
 
 draft_region : (region : Region) → Edges region → IsDraft region → region_fault region ≡ None → is_region region ≡ true
 draft_region region edges draft h =
-    let few = few-ranges region h in
+    let few = few_ranges region h in
     with_edges region edges draft.outs draft.keep draft.apart
     (and_from _ _ (range_rules 0 region.ranges draft.spans.spread draft.spans.end
-    (le-of (byte_count region) 65536 few.1)) (and_from _ _ few.0 few.1))
+    (le_of (byte_count region) 65536 few.1)) (and_from _ _ few.0 few.1))
 
-first-none : (first later : Option LearnFault) → option_or first later ≡ None → (first ≡ None) × (later ≡ None)
-first-none None later h = (refl, h)
-first-none (Some fault) later h = absurd (cc)
+first_none : (first later : Option LearnFault) → option_or first later ≡ None → (first ≡ None) × (later ≡ None)
+first_none None later h = (refl, h)
+first_none (Some fault) later h = absurd (cc)
 
 draft_all : (regions : List Region) → list_all is_region (map bare regions) ≡ true → AllByRecursion IsDraft regions →
     regions_fault regions ≡ None → list_all is_region regions ≡ true
 draft_all [] rules drafts h = refl
 draft_all (region ∷ regions) rules drafts h =
     let parts = and_parts (is_region (bare region)) (list_all is_region (map bare regions)) rules in
-    let faults = first-none (region_fault region) (regions_fault regions) h in
+    let faults = first_none (region_fault region) (regions_fault regions) h in
     and_from _ _ (draft_region region (edges_of (bare region) parts.0) drafts.0 faults.0)
     (draft_all regions parts.1 drafts.1 faults.1)
 
@@ -192,5 +192,5 @@ draft_rules regions declared same h drafts faults =
     let rules : are_regions (map bare declared) ≡ true = subst (λ (l : List Region). are_regions l ≡ true) (sym same) h in
     let all = (and_parts (list_all is_region (map bare declared)) _
     (and_parts (nat_le (length (map bare declared)) 256) _ rules).1).0 in
-    list-rules (map bare declared) declared (sym (count_bare declared)) (sym (ids_bare declared))
+    list_rules (map bare declared) declared (sym (count_bare declared)) (sym (ids_bare declared))
     (sym (enters_bare declared)) rules (draft_all declared all drafts faults)

@@ -15,8 +15,8 @@ use Rattle.region_learn.specs.RegionTexts.{register_data}
 abbrev digits : ℕ → List ℕ
 digits number = if nat_lt number 10 then (48 + number) ∷ [] else (48 + number / 10) ∷ (48 + number % 10) ∷ []
 
-digits-are : (number : ℕ) → number < 100 → decimal number ≡ digits number
-digits-are number small = elim (cases_lt number 10) [
+digits_are : (number : ℕ) → number < 100 → decimal number ≡ digits number
+digits_are number small = elim (cases_lt number 10) [
   | inl one ↦ decimal_digit number one ∙ cond_below number 10 _ _ one
   | inr two ↦ decimal_step number two (omega arith)
       ∙ ap (λ (l : List ℕ). l ++ (48 + number % 10) ∷ []) (decimal_digit (number / 10) (omega arith))
@@ -27,23 +27,23 @@ digits-are number small = elim (cases_lt number 10) [
 abbrev read : ℕ → Option ℕ
 read register = option_and_then not_zero (register_named (120 ∷ digits register))
 
-abbrev is-it : ℕ → Option ℕ → Bool
-is-it register None = false
-is-it register (Some other) = other == register
+abbrev is_it : ℕ → Option ℕ → Bool
+is_it register None = false
+is_it register (Some other) = other == register
 
-it-is : (register : ℕ) (found : Option ℕ) → is-it register found ≡ true → found ≡ Some register
-it-is register None h = absurd cc
-it-is register (Some other) h = ap Some (eqb-true other register h)
+it_is : (register : ℕ) (found : Option ℕ) → is_it register found ≡ true → found ≡ Some register
+it_is register None h = absurd cc
+it_is register (Some other) h = ap Some (eqb-true other register h)
 
-read-it : (register : ℕ) → register < 32 → is-it register (read register) ≡ is_register register
+read_it : (register : ℕ) → register < 32 → is_it register (read register) ≡ is_register register
 unfolding plain_names convention_names
-read-it register small =
-    agree_below_at (λ (r : ℕ). is-it r (read r)) is_register 32 register refl small
+read_it register small =
+    agree_below_at (λ (r : ℕ). is_it r (read r)) is_register 32 register refl small
 
-pub register-own : (register : ℕ) → is_register register ≡ true → register_at (register_data register) ≡ Some register
-register-own register known =
+pub register_own : (register : ℕ) → is_register register ≡ true → register_at (register_data register) ≡ Some register
+register_own register known =
     let above = and_parts (nat_le 1 register) (nat_le register 31) known in
     let small : register < 32 = omega (arith, leb-true register 31 above.1) in
     let same : register_at (register_data register) ≡ read register =
-    ap (λ (l : List ℕ). option_and_then not_zero (register_named (120 ∷ l))) (digits-are register (omega arith)) in
-    same ∙ it-is register (read register) (read-it register small ∙ known)
+    ap (λ (l : List ℕ). option_and_then not_zero (register_named (120 ∷ l))) (digits_are register (omega arith)) in
+    same ∙ it_is register (read register) (read_it register small ∙ known)

@@ -3,7 +3,7 @@ use Rattle.std.proofs.Common.{◌≡◌, ◌∙◌, ◌<◌, ◌≤◌, ◌||◌
 use Rattle.std.proofs.Common.{refl, sym, ap, arith, inl, inr}
 use Rattle.std.proofs.lemmas.Bool.{cases_lt, eq-eqb}
 use Rattle.rv32im_machine.specs.State.{State}
-use Rattle.rv32im_machine.specs.Folds.{real_end, real-Ended}
+use Rattle.rv32im_machine.specs.Folds.{real_end, real_Ended}
 use Rattle.enclosure_regions.specs.declared.region_parts.Region.{Region}
 use Rattle.region_machine.specs.Enclosures.{Kind, Steps, kind_of}
 use Rattle.region_machine.specs.Guests.{guest_walk}
@@ -20,9 +20,9 @@ use Rattle.std.specs.Option.{option_or}
 
 -- ---- a run that has ended stands still
 
-or-none : (b : Bool) → (b || false) ≡ b
-or-none true = refl
-or-none false = refl
+or_none : (b : Bool) → (b || false) ≡ b
+or_none true = refl
+or_none false = refl
 
 abbrev pub IsOverAfter : List Region → ℕ → State → Type 0
 IsOverAfter regions turns start = IsOver (state_after regions turns start).control.mode
@@ -36,7 +36,7 @@ still_state regions start first (suc turns) le over = elim (cases_lt first (suc 
   | inl below ↦
       ap (λ (s : State). real_end (guest_walk regions s)) (still_state regions start first turns (omega arith) over)
       ∙ (ap real_end (still_guest regions (state_after regions first start) over)
-      ∙ real-Ended (state_after regions first start))
+      ∙ real_Ended (state_after regions first start))
   | inr last ↦
       let e : suc turns ≡ first = omega arith in ap (λ (n : ℕ). state_after regions n start) e
 ]
@@ -52,19 +52,19 @@ still_some test regions start first (suc turns) le over fails = elim (cases_lt f
       let later : test (state_after regions turns start) ≡ false =
       ap test (still_state regions start first turns (omega arith) over) ∙ fails in
       ap (λ (b : Bool). some_turn test regions turns start || b) later
-      ∙ (or-none (some_turn test regions turns start)
+      ∙ (or_none (some_turn test regions turns start)
       ∙ still_some test regions start first turns (omega arith) over fails)
   | inr last ↦
       let e : suc turns ≡ first = omega arith in ap (λ (n : ℕ). some_turn test regions n start) e
 ]
 
-fault-none : (fault : Option LearnFault) → option_or fault None ≡ fault
-fault-none None = refl
-fault-none (Some fault) = refl
+fault_none : (fault : Option LearnFault) → option_or fault None ≡ fault
+fault_none None = refl
+fault_none (Some fault) = refl
 
-no-call : (regions : List Region) (state : State) → IsOver state.control.mode →
+no_call : (regions : List Region) (state : State) → IsOver state.control.mode →
     call_in (kind_of regions state.control) state ≡ None
-no-call regions state over = ap (λ (k : Kind). call_in k state) (still_kind regions state.control over)
+no_call regions state over = ap (λ (k : Kind). call_in k state) (still_kind regions state.control over)
 
 pub still_first : (regions : List Region) (start : State) (first turns : ℕ) → first ≤ turns →
     IsOverAfter regions first start → first_call regions turns start ≡ first_call regions first start
@@ -76,9 +76,9 @@ still_first regions start first (suc turns) le over = elim (cases_lt first (suc 
       let state = state_after regions turns start in
       let later : call_in (kind_of regions state.control) state ≡ None =
       ap (λ (s : State). call_in (kind_of regions s.control) s) (still_state regions start first turns (omega arith) over)
-      ∙ no-call regions (state_after regions first start) over in
+      ∙ no_call regions (state_after regions first start) over in
       ap (λ (f : Option LearnFault). option_or (first_call regions turns start) f) later
-      ∙ (fault-none (first_call regions turns start) ∙ still_first regions start first turns (omega arith) over)
+      ∙ (fault_none (first_call regions turns start) ∙ still_first regions start first turns (omega arith) over)
   | inr last ↦
       let e : suc turns ≡ first = omega arith in ap (λ (n : ℕ). first_call regions n start) e
 ]
@@ -116,11 +116,11 @@ state_more regions start state next turns is e = e ∙ ap (λ (s : State). real_
 
 -- ---- notes
 
-notes-more : (regions : List Region) (start state : State) (turns : ℕ) (before after : Notes) →
+notes_more : (regions : List Region) (start state : State) (turns : ℕ) (before after : Notes) →
     state ≡ state_after regions turns start → NotesOf regions turns start before →
     NotesAfter (kind_of regions state.control) state before after → NotesOf regions (suc turns) start after
 unfolding some_turn
-notes-more regions start state turns before after is of more = record {
+notes_more regions start state turns before after is of more = record {
   base = more.base ∙ of.base;
   places = λ place. more.places place
       ∙ (ap (λ (b : Bool). b || writes_in regions before.region place state) (of.places place)
@@ -136,31 +136,31 @@ notes-more regions start state turns before after is of more = record {
       || leaves_changed regions n register (state_after regions turns start)) (sym more.region)));
 }
 
-numbers-same : (before after : List Notes) → length after ≡ length before →
+numbers_same : (before after : List Notes) → length after ≡ length before →
     ((place : ℕ) (none : Notes) → place < length before →
     (get_or after place none).region ≡ (get_or before place none).region) → numbers_of after ≡ numbers_of before
-numbers-same [] [] e h = refl
-numbers-same [] (notes ∷ after) e h = absurd (omega (arith, e))
-numbers-same (notes ∷ before) [] e h = absurd (omega (arith, e))
-numbers-same (notes ∷ before) (other ∷ after) e h =
+numbers_same [] [] e h = refl
+numbers_same [] (notes ∷ after) e h = absurd (omega (arith, e))
+numbers_same (notes ∷ before) [] e h = absurd (omega (arith, e))
+numbers_same (notes ∷ before) (other ∷ after) e h =
     ap (λ (n : ℕ). n ∷ numbers_of after) (h 0 notes (omega arith))
     ∙ ap (λ (l : List ℕ). notes.region ∷ l)
-    (numbers-same before after (omega (arith, e)) (λ place none below. h (suc place) none (omega arith)))
+    (numbers_same before after (omega (arith, e)) (λ place none below. h (suc place) none (omega arith)))
 
 pub book_more : (regions : List Region) (start state : State) (turns : ℕ) (before after : List Notes) →
     state ≡ state_after regions turns start → BookOf regions turns start before →
     BookAfter (kind_of regions state.control) state before after → BookOf regions (suc turns) start after
 book_more regions start state turns before after is of more = record {
-  numbers = numbers-same before after more.count (λ place none below. (more.each place none below).region) ∙ of.numbers;
+  numbers = numbers_same before after more.count (λ place none below. (more.each place none below).region) ∙ of.numbers;
   each = λ place none below.
       let within : place < length before = omega (arith, more.count, below) in
-      notes-more regions start state turns (get_or before place none) (get_or after place none) is
+      notes_more regions start state turns (get_or before place none) (get_or after place none) is
       (of.each place none within) (more.each place none within);
 }
 
-still-notes : (regions : List Region) (start : State) (first turns : ℕ) (notes : Notes) → first ≤ turns →
+still_notes : (regions : List Region) (start : State) (first turns : ℕ) (notes : Notes) → first ≤ turns →
     IsOverAfter regions first start → NotesOf regions first start notes → NotesOf regions turns start notes
-still-notes regions start first turns notes le over of =
+still_notes regions start first turns notes le over of =
     let last = state_after regions first start in
     let kind : kind_of regions last.control ≡ Steps None = still_kind regions last.control over in
     record {
@@ -179,7 +179,7 @@ pub still_book : (regions : List Region) (start : State) (first turns : ℕ) (bo
 still_book regions start first turns book le over of = record {
   numbers = of.numbers;
   each = λ place none below.
-      still-notes regions start first turns (get_or book place none) le over (of.each place none below);
+      still_notes regions start first turns (get_or book place none) le over (of.each place none below);
 }
 
 pub book_base : (book : List Notes) (base : ℕ) →

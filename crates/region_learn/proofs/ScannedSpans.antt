@@ -11,40 +11,40 @@ use Rattle.region_learn.proofs.MarkedCells.{none_have_none}
 use Rattle.region_learn.specs.Private.Marks.{marks_have, page_has}
 use Rattle.region_learn.specs.Private.Spans.{in_memory, in_page}
 
-le-true : (a b : ℕ) → a ≤ b → nat_le a b ≡ true
-le-true a b h = grind (arith, common_steps)
+le_true : (a b : ℕ) → a ≤ b → nat_le a b ≡ true
+le_true a b h = grind (arith, common_steps)
 
-le-false : (a b : ℕ) → b < a → nat_le a b ≡ false
-le-false a b h = grind (arith, common_steps)
+le_false : (a b : ℕ) → b < a → nat_le a b ≡ false
+le_false a b h = grind (arith, common_steps)
 
-lt-true : (a b : ℕ) → a < b → nat_lt a b ≡ true
-lt-true a b h = grind (arith, common_steps)
+lt_true : (a b : ℕ) → a < b → nat_lt a b ≡ true
+lt_true a b h = grind (arith, common_steps)
 
-lt-false : (a b : ℕ) → b ≤ a → nat_lt a b ≡ false
-lt-false a b h = grind (arith, common_steps)
+lt_false : (a b : ℕ) → b ≤ a → nat_lt a b ≡ false
+lt_false a b h = grind (arith, common_steps)
 
-eq-false : (a b : ℕ) → a < b → (a == b) ≡ false
-eq-false a b h = grind (arith, common_steps)
+eq_false : (a b : ℕ) → a < b → (a == b) ≡ false
+eq_false a b h = grind (arith, common_steps)
 
-and-none : (b : Bool) → (b && false) ≡ false
-and-none true = refl
-and-none false = refl
+and_none : (b : Bool) → (b && false) ≡ false
+and_none true = refl
+and_none false = refl
 
-and-true : (b : Bool) → (b && true) ≡ b
-and-true true = refl
-and-true false = refl
+and_true : (b : Bool) → (b && true) ≡ b
+and_true true = refl
+and_true false = refl
 
-or-none : (b : Bool) → (b || false) ≡ b
-or-none true = refl
-or-none false = refl
+or_none : (b : Bool) → (b || false) ≡ b
+or_none true = refl
+or_none false = refl
 
-place-more : (test : ℕ → Bool) (first place other : ℕ) →
+place_more : (test : ℕ → Bool) (first place other : ℕ) →
     (nat_le first other && (nat_lt (other - first) (place + 1) && test (other - first)))
     ≡ ((nat_le first other && (nat_lt (other - first) place && test (other - first)))
     || (test place && (other == (first + place))))
-place-more test first place other = elim (cases_lt other first) [
+place_more test first place other = elim (cases_lt other first) [
   | inl less ↦
-      rw (le-false first other less, eq-false other (first + place) (omega (arith, less)), and-none (test place)) refl
+      rw (le_false first other less, eq_false other (first + place) (omega (arith, less)), and_none (test place)) refl
   | inr more ↦ elim (cases_Bool (other == (first + place))) [
     | inl same ↦
         let at : other ≡ first + place = eqb-true other (first + place) same in
@@ -52,23 +52,23 @@ place-more test first place other = elim (cases_lt other first) [
         rw (
           e,
           same,
-          le-true first other more,
-          lt-true place (place + 1) (omega arith),
-          lt-false place place (omega arith),
-          and-true (test place),
+          le_true first other more,
+          lt_true place (place + 1) (omega arith),
+          lt_false place place (omega arith),
+          and_true (test place),
         ) refl
     | inr differs ↦
         let apart = eqb-false other (first + place) differs in
-        rw (differs, and-none (test place))
+        rw (differs, and_none (test place))
         (elim (cases_lt (other - first) place) [
           | inl below ↦
-              rw (lt-true (other - first) place below, lt-true (other - first) (place + 1) (omega (arith, below)))
-              (sym (or-none (nat_le first other && test (other - first))))
+              rw (lt_true (other - first) place below, lt_true (other - first) (place + 1) (omega (arith, below)))
+              (sym (or_none (nat_le first other && test (other - first))))
           | inr past ↦
               rw (
-                lt-false (other - first) place past,
-                lt-false (other - first) (place + 1) (omega (arith, past, apart, more)),
-                and-none (nat_le first other),
+                lt_false (other - first) place past,
+                lt_false (other - first) (place + 1) (omega (arith, past, apart, more)),
+                and_none (nat_le first other),
               ) refl
         ])
   ]
@@ -82,7 +82,7 @@ page_more page first place other before old now e h =
     h
     ∙ (ap (λ (b : Bool). b || (page_has page place && (other == (first + place)))) e
     ∙ (or_assoc before (in_page page first place other) (page_has page place && (other == (first + place)))
-    ∙ ap (λ (b : Bool). before || b) (sym (place-more (page_has page) first place other))))
+    ∙ ap (λ (b : Bool). before || b) (sym (place_more (page_has page) first place other))))
 
 -- a page is a piece of guest memory
 piece : (marks : List (List ℕ)) (base index other : ℕ) → base + index * 4096 ≤ other →
@@ -96,39 +96,39 @@ piece marks base index other low high =
     let column : (other - base) % 4096 ≡ rest = ap (λ (n : ℕ). n % 4096) at ∙ mod-mul-add index 4096 rest small in
     ap₂ (λ (r k : ℕ). page_has (get_or marks r []) k) row column
 
-memory-more : (marks : List (List ℕ)) (base index other : ℕ) →
+more_memory : (marks : List (List ℕ)) (base index other : ℕ) →
     in_memory marks base ((index + 1) * 4096) other
     ≡ (in_memory marks base (index * 4096) other
     || in_page (get_or marks index []) (base + index * 4096) 4096 other)
-memory-more marks base index other = elim (cases_lt other base) [
+more_memory marks base index other = elim (cases_lt other base) [
   | inl less ↦
-      rw (le-false base other less, le-false (base + index * 4096) other (omega (arith, less))) refl
+      rw (le_false base other less, le_false (base + index * 4096) other (omega (arith, less))) refl
   | inr more ↦ elim (cases_lt other (base + index * 4096)) [
     | inl before ↦
         rw (
-          le-true base other more,
-          le-false (base + index * 4096) other before,
-          lt-true (other - base) (index * 4096) (omega (arith, before, more)),
-          lt-true (other - base) ((index + 1) * 4096) (omega (arith, before, more)),
+          le_true base other more,
+          le_false (base + index * 4096) other before,
+          lt_true (other - base) (index * 4096) (omega (arith, before, more)),
+          lt_true (other - base) ((index + 1) * 4096) (omega (arith, before, more)),
         )
-        (sym (or-none (marks_have marks (other - base))))
+        (sym (or_none (marks_have marks (other - base))))
     | inr from ↦ elim (cases_lt other (base + index * 4096 + 4096)) [
       | inl within ↦
           rw (
-            le-true base other more,
-            le-true (base + index * 4096) other from,
-            lt-false (other - base) (index * 4096) (omega (arith, from, more)),
-            lt-true (other - base) ((index + 1) * 4096) (omega (arith, within, more)),
-            lt-true (other - (base + index * 4096)) 4096 (omega (arith, within, from)),
+            le_true base other more,
+            le_true (base + index * 4096) other from,
+            lt_false (other - base) (index * 4096) (omega (arith, from, more)),
+            lt_true (other - base) ((index + 1) * 4096) (omega (arith, within, more)),
+            lt_true (other - (base + index * 4096)) 4096 (omega (arith, within, from)),
           )
           (piece marks base index other from within)
       | inr past ↦
           rw (
-            le-true base other more,
-            le-true (base + index * 4096) other from,
-            lt-false (other - base) (index * 4096) (omega (arith, from, more)),
-            lt-false (other - base) ((index + 1) * 4096) (omega (arith, past, more)),
-            lt-false (other - (base + index * 4096)) 4096 (omega (arith, past, from)),
+            le_true base other more,
+            le_true (base + index * 4096) other from,
+            lt_false (other - base) (index * 4096) (omega (arith, from, more)),
+            lt_false (other - base) ((index + 1) * 4096) (omega (arith, past, more)),
+            lt_false (other - (base + index * 4096)) 4096 (omega (arith, past, from)),
           ) refl
     ]
   ]
@@ -141,22 +141,22 @@ pub memory_more : (marks : List (List ℕ)) (base index other : ℕ) (old now : 
 memory_more marks base index other old now e h =
     h
     ∙ (ap (λ (b : Bool). b || in_page (get_or marks index []) (base + index * 4096) 4096 other) e
-    ∙ sym (memory-more marks base index other))
+    ∙ sym (more_memory marks base index other))
 
 pub page_none : (page : List ℕ) (first count other : ℕ) → ((index : ℕ) → page_has page index ≡ false) →
     in_page page first count other ≡ false
 page_none page first count other h =
-    rw (h (other - first), and-none (nat_lt (other - first) count), and-none (nat_le first other)) refl
+    rw (h (other - first), and_none (nat_lt (other - first) count), and_none (nat_le first other)) refl
 
 -- beyond guest memory no byte is marked
 pub all_memory : (marks : List (List ℕ)) (base other : ℕ) → length marks ≡ 4096 →
     in_memory marks base 16777216 other ≡ (nat_le base other && marks_have marks (other - base))
 all_memory marks base other count = elim (cases_lt (other - base) 16777216) [
-  | inl within ↦ rw (lt-true (other - base) 16777216 within) refl
+  | inl within ↦ rw (lt_true (other - base) 16777216 within) refl
   | inr past ↦
       let row : length marks ≤ (other - base) / 4096 = omega (arith, past, count) in
       let none : marks_have marks (other - base) ≡ false =
       ap (λ (page : List ℕ). page_has page ((other - base) % 4096)) (get_or_past marks ((other - base) / 4096) [] row)
       ∙ none_have_none ((other - base) % 4096) in
-      rw (lt-false (other - base) 16777216 past, none) refl
+      rw (lt_false (other - base) 16777216 past, none) refl
 ]

@@ -109,7 +109,7 @@ impl Notes {
 
 impl Passer for Notes {
     ghost use Rattle.std.specs.Prelude.{Some};
-    ghost use Rattle.region_learn.specs.Private.Noting.{Noted, NotesPlay, noted_of, notes-Ended};
+    ghost use Rattle.region_learn.specs.Private.Noting.{Noted, NotesPlay, noted_of, notes_Ended};
 
     type Stop = Halt;
 
@@ -156,5 +156,5 @@ impl Passer for Notes {
         Ok(false)
     }
 
-    ghost at_end = { λ notes state. notes-Ended (noted_of notes) state };
+    ghost at_end = { λ notes state. notes_Ended (noted_of notes) state };
 }

@@ -44,22 +44,22 @@ stays_more first second third h k = (k.0 ∙ h.0, k.1 ∙ h.1, k.2 ∙ h.2)
 
 -- ---- one round over the bytes of a range
 
-pub gives_bytes-none : (region : Region) (number address count : ℕ) (turn : Turn) → count ≡ 0 →
+pub gives_bytes_none : (region : Region) (number address count : ℕ) (turn : Turn) → count ≡ 0 →
     gives_bytes region number address count turn ≡ turn
 unfolding gives_bytes
-gives_bytes-none region number address count turn e = rw e refl
+gives_bytes_none region number address count turn e = rw e refl
 
-pub gives_bytes-more : (region : Region) (number address count rest : ℕ) (turn : Turn) → count ≡ suc rest →
+pub gives_bytes_more : (region : Region) (number address count rest : ℕ) (turn : Turn) → count ≡ suc rest →
     gives_bytes region number address count turn
     ≡ Gives (output_point region (OutRange number)) (Byte address) (gives_bytes region number (address + 1) rest turn)
 unfolding gives_bytes
-gives_bytes-more region number address count rest turn e = rw e refl
+gives_bytes_more region number address count rest turn e = rw e refl
 
-pub clears_bytes-none : (address count : ℕ) (turn : Turn) → count ≡ 0 → clears_bytes address count turn ≡ turn
+pub clears_bytes_none : (address count : ℕ) (turn : Turn) → count ≡ 0 → clears_bytes address count turn ≡ turn
 unfolding clears_bytes
-clears_bytes-none address count turn e = rw e refl
+clears_bytes_none address count turn e = rw e refl
 
-pub clears_bytes-more : (address count rest : ℕ) (turn : Turn) → count ≡ suc rest →
+pub clears_bytes_more : (address count rest : ℕ) (turn : Turn) → count ≡ suc rest →
     clears_bytes address count turn ≡ Moves (Byte address) Copied (Constant 0) (clears_bytes (address + 1) rest turn)
 unfolding clears_bytes
-clears_bytes-more address count rest turn e = rw e refl
+clears_bytes_more address count rest turn e = rw e refl

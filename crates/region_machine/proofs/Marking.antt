@@ -20,9 +20,9 @@ le_or_lt n m = elim (nat_le n m) as (λ b. nat_le n m ≡ b → (n ≤ m) ⊎ (m
   | false ↦ (λ e. inr (leb-false n m e))
 ] refl
 
-marked-more : (marks : List Bool) (place : ℕ) (r : Region) → place < length marks → is_marked marks r ≡ true →
+marked_more : (marks : List Bool) (place : ℕ) (r : Region) → place < length marks → is_marked marks r ≡ true →
     is_marked (slice_set marks place true) r ≡ true
-marked-more marks place r inside marked = elim (le_or_lt place (mark_place r.enter)) [
+marked_more marks place r inside marked = elim (le_or_lt place (mark_place r.enter)) [
   | inr above ↦ get_or-set_other marks place (mark_place r.enter) true false (omega (arith, above)) ∙ marked
   | inl low ↦ elim (le_or_lt (mark_place r.enter) place) [
     | inl high ↦ get_or-set_at marks place (mark_place r.enter) true false (omega (arith, low, high)) inside
@@ -30,36 +30,36 @@ marked-more marks place r inside marked = elim (le_or_lt place (mark_place r.ent
   ]
 ]
 
-marked-all : (marks : List Bool) (place : ℕ) (regions : List Region) → place < length marks →
+marked_all : (marks : List Bool) (place : ℕ) (regions : List Region) → place < length marks →
     list_all (is_marked marks) regions ≡ true → list_all (is_marked (slice_set marks place true)) regions ≡ true
-marked-all marks place [] inside known = refl
-marked-all marks place (r ∷ regions) inside known =
+marked_all marks place [] inside known = refl
+marked_all marks place (r ∷ regions) inside known =
     let both = and_parts (is_marked marks r) (list_all (is_marked marks) regions) known in
-    and_from _ _ (marked-more marks place r inside both.0) (marked-all marks place regions inside both.1)
+    and_from _ _ (marked_more marks place r inside both.0) (marked_all marks place regions inside both.1)
 
 -- one more region is marked
-pub mark-one : (marks : List Bool) (place : ℕ) (regions : List Region) (i : ℕ) (r : Region) → place < length marks →
+pub mark_one : (marks : List Bool) (place : ℕ) (regions : List Region) (i : ℕ) (r : Region) → place < length marks →
     i < length regions → r ≡ get_or regions i r → place ≡ mark_place r.enter →
     list_all (is_marked marks) (take i regions) ≡ true →
     list_all (is_marked (slice_set marks place true)) (take (i + 1) regions) ≡ true
-mark-one marks place regions i r inside more is at known =
+mark_one marks place regions i r inside more is at known =
     let here : is_marked (slice_set marks place true) (get_or regions i r) ≡ true =
     ap (λ (s : Region). is_marked (slice_set marks place true) s) (sym is)
     ∙ get_or-set_at marks place (mark_place r.enter) true false (sym at) inside in
     list_all_more (is_marked (slice_set marks place true)) regions i r more
-    ∙ and_from _ _ (marked-all marks place (take i regions) inside known) here
+    ∙ and_from _ _ (marked_all marks place (take i regions) inside known) here
 
-pub clear-mark : (marks : List Bool) (i j : ℕ) (b : Bool) → b ≡ get_or marks i b → b ≡ false → i ≡ j →
+pub clear_mark : (marks : List Bool) (i j : ℕ) (b : Bool) → b ≡ get_or marks i b → b ≡ false → i ≡ j →
     get_or marks j false ≡ false
-clear-mark marks i j true is clear at = absurd (cc)
-clear-mark marks i j false is clear at = ap (λ (k : ℕ). get_or marks k false) (sym at) ∙ sym is
+clear_mark marks i j true is clear at = absurd (cc)
+clear_mark marks i j false is clear at = ap (λ (k : ℕ). get_or marks k false) (sym at) ∙ sym is
 
 -- where there is no mark, no region is entered
-pub unmarked-none : (marks : List Bool) (regions : List Region) (pc : ℕ) →
+pub unmarked_none : (marks : List Bool) (regions : List Region) (pc : ℕ) →
     list_all (is_marked marks) regions ≡ true → get_or marks (mark_place pc) false ≡ false →
     region_entered_at regions pc ≡ None
-unmarked-none marks [] pc all clear = refl
-unmarked-none marks (r ∷ regions) pc all clear =
+unmarked_none marks [] pc all clear = refl
+unmarked_none marks (r ∷ regions) pc all clear =
     let both = and_parts (is_marked marks r) (list_all (is_marked marks) regions) all in
     elim (cases_Bool (r.enter == pc)) [
       | inl same ↦
@@ -68,17 +68,17 @@ unmarked-none marks (r ∷ regions) pc all clear =
           absurd (cc)
       | inr other ↦
           cond-false (r.enter == pc) (Some r) (region_entered_at regions pc) other
-          ∙ unmarked-none marks regions pc both.1 clear
+          ∙ unmarked_none marks regions pc both.1 clear
     ]
 
 -- outside of regions, where none is entered, the next turn is a step
-pub outside-steps : (mode : Stepped) (regions : List Region) (control : Control) → control.region ≡ 0 →
+pub outside_steps : (mode : Stepped) (regions : List Region) (control : Control) → control.region ≡ 0 →
     region_entered_at regions control.pc ≡ None → kind_in mode regions control ≡ Steps None
-outside-steps Ran regions control outside none =
+outside_steps Ran regions control outside none =
     ap (λ number. kind_within regions (region_numbered regions number) control.pc) outside ∙ ap kind_outside none
-outside-steps (Exited status) regions control outside none = refl
-outside-steps (Stopped fault) regions control outside none = refl
+outside_steps (Exited status) regions control outside none = refl
+outside_steps (Stopped fault) regions control outside none = refl
 
-pub false-of : (b : Bool) → not b ≡ true → b ≡ false
-false-of true is = absurd (cc)
-false-of false is = refl
+pub false_of : (b : Bool) → not b ≡ true → b ≡ false
+false_of true is = absurd (cc)
+false_of false is = refl

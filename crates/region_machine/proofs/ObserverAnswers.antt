@@ -24,22 +24,22 @@ at_pc pc = record {
 }
 
 -- it answers the value that it was handed
-pub same-value : {Stop Tape : Type 0} (before after : Walk → Played Stop Tape → Type 0) (tape : Tape) (passing : Passing)
+pub same_value : {Stop Tape : Type 0} (before after : Walk → Played Stop Tape → Type 0) (tape : Tape) (passing : Passing)
     (other : ℕ) →
     ((go : ℕ → Walk) (out : Played Stop Tape) → after (go other) out → before (Passed passing go) out) →
     ((state : State) → after (Ended state) (Finished state tape)) →
     ((walk : Walk) (state : State) (tape : Tape) → before walk (Finished state tape) → state ≡ real_end walk) →
     other ≡ passing.value
 unfolding real_end
-same-value before after tape passing other goes ends real =
+same_value before after tape passing other goes ends real =
     ap (λ (s : State). s.control.pc) (real (Passed passing (λ v. Ended (at_pc v))) (at_pc other) tape
     (goes (λ v. Ended (at_pc v)) (Finished (at_pc other) tape) (ends (at_pc other))))
 
-one-none : ◌≡◌ {A = ℕ} 1 0 → ⊥
-one-none e = omega (arith, e)
+one_none : ◌≡◌ {A = ℕ} 1 0 → ⊥
+one_none e = omega (arith, e)
 
 -- and puts nothing back
-pub nothing-back : {Stop Tape : Type 0} (before after : Walk → Played Stop Tape → Type 0) (tape : Tape) (registers : List ℕ)
+pub nothing_back : {Stop Tape : Type 0} (before after : Walk → Played Stop Tape → Type 0) (tape : Tape) (registers : List ℕ)
     (back : Bool) →
     ((walk replayed : Walk) (out : Played Stop Tape) → after (restored_or back walk replayed) out →
     before (Restored registers walk replayed) out) →
@@ -47,8 +47,8 @@ pub nothing-back : {Stop Tape : Type 0} (before after : Walk → Played Stop Tap
     ((walk : Walk) (state : State) (tape : Tape) → before walk (Finished state tape) → state ≡ real_end walk) →
     back ≡ false
 unfolding real_end
-nothing-back before after tape registers false goes ends real = refl
-nothing-back before after tape registers true goes ends real =
-    absurd (one-none (ap (λ (s : State). s.control.pc)
+nothing_back before after tape registers false goes ends real = refl
+nothing_back before after tape registers true goes ends real =
+    absurd (one_none (ap (λ (s : State). s.control.pc)
     (real (Restored registers (Ended (at_pc 0)) (Ended (at_pc 1))) (at_pc 1) tape
     (goes (Ended (at_pc 0)) (Ended (at_pc 1)) (Finished (at_pc 1) tape) (ends (at_pc 1))))))

@@ -34,13 +34,13 @@ use Rattle.flow_base.specs.Listed.{is_listed}
 
 -- ---- the ranges
 
-pub all-inside : (test : Range → Bool) (place : ℕ) (ranges : List Range) →
+pub all_inside : (test : Range → Bool) (place : ℕ) (ranges : List Range) →
     position_from (λ range. not (test range)) place ranges ≡ None → list_all test ranges ≡ true
-all-inside test place [] e = refl
-all-inside test place (range ∷ ranges) e = elim (cases_Bool (test range)) [
+all_inside test place [] e = refl
+all_inside test place (range ∷ ranges) e = elim (cases_Bool (test range)) [
   | inl passes ↦
       let no : not (test range) ≡ false = rw passes refl in
-      and_from _ _ passes (all-inside test (place + 1) ranges
+      and_from _ _ passes (all_inside test (place + 1) ranges
       (sym
       (cond-false (not (test range)) (Some place) (position_from (λ range. not (test range)) (place + 1) ranges) no)
       ∙ e))
@@ -55,26 +55,26 @@ all-inside test place (range ∷ ranges) e = elim (cases_Bool (test range)) [
 pub inside_at_entry : (region : Region) (registers : List ℕ) (base : ℕ) → outside_range region registers base ≡ None →
     are_inside region.ranges registers base ≡ true
 inside_at_entry region registers base e =
-    all-inside (λ range. is_inside base (start_of registers range) range.length) 0 region.ranges e
+    all_inside (λ range. is_inside base (start_of registers range) range.length) 0 region.ranges e
 
-none-broken : (region : Region) (range : Option ℕ) →
+none_broken : (region : Region) (range : Option ℕ) →
     option_map (λ range. Break.RangeOutside region.id range) range ≡ None → range ≡ None
-none-broken region None e = refl
-none-broken region (Some range) e = absurd (cc)
+none_broken region None e = refl
+none_broken region (Some range) e = absurd (cc)
 
 pub kind_unbroken : (kind : Kind) (state : State) → kind_break kind state ≡ None →
     can_skip kind state.store.registers state.setting.base ≡ true
 kind_unbroken (Enters region) state e =
-    inside_at_entry region state.store.registers state.setting.base (none-broken region _ e)
+    inside_at_entry region state.store.registers state.setting.base (none_broken region _ e)
 kind_unbroken (Leaves region) state e = refl
 kind_unbroken (Steps region) state e = refl
 
 -- ---- the region that is entered at an address has its number alone
 
-found-stands : (test : Region → Bool) (regions : List Region) (region : Region) → find test regions ≡ Some region →
+found_stands : (test : Region → Bool) (regions : List Region) (region : Region) → find test regions ≡ Some region →
     is_listed (ids_of regions) region.id ≡ true
-found-stands test [] region e = absurd (cc)
-found-stands test (first ∷ regions) region e = elim (cases_Bool (test first)) [
+found_stands test [] region e = absurd (cc)
+found_stands test (first ∷ regions) region e = elim (cases_Bool (test first)) [
   | inl passes ↦
       let here : Some first ≡ Some region = sym (cond-true (test first) (Some first) (find test regions) passes) ∙ e in
       let same : first ≡ region = cc in
@@ -83,13 +83,13 @@ found-stands test (first ∷ regions) region e = elim (cases_Bool (test first)) 
   | inr fails ↦
       let later : find test regions ≡ Some region =
       sym (cond-false (test first) (Some first) (find test regions) fails) ∙ e in
-      or_right (first.id == region.id) (is_listed (ids_of regions) region.id) (found-stands test regions region later)
+      or_right (first.id == region.id) (is_listed (ids_of regions) region.id) (found_stands test regions region later)
 ]
 
-found-rules : (test : Region → Bool) (regions : List Region) (region : Region) → list_all is_region regions ≡ true →
+found_rules : (test : Region → Bool) (regions : List Region) (region : Region) → list_all is_region regions ≡ true →
     find test regions ≡ Some region → is_region region ≡ true
-found-rules test [] region rules e = absurd (cc)
-found-rules test (first ∷ regions) region rules e =
+found_rules test [] region rules e = absurd (cc)
+found_rules test (first ∷ regions) region rules e =
     let both = and_parts (is_region first) (list_all is_region regions) rules in
     elim (cases_Bool (test first)) [
       | inl passes ↦
@@ -98,15 +98,15 @@ found-rules test (first ∷ regions) region rules e =
           let same : first ≡ region = cc in
           subst (λ (r : Region). is_region r ≡ true) same both.0
       | inr fails ↦
-          found-rules test regions region both.1
+          found_rules test regions region both.1
           (sym (cond-false (test first) (Some first) (find test regions) fails) ∙ e)
     ]
 
-found-numbered : (test : Region → Bool) (regions : List Region) (region : Region) →
+found_numbered : (test : Region → Bool) (regions : List Region) (region : Region) →
     are_distinct (ids_of regions) ≡ true → find test regions ≡ Some region →
     find (λ other. other.id == region.id) regions ≡ Some region
-found-numbered test [] region apart e = absurd (cc)
-found-numbered test (first ∷ regions) region apart e =
+found_numbered test [] region apart e = absurd (cc)
+found_numbered test (first ∷ regions) region apart e =
     let both = and_parts (not (is_listed (ids_of regions) first.id)) (are_distinct (ids_of regions)) apart in
     elim (cases_Bool (test first)) [
       | inl passes ↦
@@ -119,7 +119,7 @@ found-numbered test (first ∷ regions) region apart e =
       | inr fails ↦
           let later : find test regions ≡ Some region =
           sym (cond-false (test first) (Some first) (find test regions) fails) ∙ e in
-          let stands = found-stands test regions region later in
+          let stands = found_stands test regions region later in
           let other : (first.id == region.id) ≡ false = elim (cases_Bool (first.id == region.id)) [
             | inl alike ↦
                 let same : first.id ≡ region.id = eqb-true first.id region.id alike in
@@ -130,11 +130,11 @@ found-numbered test (first ∷ regions) region apart e =
             | inr different ↦ different
           ] in
           cond-false (first.id == region.id) (Some first) (find (λ other. other.id == region.id) regions) other
-          ∙ found-numbered test regions region both.1 later
+          ∙ found_numbered test regions region both.1 later
     ]
 
-some-number : (region : Region) → is_region region ≡ true → (region.id == 0) ≡ false
-some-number region rules = elim (cases_Bool (region.id == 0)) [
+some_number : (region : Region) → is_region region ≡ true → (region.id == 0) ≡ false
+some_number region rules = elim (cases_Bool (region.id == 0)) [
   | inl none ↦
       let zeroth : region.id ≡ 0 = eqb-true region.id 0 none in
       let both = and_parts (nat_le 1 region.id) (nat_le region.id 65535)
@@ -150,17 +150,17 @@ pub numbered : (regions : List Region) (test : Region → Bool) (region : Region
 numbered regions test region rules e =
     let parts = (and_parts _ _ (and_parts _ _ rules).1) in
     cond-false (region.id == 0) None (find (λ other. other.id == region.id) regions)
-    (some-number region (found-rules test regions region parts.0 e))
-    ∙ found-numbered test regions region (and_parts _ _ parts.1).0 e
+    (some_number region (found_rules test regions region parts.0 e))
+    ∙ found_numbered test regions region (and_parts _ _ parts.1).0 e
 
-entered-outside : (found : Option Region) (region : Region) → kind_outside found ≡ Enters region → found ≡ Some region
-entered-outside None region e = absurd (cc)
-entered-outside (Some first) region e = let same : first ≡ region = cc in ap (λ (r : Region). Some r) same
+entered_outside : (found : Option Region) (region : Region) → kind_outside found ≡ Enters region → found ≡ Some region
+entered_outside None region e = absurd (cc)
+entered_outside (Some first) region e = let same : first ≡ region = cc in ap (λ (r : Region). Some r) same
 
-entered-within : (regions : List Region) (inside : Option Region) (pc : ℕ) (region : Region) →
+entered_within : (regions : List Region) (inside : Option Region) (pc : ℕ) (region : Region) →
     kind_within regions inside pc ≡ Enters region → region_entered_at regions pc ≡ Some region
-entered-within regions None pc region e = entered-outside (region_entered_at regions pc) region e
-entered-within regions (Some inside) pc region e = elim (cases_Bool (inside.leave == pc)) [
+entered_within regions None pc region e = entered_outside (region_entered_at regions pc) region e
+entered_within regions (Some inside) pc region e = elim (cases_Bool (inside.leave == pc)) [
   | inl passes ↦
       let kind : Leaves inside ≡ Enters region =
       sym (cond-true (inside.leave == pc) (Leaves inside) (Steps (Some inside)) passes) ∙ e in
@@ -171,12 +171,12 @@ entered-within regions (Some inside) pc region e = elim (cases_Bool (inside.leav
       absurd (cc)
 ]
 
-pub entered-found : (mode : Stepped) (regions : List Region) (control : Control) (region : Region) →
+pub entered_found : (mode : Stepped) (regions : List Region) (control : Control) (region : Region) →
     kind_in mode regions control ≡ Enters region → region_entered_at regions control.pc ≡ Some region
-entered-found Ran regions control region e =
-    entered-within regions (region_numbered regions control.region) control.pc region e
-entered-found (Exited status) regions control region e = absurd (cc)
-entered-found (Stopped fault) regions control region e = absurd (cc)
+entered_found Ran regions control region e =
+    entered_within regions (region_numbered regions control.region) control.pc region e
+entered_found (Exited status) regions control region e = absurd (cc)
+entered_found (Stopped fault) regions control region e = absurd (cc)
 
 -- ---- what a turn keeps
 
@@ -246,7 +246,7 @@ pub kind_keeps : (regions : List Region) (kind : Kind) (state : State) → are_r
 kind_keeps regions (Enters region) state rules h is inside =
     entry_keeps regions state region
     (numbered regions (λ other. other.enter == state.control.pc) region rules
-    (entered-found state.control.mode regions state.control region is)) inside
+    (entered_found state.control.mode regions state.control region is)) inside
 kind_keeps regions (Leaves region) state rules h is inside = leave_keeps regions state region
 kind_keeps regions (Steps region) state rules h is inside = step_keeps regions state h
 

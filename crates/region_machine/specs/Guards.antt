@@ -25,18 +25,18 @@ Guards plays broken lent (Finished reached after) =
     plays (Finished reached after.tape) × ((after.broken ≡ broken) × (after.lent ≡ lent))
 Guards plays broken lent (Halted stop) = plays (Halted stop)
 
-first-none : (broken : Option Break) → broken ≡ option_or broken None
-first-none None = refl
-first-none (Some broken) = refl
+first_none : (broken : Option Break) → broken ≡ option_or broken None
+first_none None = refl
+first_none (Some broken) = refl
 
 -- at the end of a turn nothing more breaks the region
-pub guards-Ended : {Stop Tape : Type 0} (plays : Walk → Played Stop Tape → Type 0) (tape : Tape) (broken : Option Break)
+pub guards_Ended : {Stop Tape : Type 0} (plays : Walk → Played Stop Tape → Type 0) (tape : Tape) (broken : Option Break)
     (lent : GName) (region : Region) (kept : List ℕ) (pc : ℕ) (state : State) →
     plays (Ended state) (Finished state tape) →
     Guards (plays (Ended state)) (option_or broken (walk_break region kept pc (Ended state))) lent
     (Finished state (record { tape = tape; broken = broken; lent = lent }))
 unfolding walk_break
-guards-Ended plays tape broken lent region kept pc state h = (h, (first-none broken, refl))
+guards_Ended plays tape broken lent region kept pc state h = (h, (first_none broken, refl))
 
 -- how a turn ends that answers something
 abbrev pub ending : {A Stop Tape : Type 0} → Result A Stop → State → Tape → Played Stop Tape
@@ -52,6 +52,6 @@ abbrev pub the_end : (Stop : Type 0) → State → Played Stop (Unit {0})
 the_end Stop state = Finished state tt
 
 -- whoever keeps nothing ends a turn as the real one
-pub plain-real : (Stop : Type 0) (walk : Walk) (state : State) (tape : Unit {0}) →
+pub plain_real : (Stop : Type 0) (walk : Walk) (state : State) (tape : Unit {0}) →
     the_end Stop (real_end walk) ≡ Finished state tape → state ≡ real_end walk
-plain-real Stop walk state tape e = ap (finished_state (real_end walk)) (sym e)
+plain_real Stop walk state tape e = ap (finished_state (real_end walk)) (sym e)

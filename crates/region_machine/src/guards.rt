@@ -23,7 +23,7 @@ pub(crate) struct Guarding<'p, 'r, P> {
 
 impl<P: Observer> Passer for Guarding<'_, '_, P> {
     ghost use Rattle.region_machine.specs.Breaking.{walk_break};
-    ghost use Rattle.region_machine.specs.Guards.{Guard, Guards, guards-Ended};
+    ghost use Rattle.region_machine.specs.Guards.{Guard, Guards, guards_Ended};
     ghost use Rattle.std.specs.Option.{option_or};
 
     type Stop = P::Stop;
@@ -71,6 +71,6 @@ impl<P: Observer> Passer for Guarding<'_, '_, P> {
     }
 
     ghost at_end = { λ side state.
-        guards-Ended (P.Plays side.passer.now) (P.tape side.passer.now) side.broken side.passer.ghost_name
+        guards_Ended (P.Plays side.passer.now) (P.tape side.passer.now) side.broken side.passer.ghost_name
         side.region.now side.kept side.pc state (P.at_end side.passer.now state) };
 }

@@ -14,8 +14,8 @@ pub trait Observer: Passer {
 }
 
 impl Observer for Plain {
-    ghost use Rattle.region_machine.specs.Guards.{plain-real};
+    ghost use Rattle.region_machine.specs.Guards.{plain_real};
     ghost use Rattle.std.specs.declared.convert.Infallible.{Infallible as Never};
 
-    ghost real = { λ p walk state tape. plain-real Never walk state tape };
+    ghost real = { λ p walk state tape. plain_real Never walk state tape };
 }

@@ -10,7 +10,7 @@ use Rattle.std.proofs.lemmas.List.Folds.{list_all_more}
 use Rattle.flow_base.specs.declared.points.Point.{Point}
 use Rattle.cut_file.specs.declared.points.CutPoint.{CutPoint}
 use Rattle.flow_base.specs.Points.{is_slot, width_of}
-use Rattle.flow_base.proofs.PointOrders.{one-same, same-one}
+use Rattle.flow_base.proofs.PointOrders.{one_same, one_if_same}
 use Rattle.flow_base.specs.PointOrders.{is_same}
 use Rattle.cut_file.specs.Cuts.{are_points, is_cut_point}
 use Rattle.cut_file.specs.Masks.{MaskAt, listed_masks, mask_of, repeated}
@@ -19,50 +19,50 @@ use Rattle.replay_machine.specs.declared.cursors.Cursor.{Cursor}
 use Rattle.replay_machine.specs.Runs.{Masks, times_passed, mask_at}
 use Rattle.replay_machine.specs.Visits.{IsAhead, MovesOn}
 use Rattle.replay_machine.specs.Tables.{first_cursor, ahead_of, all_ahead, index_from, is_marked, mark_place}
-use Rattle.replay_machine.proofs.RunsAhead.{masked, list-pass}
-use Rattle.cut_file.proofs.Repeats.{masks-ended}
+use Rattle.replay_machine.proofs.RunsAhead.{masked, list_pass}
+use Rattle.cut_file.proofs.Repeats.{masks_ended}
 
 -- ---- indices
 
-pub index-low : (n : ℕ) (points : List CutPoint) (point : Point) (m : ℕ) → index_from n points point ≡ Some m → n ≤ m
+pub index_low : (n : ℕ) (points : List CutPoint) (point : Point) (m : ℕ) → index_from n points point ≡ Some m → n ≤ m
 unfolding index_from
-index-low n [] point m e = absurd (cc)
-index-low n (q ∷ points) point m e = elim (cases_Bool (is_same q.point point)) [
+index_low n [] point m e = absurd (cc)
+index_low n (q ∷ points) point m e = elim (cases_Bool (is_same q.point point)) [
   | inl same ↦
       let here : Some n ≡ Some m = sym (cond-true (is_same q.point point) (Some n)
       (index_from (suc n) points point) same) ∙ e in
       let at : n ≡ m = cc in omega (arith, at)
   | inr other ↦
       let later =
-      index-low (suc n) points point m (sym (cond-false (is_same q.point point) (Some n)
+      index_low (suc n) points point m (sym (cond-false (is_same q.point point) (Some n)
       (index_from (suc n) points point) other) ∙ e) in
       omega (arith, later)
 ]
 
-pub index-high : (n : ℕ) (points : List CutPoint) (point : Point) (m : ℕ) → index_from n points point ≡ Some m →
+pub index_high : (n : ℕ) (points : List CutPoint) (point : Point) (m : ℕ) → index_from n points point ≡ Some m →
     m < n + length points
 unfolding index_from
-index-high n [] point m e = absurd (cc)
-index-high n (q ∷ points) point m e = elim (cases_Bool (is_same q.point point)) [
+index_high n [] point m e = absurd (cc)
+index_high n (q ∷ points) point m e = elim (cases_Bool (is_same q.point point)) [
   | inl same ↦
       let here : Some n ≡ Some m = sym (cond-true (is_same q.point point) (Some n)
       (index_from (suc n) points point) same) ∙ e in
       let at : n ≡ m = cc in omega (arith, at)
   | inr other ↦
       let later =
-      index-high (suc n) points point m (sym (cond-false (is_same q.point point) (Some n)
+      index_high (suc n) points point m (sym (cond-false (is_same q.point point) (Some n)
       (index_from (suc n) points point) other) ∙ e) in
       omega (arith, later)
 ]
 
 -- ---- a point that is not there
 
-none-mask : (n : ℕ) (points : List CutPoint) (cursors : List Cursor) (point : Point) (visit : ℕ) →
+none_mask : (n : ℕ) (points : List CutPoint) (cursors : List Cursor) (point : Point) (visit : ℕ) →
     index_from n points point ≡ None → MaskAt (all_ahead points cursors) point visit ≡ 0
 unfolding index_from all_ahead
-none-mask n [] cursors point visit none = refl
-none-mask n (q ∷ points) [] point visit none = refl
-none-mask n (q ∷ points) (d ∷ cursors) point visit none = elim (cases_Bool (is_same q.point point)) [
+none_mask n [] cursors point visit none = refl
+none_mask n (q ∷ points) [] point visit none = refl
+none_mask n (q ∷ points) (d ∷ cursors) point visit none = elim (cases_Bool (is_same q.point point)) [
   | inl same ↦
       let here : Some n ≡ None = sym (cond-true (is_same q.point point) (Some n)
       (index_from (suc n) points point) same) ∙ none in
@@ -70,30 +70,30 @@ none-mask n (q ∷ points) (d ∷ cursors) point visit none = elim (cases_Bool (
   | inr other ↦
       cond-false (is_same q.point point) (mask_of (ahead_of q d) visit)
       (MaskAt (all_ahead points cursors) point visit) other
-      ∙ none-mask (suc n) points cursors point visit (sym (cond-false (is_same q.point point) (Some n)
+      ∙ none_mask (suc n) points cursors point visit (sym (cond-false (is_same q.point point) (Some n)
       (index_from (suc n) points point) other) ∙ none)
 ]
 
 -- points that are the same have the same index
-index-same : (n : ℕ) (points : List CutPoint) (a b : Point) → is_same a b ≡ true →
+index_same : (n : ℕ) (points : List CutPoint) (a b : Point) → is_same a b ≡ true →
     index_from n points a ≡ index_from n points b
 unfolding index_from
-index-same n [] a b same = refl
-index-same n (q ∷ points) a b same =
-    ap (λ (t : Bool). if t then Some n else index_from (suc n) points a) (ap (λ (p : Point). is_same q.point p) (same-one a b same))
-    ∙ ap (λ (o : Option ℕ). if is_same q.point b then Some n else o) (index-same (suc n) points a b same)
+index_same n [] a b same = refl
+index_same n (q ∷ points) a b same =
+    ap (λ (t : Bool). if t then Some n else index_from (suc n) points a) (ap (λ (p : Point). is_same q.point p) (one_if_same a b same))
+    ∙ ap (λ (o : Option ℕ). if is_same q.point b then Some n else o) (index_same (suc n) points a b same)
 
-pub none-one : (points : List CutPoint) (cursors : List Cursor) (point : Point) →
+pub none_one : (points : List CutPoint) (cursors : List Cursor) (point : Point) →
     index_from 0 points point ≡ None → 0 ≡ MaskAt (all_ahead points cursors) point 1
-none-one points cursors point none = sym (none-mask 0 points cursors point 1 none)
+none_one points cursors point none = sym (none_mask 0 points cursors point 1 none)
 
-pub none-moves : (points : List CutPoint) (cursors : List Cursor) (point : Point) → index_from 0 points point ≡ None →
+pub none_moves : (points : List CutPoint) (cursors : List Cursor) (point : Point) → index_from 0 points point ≡ None →
     MovesOn point (all_ahead points cursors) (all_ahead points cursors)
-none-moves points cursors point none = λ other visit first. elim (cases_Bool (is_same other point)) [
+none_moves points cursors point none = λ other visit first. elim (cases_Bool (is_same other point)) [
   | inl same ↦
-      let gone : index_from 0 points other ≡ None = index-same 0 points other point same ∙ none in
-      none-mask 0 points cursors other visit gone
-      ∙ sym (none-mask 0 points cursors other (if is_same other point then suc visit else visit) gone)
+      let gone : index_from 0 points other ≡ None = index_same 0 points other point same ∙ none in
+      none_mask 0 points cursors other visit gone
+      ∙ sym (none_mask 0 points cursors other (if is_same other point then suc visit else visit) gone)
   | inr apart ↦
       ap (λ (v : ℕ). MaskAt (all_ahead points cursors) other v)
       (sym (cond-false (is_same other point) (suc visit) visit apart))
@@ -106,26 +106,26 @@ abbrev pub Passes : CutPoint → Cursor → Cursor → Type 0
 Passes cut_point before after =
     (visit : ℕ) → 1 ≤ visit → mask_of (ahead_of cut_point after) visit ≡ mask_of (ahead_of cut_point before) (suc visit)
 
-pub found-mask : (n i : ℕ) (points : List CutPoint) (cursors : List Cursor) (point : Point) (p : CutPoint)
+pub found_mask : (n i : ℕ) (points : List CutPoint) (cursors : List Cursor) (point : Point) (p : CutPoint)
     (d : Cursor) (visit : ℕ) →
     index_from n points point ≡ Some (n + i) → length cursors ≡ length points →
     p ≡ get_or points i p → d ≡ get_or cursors i d →
     mask_of (ahead_of p d) visit ≡ MaskAt (all_ahead points cursors) point visit
 unfolding index_from all_ahead
-found-mask n i [] cursors point p d visit e long ip id = absurd (cc)
-found-mask n i (q ∷ points) [] point p d visit e long ip id = absurd (omega (arith, long))
-found-mask n zero (q ∷ points) (c ∷ cursors) point p d visit e long ip id =
+found_mask n i [] cursors point p d visit e long ip id = absurd (cc)
+found_mask n i (q ∷ points) [] point p d visit e long ip id = absurd (omega (arith, long))
+found_mask n zero (q ∷ points) (c ∷ cursors) point p d visit e long ip id =
     elim (cases_Bool (is_same q.point point)) [
       | inl same ↦
           ap (λ (r : CutPoint). mask_of (ahead_of r d) visit) ip ∙ ap (λ (r : Cursor). mask_of (ahead_of q r) visit) id
           ∙ sym (cond-true (is_same q.point point) (mask_of (ahead_of q c) visit)
           (MaskAt (all_ahead points cursors) point visit) same)
       | inr other ↦
-          let later = index-low (suc n) points point (n + 0) (sym
+          let later = index_low (suc n) points point (n + 0) (sym
           (cond-false (is_same q.point point) (Some n) (index_from (suc n) points point) other) ∙ e) in
           absurd (omega (arith, later))
     ]
-found-mask n (suc i) (q ∷ points) (c ∷ cursors) point p d visit e long ip id =
+found_mask n (suc i) (q ∷ points) (c ∷ cursors) point p d visit e long ip id =
     elim (cases_Bool (is_same q.point point)) [
       | inl same ↦
           let here : Some n ≡ Some (n + suc i) = sym (cond-true (is_same q.point point) (Some n)
@@ -137,23 +137,23 @@ found-mask n (suc i) (q ∷ points) (c ∷ cursors) point p d visit e long ip id
           let later : index_from (suc n) points point ≡ Some (suc n + i) =
           sym (cond-false (is_same q.point point) (Some n) (index_from (suc n) points point) other) ∙ e
           ∙ ap (λ (k : ℕ). Some k) moved in
-          found-mask (suc n) i points cursors point p d visit later (omega (arith, long)) ip id
+          found_mask (suc n) i points cursors point p d visit later (omega (arith, long)) ip id
           ∙ sym (cond-false (is_same q.point point) (mask_of (ahead_of q c) visit)
           (MaskAt (all_ahead points cursors) point visit) other)
     ]
 
-pub found-same : (n i : ℕ) (points : List CutPoint) (point : Point) (p : CutPoint) →
+pub found_same : (n i : ℕ) (points : List CutPoint) (point : Point) (p : CutPoint) →
     index_from n points point ≡ Some (n + i) → p ≡ get_or points i p → is_same p.point point ≡ true
 unfolding index_from
-found-same n i [] point p e ip = absurd (cc)
-found-same n zero (q ∷ points) point p e ip = elim (cases_Bool (is_same q.point point)) [
+found_same n i [] point p e ip = absurd (cc)
+found_same n zero (q ∷ points) point p e ip = elim (cases_Bool (is_same q.point point)) [
   | inl same ↦ ap (λ (r : CutPoint). is_same r.point point) ip ∙ same
   | inr other ↦
-      let later = index-low (suc n) points point (n + 0) (sym
+      let later = index_low (suc n) points point (n + 0) (sym
       (cond-false (is_same q.point point) (Some n) (index_from (suc n) points point) other) ∙ e) in
       absurd (omega (arith, later))
 ]
-found-same n (suc i) (q ∷ points) point p e ip = elim (cases_Bool (is_same q.point point)) [
+found_same n (suc i) (q ∷ points) point p e ip = elim (cases_Bool (is_same q.point point)) [
   | inl same ↦
       let here : Some n ≡ Some (n + suc i) = sym (cond-true (is_same q.point point) (Some n)
       (index_from (suc n) points point) same) ∙ e in
@@ -164,39 +164,39 @@ found-same n (suc i) (q ∷ points) point p e ip = elim (cases_Bool (is_same q.p
       let later : index_from (suc n) points point ≡ Some (suc n + i) =
       sym (cond-false (is_same q.point point) (Some n) (index_from (suc n) points point) other) ∙ e
       ∙ ap (λ (k : ℕ). Some k) moved in
-      found-same (suc n) i points point p later ip
+      found_same (suc n) i points point p later ip
 ]
 
 -- an index counted from 0
-pub from-zero : (points : List CutPoint) (point : Point) (i : ℕ) → index_from 0 points point ≡ Some i →
+pub from_zero : (points : List CutPoint) (point : Point) (i : ℕ) → index_from 0 points point ≡ Some i →
     index_from 0 points point ≡ Some (0 + i)
-from-zero points point i e = let same : i ≡ 0 + i = omega arith in e ∙ ap (λ (k : ℕ). Some k) same
+from_zero points point i e = let same : i ≡ 0 + i = omega arith in e ∙ ap (λ (k : ℕ). Some k) same
 
-pub found-point : (points : List CutPoint) (i : ℕ) (point : Point) (p : CutPoint) → index_from 0 points point ≡ Some i →
+pub found_point : (points : List CutPoint) (i : ℕ) (point : Point) (p : CutPoint) → index_from 0 points point ≡ Some i →
     are_points points ≡ true → p ≡ get_or points i p → is_cut_point p ≡ true
-found-point points i point p e known ip =
-    let high = index-high 0 points point i e in
+found_point points i point p e known ip =
+    let high = index_high 0 points point i e in
     ap is_cut_point ip
-    ∙ list-pass is_cut_point points i p (omega (arith, high)) (and_parts (list_all is_cut_point points) _ known).0
+    ∙ list_pass is_cut_point points i p (omega (arith, high)) (and_parts (list_all is_cut_point points) _ known).0
 
 -- the width of a mask that was found is that of the point's slot
-pub found-width : (i : ℕ) (points : List CutPoint) (point : Point) (p : CutPoint) (mask : ℕ) →
+pub found_width : (i : ℕ) (points : List CutPoint) (point : Point) (p : CutPoint) (mask : ℕ) →
     index_from 0 points point ≡ Some i → p ≡ get_or points i p → is_cut_point p ≡ true → is_slot point.slot ≡ true →
     mask ≤ width_of p.point.slot → mask ≤ width_of point.slot
-found-width i points point p mask e ip known slot within =
-    let same = found-same 0 i points point p (from-zero points point i e) ip in
+found_width i points point p mask e ip known slot within =
+    let same = found_same 0 i points point p (from_zero points point i e) ip in
     let width : width_of p.point.slot ≡ width_of point.slot =
-    ap (λ (q : Point). width_of q.slot) (same-one p.point point same) in
+    ap (λ (q : Point). width_of q.slot) (one_if_same p.point point same) in
     subst (λ (w : ℕ). mask ≤ w) width within
 
 -- the masks of a first point and of those after it
-moves-head : (q : CutPoint) (c d : Cursor) (others : List CutPoint) (point : Point) →
+moves_head : (q : CutPoint) (c d : Cursor) (others : List CutPoint) (point : Point) →
     is_same q.point point ≡ true → Passes q c d →
     MovesOn point (ahead_of q c ∷ others) (ahead_of q d ∷ others)
-moves-head q c d others point same passes = λ other visit first. elim (cases_Bool (is_same other point)) [
+moves_head q c d others point same passes = λ other visit first. elim (cases_Bool (is_same other point)) [
   | inl alike ↦
       let mine : is_same q.point other ≡ true =
-      ap (λ (p : Point). is_same q.point p) (same-one other point alike) ∙ same in
+      ap (λ (p : Point). is_same q.point p) (one_if_same other point alike) ∙ same in
       cond-true (is_same q.point other) (mask_of (ahead_of q d) visit) (MaskAt others other visit) mine
       ∙ passes visit first
       ∙ sym (cond-true (is_same q.point other) (mask_of (ahead_of q c) (suc visit))
@@ -207,7 +207,7 @@ moves-head q c d others point same passes = λ other visit first. elim (cases_Bo
       let theirs : is_same q.point other ≡ false = elim (cases_Bool (is_same q.point other)) [
         | inl mine ↦
             let back : is_same other point ≡ true =
-            one-same other point (sym (same-one q.point other mine) ∙ same-one q.point point same) in
+            one_same other point (sym (one_if_same q.point other mine) ∙ one_if_same q.point point same) in
             absurd (cc)
         | inr different ↦ different
       ] in
@@ -217,14 +217,14 @@ moves-head q c d others point same passes = λ other visit first. elim (cases_Bo
       (sym (cond-false (is_same other point) (suc visit) visit apart))
 ]
 
-moves-tail : (q : CutPoint) (before after : List CutPoint) (point : Point) →
+moves_tail : (q : CutPoint) (before after : List CutPoint) (point : Point) →
     is_same q.point point ≡ false → MovesOn point before after → MovesOn point (q ∷ before) (q ∷ after)
-moves-tail q before after point apart moves = λ other visit first. elim (cases_Bool (is_same q.point other)) [
+moves_tail q before after point apart moves = λ other visit first. elim (cases_Bool (is_same q.point other)) [
   | inl mine ↦
       let not : is_same other point ≡ false = elim (cases_Bool (is_same other point)) [
         | inl alike ↦
             let turned : is_same q.point other ≡ is_same q.point point =
-            ap (λ (p : Point). is_same q.point p) (same-one other point alike) in
+            ap (λ (p : Point). is_same q.point p) (one_if_same other point alike) in
             absurd (cc)
         | inr different ↦ different
       ] in
@@ -240,25 +240,25 @@ moves-tail q before after point apart moves = λ other visit first. elim (cases_
       (MaskAt before other (if is_same other point then suc visit else visit)) theirs)
 ]
 
-pub found-moves : (n i : ℕ) (points : List CutPoint) (cursors : List Cursor) (point : Point) (p : CutPoint)
+pub found_moves : (n i : ℕ) (points : List CutPoint) (cursors : List Cursor) (point : Point) (p : CutPoint)
     (c d : Cursor) →
     index_from n points point ≡ Some (n + i) → length cursors ≡ length points →
     p ≡ get_or points i p → c ≡ get_or cursors i c → Passes p c d →
     MovesOn point (all_ahead points cursors) (all_ahead points (slice_set cursors i d))
 unfolding index_from all_ahead
-found-moves n i [] cursors point p c d e long ip ic passes = absurd (cc)
-found-moves n i (q ∷ points) [] point p c d e long ip ic passes = absurd (omega (arith, long))
-found-moves n zero (q ∷ points) (x ∷ cursors) point p c d e long ip ic passes =
+found_moves n i [] cursors point p c d e long ip ic passes = absurd (cc)
+found_moves n i (q ∷ points) [] point p c d e long ip ic passes = absurd (omega (arith, long))
+found_moves n zero (q ∷ points) (x ∷ cursors) point p c d e long ip ic passes =
     elim (cases_Bool (is_same q.point point)) [
       | inl same ↦
-          moves-head q x d (all_ahead points cursors) point same
+          moves_head q x d (all_ahead points cursors) point same
           (subst (λ (r : Cursor). Passes q r d) ic (subst (λ (r : CutPoint). Passes r c d) ip passes))
       | inr other ↦
-          let later = index-low (suc n) points point (n + 0) (sym
+          let later = index_low (suc n) points point (n + 0) (sym
           (cond-false (is_same q.point point) (Some n) (index_from (suc n) points point) other) ∙ e) in
           absurd (omega (arith, later))
     ]
-found-moves n (suc i) (q ∷ points) (x ∷ cursors) point p c d e long ip ic passes =
+found_moves n (suc i) (q ∷ points) (x ∷ cursors) point p c d e long ip ic passes =
     elim (cases_Bool (is_same q.point point)) [
       | inl same ↦
           let here : Some n ≡ Some (n + suc i) = sym (cond-true (is_same q.point point) (Some n)
@@ -270,15 +270,15 @@ found-moves n (suc i) (q ∷ points) (x ∷ cursors) point p c d e long ip ic pa
           let later : index_from (suc n) points point ≡ Some (suc n + i) =
           sym (cond-false (is_same q.point point) (Some n) (index_from (suc n) points point) other) ∙ e
           ∙ ap (λ (k : ℕ). Some k) moved in
-          moves-tail (ahead_of q x) (all_ahead points cursors) (all_ahead points (slice_set cursors i d)) point other
-          (found-moves (suc n) i points cursors point p c d later (omega (arith, long)) ip ic passes)
+          moves_tail (ahead_of q x) (all_ahead points cursors) (all_ahead points (slice_set cursors i d)) point other
+          (found_moves (suc n) i points cursors point p c d later (omega (arith, long)) ip ic passes)
     ]
 
 -- ---- what is ahead
 
-pub ahead-moves : (before after : List CutPoint) (masks : Masks) (past : List Point) (point : Point) →
+pub ahead_moves : (before after : List CutPoint) (masks : Masks) (past : List Point) (point : Point) →
     MovesOn point before after → IsAhead before masks past → IsAhead after masks (point ∷ past)
-ahead-moves before after masks past point moves ahead = λ other visit first. elim
+ahead_moves before after masks past point moves ahead = λ other visit first. elim
     (cases_Bool (is_same other point)) [
       | inl alike ↦
           let count : times_passed other past + suc visit ≡ times_passed other (point ∷ past) + visit =
@@ -296,42 +296,42 @@ ahead-moves before after masks past point moves ahead = λ other visit first. el
           ∙ ap (λ (v : ℕ). masks other v) count
     ]
 
-pub ahead-mask : (ahead : List CutPoint) (masks : Masks) (past : List Point) (point : Point) →
+pub ahead_mask : (ahead : List CutPoint) (masks : Masks) (past : List Point) (point : Point) →
     IsAhead ahead masks past →
     MaskAt ahead point 1 ≡ mask_at masks past point
-ahead-mask ahead masks past point known =
+ahead_mask ahead masks past point known =
     let count : times_passed point past + 1 ≡ suc (times_passed point past) = omega arith in
     known point 1 (omega arith) ∙ ap (λ (v : ℕ). masks point v) count
 
 -- at first all masks are ahead
-first-masks : (points : List CutPoint) (point : Point) (visit : ℕ) → 1 ≤ visit →
+first_masks : (points : List CutPoint) (point : Point) (visit : ℕ) → 1 ≤ visit →
     MaskAt (all_ahead points (replicate (length points) first_cursor)) point visit ≡ MaskAt points point visit
 unfolding all_ahead
-first-masks [] point visit first = refl
-first-masks (q ∷ points) point visit first =
+first_masks [] point visit first = refl
+first_masks (q ∷ points) point visit first =
     ap (λ (m : ℕ). if is_same q.point point then m else MaskAt
     (all_ahead points (replicate (length points) first_cursor)) point visit)
     (masked _ _ _ _ (ap (λ (l : List ℕ). repeated l (listed_masks q.rest) (visit - 1))
-    (masks-ended 0 0 q.runs refl)) refl)
-    ∙ ap (λ (m : ℕ). if is_same q.point point then mask_of q visit else m) (first-masks points point visit first)
+    (masks_ended 0 0 q.runs refl)) refl)
+    ∙ ap (λ (m : ℕ). if is_same q.point point then mask_of q visit else m) (first_masks points point visit first)
 
-from-none : (visit : ℕ) → visit ≡ 0 + visit
-from-none visit = omega arith
+from_none : (visit : ℕ) → visit ≡ 0 + visit
+from_none visit = omega arith
 
-pub ahead-self : (ahead : List CutPoint) → IsAhead ahead (MaskAt ahead) []
-ahead-self ahead = λ point visit first. ap (λ (v : ℕ). MaskAt ahead point v) (from-none visit)
+pub ahead_self : (ahead : List CutPoint) → IsAhead ahead (MaskAt ahead) []
+ahead_self ahead = λ point visit first. ap (λ (v : ℕ). MaskAt ahead point v) (from_none visit)
 
-pub first-ahead : (points : List CutPoint) (cursors : List Cursor) → cursors ≡ replicate (length points) first_cursor →
+pub first_ahead : (points : List CutPoint) (cursors : List Cursor) → cursors ≡ replicate (length points) first_cursor →
     IsAhead (all_ahead points cursors) (MaskAt points) []
-first-ahead points cursors e = λ point visit first.
-    ap (λ (l : List Cursor). MaskAt (all_ahead points l) point visit) e ∙ first-masks points point visit first
-    ∙ ap (λ (v : ℕ). MaskAt points point v) (from-none visit)
+first_ahead points cursors e = λ point visit first.
+    ap (λ (l : List Cursor). MaskAt (all_ahead points l) point visit) e ∙ first_masks points point visit first
+    ∙ ap (λ (v : ℕ). MaskAt points point v) (from_none visit)
 
 -- ---- the marks
 
-marked-more : (marks : List Bool) (place : ℕ) (q : CutPoint) → place < length marks → is_marked marks q ≡ true →
+marked_more : (marks : List Bool) (place : ℕ) (q : CutPoint) → place < length marks → is_marked marks q ≡ true →
     is_marked (slice_set marks place true) q ≡ true
-marked-more marks place q inside marked = elim (le_or_lt place (mark_place q.point.address)) [
+marked_more marks place q inside marked = elim (le_or_lt place (mark_place q.point.address)) [
   | inr above ↦ get_or-set_other marks place (mark_place q.point.address) true false (omega (arith, above)) ∙ marked
   | inl low ↦ elim (le_or_lt (mark_place q.point.address) place) [
     | inl high ↦ get_or-set_at marks place (mark_place q.point.address) true false (omega (arith, low, high)) inside
@@ -339,43 +339,43 @@ marked-more marks place q inside marked = elim (le_or_lt place (mark_place q.poi
   ]
 ]
 
-marked-all : (marks : List Bool) (place : ℕ) (points : List CutPoint) → place < length marks →
+marked_all : (marks : List Bool) (place : ℕ) (points : List CutPoint) → place < length marks →
     list_all (is_marked marks) points ≡ true → list_all (is_marked (slice_set marks place true)) points ≡ true
-marked-all marks place [] inside known = refl
-marked-all marks place (q ∷ points) inside known =
+marked_all marks place [] inside known = refl
+marked_all marks place (q ∷ points) inside known =
     let both = and_parts (is_marked marks q) (list_all (is_marked marks) points) known in
-    and_from _ _ (marked-more marks place q inside both.0) (marked-all marks place points inside both.1)
+    and_from _ _ (marked_more marks place q inside both.0) (marked_all marks place points inside both.1)
 
-pub clear-mark : (marks : List Bool) (i j : ℕ) (b : Bool) → b ≡ get_or marks i b → b ≡ false → i ≡ j →
+pub clear_mark : (marks : List Bool) (i j : ℕ) (b : Bool) → b ≡ get_or marks i b → b ≡ false → i ≡ j →
     get_or marks j false ≡ false
-clear-mark marks i j true is clear at = absurd (cc)
-clear-mark marks i j false is clear at = ap (λ (k : ℕ). get_or marks k false) (sym at) ∙ sym is
+clear_mark marks i j true is clear at = absurd (cc)
+clear_mark marks i j false is clear at = ap (λ (k : ℕ). get_or marks k false) (sym at) ∙ sym is
 
 -- one more point is marked
-pub mark-one : (marks : List Bool) (place : ℕ) (points : List CutPoint) (i : ℕ) (q : CutPoint) → place < length marks →
+pub mark_one : (marks : List Bool) (place : ℕ) (points : List CutPoint) (i : ℕ) (q : CutPoint) → place < length marks →
     i < length points → q ≡ get_or points i q → place ≡ mark_place q.point.address →
     list_all (is_marked marks) (take i points) ≡ true →
     list_all (is_marked (slice_set marks place true)) (take (i + 1) points) ≡ true
-mark-one marks place points i q inside more is at known =
+mark_one marks place points i q inside more is at known =
     let here : is_marked (slice_set marks place true) (get_or points i q) ≡ true =
     ap (λ (r : CutPoint). is_marked (slice_set marks place true) r) (sym is)
     ∙ get_or-set_at marks place (mark_place q.point.address) true false (sym at) inside in
     list_all_more (is_marked (slice_set marks place true)) points i q more
-    ∙ and_from _ _ (marked-all marks place (take i points) inside known) here
+    ∙ and_from _ _ (marked_all marks place (take i points) inside known) here
 
-pub unmarked-none : (n : ℕ) (marks : List Bool) (points : List CutPoint) (point : Point) →
+pub unmarked_none : (n : ℕ) (marks : List Bool) (points : List CutPoint) (point : Point) →
     list_all (is_marked marks) points ≡ true → get_or marks (mark_place point.address) false ≡ false →
     index_from n points point ≡ None
 unfolding index_from
-unmarked-none n marks [] point all clear = refl
-unmarked-none n marks (q ∷ points) point all clear =
+unmarked_none n marks [] point all clear = refl
+unmarked_none n marks (q ∷ points) point all clear =
     let both = and_parts (is_marked marks q) (list_all (is_marked marks) points) all in
     elim (cases_Bool (is_same q.point point)) [
       | inl same ↦
-          let address : q.point.address ≡ point.address = ap (λ (p : Point). p.address) (same-one q.point point same) in
+          let address : q.point.address ≡ point.address = ap (λ (p : Point). p.address) (one_if_same q.point point same) in
           let marked : get_or marks (mark_place point.address) false ≡ true = rw address at both.0 in
           absurd (cc)
       | inr other ↦
           cond-false (is_same q.point point) (Some n) (index_from (suc n) points point) other
-          ∙ unmarked-none (suc n) marks points point both.1 clear
+          ∙ unmarked_none (suc n) marks points point both.1 clear
     ]

@@ -67,14 +67,14 @@ replay_grows enclosures masks past state bits place rest e =
 
 -- ---- the ranges
 
-none-outside : (region : Region) (range : Option ℕ) → outside_of region range ≡ None → range ≡ None
-none-outside region None e = refl
-none-outside region (Some range) e = absurd (cc)
+none_outside : (region : Region) (range : Option ℕ) → outside_of region range ≡ None → range ≡ None
+none_outside region None e = refl
+none_outside region (Some range) e = absurd (cc)
 
 pub kind_inside : (kind : Kind) (state : State) → kind_outside_range kind state ≡ None →
     can_skip kind state.store.registers state.setting.base ≡ true
 kind_inside (Enters region) state e =
-    inside_at_entry region state.store.registers state.setting.base (none-outside region _ e)
+    inside_at_entry region state.store.registers state.setting.base (none_outside region _ e)
 kind_inside (Leaves region) state e = refl
 kind_inside (Steps region) state e = refl
 

@@ -54,41 +54,41 @@ still_replay enclosures masks place inside h =
     ∙ ap (λ w. replayed masks place.past w) (still_guest_replay enclosures place.state h)
     ∙ replayed_still enclosures masks place inside
 
-pub none-or : {A : Type 0} (found : Option A) → (found ≡ None) ⊎ (found ≡ None → ⊥)
-none-or None = inl refl
-none-or (Some value) = inr (λ none. absurd (cc))
+pub none_or : {A : Type 0} (found : Option A) → (found ≡ None) ⊎ (found ≡ None → ⊥)
+none_or None = inl refl
+none_or (Some value) = inr (λ none. absurd (cc))
 
 -- ---- a call that changes nothing
 
-over-turn : (asker : Asker ReplayPlace) (masks : Masks) (place : ReplayPlace) (standing : Standing) (stream : Stream)
+over_turn : (asker : Asker ReplayPlace) (masks : Masks) (place : ReplayPlace) (standing : Standing) (stream : Stream)
     (answer : ReplayTurn) → asker ≡ Over place → Stands standing masks place →
     answer ≡ end_answer place.outside place.state.control.mode →
     Turned masks (feed asker (left_of stream)) standing stream answer
-over-turn asker masks place standing stream answer is stands answers =
+over_turn asker masks place standing stream answer is stands answers =
     rw is (record { answers = answers; stands = stands; left = refl })
 
-pub ended-turn : (enclosures : Enclosures) (masks : Masks) (place : ReplayPlace) (standing : Standing) (stream : Stream)
+pub ended_turn : (enclosures : Enclosures) (masks : Masks) (place : ReplayPlace) (standing : Standing) (stream : Stream)
     (mode : Stepped) (answer : ReplayTurn) →
     Stands standing masks place → standing.outside ≡ None → mode ≡ standing.state.control.mode → IsOver mode →
     answer ≡ mode_answer mode →
     Turned masks (feed (replay_turn enclosures masks place) (left_of stream)) standing stream answer
-ended-turn enclosures masks place standing stream mode answer stands inside is over answers =
+ended_turn enclosures masks place standing stream mode answer stands inside is over answers =
     let same : mode ≡ place.state.control.mode = is ∙ ap (λ (s : State). s.control.mode) (sym stands.state) in
     let within : place.outside ≡ None = stands.outside ∙ inside in
-    over-turn (replay_turn enclosures masks place) masks place standing stream answer
+    over_turn (replay_turn enclosures masks place) masks place standing stream answer
     (still_replay enclosures masks place within (subst IsOver same over)) stands
     (rw within (answers ∙ ap mode_answer same))
 
-pub outside-turn : (enclosures : Enclosures) (masks : Masks) (place : ReplayPlace) (standing : Standing)
+pub outside_turn : (enclosures : Enclosures) (masks : Masks) (place : ReplayPlace) (standing : Standing)
     (stream : Stream) (outside : Outside) (answer : ReplayTurn) →
     Stands standing masks place → standing.outside ≡ Some outside →
     answer ≡ ReplayTurn.RangeOutside outside.region outside.range →
     Turned masks (feed (replay_turn enclosures masks place) (left_of stream)) standing stream answer
-outside-turn enclosures masks place standing stream outside answer stands is answers =
+outside_turn enclosures masks place standing stream outside answer stands is answers =
     let there : place.outside ≡ Some outside = stands.outside ∙ is in
-    over-turn (replay_turn enclosures masks place) masks place standing stream answer
+    over_turn (replay_turn enclosures masks place) masks place standing stream answer
     (still_outside enclosures masks place outside there) stands (rw there answers)
 
-pub taken-same : (taken held : ℕ) (stream : Stream) → held ≡ taken → held < 2 ^ 64 →
+pub taken_same : (taken held : ℕ) (stream : Stream) → held ≡ taken → held < 2 ^ 64 →
     taken ≡ taken_after taken stream stream
-taken-same taken held stream is small = omega (arith, is, small)
+taken_same taken held stream is small = omega (arith, is, small)

@@ -52,7 +52,7 @@ impl Passer for Replaying {
     ghost use Rattle.replay_machine.specs.Runs.{Masks, replayed};
     ghost use Rattle.replay_machine.specs.Visits.{IsAhead};
     ghost use Rattle.replay_machine.specs.Private.Sides.{Side, Replays, fed_of};
-    ghost use Rattle.replay_machine.specs.Private.Ends.{replays-Ended};
+    ghost use Rattle.replay_machine.specs.Private.Ends.{replays_Ended};
 
     type Stop = ();
 
@@ -93,5 +93,5 @@ impl Passer for Replaying {
     }
 
     ghost at_end = { λ side state masks past ahead.
-        replays-Ended (Unit {0}) side.masks side.bits side.missing masks past state ahead };
+        replays_Ended (Unit {0}) side.masks side.bits side.missing masks past state ahead };
 }

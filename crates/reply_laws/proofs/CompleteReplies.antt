@@ -34,66 +34,66 @@ use Rattle.reply_laws.proofs.OneBound.{bound_completes}
 use Rattle.reply_laws.proofs.OneFinding.{taint_completes}
 use Rattle.reply_laws.proofs.OneLearning.{learning_completes}
 use Rattle.reply_laws.proofs.OneReply.{Decides, DecidesBy, certificate_completes, run_completes, task_decides}
-use Rattle.reply_laws.proofs.OneReply.{telling-done, trial-done}
+use Rattle.reply_laws.proofs.OneReply.{telling_done, trial_done}
 use Rattle.reply_laws.proofs.OneTask.{task_reading}
 use Rattle.reply_laws.proofs.OneUnion.{many_completes}
 use Rattle.transfer_rules.specs.Tables.{IsDeciding}
 
 -- ---- a check
 
-count-most : (judgements : List Judgement) → accepted_count judgements ≤ length judgements
-count-most [] = omega arith
-count-most (Accepts bits output ∷ judgements) = let few = count-most judgements in omega (arith, few)
-count-most (Rejects why ∷ judgements) = let few = count-most judgements in omega (arith, few)
+count_most : (judgements : List Judgement) → accepted_count judgements ≤ length judgements
+count_most [] = omega arith
+count_most (Accepts bits output ∷ judgements) = let few = count_most judgements in omega (arith, few)
+count_most (Rejects why ∷ judgements) = let few = count_most judgements in omega (arith, few)
 
 -- where every secret is accepted, so is the first, and so are the others
-first-accepted : (task : JudgedTask) (limits : CheckLimits) (secret : List ℕ) (judgement : Judgement)
+first_accepted : (task : JudgedTask) (limits : CheckLimits) (secret : List ℕ) (judgement : Judgement)
     (judgements : List Judgement) → First task limits secret ≡ judgement →
     accepted_count (judgement ∷ judgements) ≡ length (judgement ∷ judgements) →
     HasAccepted task limits secret × (accepted_count judgements ≡ length judgements)
-first-accepted task limits secret (Accepts bits output) judgements e all =
+first_accepted task limits secret (Accepts bits output) judgements e all =
     ((output, (accepted_law task limits secret bits output e).0), omega (arith, all))
-first-accepted task limits secret (Rejects why) judgements e all =
-    let few = count-most judgements in absurd (omega (arith, all, few))
+first_accepted task limits secret (Rejects why) judgements e all =
+    let few = count_most judgements in absurd (omega (arith, all, few))
 
-all-accepted : (task : JudgedTask) (limits : CheckLimits) (secrets : List (List ℕ)) →
+all_accepted : (task : JudgedTask) (limits : CheckLimits) (secrets : List (List ℕ)) →
     accepted_count (judgements_of task limits secrets) ≡ length (judgements_of task limits secrets) →
     AllByRecursion (HasAccepted task limits) secrets
-all-accepted task limits [] all = tt
-all-accepted task limits (secret ∷ secrets) all =
-    let first = first-accepted task limits secret (First task limits secret) (judgements_of task limits secrets) refl
-    all in (first.0, all-accepted task limits secrets first.1)
+all_accepted task limits [] all = tt
+all_accepted task limits (secret ∷ secrets) all =
+    let first = first_accepted task limits secret (First task limits secret) (judgements_of task limits secrets) refl
+    all in (first.0, all_accepted task limits secrets first.1)
 
-first-counted : (task : JudgedTask) (limits : CheckLimits) (secret : List ℕ) (judgement : Judgement)
+first_counted : (task : JudgedTask) (limits : CheckLimits) (secret : List ℕ) (judgement : Judgement)
     (judgements : List Judgement) → First task limits secret ≡ judgement → HasAccepted task limits secret →
     accepted_count judgements ≡ length judgements →
     accepted_count (judgement ∷ judgements) ≡ length (judgement ∷ judgements)
-first-counted task limits secret (Accepts bits output) judgements e accepted all = omega (arith, all)
-first-counted task limits secret (Rejects why) judgements e accepted all =
+first_counted task limits secret (Accepts bits output) judgements e accepted all = omega (arith, all)
+first_counted task limits secret (Rejects why) judgements e accepted all =
     absurd (rejected_law task limits secret why e accepted.0 accepted.1)
 
-all-counted : (task : JudgedTask) (limits : CheckLimits) (secrets : List (List ℕ)) →
+all_counted : (task : JudgedTask) (limits : CheckLimits) (secrets : List (List ℕ)) →
     AllByRecursion (HasAccepted task limits) secrets →
     accepted_count (judgements_of task limits secrets) ≡ length (judgements_of task limits secrets)
-all-counted task limits [] all = refl
-all-counted task limits (secret ∷ secrets) all =
-    first-counted task limits secret (First task limits secret) (judgements_of task limits secrets) refl all.0
-    (all-counted task limits secrets all.1)
+all_counted task limits [] all = refl
+all_counted task limits (secret ∷ secrets) all =
+    first_counted task limits secret (First task limits secret) (judgements_of task limits secrets) refl all.0
+    (all_counted task limits secrets all.1)
 
 -- the status of a check by whether the counts are the same
-check-by : (task : JudgedTask) (limits : CheckLimits) (secrets : List (List ℕ)) (same : Bool) →
+check_by : (task : JudgedTask) (limits : CheckLimits) (secrets : List (List ℕ)) (same : Bool) →
     (accepted_count (judgements_of task limits secrets) == length (judgements_of task limits secrets)) ≡ same →
     CompletesCheck task limits secrets (status_number (if same then Done else Rejected))
-check-by task limits secrets true e = record {
+check_by task limits secrets true e = record {
   known = omega arith;
-  accepted = λ zero. all-accepted task limits secrets (grind (arith, nat_tests, e));
+  accepted = λ zero. all_accepted task limits secrets (grind (arith, nat_tests, e));
   done = λ all. refl;
 }
-check-by task limits secrets false e = record {
+check_by task limits secrets false e = record {
   known = omega arith;
   accepted = λ zero. absurd (omega (arith, zero));
   done = λ all.
-      let counted = all-counted task limits secrets all in
+      let counted = all_counted task limits secrets all in
       absurd (grind (arith, nat_tests, counted, e));
 }
 
@@ -106,68 +106,68 @@ replayed task answer e =
     let counts : Bool = accepted_count judgements == length judgements in
     let status : status_number (if counts then Done else Rejected) ≡ status_of answer = ap status_of (sym e) in
     subst (λ s. CompletesCheck (judged_by task.guest task.cut) task.limits task.secrets s) status
-    (check-by (judged_by task.guest task.cut) task.limits task.secrets counts refl)
+    (check_by (judged_by task.guest task.cut) task.limits task.secrets counts refl)
 
-check-completes : (judging : Judging) (task : CheckTask) (answer : Answer) → DecidesBy judging →
+check_completes : (judging : Judging) (task : CheckTask) (answer : Answer) → DecidesBy judging →
     AnswersBy judging task answer →
     CompletesBy judging (judged_by task.guest task.cut) task.limits task.secrets (status_of answer)
-check-completes Replay task answer deciding h = replayed task answer h
-check-completes (Masks table) task answer deciding h =
+check_completes Replay task answer deciding h = replayed task answer h
+check_completes (Masks table) task answer deciding h =
     taint_completes table (judged_by task.guest task.cut) task.limits task.secrets answer deciding h
 
-telling-completes : (telling : Telling) (run : RunTask) (answer : Answer) → IsDeciding run.table →
+telling_completes : (telling : Telling) (run : RunTask) (answer : Answer) → IsDeciding run.table →
     AnswersTelling telling run answer → CompletesTelling telling run (status_of answer)
-telling-completes (CutText version) run answer deciding h =
-    run_completes run (Tells (IsCutOfRun version)) (telling-done (IsCutOfRun version)) deciding answer h
-telling-completes Certificate run answer deciding h =
-    run_completes run (Tells IsCertificateText) (telling-done IsCertificateText) deciding answer h
-telling-completes (Report json) run answer deciding h =
-    run_completes run (Tells (IsReport json)) (telling-done (IsReport json)) deciding answer h
-telling-completes Declaration run answer deciding h = learning_completes run answer h
+telling_completes (CutText version) run answer deciding h =
+    run_completes run (Tells (IsCutOfRun version)) (telling_done (IsCutOfRun version)) deciding answer h
+telling_completes Certificate run answer deciding h =
+    run_completes run (Tells IsCertificateText) (telling_done IsCertificateText) deciding answer h
+telling_completes (Report json) run answer deciding h =
+    run_completes run (Tells (IsReport json)) (telling_done (IsReport json)) deciding answer h
+telling_completes Declaration run answer deciding h = learning_completes run answer h
 
-task-completes : (task : Task) (answer : Answer) → Decides task → AnswersTask task answer →
+task_completes : (task : Task) (answer : Answer) → Decides task → AnswersTask task answer →
     Completes task (status_of answer)
-task-completes (JudgeSecrets task) answer deciding h = check-completes task.judging task answer deciding h
-task-completes (BoundAll all) answer deciding h = bound_completes all answer h
-task-completes (TellRun telling run) answer deciding h = telling-completes telling run answer deciding h
-task-completes (MeasureAll version runs) answer deciding h = many_completes version runs answer deciding h
-task-completes (WriteProgram picture) answer deciding e = ap status_of e
-task-completes (ListProgram picture) answer deciding e = ap status_of e
-task-completes (VerifyCertificate graph solved) answer deciding h = certificate_completes graph solved answer h
-task-completes (MigrateCut cut) answer deciding e = ap status_of e
-task-completes (TryNumber number) answer deciding h =
-    run_completes (run_of_number number) (TellsTrial number) (trial-done number) (inl refl) answer h
+task_completes (JudgeSecrets task) answer deciding h = check_completes task.judging task answer deciding h
+task_completes (BoundAll all) answer deciding h = bound_completes all answer h
+task_completes (TellRun telling run) answer deciding h = telling_completes telling run answer deciding h
+task_completes (MeasureAll version runs) answer deciding h = many_completes version runs answer deciding h
+task_completes (WriteProgram picture) answer deciding e = ap status_of e
+task_completes (ListProgram picture) answer deciding e = ap status_of e
+task_completes (VerifyCertificate graph solved) answer deciding h = certificate_completes graph solved answer h
+task_completes (MigrateCut cut) answer deciding e = ap status_of e
+task_completes (TryNumber number) answer deciding h =
+    run_completes (run_of_number number) (TellsTrial number) (trial_done number) (inl refl) answer h
 
-err-ok : (refusal : Refusal) (files : List (List ℕ)) (loaded : Result (List (List ℕ)) Refusal) →
+err_ok : (refusal : Refusal) (files : List (List ℕ)) (loaded : Result (List (List ℕ)) Refusal) →
     Err refusal ≡ loaded → loaded ≡ Ok files → ⊥
-err-ok refusal files loaded e f = cc
+err_ok refusal files loaded e f = cc
 
-same-ok : (a b : List (List ℕ)) (loaded : Result (List (List ℕ)) Refusal) → Ok a ≡ loaded → loaded ≡ Ok b → a ≡ b
-same-ok a b loaded e f = cc
+same_ok : (a b : List (List ℕ)) (loaded : Result (List (List ℕ)) Refusal) → Ok a ≡ loaded → loaded ≡ Ok b → a ≡ b
+same_ok a b loaded e f = cc
 
 -- where these files are loaded
-reads-loaded : (told : Told) (command : Command) (files : List (List ℕ)) (answer : Answer) →
+reads_loaded : (told : Told) (command : Command) (files : List (List ℕ)) (answer : Answer) →
     loaded_from told (wants_of command) ≡ Ok files → AnswersCommand (Some told) command answer →
     AnswersFiles command files answer
-reads-loaded told command files answer are (inl (refusal, loads, e)) = absurd (err-ok refusal files _ loads.1 are)
-reads-loaded told command files answer are (inr (others, loads, h)) =
-    subst (λ f. AnswersFiles command f answer) (same-ok others files _ loads.1 are) h
+reads_loaded told command files answer are (inl (refusal, loads, e)) = absurd (err_ok refusal files _ loads.1 are)
+reads_loaded told command files answer are (inr (others, loads, h)) =
+    subst (λ f. AnswersFiles command f answer) (same_ok others files _ loads.1 are) h
 
-words-complete : RegionLaws → (source : Option Told) (words files : List (List ℕ)) (command : Command) (task : Task)
+words_complete : RegionLaws → (source : Option Told) (words files : List (List ℕ)) (command : Command) (task : Task)
     (answer : Answer) → IsCommand words command → AreLoaded source command files → IsTaskOf command files task →
     AnswersWords source words answer → Completes task (status_of answer)
-words-complete laws None words files command task answer named are is answers = absurd are
-words-complete laws (Some told) words files command task answer named are is answers =
+words_complete laws None words files command task answer named are is answers = absurd are
+words_complete laws (Some told) words files command task answer named are is answers =
     let of_command = reads_it Command (IsCommand words) (IsUsage words) (AnswersCommand (Some told))
     (words_reading words) command answer named answers in
-    let of_files = reads-loaded told command files answer are of_command in
+    let of_files = reads_loaded told command files answer are of_command in
     let of_task = reads_it Task (IsTaskOf command files) (IsFormRefusal command files) AnswersTask
     (task_reading laws command files) task answer is of_files in
-    task-completes task answer (task_decides words files command task named is) of_task
+    task_completes task answer (task_decides words files command task named is) of_task
 
 pub complete_of : RegionLaws → (source : Option Told) (words files : List (List ℕ)) (command : Command) (task : Task)
     (reply : Reply) → IsCommand words command → AreLoaded source command files → IsTaskOf command files task →
     Replies source words reply → Completes task reply.status
 complete_of laws source words files command task reply named are is (answer, answers, e) =
     subst (λ s. Completes task s) (ap (λ r. r.status) (sym e))
-    (words-complete laws source words files command task answer named are is answers)
+    (words_complete laws source words files command task answer named are is answers)

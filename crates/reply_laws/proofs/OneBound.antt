@@ -8,22 +8,22 @@ use Rattle.task_answers.specs.Answers.{Answer}
 use Rattle.commands.proofs.Readings.{status_of}
 use Rattle.reply_laws.specs.ReplyLaws.{CompletesBound}
 
-one-power : (outputs a b : ℕ) → IsLeastPower outputs a → IsLeastPower outputs b → a ≡ b
-one-power outputs a b one other =
+one_power : (outputs a b : ℕ) → IsLeastPower outputs a → IsLeastPower outputs b → a ≡ b
+one_power outputs a b one other =
     let low = one.least b other.enough in
     let high = other.least a one.enough in
     omega (arith, low, high)
 
-same-bound : (all : AllSecretsTask) (known : BoundAnswer) (first second : Answer) → AnswersBound all known first →
+same_bound : (all : AllSecretsTask) (known : BoundAnswer) (first second : Answer) → AnswersBound all known first →
     AnswersBound all known second → first ≡ second
-same-bound all (IsBounded found) first second (tells, (a, one, e)) (also, (b, other, f)) =
-    e ∙ (ap (λ bits. Ok (record { status = Done; text = bounded_text all found bits })) (one-power _ a b one other)
+same_bound all (IsBounded found) first second (tells, (a, one, e)) (also, (b, other, f)) =
+    e ∙ (ap (λ bits. Ok (record { status = Done; text = bounded_text all found bits })) (one_power _ a b one other)
     ∙ sym f)
-same-bound all (IsUnclear bits why) first second e f = e ∙ sym f
+same_bound all (IsUnclear bits why) first second e f = e ∙ sym f
 
 pub bound_same : (all : AllSecretsTask) (first second : Answer) → AnswersAllSecrets all first →
     AnswersAllSecrets all second → first ≡ second
-bound_same all first second one other = same-bound all (bound_of all) first second one other
+bound_same all first second one other = same_bound all (bound_of all) first second one other
 
 completes : (all : AllSecretsTask) (known : BoundAnswer) (answer : Answer) → bound_of all ≡ known →
     AnswersBound all known answer → CompletesBound all (status_of answer)

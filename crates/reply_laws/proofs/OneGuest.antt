@@ -3,14 +3,14 @@ use Rattle.std.proofs.Common.{◌≡◌, ◌∙◌, inl, inr, ℕ, List, [], ◌
 use Rattle.std.proofs.lemmas.Bool.{false≢true}
 use Rattle.elf32_loader.specs.Pictures.{Picture}
 use Rattle.elf32_loader.specs.Programs.{IsImage}
-use Rattle.elf32_loader.proofs.Faults.{no-image}
-use Rattle.elf32_loader.proofs.OneFault.{one-first-fault}
-use Rattle.elf32_loader.proofs.Unique.{same-image}
+use Rattle.elf32_loader.proofs.Faults.{no_image}
+use Rattle.elf32_loader.proofs.OneFault.{one_first_fault}
+use Rattle.elf32_loader.proofs.Unique.{same_image}
 use Rattle.enclosure_regions.specs.declared.region_parts.Region.{Region}
 use Rattle.enclosure_regions.specs.FileLaws.{FaultsAreOne, FilesAreOne, SpelledHaveNoFault}
 use Rattle.cut_file.specs.Cuts.{CutPicture}
 use Rattle.cut_file.specs.Texts.{CutText}
-use Rattle.cut_file.proofs.FileTexts.{cut-no_fault, one-cut, one-fault}
+use Rattle.cut_file.proofs.FileTexts.{cut_no_fault, one_cut, one_fault}
 use Rattle.command_line.specs.CommandLines.{GuestNames}
 use Rattle.command_tasks.specs.declared.refusals.Refusal.{Refusal}
 use Rattle.command_tasks.specs.declared.refusals.Refusal.TheVariants.{Program, Regions, Cut}
@@ -29,73 +29,73 @@ pub record RegionLaws : Type 0 where
 
 pub program_reading : (file : List ℕ) → IsReading Picture (IsImage file) (IsProgramRefusal file)
 program_reading file = record {
-  one = λ a b is also. same-image file a b is also;
-  none = λ a refusal is (fault, first, e). no-image file fault first a is;
+  one = λ a b is also. same_image file a b is also;
+  none = λ a refusal is (fault, first, e). no_image file fault first a is;
   refused = λ first second (fault, is, e) (other, also, f).
-      e ∙ (ap (λ x. Program x) (one-first-fault file fault other is also) ∙ sym f);
+      e ∙ (ap (λ x. Program x) (one_first_fault file fault other is also) ∙ sym f);
 }
 
 pub cut_reading : (file : List ℕ) → IsReading CutPicture (CutText file) (IsCutRefusal file)
 cut_reading file = record {
-  one = λ a b is also. one-cut file a b is also;
-  none = λ a refusal is (fault, first, e). cut-no_fault file a fault is first.1 first.0;
+  one = λ a b is also. one_cut file a b is also;
+  none = λ a refusal is (fault, first, e). cut_no_fault file a fault is first.1 first.0;
   refused = λ first second (fault, is, e) (other, also, f).
-      e ∙ (ap (λ x. Cut x) (one-fault file fault other is.1 also.1 is.0 also.0) ∙ sym f);
+      e ∙ (ap (λ x. Cut x) (one_fault file fault other is.1 also.1 is.0 also.0) ∙ sym f);
 }
 
-same-regions : RegionLaws → (file : Option (List ℕ)) (first second : List Region) → AreRegions file first →
+same_regions : RegionLaws → (file : Option (List ℕ)) (first second : List Region) → AreRegions file first →
     AreRegions file second → first ≡ second
-same-regions laws None first second one other = one ∙ sym other
-same-regions laws (Some file) first second one other = laws.one file first second one other
+same_regions laws None first second one other = one ∙ sym other
+same_regions laws (Some file) first second one other = laws.one file first second one other
 
-no-regions-fault : RegionLaws → (file : Option (List ℕ)) (regions : List Region) (refusal : Refusal) →
+no_regions_fault : RegionLaws → (file : Option (List ℕ)) (regions : List Region) (refusal : Refusal) →
     AreRegions file regions → IsRegionsRefusal file refusal → ⊥
-no-regions-fault laws None regions refusal are is = is
-no-regions-fault laws (Some file) regions refusal are (fault, first, e) = laws.none file regions fault are first.0
+no_regions_fault laws None regions refusal are is = is
+no_regions_fault laws (Some file) regions refusal are (fault, first, e) = laws.none file regions fault are first.0
 
-one-regions-fault : RegionLaws → (file : Option (List ℕ)) (first second : Refusal) → IsRegionsRefusal file first →
+one_regions_fault : RegionLaws → (file : Option (List ℕ)) (first second : Refusal) → IsRegionsRefusal file first →
     IsRegionsRefusal file second → first ≡ second
-one-regions-fault laws None first second is also = absurd is
-one-regions-fault laws (Some file) first second (fault, is, e) (other, also, f) =
+one_regions_fault laws None first second is also = absurd is
+one_regions_fault laws (Some file) first second (fault, is, e) (other, also, f) =
     e ∙ (ap (λ x. Regions x) (laws.faults file fault other is.0 also.0) ∙ sym f)
 
 -- ---- a guest
 
-abbrev made-guest : Picture → List ℕ → List Region → Guest
-made-guest program public_input regions = record {
+abbrev made_guest : Picture → List ℕ → List Region → Guest
+made_guest program public_input regions = record {
   program = program;
   public_input = public_input;
   regions = regions;
 }
 
-same-guest : RegionLaws → (files : GuestFiles) (a b : Guest) → IsGuest files a → IsGuest files b → a ≡ b
-same-guest laws files a b one other =
-    ap (λ v. made-guest v a.public_input a.regions) (same-image files.program a.program b.program one.program other.program)
-    ∙ (ap (λ v. made-guest b.program v a.regions) (sym one.public_input ∙ other.public_input)
-    ∙ ap (λ v. made-guest b.program b.public_input v)
-    (same-regions laws files.region_file a.regions b.regions one.regions other.regions))
+same_guest : RegionLaws → (files : GuestFiles) (a b : Guest) → IsGuest files a → IsGuest files b → a ≡ b
+same_guest laws files a b one other =
+    ap (λ v. made_guest v a.public_input a.regions) (same_image files.program a.program b.program one.program other.program)
+    ∙ (ap (λ v. made_guest b.program v a.regions) (sym one.public_input ∙ other.public_input)
+    ∙ ap (λ v. made_guest b.program b.public_input v)
+    (same_regions laws files.region_file a.regions b.regions one.regions other.regions))
 
-no-guest-fault : RegionLaws → (files : GuestFiles) (guest : Guest) (refusal : Refusal) → IsGuest files guest →
+no_guest_fault : RegionLaws → (files : GuestFiles) (guest : Guest) (refusal : Refusal) → IsGuest files guest →
     IsGuestRefusal files refusal → ⊥
-no-guest-fault laws files guest refusal is (inl (fault, first, e)) = no-image files.program fault first guest.program is.program
-no-guest-fault laws files guest refusal is (inr (picture, image, first)) =
-    no-regions-fault laws files.region_file guest.regions refusal is.regions first
+no_guest_fault laws files guest refusal is (inl (fault, first, e)) = no_image files.program fault first guest.program is.program
+no_guest_fault laws files guest refusal is (inr (picture, image, first)) =
+    no_regions_fault laws files.region_file guest.regions refusal is.regions first
 
-one-guest-fault : RegionLaws → (files : GuestFiles) (first second : Refusal) → IsGuestRefusal files first →
+one_guest_fault : RegionLaws → (files : GuestFiles) (first second : Refusal) → IsGuestRefusal files first →
     IsGuestRefusal files second → first ≡ second
-one-guest-fault laws files first second (inl is) (inl also) = (program_reading files.program).refused first second is also
-one-guest-fault laws files first second (inl is) (inr (picture, image, also)) =
+one_guest_fault laws files first second (inl is) (inl also) = (program_reading files.program).refused first second is also
+one_guest_fault laws files first second (inl is) (inr (picture, image, also)) =
     absurd ((program_reading files.program).none picture first image is)
-one-guest-fault laws files first second (inr (picture, image, is)) (inl also) =
+one_guest_fault laws files first second (inr (picture, image, is)) (inl also) =
     absurd ((program_reading files.program).none picture second image also)
-one-guest-fault laws files first second (inr (picture, image, is)) (inr (other, alike, also)) =
-    one-regions-fault laws files.region_file first second is also
+one_guest_fault laws files first second (inr (picture, image, is)) (inr (other, alike, also)) =
+    one_regions_fault laws files.region_file first second is also
 
 pub guest_reading : RegionLaws → (files : GuestFiles) → IsReading Guest (IsGuest files) (IsGuestRefusal files)
 guest_reading laws files = record {
-  one = same-guest laws files;
-  none = no-guest-fault laws files;
-  refused = one-guest-fault laws files;
+  one = same_guest laws files;
+  none = no_guest_fault laws files;
+  refused = one_guest_fault laws files;
 }
 
 -- ---- the order of files
@@ -105,29 +105,29 @@ pub record SameOthers (file other : Option (List ℕ)) (rest more : List (List �
   pub files : file ≡ other
   pub others : rest ≡ more
 
-pub same-others : (file other : Option (List ℕ)) (rest more : List (List ℕ)) → is_some file ≡ is_some other →
+pub same_others : (file other : Option (List ℕ)) (rest more : List (List ℕ)) → is_some file ≡ is_some other →
     and_others file rest ≡ and_others other more → SameOthers file other rest more
-same-others None None rest more e are = record { files = refl; others = are }
-same-others None (Some file) rest more e are = absurd (false≢true e)
-same-others (Some file) None rest more e are = absurd (false≢true (sym e))
-same-others (Some file) (Some other) rest more e are =
+same_others None None rest more e are = record { files = refl; others = are }
+same_others None (Some file) rest more e are = absurd (false≢true e)
+same_others (Some file) None rest more e are = absurd (false≢true (sym e))
+same_others (Some file) (Some other) rest more e are =
     let same : file ≡ other = cc in
     let rests : rest ≡ more = cc in
     record { files = ap (λ f. Some f) same; others = rests }
 
-abbrev made-files : List ℕ → List ℕ → Option (List ℕ) → GuestFiles
-made-files program public_input region_file = record {
+abbrev made_files : List ℕ → List ℕ → Option (List ℕ) → GuestFiles
+made_files program public_input region_file = record {
   program = program;
   public_input = public_input;
   region_file = region_file;
 }
 
-same-files : (a b : GuestFiles) → a.program ≡ b.program → a.public_input ≡ b.public_input →
+same_files : (a b : GuestFiles) → a.program ≡ b.program → a.public_input ≡ b.public_input →
     a.region_file ≡ b.region_file → a ≡ b
-same-files a b program public_input region_file =
-    ap (λ v. made-files v a.public_input a.region_file) program
-    ∙ (ap (λ v. made-files b.program v a.region_file) public_input
-    ∙ ap (λ v. made-files b.program b.public_input v) region_file)
+same_files a b program public_input region_file =
+    ap (λ v. made_files v a.public_input a.region_file) program
+    ∙ (ap (λ v. made_files b.program v a.region_file) public_input
+    ∙ ap (λ v. made_files b.program b.public_input v) region_file)
 
 -- of a guest and a cut
 pub record SameCheckFiles (a b : GuestFiles) (cut other : List ℕ) (rest more : List (List ℕ)) : Type 0 where
@@ -145,8 +145,8 @@ same_check_files names files a b cut other rest more one two =
     let public_input : a.public_input ≡ b.public_input = cc in
     let cuts : cut ≡ other = cc in
     let others : and_others a.region_file rest ≡ and_others b.region_file more = cc in
-    let same = same-others a.region_file b.region_file rest more (one.named ∙ sym two.named) others in
-    record { guests = same-files a b program public_input same.files; cuts = cuts; secrets = same.others }
+    let same = same_others a.region_file b.region_file rest more (one.named ∙ sym two.named) others in
+    record { guests = same_files a b program public_input same.files; cuts = cuts; secrets = same.others }
 
 -- of a guest alone
 pub record SameRunFiles (a b : GuestFiles) (rest more : List (List ℕ)) : Type 0 where
@@ -161,5 +161,5 @@ same_run_files names files a b rest more one two =
     let program : a.program ≡ b.program = cc in
     let public_input : a.public_input ≡ b.public_input = cc in
     let others : and_others a.region_file rest ≡ and_others b.region_file more = cc in
-    let same = same-others a.region_file b.region_file rest more (one.named ∙ sym two.named) others in
-    record { guests = same-files a b program public_input same.files; secrets = same.others }
+    let same = same_others a.region_file b.region_file rest more (one.named ∙ sym two.named) others in
+    record { guests = same_files a b program public_input same.files; secrets = same.others }

@@ -15,25 +15,25 @@ use Rattle.reply_laws.specs.ReplyLaws.{CompletesLearning}
 
 -- ---- faults
 
-some-none : (found : Option LearnFault) (fault : LearnFault) → found ≡ None → found ≡ Some fault → ⊥
-some-none found fault e f = cc
+some_none : (found : Option LearnFault) (fault : LearnFault) → found ≡ None → found ≡ Some fault → ⊥
+some_none found fault e f = cc
 
-same-some : (found : Option LearnFault) (a b : LearnFault) → found ≡ Some a → found ≡ Some b → a ≡ b
-same-some found a b e f = cc
+same_some : (found : Option LearnFault) (a b : LearnFault) → found ≡ Some a → found ≡ Some b → a ≡ b
+same_some found a b e f = cc
 
 -- a declaration that is granted is not refused
-no-refusal : (run : LearntRun) (regions : List Region) (fault : LearnFault) → Grants run regions → RefusesToLearn run fault → ⊥
-no-refusal run regions fault grants (inl is) = some-none _ fault grants.exits is
-no-refusal run regions fault grants (inr (others, exits, learnt, is)) =
-    some-none (declaration_fault regions) fault grants.fits
+no_refusal : (run : LearntRun) (regions : List Region) (fault : LearnFault) → Grants run regions → RefusesToLearn run fault → ⊥
+no_refusal run regions fault grants (inl is) = some_none _ fault grants.exits is
+no_refusal run regions fault grants (inr (others, exits, learnt, is)) =
+    some_none (declaration_fault regions) fault grants.fits
     (ap declaration_fault (learnt_is_one run regions others grants.learnt learnt) ∙ is)
 
-one-refusal : (run : LearntRun) (a b : LearnFault) → RefusesToLearn run a → RefusesToLearn run b → a ≡ b
-one-refusal run a b (inl is) (inl also) = same-some _ a b is also
-one-refusal run a b (inl is) (inr (regions, exits, learnt, also)) = absurd (some-none _ a exits is)
-one-refusal run a b (inr (regions, exits, learnt, is)) (inl also) = absurd (some-none _ b exits also)
-one-refusal run a b (inr (regions, exits, learnt, is)) (inr (others, alike, same, also)) =
-    same-some (declaration_fault regions) a b is
+one_refusal : (run : LearntRun) (a b : LearnFault) → RefusesToLearn run a → RefusesToLearn run b → a ≡ b
+one_refusal run a b (inl is) (inl also) = same_some _ a b is also
+one_refusal run a b (inl is) (inr (regions, exits, learnt, also)) = absurd (some_none _ a exits is)
+one_refusal run a b (inr (regions, exits, learnt, is)) (inl also) = absurd (some_none _ b exits also)
+one_refusal run a b (inr (regions, exits, learnt, is)) (inr (others, alike, same, also)) =
+    same_some (declaration_fault regions) a b is
     (ap declaration_fault (learnt_is_one run regions others learnt same) ∙ also)
 
 -- ---- answers
@@ -43,9 +43,9 @@ reading : (guest : Guest) (secret : List ℕ) (turns : ℕ) →
 reading guest secret turns = record {
   one = λ a b is also. learnt_is_one (learnt_run guest secret turns) a b is.grants.learnt also.grants.learnt;
   none = λ regions refusal is (fault, refuses, e).
-      no-refusal (learnt_run guest secret turns) regions fault is.grants refuses;
+      no_refusal (learnt_run guest secret turns) regions fault is.grants refuses;
   refused = λ first second (a, is, e) (b, also, f).
-      e ∙ (ap (λ x. Learn x) (one-refusal (learnt_run guest secret turns) a b is also) ∙ sym f);
+      e ∙ (ap (λ x. Learn x) (one_refusal (learnt_run guest secret turns) a b is also) ∙ sym f);
 }
 
 pub learning_same : (guest : Guest) (secret : List ℕ) (turns : ℕ) (first second : Answer) →
@@ -69,6 +69,6 @@ learning_completes run answer (inr (regions, is, (text, texts, spells, e))) =
     record {
       known = inl zero;
       learnt = λ z. λ fault. λ refuses.
-          no-refusal (learnt_run run.guest run.secret run.turns) regions fault is.grants refuses;
+          no_refusal (learnt_run run.guest run.secret run.turns) regions fault is.grants refuses;
       done = λ none. zero;
     }

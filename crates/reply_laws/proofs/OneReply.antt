@@ -7,8 +7,8 @@ use Rattle.flow_base.specs.declared.outputs.Output.{Output}
 use Rattle.flow_base.specs.Loads.{Told}
 use Rattle.cut_file.specs.Cuts.{CutPicture}
 use Rattle.cut_file.specs.Pictures.{cut_picture}
-use Rattle.flow_certificate.proofs.OneVerdict.{one-verdict}
-use Rattle.leak_report.proofs.OneReport.{one-report_json, one-report_text}
+use Rattle.flow_certificate.proofs.OneVerdict.{one_verdict}
+use Rattle.leak_report.proofs.OneReport.{one_report_json, one_report_text}
 use Rattle.lockstep_replay.specs.Tasks.{Cross}
 use Rattle.max_flow.specs.declared.answers.Side.{Side}
 use Rattle.trial_guests.specs.Secrets.{secret_of}
@@ -18,8 +18,8 @@ use Rattle.flow_certificate.specs.Verdicts.{IsVerified}
 use Rattle.flow_graph.specs.declared.graphs.Graph.{Graph}
 use Rattle.max_flow.specs.declared.answers.Solved.{Solved}
 use Rattle.measuring.specs.declared.measured.Measured.{Measured}
-use Rattle.measuring.proofs.OneCause.{one-cause}
-use Rattle.measuring.proofs.OneMeasure.{AreSameMeasures, one-measure, told-alike}
+use Rattle.measuring.proofs.OneCause.{one_cause}
+use Rattle.measuring.proofs.OneMeasure.{AreSameMeasures, one_measure, told_alike}
 use Rattle.measuring.proofs.MeasuredWithoutCause.{measured_have_no_cause}
 use Rattle.command_line.specs.declared.names.CommandName.{CommandName}
 use Rattle.command_line.specs.declared.names.CommandName.TheVariants as names
@@ -82,25 +82,25 @@ DecidesCommand (Verifies certificate) = Unit {0}
 DecidesCommand (Migrates cut) = Unit {0}
 DecidesCommand (Tries number) = Unit {0}
 
-fit-decides : (name : CommandName) (parts : Parts) (command : Command) → Fits name parts command →
+fit_decides : (name : CommandName) (parts : Parts) (command : Command) → Fits name parts command →
     DecidesCommand command
-fit-decides names.Check parts command (check, is, e) =
+fit_decides names.Check parts command (check, is, e) =
     subst DecidesCommand (sym e) (subst DecidesBy (sym is.judged) tt)
-fit-decides names.Taint parts command (table, check, is, choice, e) =
+fit_decides names.Taint parts command (table, check, is, choice, e) =
     subst DecidesCommand (sym e) (subst DecidesBy (sym is.judged) (decides _ table choice))
-fit-decides names.Bound parts command (all, is, e) = subst DecidesCommand (sym e) tt
-fit-decides names.Measure parts command (version, run, is, choice, e) =
+fit_decides names.Bound parts command (all, is, e) = subst DecidesCommand (sym e) tt
+fit_decides names.Measure parts command (version, run, is, choice, e) =
     subst DecidesCommand (sym e) (decides _ run.table is.rules)
-fit-decides names.MeasureAll parts command (version, runs, is, choice, e) =
+fit_decides names.MeasureAll parts command (version, runs, is, choice, e) =
     subst DecidesCommand (sym e) (decides _ runs.table is.rules)
-fit-decides names.Graph parts command (run, is, e) = subst DecidesCommand (sym e) (decides _ run.table is.rules)
-fit-decides names.Report parts command (run, is, e) = subst DecidesCommand (sym e) (decides _ run.table is.rules)
-fit-decides names.Learn parts command (run, is, e) = subst DecidesCommand (sym e) (inl is.rules)
-fit-decides names.Assemble parts command (file, is, e) = subst DecidesCommand (sym e) tt
-fit-decides names.List parts command (file, is, e) = subst DecidesCommand (sym e) tt
-fit-decides names.Verify parts command (file, is, e) = subst DecidesCommand (sym e) tt
-fit-decides names.Migrate parts command (file, is, e) = subst DecidesCommand (sym e) tt
-fit-decides names.Trial parts command (number, is, e) = subst DecidesCommand (sym e) tt
+fit_decides names.Graph parts command (run, is, e) = subst DecidesCommand (sym e) (decides _ run.table is.rules)
+fit_decides names.Report parts command (run, is, e) = subst DecidesCommand (sym e) (decides _ run.table is.rules)
+fit_decides names.Learn parts command (run, is, e) = subst DecidesCommand (sym e) (inl is.rules)
+fit_decides names.Assemble parts command (file, is, e) = subst DecidesCommand (sym e) tt
+fit_decides names.List parts command (file, is, e) = subst DecidesCommand (sym e) tt
+fit_decides names.Verify parts command (file, is, e) = subst DecidesCommand (sym e) tt
+fit_decides names.Migrate parts command (file, is, e) = subst DecidesCommand (sym e) tt
+fit_decides names.Trial parts command (number, is, e) = subst DecidesCommand (sym e) tt
 
 -- the table of a task that asks mask rules decides
 abbrev pub Decides : Task → Type 0
@@ -114,25 +114,25 @@ Decides (VerifyCertificate graph solved) = Unit {0}
 Decides (MigrateCut cut) = Unit {0}
 Decides (TryNumber number) = Unit {0}
 
-decides-task : (files : List (List ℕ)) (command : Command) (task : Task) → DecidesCommand command →
+decides_task : (files : List (List ℕ)) (command : Command) (task : Task) → DecidesCommand command →
     IsTaskOf command files task → Decides task
-decides-task files (Checks check) task known (x, is, e) =
+decides_task files (Checks check) task known (x, is, e) =
     subst Decides (sym e) (subst DecidesBy (sym is.judging) known)
-decides-task files (Bounds all) task known (x, is, e) = subst Decides (sym e) tt
-decides-task files (Tells telling run) task known (x, is, e) =
+decides_task files (Bounds all) task known (x, is, e) = subst Decides (sym e) tt
+decides_task files (Tells telling run) task known (x, is, e) =
     subst Decides (sym e) (subst IsDeciding (sym is.table) known)
-decides-task files (MeasuresAll version runs) task known (x, is, e) =
+decides_task files (MeasuresAll version runs) task known (x, is, e) =
     subst Decides (sym e) (subst IsDeciding (sym is.table) known)
-decides-task files (Assembles source) task known (file, x, are, is, e) = subst Decides (sym e) tt
-decides-task files (Lists program) task known (file, x, are, is, e) = subst Decides (sym e) tt
-decides-task files (Verifies certificate) task known (file, x, y, are, is, e) = subst Decides (sym e) tt
-decides-task files (Migrates cut) task known (file, x, are, is, e) = subst Decides (sym e) tt
-decides-task files (Tries number) task known e = subst Decides (sym e) tt
+decides_task files (Assembles source) task known (file, x, are, is, e) = subst Decides (sym e) tt
+decides_task files (Lists program) task known (file, x, are, is, e) = subst Decides (sym e) tt
+decides_task files (Verifies certificate) task known (file, x, y, are, is, e) = subst Decides (sym e) tt
+decides_task files (Migrates cut) task known (file, x, are, is, e) = subst Decides (sym e) tt
+decides_task files (Tries number) task known e = subst Decides (sym e) tt
 
 pub task_decides : (words files : List (List ℕ)) (command : Command) (task : Task) → IsCommand words command →
     IsTaskOf command files task → Decides task
 task_decides words files command task named is =
-    decides-task files command task (fit-decides named.name named.parts command named.row) is
+    decides_task files command task (fit_decides named.name named.parts command named.row) is
 
 -- ---- a measured run
 
@@ -141,21 +141,21 @@ abbrev pub IsDone : (Measured → Answer → Type 0) → Type 0
 IsDone Answers = (measured : Measured) (answer : Answer) → Answers measured answer → status_of answer ≡ 0
 
 -- a run that is measured has no cause to be refused
-no-cause : (run : RunTask) (measured : Measured) (refusal : Refusal) → IsDeciding run.table → IsMeasured run measured →
+no_cause : (run : RunTask) (measured : Measured) (refusal : Refusal) → IsDeciding run.table → IsMeasured run measured →
     IsRunRefusal run refusal → ⊥
-no-cause run measured refusal deciding is (fault, (cause, room), e) =
+no_cause run measured refusal deciding is (fault, (cause, room), e) =
     room (measured_have_no_cause run.table run.guest.regions (start_of run) (length run.secret) run.turns measured fault
     deciding is.measures cause)
 
-run-one : (run : RunTask) (Answers : Measured → Answer → Type 0) → IsDone Answers → IsDeciding run.table →
+run_one : (run : RunTask) (Answers : Measured → Answer → Type 0) → IsDone Answers → IsDeciding run.table →
     (first second : Answer) → AnswersRun run Answers first → AnswersRun run Answers second → AreOne first second
-run-one run Answers done deciding first second (inl (refusal, (fault, is, e), f)) (inl (other, (also, was, g), h)) =
+run_one run Answers done deciding first second (inl (refusal, (fault, is, e), f)) (inl (other, (also, was, g), h)) =
     ap status_of (f ∙ ap (λ r. Err r) e) ∙ sym (ap status_of (h ∙ ap (λ r. Err r) g))
-run-one run Answers done deciding first second (inl (refusal, is, e)) (inr (measured, also, answers)) =
-    absurd (no-cause run measured refusal deciding also is)
-run-one run Answers done deciding first second (inr (measured, is, answers)) (inl (refusal, also, e)) =
-    absurd (no-cause run measured refusal deciding is also)
-run-one run Answers done deciding first second (inr (measured, is, answers)) (inr (other, also, more)) =
+run_one run Answers done deciding first second (inl (refusal, is, e)) (inr (measured, also, answers)) =
+    absurd (no_cause run measured refusal deciding also is)
+run_one run Answers done deciding first second (inr (measured, is, answers)) (inl (refusal, also, e)) =
+    absurd (no_cause run measured refusal deciding is also)
+run_one run Answers done deciding first second (inr (measured, is, answers)) (inr (other, also, more)) =
     done measured first answers ∙ sym (done other second more)
 
 -- what is told of two measures that share all but the flow is the same
@@ -164,18 +164,18 @@ IsAlike Answers =
     (one other : Measured) (first second : Answer) → AreSameMeasures one other → Answers one first →
     Answers other second → first ≡ second
 
-run-same : (run : RunTask) (Answers : Measured → Answer → Type 0) → IsAlike Answers → IsDeciding run.table →
+run_same : (run : RunTask) (Answers : Measured → Answer → Type 0) → IsAlike Answers → IsDeciding run.table →
     (first second : Answer) → AnswersRun run Answers first → AnswersRun run Answers second → first ≡ second
-run-same run Answers alike deciding first second (inl (refusal, (fault, (cause, room), e), f)) (inl (other, (also, (was, rooms), g), h)) =
-    let same = one-cause run.table run.guest.regions (start_of run) run.turns fault also deciding cause was room rooms in
+run_same run Answers alike deciding first second (inl (refusal, (fault, (cause, room), e), f)) (inl (other, (also, (was, rooms), g), h)) =
+    let same = one_cause run.table run.guest.regions (start_of run) run.turns fault also deciding cause was room rooms in
     f ∙ (ap (λ r. Err r) (e ∙ (ap (λ x. RunRefused x) same ∙ sym g)) ∙ sym h)
-run-same run Answers alike deciding first second (inl (refusal, is, e)) (inr (measured, also, answers)) =
-    absurd (no-cause run measured refusal deciding also is)
-run-same run Answers alike deciding first second (inr (measured, is, answers)) (inl (refusal, also, e)) =
-    absurd (no-cause run measured refusal deciding is also)
-run-same run Answers alike deciding first second (inr (measured, is, answers)) (inr (other, also, more)) =
+run_same run Answers alike deciding first second (inl (refusal, is, e)) (inr (measured, also, answers)) =
+    absurd (no_cause run measured refusal deciding also is)
+run_same run Answers alike deciding first second (inr (measured, is, answers)) (inl (refusal, also, e)) =
+    absurd (no_cause run measured refusal deciding is also)
+run_same run Answers alike deciding first second (inr (measured, is, answers)) (inr (other, also, more)) =
     alike measured other first second
-    (one-measure run.table run.guest.regions (start_of run) (length run.secret) run.turns measured other deciding
+    (one_measure run.table run.guest.regions (start_of run) (length run.secret) run.turns measured other deciding
     is.measures also.measures)
     answers more
 
@@ -198,26 +198,26 @@ run_completes run Answers done deciding answer (inr (measured, is, answers)) =
       done = λ none. zero;
     }
 
-pub telling-done : (IsText : Measured → List ℕ → Type 0) → IsDone (TellsOf IsText)
-telling-done IsText measured answer (text, is, e) = ap status_of e
+pub telling_done : (IsText : Measured → List ℕ → Type 0) → IsDone (TellsOf IsText)
+telling_done IsText measured answer (text, is, e) = ap status_of e
 
-pub trial-done : (number : ℕ) → IsDone (TellsTrial number)
-trial-done number measured answer e = ap status_of e
+pub trial_done : (number : ℕ) → IsDone (TellsTrial number)
+trial_done number measured answer e = ap status_of e
 
 -- ---- what is told
 
-cut-told : (version : ℕ) → IsAlike (TellsOf (IsCutOfRun version))
-cut-told version one other first second same (text, is, e) (words, also, f) =
+cut_told : (version : ℕ) → IsAlike (TellsOf (IsCutOfRun version))
+cut_told version one other first second same (text, is, e) (words, also, f) =
     let here : IsCutText version (cut_picture other.cut) text = subst (λ cut. IsCutText version cut text) same.cut is in
     e ∙ (ap done_by (one_cut_text version (cut_picture other.cut) text words here also) ∙ sym f)
 
-report-same : (json : Bool) (one other : Measured) → AreSameMeasures one other → report_of json one ≡ report_of json other
-report-same true one other same = one-report_json one other same
-report-same false one other same = one-report_text one other same
+report_same : (json : Bool) (one other : Measured) → AreSameMeasures one other → report_of json one ≡ report_of json other
+report_same true one other same = one_report_json one other same
+report_same false one other same = one_report_text one other same
 
-report-told : (json : Bool) → IsAlike (TellsOf (IsReport json))
-report-told json one other first second same (text, is, e) (words, also, f) =
-    let texts : text ≡ words = is ∙ (report-same json one other same ∙ sym also) in
+report_told : (json : Bool) → IsAlike (TellsOf (IsReport json))
+report_told json one other first second same (text, is, e) (words, also, f) =
+    let texts : text ≡ words = is ∙ (report_same json one other same ∙ sym also) in
     e ∙ (ap done_by texts ∙ sym f)
 
 -- the line of a trial, by what it tells
@@ -229,24 +229,24 @@ trial_told number value turns output graph side cut =
     ++ (decimal (length (Cross (judged_by (guest_of_number number) cut) (secret_of number) trial_turns))
     ++ (codes " output " ++ (decimal (length output.bytes) ++ codes "\n"))))))))
 
-trial-same : (number : ℕ) (one other : Measured) → AreSameMeasures one other →
+trial_same : (number : ℕ) (one other : Measured) → AreSameMeasures one other →
     trial_line number one (crossing_count number one) ≡ trial_line number other (crossing_count number other)
 unfolding trial_told
-trial-same number one other same = told-alike (trial_told number) one other same
+trial_same number one other same = told_alike (trial_told number) one other same
 
-trial-told : (number : ℕ) → IsAlike (TellsTrial number)
-trial-told number one other first second same e f = e ∙ (ap done_by (trial-same number one other same) ∙ sym f)
+told_trial : (number : ℕ) → IsAlike (TellsTrial number)
+told_trial number one other first second same e f = e ∙ (ap done_by (trial_same number one other same) ∙ sym f)
 
 -- ---- a certificate
 
-verdict-completes : (graph : Graph) (solved : Solved) (verdict : CertVerdict) → IsExactVerdict graph solved verdict →
+verdict_completes : (graph : Graph) (solved : Solved) (verdict : CertVerdict) → IsExactVerdict graph solved verdict →
     CompletesVerdict graph solved (status_of (Ok (verdict_reply verdict)))
-verdict-completes graph solved (Verified value) is = record {
+verdict_completes graph solved (Verified value) is = record {
   known = omega arith;
   verified = λ zero. subst (λ v. IsVerified graph solved v) is.shows.named is.shows;
   done = λ verified. refl;
 }
-verdict-completes graph solved (RejectedBy fault) is = record {
+verdict_completes graph solved (RejectedBy fault) is = record {
   known = omega arith;
   verified = λ zero. absurd (omega (arith, zero));
   done = λ verified. ap (λ v. status_of (Ok (verdict_reply v))) (is.verified verified);
@@ -255,13 +255,13 @@ verdict-completes graph solved (RejectedBy fault) is = record {
 pub certificate_completes : (graph : Graph) (solved : Solved) (answer : Answer) → AnswersVerdict graph solved answer →
     CompletesVerdict graph solved (status_of answer)
 certificate_completes graph solved answer (verdict, is, e) =
-    subst (λ s. CompletesVerdict graph solved s) (sym (ap status_of e)) (verdict-completes graph solved verdict is)
+    subst (λ s. CompletesVerdict graph solved s) (sym (ap status_of e)) (verdict_completes graph solved verdict is)
 
-certificate-same : (graph : Graph) (solved : Solved) (first second : Answer) → AnswersVerdict graph solved first →
+certificate_same : (graph : Graph) (solved : Solved) (first second : Answer) → AnswersVerdict graph solved first →
     AnswersVerdict graph solved second → first ≡ second
-certificate-same graph solved first second (verdict, is, e) (found, also, f) =
+certificate_same graph solved first second (verdict, is, e) (found, also, f) =
     let verdicts : verdict ≡ found =
-    one-verdict graph solved verdict found is.shows also.shows is.verified also.verified in
+    one_verdict graph solved verdict found is.shows also.shows is.verified also.verified in
     let answer : CertVerdict → Answer = λ v. Ok (verdict_reply v) in
     e ∙ (ap answer verdicts ∙ sym f)
 
@@ -285,113 +285,113 @@ NoGraph (VerifyCertificate graph solved) = Unit {0}
 NoGraph (MigrateCut cut) = Unit {0}
 NoGraph (TryNumber number) = Unit {0}
 
-no-certificate : (words : List (List ℕ)) (telling : Telling) (run : Run) → IsNoGraph words →
+no_certificate : (words : List (List ℕ)) (telling : Telling) (run : Run) → IsNoGraph words →
     IsCommand words (Tells telling run) → IsNoCertificate telling
-no-certificate words (CutText version) run none named = tt
-no-certificate words Certificate run none named = absurd (none run named)
-no-certificate words (Report json) run none named = tt
-no-certificate words Declaration run none named = tt
+no_certificate words (CutText version) run none named = tt
+no_certificate words Certificate run none named = absurd (none run named)
+no_certificate words (Report json) run none named = tt
+no_certificate words Declaration run none named = tt
 
-no-graph : (words files : List (List ℕ)) (command : Command) (task : Task) → IsNoGraph words →
+no_graph : (words files : List (List ℕ)) (command : Command) (task : Task) → IsNoGraph words →
     IsCommand words command → IsTaskOf command files task → NoGraph task
-no-graph words files (Checks check) task none named (x, is, e) = subst NoGraph (sym e) tt
-no-graph words files (Bounds all) task none named (x, is, e) = subst NoGraph (sym e) tt
-no-graph words files (Tells telling run) task none named (x, is, e) =
-    subst NoGraph (sym e) (no-certificate words telling run none named)
-no-graph words files (MeasuresAll version runs) task none named (x, is, e) = subst NoGraph (sym e) tt
-no-graph words files (Assembles source) task none named (file, x, are, is, e) = subst NoGraph (sym e) tt
-no-graph words files (Lists program) task none named (file, x, are, is, e) = subst NoGraph (sym e) tt
-no-graph words files (Verifies certificate) task none named (file, x, y, are, is, e) = subst NoGraph (sym e) tt
-no-graph words files (Migrates cut) task none named (file, x, are, is, e) = subst NoGraph (sym e) tt
-no-graph words files (Tries number) task none named e = subst NoGraph (sym e) tt
+no_graph words files (Checks check) task none named (x, is, e) = subst NoGraph (sym e) tt
+no_graph words files (Bounds all) task none named (x, is, e) = subst NoGraph (sym e) tt
+no_graph words files (Tells telling run) task none named (x, is, e) =
+    subst NoGraph (sym e) (no_certificate words telling run none named)
+no_graph words files (MeasuresAll version runs) task none named (x, is, e) = subst NoGraph (sym e) tt
+no_graph words files (Assembles source) task none named (file, x, are, is, e) = subst NoGraph (sym e) tt
+no_graph words files (Lists program) task none named (file, x, are, is, e) = subst NoGraph (sym e) tt
+no_graph words files (Verifies certificate) task none named (file, x, y, are, is, e) = subst NoGraph (sym e) tt
+no_graph words files (Migrates cut) task none named (file, x, are, is, e) = subst NoGraph (sym e) tt
+no_graph words files (Tries number) task none named e = subst NoGraph (sym e) tt
 
-check-same : (judging : Judging) (task : CheckTask) (first second : Answer) → DecidesBy judging →
+check_same : (judging : Judging) (task : CheckTask) (first second : Answer) → DecidesBy judging →
     AnswersBy judging task first → AnswersBy judging task second → first ≡ second
-check-same Replay task first second deciding one other = one ∙ sym other
-check-same (Masks table) task first second deciding one other =
+check_same Replay task first second deciding one other = one ∙ sym other
+check_same (Masks table) task first second deciding one other =
     taint_same table (judged_by task.guest task.cut) task.limits task.secrets first second deciding one other
 
-telling-same : (telling : Telling) (run : RunTask) (first second : Answer) → IsNoCertificate telling →
+telling_same : (telling : Telling) (run : RunTask) (first second : Answer) → IsNoCertificate telling →
     IsDeciding run.table → AnswersTelling telling run first → AnswersTelling telling run second → first ≡ second
-telling-same (CutText version) run first second none deciding one other =
-    run-same run (TellsOf (IsCutOfRun version)) (cut-told version) deciding first second one other
-telling-same Certificate run first second none deciding one other = absurd none
-telling-same (Report json) run first second none deciding one other =
-    run-same run (TellsOf (IsReport json)) (report-told json) deciding first second one other
-telling-same Declaration run first second none deciding one other =
+telling_same (CutText version) run first second none deciding one other =
+    run_same run (TellsOf (IsCutOfRun version)) (cut_told version) deciding first second one other
+telling_same Certificate run first second none deciding one other = absurd none
+telling_same (Report json) run first second none deciding one other =
+    run_same run (TellsOf (IsReport json)) (report_told json) deciding first second one other
+telling_same Declaration run first second none deciding one other =
     learning_same run.guest run.secret run.turns first second one other
 
-task-same : (task : Task) (first second : Answer) → NoGraph task → Decides task → AnswersTask task first →
+task_same : (task : Task) (first second : Answer) → NoGraph task → Decides task → AnswersTask task first →
     AnswersTask task second → first ≡ second
-task-same (JudgeSecrets task) first second none deciding one other =
-    check-same task.judging task first second deciding one other
-task-same (BoundAll all) first second none deciding one other = bound_same all first second one other
-task-same (TellRun telling run) first second none deciding one other =
-    telling-same telling run first second none deciding one other
-task-same (MeasureAll version runs) first second none deciding one other =
+task_same (JudgeSecrets task) first second none deciding one other =
+    check_same task.judging task first second deciding one other
+task_same (BoundAll all) first second none deciding one other = bound_same all first second one other
+task_same (TellRun telling run) first second none deciding one other =
+    telling_same telling run first second none deciding one other
+task_same (MeasureAll version runs) first second none deciding one other =
     many_same version runs first second deciding one other
-task-same (WriteProgram picture) first second none deciding one other = one ∙ sym other
-task-same (ListProgram picture) first second none deciding one other = one ∙ sym other
-task-same (VerifyCertificate graph solved) first second none deciding one other =
-    certificate-same graph solved first second one other
-task-same (MigrateCut cut) first second none deciding one other = one ∙ sym other
-task-same (TryNumber number) first second none deciding one other =
-    run-same (run_of_number number) (TellsTrial number) (trial-told number) (inl refl) first second one other
+task_same (WriteProgram picture) first second none deciding one other = one ∙ sym other
+task_same (ListProgram picture) first second none deciding one other = one ∙ sym other
+task_same (VerifyCertificate graph solved) first second none deciding one other =
+    certificate_same graph solved first second one other
+task_same (MigrateCut cut) first second none deciding one other = one ∙ sym other
+task_same (TryNumber number) first second none deciding one other =
+    run_same (run_of_number number) (TellsTrial number) (told_trial number) (inl refl) first second one other
 
-telling-one : (telling : Telling) (run : RunTask) (first second : Answer) → IsDeciding run.table →
+telling_one : (telling : Telling) (run : RunTask) (first second : Answer) → IsDeciding run.table →
     AnswersTelling telling run first → AnswersTelling telling run second → AreOne first second
-telling-one Certificate run first second deciding one other =
-    run-one run (TellsOf IsCertificateText) (telling-done IsCertificateText) deciding first second one other
-telling-one (CutText version) run first second deciding one other =
-    ap status_of (telling-same (CutText version) run first second tt deciding one other)
-telling-one (Report json) run first second deciding one other =
-    ap status_of (telling-same (Report json) run first second tt deciding one other)
-telling-one Declaration run first second deciding one other =
-    ap status_of (telling-same Declaration run first second tt deciding one other)
+telling_one Certificate run first second deciding one other =
+    run_one run (TellsOf IsCertificateText) (telling_done IsCertificateText) deciding first second one other
+telling_one (CutText version) run first second deciding one other =
+    ap status_of (telling_same (CutText version) run first second tt deciding one other)
+telling_one (Report json) run first second deciding one other =
+    ap status_of (telling_same (Report json) run first second tt deciding one other)
+telling_one Declaration run first second deciding one other =
+    ap status_of (telling_same Declaration run first second tt deciding one other)
 
-task-one : (task : Task) (first second : Answer) → Decides task → AnswersTask task first → AnswersTask task second →
+task_one : (task : Task) (first second : Answer) → Decides task → AnswersTask task first → AnswersTask task second →
     AreOne first second
-task-one (JudgeSecrets task) first second deciding one other =
-    ap status_of (task-same (JudgeSecrets task) first second tt deciding one other)
-task-one (BoundAll all) first second deciding one other = ap status_of (bound_same all first second one other)
-task-one (TellRun telling run) first second deciding one other = telling-one telling run first second deciding one other
-task-one (MeasureAll version runs) first second deciding one other =
+task_one (JudgeSecrets task) first second deciding one other =
+    ap status_of (task_same (JudgeSecrets task) first second tt deciding one other)
+task_one (BoundAll all) first second deciding one other = ap status_of (bound_same all first second one other)
+task_one (TellRun telling run) first second deciding one other = telling_one telling run first second deciding one other
+task_one (MeasureAll version runs) first second deciding one other =
     ap status_of (many_same version runs first second deciding one other)
-task-one (WriteProgram picture) first second deciding one other = ap status_of (one ∙ sym other)
-task-one (ListProgram picture) first second deciding one other = ap status_of (one ∙ sym other)
-task-one (VerifyCertificate graph solved) first second deciding one other =
-    ap status_of (certificate-same graph solved first second one other)
-task-one (MigrateCut cut) first second deciding one other = ap status_of (one ∙ sym other)
-task-one (TryNumber number) first second deciding one other =
-    ap status_of (task-same (TryNumber number) first second tt tt one other)
+task_one (WriteProgram picture) first second deciding one other = ap status_of (one ∙ sym other)
+task_one (ListProgram picture) first second deciding one other = ap status_of (one ∙ sym other)
+task_one (VerifyCertificate graph solved) first second deciding one other =
+    ap status_of (certificate_same graph solved first second one other)
+task_one (MigrateCut cut) first second deciding one other = ap status_of (one ∙ sym other)
+task_one (TryNumber number) first second deciding one other =
+    ap status_of (task_same (TryNumber number) first second tt tt one other)
 
 -- ---- loads and words
 
-same-ok : (loaded : Result (List (List ℕ)) Refusal) (a b : List (List ℕ)) → Ok a ≡ loaded → Ok b ≡ loaded → a ≡ b
-same-ok loaded a b e f = cc
+same_ok : (loaded : Result (List (List ℕ)) Refusal) (a b : List (List ℕ)) → Ok a ≡ loaded → Ok b ≡ loaded → a ≡ b
+same_ok loaded a b e f = cc
 
-ok-err : (loaded : Result (List (List ℕ)) Refusal) (a : List (List ℕ)) (refusal : Refusal) → Ok a ≡ loaded →
+ok_err : (loaded : Result (List (List ℕ)) Refusal) (a : List (List ℕ)) (refusal : Refusal) → Ok a ≡ loaded →
     Err refusal ≡ loaded → ⊥
-ok-err loaded a refusal e f = cc
+ok_err loaded a refusal e f = cc
 
-same-err : (loaded : Result (List (List ℕ)) Refusal) (a b : Refusal) → Err a ≡ loaded → Err b ≡ loaded → a ≡ b
-same-err loaded a b e f = cc
+same_err : (loaded : Result (List (List ℕ)) Refusal) (a b : Refusal) → Err a ≡ loaded → Err b ≡ loaded → a ≡ b
+same_err loaded a b e f = cc
 
 pub loads_reading : (told : Told) (wants : List Want) →
     IsReading (List (List ℕ)) (λ files. Loads (Some told) wants (Ok files))
     (λ refusal. Loads (Some told) wants (Err refusal))
 loads_reading told wants = record {
-  one = λ a b is also. same-ok (loaded_from told wants) a b is.1 also.1;
-  none = λ a refusal is also. ok-err (loaded_from told wants) a refusal is.1 also.1;
-  refused = λ first second is also. same-err (loaded_from told wants) first second is.1 also.1;
+  one = λ a b is also. same_ok (loaded_from told wants) a b is.1 also.1;
+  none = λ a refusal is also. ok_err (loaded_from told wants) a refusal is.1 also.1;
+  refused = λ first second is also. same_err (loaded_from told wants) first second is.1 also.1;
 }
 
-words-alike : RegionLaws → (Alike : Answer → Answer → Type 0) → ((answer : Answer) → Alike answer answer) →
+words_alike : RegionLaws → (Alike : Answer → Answer → Type 0) → ((answer : Answer) → Alike answer answer) →
     (told : Told) (words : List (List ℕ)) (first second : Answer) →
     ((command : Command) (files : List (List ℕ)) (task : Task) → IsCommand words command →
     IsTaskOf command files task → AnswersTask task first → AnswersTask task second → Alike first second) →
     AnswersWords (Some told) words first → AnswersWords (Some told) words second → Alike first second
-words-alike laws Alike self told words first second step =
+words_alike laws Alike self told words first second step =
     reads_one Command (IsCommand words) (IsUsage words) (AnswersCommand (Some told)) Alike self (words_reading words)
     first second
     (λ command named. reads_one (List (List ℕ)) (λ files. Loads (Some told) (wants_of command) (Ok files))
@@ -400,17 +400,17 @@ words-alike laws Alike self told words first second step =
     (λ files loaded. reads_one Task (IsTaskOf command files) (IsFormRefusal command files) AnswersTask Alike self
     (task_reading laws command files) first second (λ task is. step command files task named is)))
 
-words-one : RegionLaws → (told : Told) (words : List (List ℕ)) (first second : Answer) →
+words_one : RegionLaws → (told : Told) (words : List (List ℕ)) (first second : Answer) →
     AnswersWords (Some told) words first → AnswersWords (Some told) words second → AreOne first second
-words-one laws told words first second =
-    words-alike laws AreOne (λ answer. refl) told words first second
-    (λ command files task named is. task-one task first second (task_decides words files command task named is))
+words_one laws told words first second =
+    words_alike laws AreOne (λ answer. refl) told words first second
+    (λ command files task named is. task_one task first second (task_decides words files command task named is))
 
-words-same : RegionLaws → (told : Told) (words : List (List ℕ)) (first second : Answer) → IsNoGraph words →
+words_same : RegionLaws → (told : Told) (words : List (List ℕ)) (first second : Answer) → IsNoGraph words →
     AnswersWords (Some told) words first → AnswersWords (Some told) words second → first ≡ second
-words-same laws told words first second none =
-    words-alike laws (λ a b. a ≡ b) (λ answer. refl) told words first second
-    (λ command files task named is. task-same task first second (no-graph words files command task none named is)
+words_same laws told words first second none =
+    words_alike laws (λ a b. a ≡ b) (λ answer. refl) told words first second
+    (λ command files task named is. task_same task first second (no_graph words files command task none named is)
     (task_decides words files command task named is))
 
 -- where the source tells its meanings
@@ -419,6 +419,6 @@ pub one_reply : RegionLaws → (source : Option Told) (words : List (List ℕ)) 
     (first.status ≡ second.status) × (IsNoGraph words → first ≡ second)
 one_reply laws None words first second tells one other = absurd (false≢true tells)
 one_reply laws (Some told) words first second tells (a, answers, e) (b, also, f) = (
-  ap (λ r. r.status) e ∙ (words-one laws told words a b answers also ∙ ap (λ r. r.status) (sym f)),
-  (λ none. e ∙ (ap reply_of (words-same laws told words a b none answers also) ∙ sym f)),
+  ap (λ r. r.status) e ∙ (words_one laws told words a b answers also ∙ ap (λ r. r.status) (sym f)),
+  (λ none. e ∙ (ap reply_of (words_same laws told words a b none answers also) ∙ sym f)),
 )

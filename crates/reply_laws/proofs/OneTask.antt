@@ -5,14 +5,14 @@ use Rattle.flow_certificate.specs.declared.faults.FormFault.{FormFault}
 use Rattle.flow_certificate.specs.declared.faults.FormFault.TheVariants.{Line, Memory as NoRoomForCertificate}
 use Rattle.flow_certificate.specs.Certificates.{IsFormFault}
 use Rattle.flow_certificate.specs.Pictures.{certificate_picture}
-use Rattle.flow_certificate.proofs.OneFault.{one-form_fault}
+use Rattle.flow_certificate.proofs.OneFault.{one_form_fault}
 use Rattle.flow_graph.specs.declared.graphs.Graph.{Graph}
 use Rattle.max_flow.specs.declared.answers.Solved.{Solved}
 use Rattle.cut_file.specs.Cuts.{CutPicture}
 use Rattle.cut_file.specs.Texts.{CutText}
-use Rattle.cut_file.proofs.FileTexts.{one-cut}
+use Rattle.cut_file.proofs.FileTexts.{one_cut}
 use Rattle.elf32_loader.specs.Programs.{IsImage}
-use Rattle.elf32_loader.proofs.Unique.{same-image}
+use Rattle.elf32_loader.proofs.Unique.{same_image}
 use Rattle.lockstep_replay.specs.Tasks.{Limits}
 use Rattle.rv32im_asm.specs.declared.fault.AsmFault.{AsmFault}
 use Rattle.rv32im_asm.specs.Assembling.{assembled}
@@ -36,8 +36,8 @@ use Rattle.reply_laws.proofs.OneGuest.{same_run_files}
 
 -- ---- a check
 
-abbrev made-check : Guest → CutPicture → List (List ℕ) → Limits → Judging → CheckTask
-made-check guest cut secrets limits judging = record {
+abbrev made_check : Guest → CutPicture → List (List ℕ) → Limits → Judging → CheckTask
+made_check guest cut secrets limits judging = record {
   guest = guest;
   cut = cut;
   secrets = secrets;
@@ -45,65 +45,65 @@ made-check guest cut secrets limits judging = record {
   judging = judging;
 }
 
-same-check : RegionLaws → (check : Check) (files : List (List ℕ)) (a b : CheckTask) → IsCheckTask check files a →
+same_check : RegionLaws → (check : Check) (files : List (List ℕ)) (a b : CheckTask) → IsCheckTask check files a →
     IsCheckTask check files b → a ≡ b
-same-check laws check files a b one other =
+same_check laws check files a b one other =
     let same = same_check_files check.guest files one.guest_files other.guest_files one.cut_file other.cut_file a.secrets
     b.secrets one.are other.are in
     let guest : a.guest ≡ b.guest = (guest_reading laws other.guest_files).one a.guest b.guest
     (subst (λ f. IsGuest f a.guest) same.guests one.guest) other.guest in
-    let cut : a.cut ≡ b.cut = one-cut other.cut_file a.cut b.cut (rw same.cuts at one.cut) other.cut in
-    ap (λ v. made-check v a.cut a.secrets a.limits a.judging) guest
-    ∙ (ap (λ v. made-check b.guest v a.secrets a.limits a.judging) cut
-    ∙ (ap (λ v. made-check b.guest b.cut v a.limits a.judging) same.secrets
-    ∙ (ap (λ v. made-check b.guest b.cut b.secrets v a.judging) (one.limits ∙ sym other.limits)
-    ∙ ap (λ v. made-check b.guest b.cut b.secrets b.limits v) (one.judging ∙ sym other.judging))))
+    let cut : a.cut ≡ b.cut = one_cut other.cut_file a.cut b.cut (rw same.cuts at one.cut) other.cut in
+    ap (λ v. made_check v a.cut a.secrets a.limits a.judging) guest
+    ∙ (ap (λ v. made_check b.guest v a.secrets a.limits a.judging) cut
+    ∙ (ap (λ v. made_check b.guest b.cut v a.limits a.judging) same.secrets
+    ∙ (ap (λ v. made_check b.guest b.cut b.secrets v a.judging) (one.limits ∙ sym other.limits)
+    ∙ ap (λ v. made_check b.guest b.cut b.secrets b.limits v) (one.judging ∙ sym other.judging))))
 
-no-first-fault : RegionLaws → (guest_files : GuestFiles) (cut_file : List ℕ) (guest : Guest) (cut : CutPicture)
+no_first_fault : RegionLaws → (guest_files : GuestFiles) (cut_file : List ℕ) (guest : Guest) (cut : CutPicture)
     (refusal : Refusal) → IsGuest guest_files guest → CutText cut_file cut →
     FirstRefusal guest_files cut_file refusal → ⊥
-no-first-fault laws guest_files cut_file guest cut refusal is_guest is_cut (inl first) =
+no_first_fault laws guest_files cut_file guest cut refusal is_guest is_cut (inl first) =
     (guest_reading laws guest_files).none guest refusal is_guest first
-no-first-fault laws guest_files cut_file guest cut refusal is_guest is_cut (inr (other, also, first)) =
+no_first_fault laws guest_files cut_file guest cut refusal is_guest is_cut (inr (other, also, first)) =
     (cut_reading cut_file).none cut refusal is_cut first
 
 -- where the files are a guest and a cut, nothing is wrong with them
-no-cut-fault : RegionLaws → (names : GuestNames) (files : List (List ℕ)) (guest_files : GuestFiles) (cut_file : List ℕ)
+no_cut_fault : RegionLaws → (names : GuestNames) (files : List (List ℕ)) (guest_files : GuestFiles) (cut_file : List ℕ)
     (secrets : List (List ℕ)) (guest : Guest) (cut : CutPicture) (refusal : Refusal) →
     AreGuestFiles names files guest_files (cut_file ∷ []) secrets → IsGuest guest_files guest → CutText cut_file cut →
     IsCutFilesRefusal names files refusal → ⊥
-no-cut-fault laws names files guest_files cut_file secrets guest cut refusal are is_guest is_cut refused =
+no_cut_fault laws names files guest_files cut_file secrets guest cut refusal are is_guest is_cut refused =
     let same = same_check_files names files refused.guest_files guest_files refused.cut_file cut_file refused.secrets secrets
     refused.are are in
     let first : FirstRefusal guest_files refused.cut_file refusal = subst (λ f. FirstRefusal f refused.cut_file
     refusal) same.guests refused.first in
-    no-first-fault laws guest_files cut_file guest cut refusal is_guest is_cut
+    no_first_fault laws guest_files cut_file guest cut refusal is_guest is_cut
     (subst (λ c. FirstRefusal guest_files c refusal) same.cuts first)
 
-one-first : RegionLaws → (guest_files : GuestFiles) (cut_file : List ℕ) (first second : Refusal) →
+one_first : RegionLaws → (guest_files : GuestFiles) (cut_file : List ℕ) (first second : Refusal) →
     FirstRefusal guest_files cut_file first → FirstRefusal guest_files cut_file second → first ≡ second
-one-first laws guest_files cut_file first second (inl is) (inl also) =
+one_first laws guest_files cut_file first second (inl is) (inl also) =
     (guest_reading laws guest_files).refused first second is also
-one-first laws guest_files cut_file first second (inl is) (inr (guest, alike, also)) =
+one_first laws guest_files cut_file first second (inl is) (inr (guest, alike, also)) =
     absurd ((guest_reading laws guest_files).none guest first alike is)
-one-first laws guest_files cut_file first second (inr (guest, alike, is)) (inl also) =
+one_first laws guest_files cut_file first second (inr (guest, alike, is)) (inl also) =
     absurd ((guest_reading laws guest_files).none guest second alike also)
-one-first laws guest_files cut_file first second (inr (guest, alike, is)) (inr (other, same, also)) =
+one_first laws guest_files cut_file first second (inr (guest, alike, is)) (inr (other, same, also)) =
     (cut_reading cut_file).refused first second is also
 
-one-cut-fault : RegionLaws → (names : GuestNames) (files : List (List ℕ)) (first second : Refusal) →
+one_cut_fault : RegionLaws → (names : GuestNames) (files : List (List ℕ)) (first second : Refusal) →
     IsCutFilesRefusal names files first → IsCutFilesRefusal names files second → first ≡ second
-one-cut-fault laws names files first second one other =
+one_cut_fault laws names files first second one other =
     let same = same_check_files names files one.guest_files other.guest_files one.cut_file other.cut_file one.secrets
     other.secrets one.are other.are in
     let here : FirstRefusal other.guest_files one.cut_file first = subst (λ f. FirstRefusal f one.cut_file first)
     same.guests one.first in
-    one-first laws other.guest_files other.cut_file first second
+    one_first laws other.guest_files other.cut_file first second
     (subst (λ c. FirstRefusal other.guest_files c first) same.cuts here) other.first
 
-one-run-fault : RegionLaws → (run : Run) (files : List (List ℕ)) (first second : Refusal) →
+one_run_fault : RegionLaws → (run : Run) (files : List (List ℕ)) (first second : Refusal) →
     IsRunFilesRefusal run files first → IsRunFilesRefusal run files second → first ≡ second
-one-run-fault laws run files first second one other =
+one_run_fault laws run files first second one other =
     let same = same_run_files run.guest files one.guest_files other.guest_files (one.secret ∷ []) (other.secret ∷ [])
     one.are other.are in
     (guest_reading laws other.guest_files).refused first second
@@ -111,8 +111,8 @@ one-run-fault laws run files first second one other =
 
 -- ---- a bound
 
-abbrev made-all : Guest → CutPicture → Limits → ℕ → ℕ → Bool → AllSecretsTask
-made-all guest cut limits table paths listed = record {
+abbrev made_all : Guest → CutPicture → Limits → ℕ → ℕ → Bool → AllSecretsTask
+made_all guest cut limits table paths listed = record {
   guest = guest;
   cut = cut;
   limits = limits;
@@ -121,44 +121,44 @@ made-all guest cut limits table paths listed = record {
   listed = listed;
 }
 
-same-all : RegionLaws → (all : AllSecrets) (files : List (List ℕ)) (a b : AllSecretsTask) → IsAllSecretsTask all files a →
+same_all : RegionLaws → (all : AllSecrets) (files : List (List ℕ)) (a b : AllSecretsTask) → IsAllSecretsTask all files a →
     IsAllSecretsTask all files b → a ≡ b
-same-all laws all files a b one other =
+same_all laws all files a b one other =
     let same = same_check_files all.guest files one.guest_files other.guest_files one.cut_file other.cut_file [] [] one.are
     other.are in
     let guest : a.guest ≡ b.guest = (guest_reading laws other.guest_files).one a.guest b.guest
     (subst (λ f. IsGuest f a.guest) same.guests one.guest) other.guest in
-    let cut : a.cut ≡ b.cut = one-cut other.cut_file a.cut b.cut (rw same.cuts at one.cut) other.cut in
-    ap (λ v. made-all v a.cut a.limits a.table a.paths a.listed) guest
-    ∙ (ap (λ v. made-all b.guest v a.limits a.table a.paths a.listed) cut
-    ∙ (ap (λ v. made-all b.guest b.cut v a.table a.paths a.listed) (one.limits ∙ sym other.limits)
-    ∙ (ap (λ v. made-all b.guest b.cut b.limits v a.paths a.listed) (one.table ∙ sym other.table)
-    ∙ (ap (λ v. made-all b.guest b.cut b.limits b.table v a.listed) (one.paths ∙ sym other.paths)
-    ∙ ap (λ v. made-all b.guest b.cut b.limits b.table b.paths v) (one.listed ∙ sym other.listed)))))
+    let cut : a.cut ≡ b.cut = one_cut other.cut_file a.cut b.cut (rw same.cuts at one.cut) other.cut in
+    ap (λ v. made_all v a.cut a.limits a.table a.paths a.listed) guest
+    ∙ (ap (λ v. made_all b.guest v a.limits a.table a.paths a.listed) cut
+    ∙ (ap (λ v. made_all b.guest b.cut v a.table a.paths a.listed) (one.limits ∙ sym other.limits)
+    ∙ (ap (λ v. made_all b.guest b.cut b.limits v a.paths a.listed) (one.table ∙ sym other.table)
+    ∙ (ap (λ v. made_all b.guest b.cut b.limits b.table v a.listed) (one.paths ∙ sym other.paths)
+    ∙ ap (λ v. made_all b.guest b.cut b.limits b.table b.paths v) (one.listed ∙ sym other.listed)))))
 
 -- ---- a run
 
-abbrev made-run : Guest → List ℕ → ℕ → ℕ → RunTask
-made-run guest secret turns table = record { guest = guest; secret = secret; turns = turns; table = table }
+abbrev made_run : Guest → List ℕ → ℕ → ℕ → RunTask
+made_run guest secret turns table = record { guest = guest; secret = secret; turns = turns; table = table }
 
-first-item : (a b : List ℕ) → a ∷ [] ≡ b ∷ [] → a ≡ b
-first-item a b e = cc
+first_item : (a b : List ℕ) → a ∷ [] ≡ b ∷ [] → a ≡ b
+first_item a b e = cc
 
-same-run : RegionLaws → (run : Run) (files : List (List ℕ)) (a b : RunTask) → IsRunTask run files a →
+same_run : RegionLaws → (run : Run) (files : List (List ℕ)) (a b : RunTask) → IsRunTask run files a →
     IsRunTask run files b → a ≡ b
-same-run laws run files a b one other =
+same_run laws run files a b one other =
     let same = same_run_files run.guest files one.guest_files other.guest_files (a.secret ∷ []) (b.secret ∷ []) one.are
     other.are in
     let guest : a.guest ≡ b.guest = (guest_reading laws other.guest_files).one a.guest b.guest
     (subst (λ f. IsGuest f a.guest) same.guests one.guest) other.guest in
-    ap (λ v. made-run v a.secret a.turns a.table) guest
-    ∙ (ap (λ v. made-run b.guest v a.turns a.table) (first-item a.secret b.secret same.secrets)
-    ∙ (ap (λ v. made-run b.guest b.secret v a.table) (one.turns ∙ sym other.turns)
-    ∙ ap (λ v. made-run b.guest b.secret b.turns v) (one.table ∙ sym other.table)))
+    ap (λ v. made_run v a.secret a.turns a.table) guest
+    ∙ (ap (λ v. made_run b.guest v a.turns a.table) (first_item a.secret b.secret same.secrets)
+    ∙ (ap (λ v. made_run b.guest b.secret v a.table) (one.turns ∙ sym other.turns)
+    ∙ ap (λ v. made_run b.guest b.secret b.turns v) (one.table ∙ sym other.table)))
 
-no-run-fault : RegionLaws → (run : Run) (files : List (List ℕ)) (task : RunTask) (refusal : Refusal) →
+no_run_fault : RegionLaws → (run : Run) (files : List (List ℕ)) (task : RunTask) (refusal : Refusal) →
     IsRunTask run files task → IsRunFilesRefusal run files refusal → ⊥
-no-run-fault laws run files task refusal is refused =
+no_run_fault laws run files task refusal is refused =
     let same = same_run_files run.guest files refused.guest_files is.guest_files (refused.secret ∷ [])
     (task.secret ∷ []) refused.are is.are in
     (guest_reading laws is.guest_files).none task.guest refusal is.guest
@@ -166,31 +166,31 @@ no-run-fault laws run files task refusal is refused =
 
 -- ---- several runs
 
-abbrev made-runs : Guest → List (List ℕ) → ℕ → ℕ → ManyRunsTask
-made-runs guest secrets turns table = record { guest = guest; secrets = secrets; turns = turns; table = table }
+abbrev made_runs : Guest → List (List ℕ) → ℕ → ℕ → ManyRunsTask
+made_runs guest secrets turns table = record { guest = guest; secrets = secrets; turns = turns; table = table }
 
-same-runs : RegionLaws → (runs : ManyRuns) (files : List (List ℕ)) (a b : ManyRunsTask) → IsManyRunsTask runs files a →
+same_runs : RegionLaws → (runs : ManyRuns) (files : List (List ℕ)) (a b : ManyRunsTask) → IsManyRunsTask runs files a →
     IsManyRunsTask runs files b → a ≡ b
-same-runs laws runs files a b one other =
+same_runs laws runs files a b one other =
     let same = same_run_files runs.guest files one.guest_files other.guest_files a.secrets b.secrets one.are other.are in
     let guest : a.guest ≡ b.guest = (guest_reading laws other.guest_files).one a.guest b.guest
     (subst (λ f. IsGuest f a.guest) same.guests one.guest) other.guest in
-    ap (λ v. made-runs v a.secrets a.turns a.table) guest
-    ∙ (ap (λ v. made-runs b.guest v a.turns a.table) same.secrets
-    ∙ (ap (λ v. made-runs b.guest b.secrets v a.table) (one.turns ∙ sym other.turns)
-    ∙ ap (λ v. made-runs b.guest b.secrets b.turns v) (one.table ∙ sym other.table)))
+    ap (λ v. made_runs v a.secrets a.turns a.table) guest
+    ∙ (ap (λ v. made_runs b.guest v a.turns a.table) same.secrets
+    ∙ (ap (λ v. made_runs b.guest b.secrets v a.table) (one.turns ∙ sym other.turns)
+    ∙ ap (λ v. made_runs b.guest b.secrets b.turns v) (one.table ∙ sym other.table)))
 
-no-runs-fault : RegionLaws → (runs : ManyRuns) (files : List (List ℕ)) (task : ManyRunsTask) (refusal : Refusal) →
+no_runs_fault : RegionLaws → (runs : ManyRuns) (files : List (List ℕ)) (task : ManyRunsTask) (refusal : Refusal) →
     IsManyRunsTask runs files task → IsManyRunsRefusal runs files refusal → ⊥
-no-runs-fault laws runs files task refusal is refused =
+no_runs_fault laws runs files task refusal is refused =
     let same = same_run_files runs.guest files refused.guest_files is.guest_files refused.secrets task.secrets refused.are
     is.are in
     (guest_reading laws is.guest_files).none task.guest refusal is.guest
     (subst (λ f. IsGuestRefusal f refusal) same.guests refused.first)
 
-one-runs-fault : RegionLaws → (runs : ManyRuns) (files : List (List ℕ)) (first second : Refusal) →
+one_runs_fault : RegionLaws → (runs : ManyRuns) (files : List (List ℕ)) (first second : Refusal) →
     IsManyRunsRefusal runs files first → IsManyRunsRefusal runs files second → first ≡ second
-one-runs-fault laws runs files first second one other =
+one_runs_fault laws runs files first second one other =
     let same = same_run_files runs.guest files one.guest_files other.guest_files one.secrets other.secrets one.are
     other.are in
     (guest_reading laws other.guest_files).refused first second
@@ -198,102 +198,102 @@ one-runs-fault laws runs files first second one other =
 
 -- ---- a certificate
 
-no-form-fault : (file : List ℕ) (graph : Graph) (solved : Solved) (fault : FormFault) →
+no_form_fault : (file : List ℕ) (graph : Graph) (solved : Solved) (fault : FormFault) →
     IsCertificate file graph solved → IsFormFault file fault → (fault ≡ NoRoomForCertificate → ⊥) → ⊥
-no-form-fault file graph solved (Line line) is first room = first.no_text (certificate_picture graph solved) is.text
-no-form-fault file graph solved NoRoomForCertificate is first room = room refl
+no_form_fault file graph solved (Line line) is first room = first.no_text (certificate_picture graph solved) is.text
+no_form_fault file graph solved NoRoomForCertificate is first room = room refl
 
 -- ---- every command
 
-one-file : (files : List (List ℕ)) (a b : List ℕ) → files ≡ a ∷ [] → files ≡ b ∷ [] → a ≡ b
-one-file files a b one other = first-item a b (sym one ∙ other)
+one_file : (files : List (List ℕ)) (a b : List ℕ) → files ≡ a ∷ [] → files ≡ b ∷ [] → a ≡ b
+one_file files a b one other = first_item a b (sym one ∙ other)
 
-same-ok : (a b : Picture) (result : Result Picture AsmFault) → result ≡ Ok a → result ≡ Ok b → a ≡ b
-same-ok a b result e f = cc
+same_ok : (a b : Picture) (result : Result Picture AsmFault) → result ≡ Ok a → result ≡ Ok b → a ≡ b
+same_ok a b result e f = cc
 
-ok-err : (a : Picture) (fault : AsmFault) (result : Result Picture AsmFault) → result ≡ Ok a → result ≡ Err fault → ⊥
-ok-err a fault result e f = cc
+ok_err : (a : Picture) (fault : AsmFault) (result : Result Picture AsmFault) → result ≡ Ok a → result ≡ Err fault → ⊥
+ok_err a fault result e f = cc
 
-same-task : RegionLaws → (command : Command) (files : List (List ℕ)) (a b : Task) → IsTaskOf command files a →
+same_task : RegionLaws → (command : Command) (files : List (List ℕ)) (a b : Task) → IsTaskOf command files a →
     IsTaskOf command files b → a ≡ b
-same-task laws (Checks check) files a b (x, one, e) (y, other, f) =
-    e ∙ (ap (λ v. JudgeSecrets v) (same-check laws check files x y one other) ∙ sym f)
-same-task laws (Bounds all) files a b (x, one, e) (y, other, f) =
-    e ∙ (ap (λ v. BoundAll v) (same-all laws all files x y one other) ∙ sym f)
-same-task laws (Tells telling run) files a b (x, one, e) (y, other, f) =
-    e ∙ (ap (λ v. TellRun telling v) (same-run laws run files x y one other) ∙ sym f)
-same-task laws (MeasuresAll version runs) files a b (x, one, e) (y, other, f) =
-    e ∙ (ap (λ v. MeasureAll version v) (same-runs laws runs files x y one other) ∙ sym f)
-same-task laws (Assembles source) files a b (file, x, are, one, e) (also, y, alike, other, f) =
-    let here : assembled also ≡ Ok x = ap assembled (one-file files also file alike are) ∙ one in
-    e ∙ (ap (λ v. WriteProgram v) (same-ok x y (assembled also) here other) ∙ sym f)
-same-task laws (Lists program) files a b (file, x, are, one, e) (also, y, alike, other, f) =
-    let here : IsImage also x = subst (λ v. IsImage v x) (one-file files file also are alike) one in
-    e ∙ (ap (λ v. ListProgram v) (same-image also x y here other) ∙ sym f)
-same-task laws (Verifies certificate) files a b (file, graph, solved, are, one, e) (also, network, flows, alike, other, f) =
+same_task laws (Checks check) files a b (x, one, e) (y, other, f) =
+    e ∙ (ap (λ v. JudgeSecrets v) (same_check laws check files x y one other) ∙ sym f)
+same_task laws (Bounds all) files a b (x, one, e) (y, other, f) =
+    e ∙ (ap (λ v. BoundAll v) (same_all laws all files x y one other) ∙ sym f)
+same_task laws (Tells telling run) files a b (x, one, e) (y, other, f) =
+    e ∙ (ap (λ v. TellRun telling v) (same_run laws run files x y one other) ∙ sym f)
+same_task laws (MeasuresAll version runs) files a b (x, one, e) (y, other, f) =
+    e ∙ (ap (λ v. MeasureAll version v) (same_runs laws runs files x y one other) ∙ sym f)
+same_task laws (Assembles source) files a b (file, x, are, one, e) (also, y, alike, other, f) =
+    let here : assembled also ≡ Ok x = ap assembled (one_file files also file alike are) ∙ one in
+    e ∙ (ap (λ v. WriteProgram v) (same_ok x y (assembled also) here other) ∙ sym f)
+same_task laws (Lists program) files a b (file, x, are, one, e) (also, y, alike, other, f) =
+    let here : IsImage also x = subst (λ v. IsImage v x) (one_file files file also are alike) one in
+    e ∙ (ap (λ v. ListProgram v) (same_image also x y here other) ∙ sym f)
+same_task laws (Verifies certificate) files a b (file, graph, solved, are, one, e) (also, network, flows, alike, other, f) =
     let here : IsCertificate also graph solved = subst (λ v. IsCertificate v graph solved)
-    (one-file files file also are alike) one in
+    (one_file files file also are alike) one in
     let same = one_certificate also graph network solved flows here other in
     e ∙ (ap (λ v. VerifyCertificate v solved) same.graphs ∙ (ap (λ v. VerifyCertificate network v) same.solutions ∙ sym f))
-same-task laws (Migrates cut) files a b (file, x, are, one, e) (also, y, alike, other, f) =
-    let here : CutText also x = subst (λ v. CutText v x) (one-file files file also are alike) one in
-    e ∙ (ap (λ v. MigrateCut v) (one-cut also x y here other) ∙ sym f)
-same-task laws (Tries number) files a b e f = e ∙ sym f
+same_task laws (Migrates cut) files a b (file, x, are, one, e) (also, y, alike, other, f) =
+    let here : CutText also x = subst (λ v. CutText v x) (one_file files file also are alike) one in
+    e ∙ (ap (λ v. MigrateCut v) (one_cut also x y here other) ∙ sym f)
+same_task laws (Tries number) files a b e f = e ∙ sym f
 
-no-task-fault : RegionLaws → (command : Command) (files : List (List ℕ)) (task : Task) (refusal : Refusal) →
+no_task_fault : RegionLaws → (command : Command) (files : List (List ℕ)) (task : Task) (refusal : Refusal) →
     IsTaskOf command files task → IsFormRefusal command files refusal → ⊥
-no-task-fault laws (Checks check) files task refusal (x, is, e) refused =
-    no-cut-fault laws check.guest files is.guest_files is.cut_file x.secrets x.guest x.cut refusal is.are is.guest is.cut
+no_task_fault laws (Checks check) files task refusal (x, is, e) refused =
+    no_cut_fault laws check.guest files is.guest_files is.cut_file x.secrets x.guest x.cut refusal is.are is.guest is.cut
     refused
-no-task-fault laws (Bounds all) files task refusal (x, is, e) refused =
-    no-cut-fault laws all.guest files is.guest_files is.cut_file [] x.guest x.cut refusal is.are is.guest is.cut refused
-no-task-fault laws (Tells telling run) files task refusal (x, is, e) refused =
-    no-run-fault laws run files x refusal is refused
-no-task-fault laws (MeasuresAll version runs) files task refusal (x, is, e) refused =
-    no-runs-fault laws runs files x refusal is refused
-no-task-fault laws (Assembles source) files task refusal (file, x, are, is, e) (also, alike, (fault, first, f)) =
-    ok-err x fault (assembled also) (ap assembled (one-file files also file alike are) ∙ is) first
-no-task-fault laws (Lists program) files task refusal (file, x, are, is, e) (also, alike, first) =
+no_task_fault laws (Bounds all) files task refusal (x, is, e) refused =
+    no_cut_fault laws all.guest files is.guest_files is.cut_file [] x.guest x.cut refusal is.are is.guest is.cut refused
+no_task_fault laws (Tells telling run) files task refusal (x, is, e) refused =
+    no_run_fault laws run files x refusal is refused
+no_task_fault laws (MeasuresAll version runs) files task refusal (x, is, e) refused =
+    no_runs_fault laws runs files x refusal is refused
+no_task_fault laws (Assembles source) files task refusal (file, x, are, is, e) (also, alike, (fault, first, f)) =
+    ok_err x fault (assembled also) (ap assembled (one_file files also file alike are) ∙ is) first
+no_task_fault laws (Lists program) files task refusal (file, x, are, is, e) (also, alike, first) =
     (program_reading file).none x refusal is
-    (subst (λ v. IsProgramRefusal v refusal) (one-file files also file alike are) first)
-no-task-fault laws (Verifies certificate) files task refusal (file, graph, solved, are, is, e) (also, alike, (fault, first, f)) =
-    no-form-fault also graph solved fault
-    (subst (λ v. IsCertificate v graph solved) (one-file files file also are alike) is) first.0 first.1
-no-task-fault laws (Migrates cut) files task refusal (file, x, are, is, e) (also, alike, first) =
+    (subst (λ v. IsProgramRefusal v refusal) (one_file files also file alike are) first)
+no_task_fault laws (Verifies certificate) files task refusal (file, graph, solved, are, is, e) (also, alike, (fault, first, f)) =
+    no_form_fault also graph solved fault
+    (subst (λ v. IsCertificate v graph solved) (one_file files file also are alike) is) first.0 first.1
+no_task_fault laws (Migrates cut) files task refusal (file, x, are, is, e) (also, alike, first) =
     (cut_reading file).none x refusal is
-    (subst (λ v. IsCutRefusal v refusal) (one-file files also file alike are) first)
-no-task-fault laws (Tries number) files task refusal e refused = refused
+    (subst (λ v. IsCutRefusal v refusal) (one_file files also file alike are) first)
+no_task_fault laws (Tries number) files task refusal e refused = refused
 
-err-err : (a b : AsmFault) (result : Result Picture AsmFault) → result ≡ Err a → result ≡ Err b → a ≡ b
-err-err a b result e f = cc
+err_err : (a b : AsmFault) (result : Result Picture AsmFault) → result ≡ Err a → result ≡ Err b → a ≡ b
+err_err a b result e f = cc
 
-one-form-fault : RegionLaws → (command : Command) (files : List (List ℕ)) (first second : Refusal) →
+one_task_form_fault : RegionLaws → (command : Command) (files : List (List ℕ)) (first second : Refusal) →
     IsFormRefusal command files first → IsFormRefusal command files second → first ≡ second
-one-form-fault laws (Checks check) files first second one other =
-    one-cut-fault laws check.guest files first second one other
-one-form-fault laws (Bounds all) files first second one other =
-    one-cut-fault laws all.guest files first second one other
-one-form-fault laws (Tells telling run) files first second one other = one-run-fault laws run files first second one other
-one-form-fault laws (MeasuresAll version runs) files first second one other =
-    one-runs-fault laws runs files first second one other
-one-form-fault laws (Assembles source) files first second (file, are, (fault, is, e)) (also, alike, (other, was, f)) =
-    let here : assembled also ≡ Err fault = ap assembled (one-file files also file alike are) ∙ is in
-    e ∙ (ap (λ x. Source x) (err-err fault other (assembled also) here was) ∙ sym f)
-one-form-fault laws (Lists program) files first second (file, are, is) (also, alike, was) =
+one_task_form_fault laws (Checks check) files first second one other =
+    one_cut_fault laws check.guest files first second one other
+one_task_form_fault laws (Bounds all) files first second one other =
+    one_cut_fault laws all.guest files first second one other
+one_task_form_fault laws (Tells telling run) files first second one other = one_run_fault laws run files first second one other
+one_task_form_fault laws (MeasuresAll version runs) files first second one other =
+    one_runs_fault laws runs files first second one other
+one_task_form_fault laws (Assembles source) files first second (file, are, (fault, is, e)) (also, alike, (other, was, f)) =
+    let here : assembled also ≡ Err fault = ap assembled (one_file files also file alike are) ∙ is in
+    e ∙ (ap (λ x. Source x) (err_err fault other (assembled also) here was) ∙ sym f)
+one_task_form_fault laws (Lists program) files first second (file, are, is) (also, alike, was) =
     (program_reading also).refused first second
-    (subst (λ v. IsProgramRefusal v first) (one-file files file also are alike) is) was
-one-form-fault laws (Verifies certificate) files first second (file, are, (fault, is, e)) (also, alike, (other, was, f)) =
-    let here : IsFormFault also fault = subst (λ v. IsFormFault v fault) (one-file files file also are alike) is.0 in
-    e ∙ (ap (λ x. Certificate x) (one-form_fault also fault other here was.0 is.1 was.1) ∙ sym f)
-one-form-fault laws (Migrates cut) files first second (file, are, is) (also, alike, was) =
+    (subst (λ v. IsProgramRefusal v first) (one_file files file also are alike) is) was
+one_task_form_fault laws (Verifies certificate) files first second (file, are, (fault, is, e)) (also, alike, (other, was, f)) =
+    let here : IsFormFault also fault = subst (λ v. IsFormFault v fault) (one_file files file also are alike) is.0 in
+    e ∙ (ap (λ x. Certificate x) (one_form_fault also fault other here was.0 is.1 was.1) ∙ sym f)
+one_task_form_fault laws (Migrates cut) files first second (file, are, is) (also, alike, was) =
     (cut_reading also).refused first second
-    (subst (λ v. IsCutRefusal v first) (one-file files file also are alike) is) was
-one-form-fault laws (Tries number) files first second one other = absurd one
+    (subst (λ v. IsCutRefusal v first) (one_file files file also are alike) is) was
+one_task_form_fault laws (Tries number) files first second one other = absurd one
 
 pub task_reading : RegionLaws → (command : Command) (files : List (List ℕ)) →
     IsReading Task (IsTaskOf command files) (IsFormRefusal command files)
 task_reading laws command files = record {
-  one = same-task laws command files;
-  none = no-task-fault laws command files;
-  refused = one-form-fault laws command files;
+  one = same_task laws command files;
+  none = no_task_fault laws command files;
+  refused = one_task_form_fault laws command files;
 }

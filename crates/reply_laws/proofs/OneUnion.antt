@@ -15,9 +15,9 @@ use Rattle.reply_laws.specs.ReplyLaws.{CompletesRuns}
 use Rattle.reply_laws.proofs.CutTexts.{one_cut_text}
 use Rattle.transfer_rules.specs.Tables.{IsDeciding}
 
-no-cause : (runs : ManyRunsTask) (many : Many) (refusal : Refusal) → IsDeciding runs.table → AreMeasured runs many →
+no_cause : (runs : ManyRunsTask) (many : Many) (refusal : Refusal) → IsDeciding runs.table → AreMeasured runs many →
     IsRunsRefusal runs refusal → ⊥
-no-cause runs many refusal deciding are (fault, (cause, room), e) =
+no_cause runs many refusal deciding are (fault, (cause, room), e) =
     room (measured_together (setup_in runs) runs.secrets many fault deciding are.measures cause)
 
 pub many_same : (version : ℕ) (runs : ManyRunsTask) (first second : Answer) → IsDeciding runs.table →
@@ -26,9 +26,9 @@ many_same version runs first second deciding (inl (refusal, (fault, (cause, room
     let same = one_many_cause (setup_in runs) runs.secrets fault also deciding cause was room rooms in
     f ∙ (ap (λ r. Err r) (e ∙ (ap (λ x. RunsRefused x) same ∙ sym g)) ∙ sym h)
 many_same version runs first second deciding (inl (refusal, is, e)) (inr (many, also, answers)) =
-    absurd (no-cause runs many refusal deciding also is)
+    absurd (no_cause runs many refusal deciding also is)
 many_same version runs first second deciding (inr (many, is, answers)) (inl (refusal, also, e)) =
-    absurd (no-cause runs many refusal deciding is also)
+    absurd (no_cause runs many refusal deciding is also)
 many_same version runs first second deciding (inr (many, is, (text, told, e))) (inr (other, also, (words, more, f))) =
     let cuts : cut_picture many.cut ≡ cut_picture other.cut = one_many (setup_in runs) runs.secrets many other deciding
     is.measures also.measures in

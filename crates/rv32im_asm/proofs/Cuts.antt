@@ -9,12 +9,12 @@ use Rattle.rv32im_asm.specs.Lines.{cut_at, lines_of}
 abbrev pub place_in : ℕ → List ℕ → Option ℕ
 place_in value text = position (λ byte. byte == value) text
 
-pub place_in-yes : (value byte : ℕ) (rest : List ℕ) → (byte == value) ≡ true → place_in value (byte ∷ rest) ≡ Some 0
-place_in-yes value byte rest same = grind (arith, common_steps)
+pub place_in_yes : (value byte : ℕ) (rest : List ℕ) → (byte == value) ≡ true → place_in value (byte ∷ rest) ≡ Some 0
+place_in_yes value byte rest same = grind (arith, common_steps)
 
-pub place_in-no : (value byte : ℕ) (rest : List ℕ) → (byte == value) ≡ false
+pub place_in_no : (value byte : ℕ) (rest : List ℕ) → (byte == value) ≡ false
     → place_in value (byte ∷ rest) ≡ option_map (λ place. place + 1) (place_in value rest)
-place_in-no value byte rest other = grind (arith, common_steps)
+place_in_no value byte rest other = grind (arith, common_steps)
 
 -- the parts at a place
 abbrev pub parts_at : List ℕ → ℕ → List ℕ × List ℕ
@@ -29,17 +29,17 @@ place_more value byte rest (Some place) other known = grind (arith, common_steps
 place_step : (b : Bool) (value byte : ℕ) (rest : List ℕ) → (byte == value) ≡ b
     → cut_at value rest ≡ option_map (parts_at rest) (place_in value rest)
     → cut_at value (byte ∷ rest) ≡ option_map (parts_at (byte ∷ rest)) (place_in value (byte ∷ rest))
-place_step true value byte rest same known = rw (place_in-yes value byte rest same) (grind (arith, common_steps))
+place_step true value byte rest same known = rw (place_in_yes value byte rest same) (grind (arith, common_steps))
 place_step false value byte rest other known =
-    rw (place_in-no value byte rest other) (place_more value byte rest (place_in value rest) other known)
+    rw (place_in_no value byte rest other) (place_more value byte rest (place_in value rest) other known)
 
-pub cut_at-place : (value : ℕ) (text : List ℕ)
+pub cut_at_place : (value : ℕ) (text : List ℕ)
     → cut_at value text ≡ option_map (λ place. (take place text, drop (place + 1) text)) (position
     (λ byte. byte == value) text)
-cut_at-place value [] = refl
-cut_at-place value (byte ∷ rest) = place_step (byte == value) value byte rest refl (cut_at-place value rest)
+cut_at_place value [] = refl
+cut_at_place value (byte ∷ rest) = place_step (byte == value) value byte rest refl (cut_at_place value rest)
 
-pub ruleset cuts = (cut_at-place)
+pub ruleset cuts = (cut_at_place)
 
 -- ---- lines
 
@@ -68,21 +68,21 @@ last_line : (b : Bool) (byte : ℕ)
 last_line true byte = refl
 last_line false byte = refl
 
-pub lines_of-cut : (byte : ℕ) (rest : List ℕ) → lines_of (byte ∷ rest)
+pub lines_of_cut : (byte : ℕ) (rest : List ℕ) → lines_of (byte ∷ rest)
     ≡ lines_in (byte ∷ rest) (cut_at 10 (byte ∷ rest))
-lines_of-cut byte [] = last_line (byte == 10) byte
-lines_of-cut byte (next ∷ rest) = line_step (byte == 10) byte next rest (lines_of-cut next rest)
+lines_of_cut byte [] = last_line (byte == 10) byte
+lines_of_cut byte (next ∷ rest) = line_step (byte == 10) byte next rest (lines_of_cut next rest)
 
-pub lines_of-some : (text front back : List ℕ) → cut_at 10 text ≡ Some (front, back) → lines_of text
+pub lines_of_some : (text front back : List ℕ) → cut_at 10 text ≡ Some (front, back) → lines_of text
     ≡ front ∷ lines_of back
-lines_of-some [] front back h = absurd (grind arith)
-lines_of-some (byte ∷ rest) front back h = lines_of-cut byte rest ∙ ap (lines_in (byte ∷ rest)) h
+lines_of_some [] front back h = absurd (grind arith)
+lines_of_some (byte ∷ rest) front back h = lines_of_cut byte rest ∙ ap (lines_in (byte ∷ rest)) h
 
-pub lines_of-none : (text : List ℕ) → cut_at 10 text ≡ None → 0 < length text → lines_of text ≡ text ∷ []
-lines_of-none [] h some = absurd (omega arith)
-lines_of-none (byte ∷ rest) h some = lines_of-cut byte rest ∙ ap (lines_in (byte ∷ rest)) h
+pub lines_of_none : (text : List ℕ) → cut_at 10 text ≡ None → 0 < length text → lines_of text ≡ text ∷ []
+lines_of_none [] h some = absurd (omega arith)
+lines_of_none (byte ∷ rest) h some = lines_of_cut byte rest ∙ ap (lines_in (byte ∷ rest)) h
 
-pub ruleset first_lines = (lines_of-some, lines_of-none)
+pub ruleset first_lines = (lines_of_some, lines_of_none)
 
 -- ---- operands
 
@@ -105,6 +105,6 @@ comma_step : (b : Bool) (byte : ℕ) (rest : List ℕ) → slice_split (λ byte.
 comma_step true byte rest known = refl
 comma_step false byte rest known = ap (onto_first byte) known ∙ onto_part byte rest (cut_at 44 rest)
 
-pub commas-cut : (text : List ℕ) → slice_split (λ byte. byte == 44) text ≡ commas_in text (cut_at 44 text)
-commas-cut [] = refl
-commas-cut (byte ∷ rest) = comma_step (byte == 44) byte rest (commas-cut rest)
+pub commas_cut : (text : List ℕ) → slice_split (λ byte. byte == 44) text ≡ commas_in text (cut_at 44 text)
+commas_cut [] = refl
+commas_cut (byte ∷ rest) = comma_step (byte == 44) byte rest (commas_cut rest)

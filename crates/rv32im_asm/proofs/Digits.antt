@@ -27,21 +27,21 @@ bounded_step true base byte rest m n known = known
 bounded_step false base byte rest m n known = refl
 
 -- numbers that are the same up to the bound stay so as digits follow
-pub digits-bounded : (base : ℕ) → 1 ≤ base → (rest : List ℕ) (m n : ℕ) → min bound m ≡ min bound n
+pub digits_bounded : (base : ℕ) → 1 ≤ base → (rest : List ℕ) (m n : ℕ) → min bound m ≡ min bound n
     → option_map (min bound) (digits_after base m rest) ≡ option_map (min bound) (digits_after base n rest)
-digits-bounded base some [] m n same = ap Some same
-digits-bounded base some (byte ∷ rest) m n same =
+digits_bounded base some [] m n same = ap Some same
+digits_bounded base some (byte ∷ rest) m n same =
     bounded_step (nat_lt (digit_of byte) base) base byte rest m n
-    (digits-bounded base some rest (m * base + digit_of byte) (n * base + digit_of byte)
+    (digits_bounded base some rest (m * base + digit_of byte) (n * base + digit_of byte)
     (grown_same base (digit_of byte) m n some same))
 
 -- a magnitude up to the bound is at most what is below the bound where the magnitude is
-at_most-min : (limit m : ℕ) (sign : ℕ → ℤ) → limit < bound → at_most limit sign (min bound m) ≡ at_most limit sign m
-at_most-min limit m sign low = grind (arith, common_steps)
+at_most_min : (limit m : ℕ) (sign : ℕ → ℤ) → limit < bound → at_most limit sign (min bound m) ≡ at_most limit sign m
+at_most_min limit m sign low = grind (arith, common_steps)
 
-pub and_then-min : (limit : ℕ) (sign : ℕ → ℤ) (found : Option ℕ) → limit < bound
+pub and_then_min : (limit : ℕ) (sign : ℕ → ℤ) (found : Option ℕ) → limit < bound
     → option_and_then (at_most limit sign) (option_map (min bound) found) ≡ option_and_then (at_most limit sign) found
-and_then-min limit sign None low = refl
-and_then-min limit sign (Some m) low = at_most-min limit m sign low
+and_then_min limit sign None low = refl
+and_then_min limit sign (Some m) low = at_most_min limit m sign low
 
-pub ruleset bounded = (and_then-min)
+pub ruleset bounded = (and_then_min)

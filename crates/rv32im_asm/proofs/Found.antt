@@ -6,29 +6,29 @@ use Rattle.std.specs.Map.{lookup}
 use Rattle.std.specs.Str.{bytes_eq}
 use Rattle.rv32im_asm.specs.declared.statements.Mnemonic.{Mnemonic}
 
-found-step : (passes : Bool) (row : Bor (List ℕ) × Mnemonic) (found : Option (Bor (List ℕ) × Mnemonic))
+found_step : (passes : Bool) (row : Bor (List ℕ) × Mnemonic) (found : Option (Bor (List ℕ) × Mnemonic))
     (rest : Option Mnemonic) → option_map (λ other. other.1) found ≡ rest
     → option_map (λ other. other.1) (cond passes (Some row) found) ≡ cond passes (Some row.1) rest
-found-step true row found rest same = refl
-found-step false row found rest same = same
+found_step true row found rest same = refl
+found_step false row found rest same = same
 
 -- what the first row of a word stands for is what is looked up
-found-lookup : (rows : List (Bor (List ℕ) × Mnemonic)) (word : List ℕ)
+found_lookup : (rows : List (Bor (List ℕ) × Mnemonic)) (word : List ℕ)
     → option_map (λ row. row.1) (find (λ row. bytes_eq row.0.now word) rows)
     ≡ lookup (λ name. bytes_eq name word) (map (λ row. (row.0.now, row.1)) rows)
-found-lookup [] word = refl
-found-lookup (row ∷ rows) word =
-    found-step (bytes_eq row.0.now word) row (find (λ other. bytes_eq other.0.now word) rows) _ (found-lookup rows word)
+found_lookup [] word = refl
+found_lookup (row ∷ rows) word =
+    found_step (bytes_eq row.0.now word) row (find (λ other. bytes_eq other.0.now word) rows) _ (found_lookup rows word)
 
-read-first : (first : Option (Bor (Bor (List ℕ) × Mnemonic)))
+read_first : (first : Option (Bor (Bor (List ℕ) × Mnemonic)))
     → option_map (λ row. row.now.1) first ≡ option_map (λ row. row.1) (option_map (λ row. row.now) first)
-read-first None = refl
-read-first (Some row) = refl
+read_first None = refl
+read_first (Some row) = refl
 
-pub first-lookup : (rows : List (Bor (List ℕ) × Mnemonic)) (word : List ℕ)
+pub first_lookup : (rows : List (Bor (List ℕ) × Mnemonic)) (word : List ℕ)
     (first : Option (Bor (Bor (List ℕ) × Mnemonic)))
     → option_map (λ row. row.now) first ≡ find (λ row. bytes_eq row.0.now word) rows
     → option_map (λ row. row.now.1) first
     ≡ lookup (λ name. bytes_eq name word) (map (λ row. (row.0.now, row.1)) rows)
-first-lookup rows word first same =
-    read-first first ∙ (ap (option_map (λ row. row.1)) same ∙ found-lookup rows word)
+first_lookup rows word first same =
+    read_first first ∙ (ap (option_map (λ row. row.1)) same ∙ found_lookup rows word)

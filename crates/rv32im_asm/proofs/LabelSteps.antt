@@ -46,11 +46,11 @@ both_zero : (a : Option ℕ) → both (λ m n. m + n) a (Some 0) ≡ both (λ m 
 both_zero None = refl
 both_zero (Some m) = ap Some (omega arith)
 
-pub total_size-push : (lines : List (List ℕ)) (line : List ℕ)
+pub total_size_push : (lines : List (List ℕ)) (line : List ℕ)
     → total_size (lines ++ line ∷ []) ≡ both (λ before size. before + size) (total_size lines) (line_size line)
-total_size-push [] line = both_zero (line_size line)
-total_size-push (first ∷ lines) line =
-    ap (both (λ m n. m + n) (line_size first)) (total_size-push lines line)
+total_size_push [] line = both_zero (line_size line)
+total_size_push (first ∷ lines) line =
+    ap (both (λ m n. m + n) (line_size first)) (total_size_push lines line)
     ∙ both_assoc (line_size first) (total_size lines) (line_size line)
 
 -- ---- places
@@ -113,10 +113,10 @@ place_push lines line name (Some place) h =
     ap (λ front. Some (record { index = place; offset = total_size front })) (take-append-le place lines (line ∷ [])
     (omega arith))
 
-pub place_of-push : (lines : List (List ℕ)) (line name : List ℕ)
+pub place_of_push : (lines : List (List ℕ)) (line name : List ℕ)
     → place_of (lines ++ line ∷ []) name
     ≡ noted name (line_label line) (record { index = length lines; offset = total_size lines }) (place_of lines name)
-place_of-push lines line name =
+place_of_push lines line name =
     ap (option_map (place_at (lines ++ line ∷ []))) (position_push (λ other. is_label name
     (line_label other)) 0 lines line)
     ∙ place_push lines line name (position_from (λ other. is_label name (line_label other)) 0 lines) refl
@@ -146,7 +146,7 @@ places_next front line name index offset label old new count sum own known note 
     ∙ (ap (λ o. noted name (line_label line) (record { index = index; offset = o }) (place_of front name)) sum
     ∙ (ap (λ i. noted name (line_label line) (record { index = i; offset = total_size front }) (place_of front name))
     (sym count)
-    ∙ sym (place_of-push front line name)))))
+    ∙ sym (place_of_push front line name)))))
 
 pub nearby : (offset : Option ℕ) (index : ℕ) → IfSome offset (λ n. n ≤ index * 1048576) → index < 2 ^ 32
     → IsNearBy offset

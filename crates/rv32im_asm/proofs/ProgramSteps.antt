@@ -24,10 +24,10 @@ fault_step all more index here line program places fault known read whole =
     sym (sym whole ∙ ap (λ first. followed (Ok program) (followed first (readings places all (index + 1) more)))
     (read_alike all index here line places known ∙ sym read))
 
-joined-twice : (program bytes : List ℕ) (rest : Result (List ℕ) AsmFault)
+joined_twice : (program bytes : List ℕ) (rest : Result (List ℕ) AsmFault)
     → followed (Ok (program ++ bytes)) rest ≡ followed (Ok program) (followed (Ok bytes) rest)
-joined-twice program bytes (Err fault) = refl
-joined-twice program bytes (Ok more) = ap Ok (append_assoc program bytes more)
+joined_twice program bytes (Err fault) = refl
+joined_twice program bytes (Ok more) = ap Ok (append_assoc program bytes more)
 
 pub bytes_step : (all more : List (List ℕ)) (index here : ℕ) (line program bytes : List ℕ) (places : List ℕ
     → Option Place)
@@ -36,7 +36,7 @@ pub bytes_step : (all more : List (List ℕ)) (index here : ℕ) (line program b
     → followed (Ok program) (readings places all index (line ∷ more)) ≡ readings places all 0 all
     → followed (Ok (program ++ bytes)) (readings places all (index + 1) more) ≡ readings places all 0 all
 bytes_step all more index here line program bytes places known read whole =
-    joined-twice program bytes (readings places all (index + 1) more)
+    joined_twice program bytes (readings places all (index + 1) more)
     ∙ (ap (λ first. followed (Ok program) (followed first (readings places all (index + 1) more)))
     (read ∙ sym (read_alike all index here line places known)) ∙ whole)
 

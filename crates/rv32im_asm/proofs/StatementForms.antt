@@ -10,39 +10,39 @@ use Rattle.rv32im_asm.specs.declared.statements.Mnemonic.TheVariants as the
 use Rattle.rv32im_asm.specs.declared.statements.Operands.{Operands}
 use Rattle.rv32im_asm.specs.declared.statements.Wanted.TheVariants.{Number, Target, Label}
 
-mapped-once : {A : Type 0} (first : A → Found) (second : Found → Meaning) (parts : Option A) →
+mapped_once : {A : Type 0} (first : A → Found) (second : Found → Meaning) (parts : Option A) →
     option_map (λ found. second (first found)) parts ≡ option_map second (option_map first parts)
-mapped-once first second None = refl
-mapped-once first second (Some found) = refl
+mapped_once first second None = refl
+mapped_once first second (Some found) = refl
 
-chosen-once : (second : Found → Meaning) (found : Found) (test : Bool) →
+chosen_once : (second : Found → Meaning) (found : Found) (test : Bool) →
     (if test then Some (second found) else None) ≡ option_map second (if test then Some found else None)
-chosen-once second found true = refl
-chosen-once second found false = refl
+chosen_once second found true = refl
+chosen_once second found false = refl
 
 pub statement_found : (mnemonic : Mnemonic) (operands : List (List ℕ)) →
     statement_of mnemonic operands ≡ option_map (said mnemonic) (found_in (form_of mnemonic) operands)
-statement_found (the.Op kind) operands = mapped-once of_three (said (the.Op kind)) (three_registers operands)
-statement_found (the.Immediate kind) operands = mapped-once of_registers (said (the.Immediate kind)) (registers_and Number operands)
-statement_found (the.Load kind) operands = mapped-once of_place (said (the.Load kind)) (register_and_place operands)
-statement_found (the.Store kind) operands = mapped-once of_place (said (the.Store kind)) (register_and_place operands)
-statement_found (the.Branch kind) operands = mapped-once of_registers (said (the.Branch kind)) (registers_and Target operands)
-statement_found the.Lui operands = mapped-once of_register (said the.Lui) (register_and Number operands)
-statement_found the.Auipc operands = mapped-once of_register (said the.Auipc) (register_and Number operands)
-statement_found the.Jal operands = mapped-once of_register (said the.Jal) (register_and Target operands)
-statement_found the.Jalr operands = mapped-once of_place (said the.Jalr) (register_and_place operands)
-statement_found the.Fence operands = mapped-once of_registers (said the.Fence) (registers_and Number operands)
-statement_found the.Ecall operands = chosen-once (said the.Ecall) of_none (has_no_operand operands)
-statement_found the.Ebreak operands = chosen-once (said the.Ebreak) of_none (has_no_operand operands)
-statement_found the.Nop operands = chosen-once (said the.Nop) of_none (has_no_operand operands)
-statement_found the.Ret operands = chosen-once (said the.Ret) of_none (has_no_operand operands)
-statement_found the.Mv operands = mapped-once of_two (said the.Mv) (two_registers operands)
-statement_found the.J operands = mapped-once of_value (said the.J) (one_value Target operands)
-statement_found the.Li operands = mapped-once of_register (said the.Li) (register_and Number operands)
-statement_found the.La operands = mapped-once of_register (said the.La) (register_and Label operands)
-statement_found the.Word operands = mapped-once of_value (said the.Word) (one_value Number operands)
-statement_found the.Byte operands = mapped-once of_value (said the.Byte) (one_value Number operands)
-statement_found the.Zero operands = mapped-once of_value (said the.Zero) (one_value Number operands)
+statement_found (the.Op kind) operands = mapped_once of_three (said (the.Op kind)) (three_registers operands)
+statement_found (the.Immediate kind) operands = mapped_once of_registers (said (the.Immediate kind)) (registers_and Number operands)
+statement_found (the.Load kind) operands = mapped_once of_place (said (the.Load kind)) (register_and_place operands)
+statement_found (the.Store kind) operands = mapped_once of_place (said (the.Store kind)) (register_and_place operands)
+statement_found (the.Branch kind) operands = mapped_once of_registers (said (the.Branch kind)) (registers_and Target operands)
+statement_found the.Lui operands = mapped_once of_register (said the.Lui) (register_and Number operands)
+statement_found the.Auipc operands = mapped_once of_register (said the.Auipc) (register_and Number operands)
+statement_found the.Jal operands = mapped_once of_register (said the.Jal) (register_and Target operands)
+statement_found the.Jalr operands = mapped_once of_place (said the.Jalr) (register_and_place operands)
+statement_found the.Fence operands = mapped_once of_registers (said the.Fence) (registers_and Number operands)
+statement_found the.Ecall operands = chosen_once (said the.Ecall) of_none (has_no_operand operands)
+statement_found the.Ebreak operands = chosen_once (said the.Ebreak) of_none (has_no_operand operands)
+statement_found the.Nop operands = chosen_once (said the.Nop) of_none (has_no_operand operands)
+statement_found the.Ret operands = chosen_once (said the.Ret) of_none (has_no_operand operands)
+statement_found the.Mv operands = mapped_once of_two (said the.Mv) (two_registers operands)
+statement_found the.J operands = mapped_once of_value (said the.J) (one_value Target operands)
+statement_found the.Li operands = mapped_once of_register (said the.Li) (register_and Number operands)
+statement_found the.La operands = mapped_once of_register (said the.La) (register_and Label operands)
+statement_found the.Word operands = mapped_once of_value (said the.Word) (one_value Number operands)
+statement_found the.Byte operands = mapped_once of_value (said the.Byte) (one_value Number operands)
+statement_found the.Zero operands = mapped_once of_value (said the.Zero) (one_value Number operands)
 
 -- what a mnemonic makes of operands of the code
 pub statement_given : (mnemonic : Mnemonic) (operands : List (List ℕ)) (form : Form) (given : Option Operands) →

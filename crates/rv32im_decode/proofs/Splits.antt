@@ -12,9 +12,9 @@ pub record AreFields (word opcode rd funct3 rs1 rs2 funct7 : ℕ) : Type 0 where
   pub rs2_is : rs2_of word ≡ rs2
   pub funct7_is : funct7_of word ≡ funct7
 
-pub split-join : (word opcode rd funct3 rs1 rs2 funct7 : ℕ) → opcode < 128 → rd < 32 → funct3 < 8 → rs1 < 32 →
+pub split_join : (word opcode rd funct3 rs1 rs2 funct7 : ℕ) → opcode < 128 → rd < 32 → funct3 < 8 → rs1 < 32 →
     rs2 < 32 → word ≡ r_word funct7 rs2 rs1 funct3 rd opcode → AreFields word opcode rd funct3 rs1 rs2 funct7
-split-join word opcode rd funct3 rs1 rs2 funct7 o d f a b e = record {
+split_join word opcode rd funct3 rs1 rs2 funct7 o d f a b e = record {
   opcode_is = omega arith;
   rd_is = omega arith;
   funct3_is = omega arith;
@@ -23,51 +23,51 @@ split-join word opcode rd funct3 rs1 rs2 funct7 o d f a b e = record {
   funct7_is = omega arith;
 }
 
-pub join-split : (word : ℕ) → r_word (funct7_of word) (rs2_of word) (rs1_of word) (funct3_of word) (rd_of word)
+pub join_split : (word : ℕ) → r_word (funct7_of word) (rs2_of word) (rs1_of word) (funct3_of word) (rd_of word)
     (opcode_of word) ≡ word
-join-split word = omega arith
+join_split word = omega arith
 
-pub s-split : (bits : ℕ) → bits / 2 ^ 5 * 2 ^ 5 + bits % 2 ^ 5 ≡ bits
-s-split bits = omega arith
+pub s_split : (bits : ℕ) → bits / 2 ^ 5 * 2 ^ 5 + bits % 2 ^ 5 ≡ bits
+s_split bits = omega arith
 
-pub i-join : (word : ℕ) → i_word (i_bits word) (rs1_of word) (funct3_of word) (rd_of word) (opcode_of word) ≡ word
-i-join word = omega arith
+pub i_join : (word : ℕ) → i_word (i_bits word) (rs1_of word) (funct3_of word) (rd_of word) (opcode_of word) ≡ word
+i_join word = omega arith
 
-pub s-join : (word : ℕ) → s_word (s_bits word) (rs2_of word) (rs1_of word) (funct3_of word) (opcode_of word) ≡ word
-s-join word = omega arith
+pub s_join : (word : ℕ) → s_word (s_bits word) (rs2_of word) (rs1_of word) (funct3_of word) (opcode_of word) ≡ word
+s_join word = omega arith
 
-pub b-join : (word : ℕ) → word < 2 ^ 32 → b_word (b_bits word) (rs2_of word) (rs1_of word) (funct3_of word)
+pub b_join : (word : ℕ) → word < 2 ^ 32 → b_word (b_bits word) (rs2_of word) (rs1_of word) (funct3_of word)
     (opcode_of word) ≡ word
-b-join word below = omega arith
+b_join word below = omega arith
 
-pub u-join : (word : ℕ) → u_word (u_bits word) (rd_of word) (opcode_of word) ≡ word
-u-join word = omega arith
+pub u_join : (word : ℕ) → u_word (u_bits word) (rd_of word) (opcode_of word) ≡ word
+u_join word = omega arith
 
-pub j-join : (word : ℕ) → word < 2 ^ 32 → j_word (j_bits word) (rd_of word) (opcode_of word) ≡ word
-j-join word below = omega arith
+pub j_join : (word : ℕ) → word < 2 ^ 32 → j_word (j_bits word) (rd_of word) (opcode_of word) ≡ word
+j_join word below = omega arith
 
 -- the immediate of a joined word
-pub i-split : (word bits rs1 funct3 rd opcode : ℕ) → opcode < 128 → rd < 32 → funct3 < 8 → rs1 < 32 →
+pub i_split : (word bits rs1 funct3 rd opcode : ℕ) → opcode < 128 → rd < 32 → funct3 < 8 → rs1 < 32 →
     word ≡ i_word bits rs1 funct3 rd opcode → i_bits word ≡ bits
-i-split word bits rs1 funct3 rd opcode o d f a e = omega arith
+i_split word bits rs1 funct3 rd opcode o d f a e = omega arith
 
-pub u-split : (word bits rd opcode : ℕ) → opcode < 128 → rd < 32 → word ≡ u_word bits rd opcode → u_bits word ≡ bits
-u-split word bits rd opcode o d e = omega arith
+pub u_split : (word bits rd opcode : ℕ) → opcode < 128 → rd < 32 → word ≡ u_word bits rd opcode → u_bits word ≡ bits
+u_split word bits rd opcode o d e = omega arith
 
-pub s-fields : (word bits rs2 rs1 funct3 opcode : ℕ) → opcode < 128 → funct3 < 8 → rs1 < 32 → rs2 < 32 →
+pub s_fields : (word bits rs2 rs1 funct3 opcode : ℕ) → opcode < 128 → funct3 < 8 → rs1 < 32 → rs2 < 32 →
     word ≡ s_word bits rs2 rs1 funct3 opcode → s_bits word ≡ bits
-s-fields word bits rs2 rs1 funct3 opcode o f a b e = omega arith
+s_fields word bits rs2 rs1 funct3 opcode o f a b e = omega arith
 
-pub b-fields : (word bits rs2 rs1 funct3 opcode : ℕ) → opcode < 128 → funct3 < 8 → rs1 < 32 → rs2 < 32 →
+pub b_fields : (word bits rs2 rs1 funct3 opcode : ℕ) → opcode < 128 → funct3 < 8 → rs1 < 32 → rs2 < 32 →
     bits < 2 ^ 13 → bits % 2 ≡ 0 → word ≡ b_word bits rs2 rs1 funct3 opcode → b_bits word ≡ bits
-b-fields word bits rs2 rs1 funct3 opcode o f a b below even e = omega arith
+b_fields word bits rs2 rs1 funct3 opcode o f a b below even e = omega arith
 
-pub j-fields : (word bits rd opcode : ℕ) → opcode < 128 → rd < 32 → bits < 2 ^ 21 → bits % 2 ≡ 0 →
+pub j_fields : (word bits rd opcode : ℕ) → opcode < 128 → rd < 32 → bits < 2 ^ 21 → bits % 2 ≡ 0 →
     word ≡ j_word bits rd opcode → j_bits word ≡ bits
-j-fields word bits rd opcode o d below even e = omega arith
+j_fields word bits rd opcode o d below even e = omega arith
 
 -- the fields of a word of I-type, S-type, B-type and U-type
-pub i-fields : (word bits rs1 funct3 rd opcode : ℕ) → opcode < 128 → rd < 32 → funct3 < 8 → rs1 < 32 →
+pub i_fields : (word bits rs1 funct3 rd opcode : ℕ) → opcode < 128 → rd < 32 → funct3 < 8 → rs1 < 32 →
     word ≡ i_word bits rs1 funct3 rd opcode → AreFields word opcode rd funct3 rs1 (bits % 32) (bits / 32)
-i-fields word bits rs1 funct3 rd opcode o d f a e = split-join word opcode rd funct3 rs1 (bits % 32)
+i_fields word bits rs1 funct3 rd opcode o d f a e = split_join word opcode rd funct3 rs1 (bits % 32)
     (bits / 32) o d f a (omega arith) (omega arith)

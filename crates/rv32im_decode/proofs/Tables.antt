@@ -25,162 +25,162 @@ pub chosen : {T : Type 0} (P : T → Type 0) (test : Bool) (x y : T) → (test �
 chosen P true x y held other = held refl
 chosen P false x y held other = other refl
 
-pub branch-found : (kind : BranchKind) → branch_kind (branch_funct3 kind) ≡ Some kind
-branch-found Beq = refl
-branch-found Bne = refl
-branch-found Blt = refl
-branch-found Bge = refl
-branch-found Bltu = refl
-branch-found Bgeu = refl
+pub branch_found : (kind : BranchKind) → branch_kind (branch_funct3 kind) ≡ Some kind
+branch_found Beq = refl
+branch_found Bne = refl
+branch_found Blt = refl
+branch_found Bge = refl
+branch_found Bltu = refl
+branch_found Bgeu = refl
 
-pub load-found : (kind : LoadKind) → load_kind (load_funct3 kind) ≡ Some kind
-load-found Lb = refl
-load-found Lh = refl
-load-found Lw = refl
-load-found Lbu = refl
-load-found Lhu = refl
+pub load_found : (kind : LoadKind) → load_kind (load_funct3 kind) ≡ Some kind
+load_found Lb = refl
+load_found Lh = refl
+load_found Lw = refl
+load_found Lbu = refl
+load_found Lhu = refl
 
-pub store-found : (kind : StoreKind) → store_kind (store_funct3 kind) ≡ Some kind
-store-found Sb = refl
-store-found Sh = refl
-store-found Sw = refl
+pub store_found : (kind : StoreKind) → store_kind (store_funct3 kind) ≡ Some kind
+store_found Sb = refl
+store_found Sh = refl
+store_found Sw = refl
 
-pub op-found : (kind : OpKind) → op_kind (op_funct7 kind) (op_funct3 kind) ≡ Some kind
-op-found Add = refl
-op-found Sub = refl
-op-found Sll = refl
-op-found Slt = refl
-op-found Sltu = refl
-op-found Xor = refl
-op-found Srl = refl
-op-found Sra = refl
-op-found Or = refl
-op-found And = refl
-op-found Mul = refl
-op-found Mulh = refl
-op-found Mulhsu = refl
-op-found Mulhu = refl
-op-found Div = refl
-op-found Divu = refl
-op-found Rem = refl
-op-found Remu = refl
+pub op_found : (kind : OpKind) → op_kind (op_funct7 kind) (op_funct3 kind) ≡ Some kind
+op_found Add = refl
+op_found Sub = refl
+op_found Sll = refl
+op_found Slt = refl
+op_found Sltu = refl
+op_found Xor = refl
+op_found Srl = refl
+op_found Sra = refl
+op_found Or = refl
+op_found And = refl
+op_found Mul = refl
+op_found Mulh = refl
+op_found Mulhsu = refl
+op_found Mulhu = refl
+op_found Div = refl
+op_found Divu = refl
+op_found Rem = refl
+op_found Remu = refl
 
-pub branch-below : (kind : BranchKind) → branch_funct3 kind < 8
-branch-below Beq = omega arith
-branch-below Bne = omega arith
-branch-below Blt = omega arith
-branch-below Bge = omega arith
-branch-below Bltu = omega arith
-branch-below Bgeu = omega arith
+pub branch_below : (kind : BranchKind) → branch_funct3 kind < 8
+branch_below Beq = omega arith
+branch_below Bne = omega arith
+branch_below Blt = omega arith
+branch_below Bge = omega arith
+branch_below Bltu = omega arith
+branch_below Bgeu = omega arith
 
-pub load-below : (kind : LoadKind) → load_funct3 kind < 8
-load-below Lb = omega arith
-load-below Lh = omega arith
-load-below Lw = omega arith
-load-below Lbu = omega arith
-load-below Lhu = omega arith
+pub load_below : (kind : LoadKind) → load_funct3 kind < 8
+load_below Lb = omega arith
+load_below Lh = omega arith
+load_below Lw = omega arith
+load_below Lbu = omega arith
+load_below Lhu = omega arith
 
-pub store-below : (kind : StoreKind) → store_funct3 kind < 8
-store-below Sb = omega arith
-store-below Sh = omega arith
-store-below Sw = omega arith
+pub store_below : (kind : StoreKind) → store_funct3 kind < 8
+store_below Sb = omega arith
+store_below Sh = omega arith
+store_below Sw = omega arith
 
-pub op-below : (kind : OpKind) → op_funct3 kind < 8
-op-below Add = omega arith
-op-below Sub = omega arith
-op-below Sll = omega arith
-op-below Slt = omega arith
-op-below Sltu = omega arith
-op-below Xor = omega arith
-op-below Srl = omega arith
-op-below Sra = omega arith
-op-below Or = omega arith
-op-below And = omega arith
-op-below Mul = omega arith
-op-below Mulh = omega arith
-op-below Mulhsu = omega arith
-op-below Mulhu = omega arith
-op-below Div = omega arith
-op-below Divu = omega arith
-op-below Rem = omega arith
-op-below Remu = omega arith
+pub op_below : (kind : OpKind) → op_funct3 kind < 8
+op_below Add = omega arith
+op_below Sub = omega arith
+op_below Sll = omega arith
+op_below Slt = omega arith
+op_below Sltu = omega arith
+op_below Xor = omega arith
+op_below Srl = omega arith
+op_below Sra = omega arith
+op_below Or = omega arith
+op_below And = omega arith
+op_below Mul = omega arith
+op_below Mulh = omega arith
+op_below Mulhsu = omega arith
+op_below Mulhu = omega arith
+op_below Div = omega arith
+op_below Divu = omega arith
+op_below Rem = omega arith
+op_below Remu = omega arith
 
-pub imm-below : (kind : ImmKind) → imm_funct3 kind < 8
-imm-below Addi = omega arith
-imm-below Slti = omega arith
-imm-below Sltiu = omega arith
-imm-below Xori = omega arith
-imm-below Ori = omega arith
-imm-below Andi = omega arith
-imm-below Slli = omega arith
-imm-below Srli = omega arith
-imm-below Srai = omega arith
+pub imm_below : (kind : ImmKind) → imm_funct3 kind < 8
+imm_below Addi = omega arith
+imm_below Slti = omega arith
+imm_below Sltiu = omega arith
+imm_below Xori = omega arith
+imm_below Ori = omega arith
+imm_below Andi = omega arith
+imm_below Slli = omega arith
+imm_below Srli = omega arith
+imm_below Srai = omega arith
 
-pub op-funct7-below : (kind : OpKind) → op_funct7 kind < 128
-op-funct7-below Add = omega arith
-op-funct7-below Sub = omega arith
-op-funct7-below Sll = omega arith
-op-funct7-below Slt = omega arith
-op-funct7-below Sltu = omega arith
-op-funct7-below Xor = omega arith
-op-funct7-below Srl = omega arith
-op-funct7-below Sra = omega arith
-op-funct7-below Or = omega arith
-op-funct7-below And = omega arith
-op-funct7-below Mul = omega arith
-op-funct7-below Mulh = omega arith
-op-funct7-below Mulhsu = omega arith
-op-funct7-below Mulhu = omega arith
-op-funct7-below Div = omega arith
-op-funct7-below Divu = omega arith
-op-funct7-below Rem = omega arith
-op-funct7-below Remu = omega arith
+pub op_funct7_below : (kind : OpKind) → op_funct7 kind < 128
+op_funct7_below Add = omega arith
+op_funct7_below Sub = omega arith
+op_funct7_below Sll = omega arith
+op_funct7_below Slt = omega arith
+op_funct7_below Sltu = omega arith
+op_funct7_below Xor = omega arith
+op_funct7_below Srl = omega arith
+op_funct7_below Sra = omega arith
+op_funct7_below Or = omega arith
+op_funct7_below And = omega arith
+op_funct7_below Mul = omega arith
+op_funct7_below Mulh = omega arith
+op_funct7_below Mulhsu = omega arith
+op_funct7_below Mulhu = omega arith
+op_funct7_below Div = omega arith
+op_funct7_below Divu = omega arith
+op_funct7_below Rem = omega arith
+op_funct7_below Remu = omega arith
 
 -- the kind found has the number looked for
-pub branch-has : (funct3 : ℕ) → IfSome (branch_kind funct3) (λ kind. branch_funct3 kind ≡ funct3)
-branch-has funct3 = grind arith
+pub branch_has : (funct3 : ℕ) → IfSome (branch_kind funct3) (λ kind. branch_funct3 kind ≡ funct3)
+branch_has funct3 = grind arith
 
-pub load-has : (funct3 : ℕ) → IfSome (load_kind funct3) (λ kind. load_funct3 kind ≡ funct3)
-load-has funct3 = grind arith
+pub load_has : (funct3 : ℕ) → IfSome (load_kind funct3) (λ kind. load_funct3 kind ≡ funct3)
+load_has funct3 = grind arith
 
-pub store-has : (funct3 : ℕ) → IfSome (store_kind funct3) (λ kind. store_funct3 kind ≡ funct3)
-store-has funct3 = grind arith
+pub store_has : (funct3 : ℕ) → IfSome (store_kind funct3) (λ kind. store_funct3 kind ≡ funct3)
+store_has funct3 = grind arith
 
-pub plain-has : (funct3 : ℕ) → IfSome (plain_op funct3) (λ kind. (op_funct7 kind ≡ 0) × (op_funct3 kind ≡ funct3))
-plain-has funct3 = grind arith
+pub plain_has : (funct3 : ℕ) → IfSome (plain_op funct3) (λ kind. (op_funct7 kind ≡ 0) × (op_funct3 kind ≡ funct3))
+plain_has funct3 = grind arith
 
-pub other-has : (funct3 : ℕ) → IfSome (other_op funct3) (λ kind. (op_funct7 kind ≡ 32) × (op_funct3 kind ≡ funct3))
-other-has funct3 = grind arith
+pub other_has : (funct3 : ℕ) → IfSome (other_op funct3) (λ kind. (op_funct7 kind ≡ 32) × (op_funct3 kind ≡ funct3))
+other_has funct3 = grind arith
 
-pub multiply-has : (funct3 : ℕ) → IfSome (multiply_op funct3) (λ kind. (op_funct7 kind ≡ 1) × (op_funct3 kind ≡ funct3))
-multiply-has funct3 = grind arith
+pub multiply_has : (funct3 : ℕ) → IfSome (multiply_op funct3) (λ kind. (op_funct7 kind ≡ 1) × (op_funct3 kind ≡ funct3))
+multiply_has funct3 = grind arith
 
-pub op-has : (funct7 funct3 : ℕ) → IfSome (op_kind funct7 funct3) (λ kind. (op_funct7 kind ≡ funct7) ×
+pub op_has : (funct7 funct3 : ℕ) → IfSome (op_kind funct7 funct3) (λ kind. (op_funct7 kind ≡ funct7) ×
     (op_funct3 kind ≡ funct3))
-op-has funct7 funct3 =
+op_has funct7 funct3 =
     let Has : Option OpKind → Type 0 = λ found. IfSome found (λ kind. (op_funct7 kind ≡ funct7) ×
     (op_funct3 kind ≡ funct3)) in
     chosen Has (funct7 == 0) (plain_op funct3) _ (λ e. let is : funct7 ≡ 0 = eqb-true funct7 0 e in
-    IfSome_then (plain_op funct3) (plain-has funct3) (λ kind h. (h.0 ∙ sym is, h.1)))
+    IfSome_then (plain_op funct3) (plain_has funct3) (λ kind h. (h.0 ∙ sym is, h.1)))
     (λ _. chosen Has (funct7 == 32) (other_op funct3) _ (λ e. let is : funct7 ≡ 32 = eqb-true funct7 32 e in
-    IfSome_then (other_op funct3) (other-has funct3) (λ kind h. (h.0 ∙ sym is, h.1)))
+    IfSome_then (other_op funct3) (other_has funct3) (λ kind h. (h.0 ∙ sym is, h.1)))
     (λ _. chosen Has (funct7 == 1) (multiply_op funct3) None (λ e. let is : funct7 ≡ 1 = eqb-true funct7 1 e in
-    IfSome_then (multiply_op funct3) (multiply-has funct3) (λ kind h. (h.0 ∙ sym is, h.1)))
+    IfSome_then (multiply_op funct3) (multiply_has funct3) (λ kind h. (h.0 ∙ sym is, h.1)))
     (λ _. tt)))
 
 -- what funct7 must be for the kind
 abbrev pub HasFunct7 : ImmKind → ℕ → Type 0
 HasFunct7 kind funct7 = MatchBool (is_shift kind) (shift_funct7 kind ≡ funct7) ⊤
 
-left-has : (funct7 : ℕ) → IfSome (left_shift funct7) (λ kind. (imm_funct3 kind ≡ 1) × HasFunct7 kind funct7)
-left-has funct7 = grind arith
+left_has : (funct7 : ℕ) → IfSome (left_shift funct7) (λ kind. (imm_funct3 kind ≡ 1) × HasFunct7 kind funct7)
+left_has funct7 = grind arith
 
-right-has : (funct7 : ℕ) → IfSome (right_shift funct7) (λ kind. (imm_funct3 kind ≡ 5) × HasFunct7 kind funct7)
-right-has funct7 = grind arith
+right_has : (funct7 : ℕ) → IfSome (right_shift funct7) (λ kind. (imm_funct3 kind ≡ 5) × HasFunct7 kind funct7)
+right_has funct7 = grind arith
 
-pub imm-has : (funct7 funct3 : ℕ) → IfSome (imm_kind funct7 funct3) (λ kind.
+pub imm_has : (funct7 funct3 : ℕ) → IfSome (imm_kind funct7 funct3) (λ kind.
     (imm_funct3 kind ≡ funct3) × HasFunct7 kind funct7)
-imm-has funct7 funct3 =
+imm_has funct7 funct3 =
     let Has : Option ImmKind → Type 0 = λ found. IfSome found (λ kind.
     (imm_funct3 kind ≡ funct3) × HasFunct7 kind funct7) in
     chosen Has (funct3 == 0) (Some Addi) _ (λ e. (sym (eqb-true funct3 0 e), tt))
@@ -190,18 +190,18 @@ imm-has funct7 funct3 =
     (λ _. chosen Has (funct3 == 6) (Some Ori) _ (λ e. (sym (eqb-true funct3 6 e), tt))
     (λ _. chosen Has (funct3 == 7) (Some Andi) _ (λ e. (sym (eqb-true funct3 7 e), tt))
     (λ _. chosen Has (funct3 == 1) (left_shift funct7) _ (λ e. let is : funct3 ≡ 1 = eqb-true funct3 1 e in
-    IfSome_then (left_shift funct7) (left-has funct7) (λ kind h. (h.0 ∙ sym is, h.1)))
+    IfSome_then (left_shift funct7) (left_has funct7) (λ kind h. (h.0 ∙ sym is, h.1)))
     (λ _. chosen Has (funct3 == 5) (right_shift funct7) None (λ e. let is : funct3 ≡ 5 = eqb-true funct3 5 e in
-    IfSome_then (right_shift funct7) (right-has funct7) (λ kind h. (h.0 ∙ sym is, h.1)))
+    IfSome_then (right_shift funct7) (right_has funct7) (λ kind h. (h.0 ∙ sym is, h.1)))
     (λ _. tt))))))))
 
-pub imm-found : (kind : ImmKind) (funct7 : ℕ) → HasFunct7 kind funct7 → imm_kind funct7 (imm_funct3 kind) ≡ Some kind
-imm-found Addi funct7 h = refl
-imm-found Slti funct7 h = refl
-imm-found Sltiu funct7 h = refl
-imm-found Xori funct7 h = refl
-imm-found Ori funct7 h = refl
-imm-found Andi funct7 h = refl
-imm-found Slli funct7 h = rw (← h) refl
-imm-found Srli funct7 h = rw (← h) refl
-imm-found Srai funct7 h = rw (← h) refl
+pub imm_found : (kind : ImmKind) (funct7 : ℕ) → HasFunct7 kind funct7 → imm_kind funct7 (imm_funct3 kind) ≡ Some kind
+imm_found Addi funct7 h = refl
+imm_found Slti funct7 h = refl
+imm_found Sltiu funct7 h = refl
+imm_found Xori funct7 h = refl
+imm_found Ori funct7 h = refl
+imm_found Andi funct7 h = refl
+imm_found Slli funct7 h = rw (← h) refl
+imm_found Srli funct7 h = rw (← h) refl
+imm_found Srai funct7 h = rw (← h) refl

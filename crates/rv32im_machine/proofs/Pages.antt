@@ -5,11 +5,11 @@ use Rattle.std.proofs.lemmas.List.{ext_get_or, get_or-replicate, get_or-set_same
 use Rattle.flow_base.specs.Guests.{memory_size}
 use Rattle.rv32im_machine.specs.Pages.{AreZeroBelow, AreZeroUntouched}
 use Rattle.rv32im_machine.specs.Start.{laid_at, zeros}
-use Rattle.rv32im_machine.proofs.Laying.{laid_at-above, laid_at-below, laid_at-within, zeros-byte, zeros-length}
+use Rattle.rv32im_machine.proofs.Laying.{laid_at_above, laid_at_below, laid_at_within, zeros_byte, zeros_length}
 
 -- where all is 0, no page needs to be touched
 pub zeros_untouched : (touched : List Bool) (count : ℕ) → AreZeroUntouched touched (zeros count)
-zeros_untouched touched count = λ index untouched. zeros-byte count index
+zeros_untouched touched count = λ index untouched. zeros_byte count index
 
 -- ---- a byte
 
@@ -27,24 +27,24 @@ set_untouched touched bytes at value inside zero = λ index untouched.
 -- ---- bytes
 
 -- a page that pages laid as touched leave untouched is none of them, and was untouched
-outside-laid : (touched : List Bool) (from count page : ℕ) → from + count ≤ length touched
+outside_laid : (touched : List Bool) (from count page : ℕ) → from + count ≤ length touched
     → slice_index_or (laid_at from (replicate count true) touched) page false ≡ false
     → ((page < from) ⊎ (from + count ≤ page)) × (slice_index_or touched page false ≡ false)
-outside-laid touched from count page fits untouched =
+outside_laid touched from count page fits untouched =
     let size : length (replicate {A = Bool} count true) ≡ count = length-replicate {A = Bool} count true in
     elim (cases_lt page from) [
       | inl below ↦ (
         inl below,
-        sym (laid_at-below from (replicate count true) touched page false (omega arith) below)
+        sym (laid_at_below from (replicate count true) touched page false (omega arith) below)
             ∙ untouched,
       )
       | inr above ↦ elim (cases_lt page (from + count)) [
-        | inl within ↦ absurd (true≢false (sym (laid_at-within from (replicate count true) touched page false
+        | inl within ↦ absurd (true≢false (sym (laid_at_within from (replicate count true) touched page false
             (omega arith) (omega arith) (omega arith) ∙ get_or-replicate count (page - from) true false (omega arith))
             ∙ untouched))
         | inr past ↦ (
           inr (omega arith),
-          sym (laid_at-above from (replicate count true) touched page false
+          sym (laid_at_above from (replicate count true) touched page false
               (omega arith) (omega arith)) ∙ untouched,
         )
       ]
@@ -55,10 +55,10 @@ pub laid_untouched : (touched : List Bool) (bytes new : List ℕ) (at from count
     → AreZeroUntouched touched bytes
     → AreZeroUntouched (laid_at from (replicate count true) touched) (laid_at at new bytes)
 laid_untouched touched bytes new at from count low high pages fits zero = λ index untouched.
-    let outside = outside-laid touched from count (index / 4096) pages untouched in
+    let outside = outside_laid touched from count (index / 4096) pages untouched in
     elim (outside.0) [
-      | inl below ↦ laid_at-below at new bytes index 0 fits (omega arith) ∙ zero index outside.1
-      | inr above ↦ laid_at-above at new bytes index 0 fits (omega arith) ∙ zero index outside.1
+      | inl below ↦ laid_at_below at new bytes index 0 fits (omega arith) ∙ zero index outside.1
+      | inr above ↦ laid_at_above at new bytes index 0 fits (omega arith) ∙ zero index outside.1
     ]
 
 -- ---- a page
@@ -67,13 +67,13 @@ laid_untouched touched bytes new at from count low high pages fits zero = λ ind
 zeroed_stays : (bytes : List ℕ) (from end index : ℕ) → from ≤ end → end ≤ length bytes
     → slice_index bytes index ≡ 0 → slice_index (laid_at from (zeros (end - from)) bytes) index ≡ 0
 zeroed_stays bytes from end index order fits zero =
-    let size : length (zeros (end - from)) ≡ end - from = zeros-length (end - from) in
+    let size : length (zeros (end - from)) ≡ end - from = zeros_length (end - from) in
     elim (cases_lt index from) [
-      | inl below ↦ laid_at-below from (zeros (end - from)) bytes index 0 (omega arith) below ∙ zero
+      | inl below ↦ laid_at_below from (zeros (end - from)) bytes index 0 (omega arith) below ∙ zero
       | inr above ↦ elim (cases_lt index end) [
-        | inl within ↦ laid_at-within from (zeros (end - from)) bytes index 0 (omega arith) (omega arith) (omega arith)
-            ∙ zeros-byte (end - from) (index - from)
-        | inr past ↦ laid_at-above from (zeros (end - from)) bytes index 0 (omega arith) (omega arith) ∙ zero
+        | inl within ↦ laid_at_within from (zeros (end - from)) bytes index 0 (omega arith) (omega arith) (omega arith)
+            ∙ zeros_byte (end - from) (index - from)
+        | inr past ↦ laid_at_above from (zeros (end - from)) bytes index 0 (omega arith) (omega arith) ∙ zero
       ]
     ]
 
@@ -85,11 +85,11 @@ zeroed_untouched touched bytes from end order fits zero = λ index untouched.
 pub zeroed_below : (bytes : List ℕ) (from end : ℕ) → from ≤ end → end ≤ length bytes → AreZeroBelow from bytes
     → AreZeroBelow end (laid_at from (zeros (end - from)) bytes)
 zeroed_below bytes from end order fits zero = λ index below.
-    let size : length (zeros (end - from)) ≡ end - from = zeros-length (end - from) in
+    let size : length (zeros (end - from)) ≡ end - from = zeros_length (end - from) in
     elim (cases_lt index from) [
       | inl before ↦ zeroed_stays bytes from end index order fits (zero index before)
-      | inr above ↦ laid_at-within from (zeros (end - from)) bytes index 0 (omega arith) (omega arith) (omega arith)
-          ∙ zeros-byte (end - from) (index - from)
+      | inr above ↦ laid_at_within from (zeros (end - from)) bytes index 0 (omega arith) (omega arith) (omega arith)
+          ∙ zeros_byte (end - from) (index - from)
     ]
 
 -- a page that is not touched is 0
@@ -107,5 +107,5 @@ passed_below touched bytes page untouched zero before = λ index below.
 pub all_zeros : (bytes : List ℕ) → length bytes ≡ memory_size → AreZeroBelow memory_size bytes
     → bytes ≡ zeros memory_size
 all_zeros bytes size zero =
-    ext_get_or 0 bytes (zeros memory_size) (size ∙ sym (zeros-length memory_size))
-    (λ index below. zero index (omega arith) ∙ sym (zeros-byte memory_size index))
+    ext_get_or 0 bytes (zeros memory_size) (size ∙ sym (zeros_length memory_size))
+    (λ index below. zero index (omega arith) ∙ sym (zeros_byte memory_size index))

@@ -57,6 +57,6 @@ abbrev pub Visits : State → List Visit
 Visits state = visits_in (walk_of state)
 
 -- at its end a turn has reached its state
-pub real-Ended : (state : State) → real_end (Ended state) ≡ state
+pub real_Ended : (state : State) → real_end (Ended state) ≡ state
 unfolding real_end
-real-Ended state = refl
+real_Ended state = refl

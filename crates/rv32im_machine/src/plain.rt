@@ -17,7 +17,7 @@ impl Passer for Plain {
     ghost use Rattle.std.specs.Prelude.{◌≡◌, ℕ, None};
     ghost use Rattle.rv32im_machine.specs.State.{State};
     ghost use Rattle.std.proofs.Common.{ap};
-    ghost use Rattle.rv32im_machine.specs.Folds.{real_end, real-Ended};
+    ghost use Rattle.rv32im_machine.specs.Folds.{real_end, real_Ended};
     ghost use Rattle.rv32im_machine.specs.Playing.{Finished};
 
     type Stop = Infallible;
@@ -56,7 +56,7 @@ impl Passer for Plain {
         Ok(false)
     }
 
-    ghost at_end = { λ p state. ap (λ s. Finished s tt) (real-Ended state) };
+    ghost at_end = { λ p state. ap (λ s. Finished s tt) (real_Ended state) };
 }
 
 impl Machine {

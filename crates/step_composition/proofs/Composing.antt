@@ -88,19 +88,19 @@ storing true Sw address held state = refl
 storing false kind address held state = refl
 
 -- the bytes of the public input, one after another
-pub reading-public : (count to answer : ℕ) (state : State)
+pub reading_public : (count to answer : ℕ) (state : State)
     → real_end (turn_walk state (public_reads count to answer state.setting.public_input state.control))
     ≡ answered answer (fold public_byte_to state (range_with_len to count))
 unfolding real_end walked public_reads moved_to onward
-reading-public zero to answer state = refl
-reading-public (suc count) to answer state = reading-public count (to + 1) answer (public_byte_to state to)
+reading_public zero to answer state = refl
+reading_public (suc count) to answer state = reading_public count (to + 1) answer (public_byte_to state to)
 
-pub reading-secret : (count to answer : ℕ) (state : State)
+pub reading_secret : (count to answer : ℕ) (state : State)
     → real_end (turn_walk state (secret_reads count to answer state.control))
     ≡ answered answer (fold secret_byte_to state (range_with_len to count))
 unfolding real_end walked secret_reads moved_to onward
-reading-secret zero to answer state = refl
-reading-secret (suc count) to answer state = reading-secret count (to + 1) answer (secret_byte_to state to)
+reading_secret zero to answer state = refl
+reading_secret (suc count) to answer state = reading_secret count (to + 1) answer (secret_byte_to state to)
 
 pub writing : (count from answer : ℕ) (state : State)
     → real_end (turn_walk state (writes count from answer state.control))
@@ -113,8 +113,8 @@ pub carrying : (plan : CallPlan) (state : State)
     → real_end (turn_walk state (planned plan state.setting state.control)) ≡ carried_out plan state
 unfolding real_end walked moved_to onward
 carrying (Answer answer) state = refl
-carrying (PublicRead to count) state = reading-public count to count state
-carrying (SecretRead to count) state = reading-secret count to count state
+carrying (PublicRead to count) state = reading_public count to count state
+carrying (SecretRead to count) state = reading_secret count to count state
 carrying (WritePlan from count) state = writing count from count state
 carrying (BrkPlan value) state = refl
 carrying ExitPlan state = refl
@@ -159,14 +159,14 @@ composing (Fence rd rs1 imm) state = refl
 composing Ecall state = calling (call_kind (register_of state.store 17)) state
 composing Ebreak state = refl
 
-pub composing-word : (found : Option Instr) (word : ℕ) (state : State)
+pub composing_word : (found : Option Instr) (word : ℕ) (state : State)
     → real_end (turn_walk state (fetched found word state.setting state.control))
     ≡ composed_after (read_as found state.control.pc word) state
 unfolding real_end walked
-composing-word None word state = refl
-composing-word (Some instr) word state = composing instr state
+composing_word None word state = refl
+composing_word (Some instr) word state = composing instr state
 
-pub composing-fetch : (inside : Bool) (state : State)
+pub composing_fetch : (inside : Bool) (state : State)
     → real_end (turn_walk state
     (if inside then Looks (Word state.control.pc) (λ word. fetched (decoded word) word state.setting state.control)
     else stops (FetchOutside state.control.pc) state.control))
@@ -175,11 +175,11 @@ pub composing-fetch : (inside : Bool) (state : State)
     (word_at state.setting.base state.store state.control.pc)
     else Err (FetchOutside state.control.pc)) state
 unfolding real_end walked
-composing-fetch true state =
+composing_fetch true state =
     let word : ℕ = word_at state.setting.base state.store state.control.pc in
-    composing-word (decoded word) word state
-composing-fetch false state = refl
+    composing_word (decoded word) word state
+composing_fetch false state = refl
 
-pub composing-in : (mode : Stepped) (state : State) → mode ≡ Ran
+pub composing_in : (mode : Stepped) (state : State) → mode ≡ Ran
     → real_end (walk state (turn_in mode state.setting state.control) state.store none_held) ≡ composed state
-composing-in mode state ran = rw ran (composing-fetch (is_inside state.setting.base state.control.pc 4) state)
+composing_in mode state ran = rw ran (composing_fetch (is_inside state.setting.base state.control.pc 4) state)

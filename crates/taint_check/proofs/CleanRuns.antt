@@ -34,8 +34,8 @@ use Rattle.masked_turns.proofs.RunsBegin.{begins_beside}
 use Rattle.taint_check.specs.Cleared.{AnswersUnless, AreRunAnswers, Cleared, MaskedRun, cutting_at, is_hidden, kind_at}
 use Rattle.taint_check.specs.Reasons.{left_unless, look_unless, unclear_of}
 use Rattle.taint_check.proofs.FoundRuns.{AreFine}
-use Rattle.taint_check.proofs.ReasonsCounted.{fine-of}
-use Rattle.taint_check.proofs.RunVerdicts.{cleared-place}
+use Rattle.taint_check.proofs.ReasonsCounted.{fine_of}
+use Rattle.taint_check.proofs.RunVerdicts.{cleared_place}
 use Rattle.taint_check.proofs.RunsAgree.{Inside, Outside, copy_start, later, next_is, parts}
 use Rattle.taint_check.proofs.TurnsAgree.{IsClear}
 use Rattle.flow_base.specs.Listed.{is_listed}
@@ -46,7 +46,7 @@ on_of : (look : Option SecretLook) (broken : Option Break) (mode : Stepped) (bud
 on_of look broken Ran budget needed left e = refl
 on_of look broken (Exited status) budget needed left e = refl
 on_of look broken (Stopped fault) budget needed left e =
-    let is = fine-of look broken (Stopped fault) budget needed left e in
+    let is = fine_of look broken (Stopped fault) budget needed left e in
     never look broken is.unlooked is.unbroken e
   where
     never : (look : Option SecretLook) (broken : Option Break) → look ≡ None → broken ≡ None →
@@ -149,7 +149,7 @@ module _ (table : ℕ) (task : Task) (limits : Limits) (secret other : List ℕ)
       let parts_are : run.place.state ≡ state =
       parts task secret other bytes others is.public_input is.start_break small proper rules nowhere answers last
       known.unbroken known.same in
-      let looked = fine-of _ _ _ _ _ _ fine.1 in
+      let looked = fine_of _ _ _ _ _ _ fine.1 in
       let went = on_of _ _ _ _ _ _ fine.1 in
       let whole : Breaks regions state ≡ None = subst (λ s. Breaks regions s ≡ None) parts_are looked.unbroken in
       let goes_on : stopped_fault (real_end (guest_walk regions state)).control.mode ≡ None =
@@ -200,8 +200,8 @@ module _ (table : ℕ) (task : Task) (limits : Limits) (secret other : List ℕ)
   unfolding AreRunAnswers AreFine
   follows_last last answers are fine exposed =
       let turned = turns_on last answers (knows answers are.0 fine.0) are fine in
-      let here = cleared-place task secret answers in
-      let there = cleared-place task secret (last ∷ answers) in
+      let here = cleared_place task secret answers in
+      let there = cleared_place task secret (last ∷ answers) in
       let at = turned.exposed
       (ap (λ (p : Place). is_enclosed task.enclosures p.state.control) here ∙ exposed) in (
         _,
@@ -246,7 +246,7 @@ module _ (table : ℕ) (task : Task) (limits : Limits) (secret other : List ℕ)
   unfolding AreRunAnswers AreFine
   accepted last answers output long starts are fine exits =
       let turned = turns_on last answers (knows answers are.0 fine.0) are fine in
-      let there = cleared-place task secret (last ∷ answers) in
+      let there = cleared_place task secret (last ∷ answers) in
       accepted_where task (record { budget = limits.budget; turns = suc (length answers) }) secret output long
       (ap (λ (p : Place). p.broken) (sym there) ∙ turned.known.unbroken)
       (subst (λ (p : Place). HasExited p.state output) there exits) turned.within

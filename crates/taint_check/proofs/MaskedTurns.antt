@@ -30,7 +30,7 @@ use Rattle.taint_check.specs.Cleared.{MaskedRun, AnswersUnless, is_hidden, leave
 use Rattle.taint_check.specs.Reasons.{unclear_of, look_unless, left_unless}
 use Rattle.taint_check.specs.Private.Tapes.{Tape, EndsCleared}
 use Rattle.taint_check.specs.Private.Turns.{Stands, MakesMasked, crossed_after}
-use Rattle.taint_check.proofs.ReasonsCounted.{fine-of, why-counted}
+use Rattle.taint_check.proofs.ReasonsCounted.{fine_of, why_counted}
 
 -- ---- what is shown of a turn, and what is hidden
 
@@ -62,12 +62,12 @@ module _ (enclosures : Enclosures) (masks : Masks) (past : List Point) (state : 
   shown-past (Steps (Some region)) e = ap (λ t. visited t past (kind_walk (Steps (Some region)) state)) e
 
 -- a hidden turn is one inside a skipped region
-pub hidden-enclosed : (enclosures : Enclosures) (kind : Kind) → is_hidden enclosures kind ≡ true →
+pub hidden_enclosed : (enclosures : Enclosures) (kind : Kind) → is_hidden enclosures kind ≡ true →
     is_enclosed_kind enclosures kind ≡ true
-hidden-enclosed enclosures (Enters region) e = absurd (cc)
-hidden-enclosed enclosures (Leaves region) e = absurd (cc)
-hidden-enclosed enclosures (Steps None) e = absurd (cc)
-hidden-enclosed enclosures (Steps (Some region)) e = e
+hidden_enclosed enclosures (Enters region) e = absurd (cc)
+hidden_enclosed enclosures (Leaves region) e = absurd (cc)
+hidden_enclosed enclosures (Steps None) e = absurd (cc)
+hidden_enclosed enclosures (Steps (Some region)) e = e
 
 -- ---- a run, by the machine and the masks
 
@@ -75,9 +75,9 @@ abbrev run_of : State → List Point → Shades → MaskedRun
 run_of machine past shades =
     record { place = record { state = machine; past = past; broken = None }; labels = map_of shades }
 
-run-same : (task : Task) (limits : Limits) (run : MaskedRun) (cross : List Bool) (machine : State) (tape : Tape) →
+run_same : (task : Task) (limits : Limits) (run : MaskedRun) (cross : List Bool) (machine : State) (tape : Tape) →
     Stands task limits run cross machine tape → run_of machine run.place.past tape.shades ≡ run
-run-same task limits run cross machine tape s =
+run_same task limits run cross machine tape s =
     let unbroken : None ≡ run.place.broken = sym s.unbroken in
     λ i. record {
       place = record { state = s.state i; past = run.place.past; broken = unbroken i };
@@ -144,7 +144,7 @@ module _ (task : Task) (limits : Limits) (cross : List Bool) (machine : State) (
         let mode : reached.control.mode ≡ (real_end the_walk).control.mode =
         ap (λ (s : State). s.control.mode) told.ends in
         let budget : after.tally.budget ≡ limits.budget = told.tallies.budget ∙ stands.budget in
-        why-counted after.look broken reached.control.mode after.tally.budget
+        why_counted after.look broken reached.control.mode after.tally.budget
         (length (crossed_after task the_run cross)) after.tally.needed after.left
         (subst (λ b. b < 4294967295) (sym told.tallies.budget) small) counted
         ∙ ap (λ l. unclear_of l broken reached.control.mode after.tally.budget
@@ -164,7 +164,7 @@ module _ (task : Task) (limits : Limits) (cross : List Bool) (machine : State) (
     stands-next : the_why ≡ None →
         Stands task limits (next_masked task told.answers the_run) (crossed_after task the_run cross) reached after
     stands-next e =
-        let fine = fine-of after.look broken reached.control.mode after.tally.budget after.tally.needed after.left e in
+        let fine = fine_of after.look broken reached.control.mode after.tally.budget after.tally.needed after.left e in
         let small_after = subst (λ b. b < 4294967295) (sym told.tallies.budget) small in
         let bound = few after.tally.budget after.tally.needed (length (crossed_after task the_run cross)) small_after
         counted fine.within in
@@ -203,7 +203,7 @@ module _ (task : Task) (limits : Limits) (cross : List Bool) (machine : State) (
   same_run = run_of machine past before.shades
 
   enclosed : is_enclosed_kind task.enclosures (kind_of task.enclosures.regions machine.control) ≡ true
-  enclosed = hidden-enclosed task.enclosures (kind_of task.enclosures.regions machine.control) hidden
+  enclosed = hidden_enclosed task.enclosures (kind_of task.enclosures.regions machine.control) hidden
 
   uncrossing : crossed_after task same_run cross ≡ cross
   uncrossing =
@@ -245,7 +245,7 @@ module _ (task : Task) (limits : Limits) (cross : List Bool) (machine : State) (
   hidden-next : unclear_of before.look broken reached.control.mode before.tally.budget before.tally.needed before.left ≡ None →
       Stands task limits (next_masked task [] same_run) (crossed_after task same_run cross) reached before
   hidden-next e =
-      let fine = fine-of before.look broken reached.control.mode before.tally.budget before.tally.needed before.left e in
+      let fine = fine_of before.look broken reached.control.mode before.tally.budget before.tally.needed before.left e in
       record {
         state = ends;
         unbroken = sym breaks ∙ fine.unbroken;
@@ -270,7 +270,7 @@ module _ (task : Task) (limits : Limits) (cross : List Bool) (machine : State) (
 
 -- ---- the same for the run itself, under the regions that are checked
 
-pub told-makes : (task : Task) (limits : Limits) (run : MaskedRun) (cross : List Bool) (machine : State)
+pub told_makes : (task : Task) (limits : Limits) (run : MaskedRun) (cross : List Bool) (machine : State)
     (before : Tape) (enclosures : Enclosures) → task.enclosures ≡ enclosures →
     Stands task limits run cross machine before → before.look ≡ None → before.left ≡ None →
     before.tally.budget < 4294967295 → (reached : State) (after : Tape) (broken : Option Break) →
@@ -280,10 +280,10 @@ pub told-makes : (task : Task) (limits : Limits) (run : MaskedRun) (cross : List
     run.place.past (at_start (map_of before.shades)) before (guest_walk enclosures.regions machine) reached after →
     MakesMasked before.table task limits run cross reached after
     (unclear_of after.look broken reached.control.mode after.tally.budget after.tally.needed after.left)
-told-makes task limits run cross machine before enclosures e stands unlooked undecided small reached after broken shown
+told_makes task limits run cross machine before enclosures e stands unlooked undecided small reached after broken shown
     breaks told =
     let back : enclosures ≡ task.enclosures = sym e in
-    let same = run-same task limits run cross machine before stands in
+    let same = run_same task limits run cross machine before stands in
     subst (λ r. MakesMasked before.table task limits r cross reached after
     (unclear_of after.look broken reached.control.mode after.tally.budget after.tally.needed after.left)) same
     (makes-shown task limits cross machine run.place.past before
@@ -294,7 +294,7 @@ told-makes task limits run cross machine before enclosures e stands unlooked und
     (record { masks = task.masks; skipped = leaves_skipped n (kind_of n.regions machine.control) }) run.place.past
     (at_start (map_of before.shades)) before (guest_walk n.regions machine) reached after) back told))
 
-pub untold-makes : (task : Task) (limits : Limits) (run : MaskedRun) (cross : List Bool) (machine : State)
+pub untold_makes : (task : Task) (limits : Limits) (run : MaskedRun) (cross : List Bool) (machine : State)
     (before : Tape) (enclosures : Enclosures) → task.enclosures ≡ enclosures →
     Stands task limits run cross machine before → before.look ≡ None → before.left ≡ None →
     (reached : State) (broken : Option Break) →
@@ -302,9 +302,9 @@ pub untold-makes : (task : Task) (limits : Limits) (run : MaskedRun) (cross : Li
     reached ≡ real_end (guest_walk enclosures.regions machine) →
     MakesMasked before.table task limits run cross reached before
     (unclear_of before.look broken reached.control.mode before.tally.budget before.tally.needed before.left)
-untold-makes task limits run cross machine before enclosures e stands unlooked undecided reached broken hidden breaks ends =
+untold_makes task limits run cross machine before enclosures e stands unlooked undecided reached broken hidden breaks ends =
     let back : enclosures ≡ task.enclosures = sym e in
-    let same = run-same task limits run cross machine before stands in
+    let same = run_same task limits run cross machine before stands in
     subst (λ r. MakesMasked before.table task limits r cross reached before
     (unclear_of before.look broken reached.control.mode before.tally.budget before.tally.needed before.left)) same
     (makes-hidden task limits cross machine run.place.past before

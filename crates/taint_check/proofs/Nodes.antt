@@ -22,7 +22,7 @@ use Rattle.run_labels.specs.Masks.{masks_of, moved_label}
 use Rattle.run_labels.specs.TurnLabels.{TurnLabels, put_label, save_labels, restore_labels}
 use Rattle.lockstep_replay.specs.Crossing.{crossing}
 use Rattle.lockstep_replay.specs.Tapes.{Tally, Tallies}
-use Rattle.lockstep_replay.proofs.TalliesJoin.{tallies-more}
+use Rattle.lockstep_replay.proofs.TalliesJoin.{tallies_more}
 use Rattle.masked_turns.specs.declared.uses.LeftBits.{LeftBits}
 use Rattle.masked_turns.specs.declared.uses.SecretLook.{SecretLook}
 use Rattle.masked_turns.specs.Answers.{EachCleared}
@@ -32,23 +32,23 @@ use Rattle.masked_turns.specs.Looking.{first_look, look_at, looked_in}
 use Rattle.masked_turns.specs.Notes.{Clears}
 use Rattle.taint_check.specs.Private.Tapes.{Tape, PlaysCleared}
 
-look-assoc : (first second third : Option SecretLook) →
+look_assoc : (first second third : Option SecretLook) →
     first_look (first_look first second) third ≡ first_look first (first_look second third)
-look-assoc None second third = refl
-look-assoc (Some look) second third = refl
+look_assoc None second third = refl
+look_assoc (Some look) second third = refl
 
-left-assoc : (first second third : Option LeftBits) →
+left_assoc : (first second third : Option LeftBits) →
     first_left (first_left first second) third ≡ first_left first (first_left second third)
-left-assoc None second third = refl
-left-assoc (Some left) second third = refl
+left_assoc None second third = refl
+left_assoc (Some left) second third = refl
 
-pub clears-looked : (region : ℕ) (cutting : Cutting) (past : List Point) (labels : TurnLabels) (before : Tape)
+pub clears_looked : (region : ℕ) (cutting : Cutting) (past : List Point) (labels : TurnLabels) (before : Tape)
     (look : Option SecretLook) (seen : Seen) (value : ℕ) (walk : Walk) (out : Played NoMemory Tape) →
     look ≡ first_look before.look (look_at region labels seen) →
     PlaysCleared region cutting past labels (record before { look = look }) walk out →
     PlaysCleared region cutting past labels before (Looked seen value walk) out
 unfolding EachCleared real_end cleared_in looked_in left_in passed crossing
-clears-looked region cutting past labels before look seen value walk (Finished state after) e h = record {
+clears_looked region cutting past labels before look seen value walk (Finished state after) e h = record {
   answers = h.answers;
   are_answers = record { sound = h.are_answers.sound; by_table = h.are_answers.by_table };
   table = h.table;
@@ -56,21 +56,21 @@ clears-looked region cutting past labels before look seen value walk (Finished s
   base = h.base;
   labelled = h.labelled;
   look = h.look ∙ (ap (λ l. first_look l (looked_in region cutting past labels h.answers walk)) e
-      ∙ look-assoc before.look (look_at region labels seen) (looked_in region cutting past labels h.answers walk));
+      ∙ look_assoc before.look (look_at region labels seen) (looked_in region cutting past labels h.answers walk));
   left = h.left;
   ahead = h.ahead;
   tallies = h.tallies;
 }
-clears-looked region cutting past labels before look seen value walk (Halted stop) e h = tt
+clears_looked region cutting past labels before look seen value walk (Halted stop) e h = tt
 
-pub clears-moved : (region : ℕ) (cutting : Cutting) (past : List Point) (old new : TurnLabels) (before : Tape)
+pub clears_moved : (region : ℕ) (cutting : Cutting) (past : List Point) (old new : TurnLabels) (before : Tape)
     (shades : Shades) (place : Place) (shape : Shape) (source : Source) (value : ℕ) (walk : Walk)
     (out : Played NoMemory Tape) → shades.base ≡ before.shades.base →
     new ≡ put_label place (moved_label old shape source) old →
     PlaysCleared region cutting past new (record before { shades = shades }) walk out →
     PlaysCleared region cutting past old before (Moved place shape source value walk) out
 unfolding EachCleared real_end cleared_in looked_in left_in passed crossing
-clears-moved region cutting past old new before shades place shape source value walk (Finished state after) base e k =
+clears_moved region cutting past old new before shades place shape source value walk (Finished state after) base e k =
     let h = subst (λ l. PlaysCleared region cutting past l (record before { shades = shades }) walk
     (Finished state after)) e k in record {
       answers = h.answers;
@@ -84,14 +84,14 @@ clears-moved region cutting past old new before shades place shape source value 
       ahead = h.ahead;
       tallies = h.tallies;
     }
-clears-moved region cutting past old new before shades place shape source value walk (Halted stop) base e k = tt
+clears_moved region cutting past old new before shades place shape source value walk (Halted stop) base e k = tt
 
-pub clears-saved : (region : ℕ) (cutting : Cutting) (past : List Point) (old new : TurnLabels) (before : Tape)
+pub clears_saved : (region : ℕ) (cutting : Cutting) (past : List Point) (old new : TurnLabels) (before : Tape)
     (shades : Shades) (walk : Walk) (out : Played NoMemory Tape) → shades.base ≡ before.shades.base →
     new ≡ save_labels old → PlaysCleared region cutting past new (record before { shades = shades }) walk out →
     PlaysCleared region cutting past old before (Saved walk) out
 unfolding EachCleared real_end cleared_in looked_in left_in passed crossing
-clears-saved region cutting past old new before shades walk (Finished state after) base e k =
+clears_saved region cutting past old new before shades walk (Finished state after) base e k =
     let h = subst (λ l. PlaysCleared region cutting past l (record before { shades = shades }) walk
     (Finished state after)) e k in record {
       answers = h.answers;
@@ -105,15 +105,15 @@ clears-saved region cutting past old new before shades walk (Finished state afte
       ahead = h.ahead;
       tallies = h.tallies;
     }
-clears-saved region cutting past old new before shades walk (Halted stop) base e k = tt
+clears_saved region cutting past old new before shades walk (Halted stop) base e k = tt
 
-pub clears-restored : (region : ℕ) (cutting : Cutting) (past : List Point) (old new : TurnLabels) (before : Tape)
+pub clears_restored : (region : ℕ) (cutting : Cutting) (past : List Point) (old new : TurnLabels) (before : Tape)
     (shades : Shades) (registers : List ℕ) (walk back : Walk) (out : Played NoMemory Tape) →
     shades.base ≡ before.shades.base → new ≡ restore_labels registers old →
     PlaysCleared region cutting past new (record before { shades = shades }) walk out →
     PlaysCleared region cutting past old before (Restored registers walk back) out
 unfolding EachCleared real_end cleared_in looked_in left_in passed crossing
-clears-restored region cutting past old new before shades registers walk back (Finished state after) base e k =
+clears_restored region cutting past old new before shades registers walk back (Finished state after) base e k =
     let h = subst (λ l. PlaysCleared region cutting past l (record before { shades = shades }) walk
     (Finished state after)) e k in record {
       answers = h.answers;
@@ -127,7 +127,7 @@ clears-restored region cutting past old new before shades registers walk back (F
       ahead = h.ahead;
       tallies = h.tallies;
     }
-clears-restored region cutting past old new before shades registers walk back (Halted stop) base e k = tt
+clears_restored region cutting past old new before shades registers walk back (Halted stop) base e k = tt
 
 -- what is shaped takes no answer, what is computed takes this one
 module _ (region : ℕ) (cutting : Cutting) (past : List Point) (labels : TurnLabels) (before : Tape) (shades : Shades)
@@ -145,7 +145,7 @@ module _ (region : ℕ) (cutting : Cutting) (past : List Point) (labels : TurnLa
   abbrev then_labels : Work → TurnLabels
   then_labels work = labels_left cutting.skipped (crossed work) labels answer (of_work work)
 
-  passed-work : (work : Work) (out : Played NoMemory Tape) → before.tally.budget < 4294967295 →
+  passed_work : (work : Work) (out : Played NoMemory Tape) → before.tally.budget < 4294967295 →
       shades.base ≡ before.shades.base → HoldsOfAnswer IsSoundAnswer work (masks_of labels sources) answer →
       HoldsOfAnswer (IsTableAnswer before.table) work (masks_of labels sources) answer →
       left ≡ first_left before.left (decided work) →
@@ -154,7 +154,7 @@ module _ (region : ℕ) (cutting : Cutting) (past : List Point) (labels : TurnLa
       (record before { shades = shades; tally = tally; left = left }) (go value) out →
       PlaysCleared region cutting past labels before (Passed (of_work work) go) out
   unfolding EachCleared real_end cleared_in looked_in left_in passed crossing
-  passed-work (Shaped shape) (Finished state after) small base sound by_table e tallies h =
+  passed_work (Shaped shape) (Finished state after) small base sound by_table e tallies h =
       let later = left_in cutting (point ∷ past) (then_labels (Shaped shape)) h.answers (go value) in
       let more = crossing cutting.masks (point ∷ past) (go value) in record {
         answers = h.answers;
@@ -164,12 +164,12 @@ module _ (region : ℕ) (cutting : Cutting) (past : List Point) (labels : TurnLa
         base = h.base ∙ base;
         labelled = h.labelled;
         look = h.look;
-        left = h.left ∙ (ap (λ l. first_left l later) e ∙ left-assoc before.left (decided (Shaped shape)) later);
+        left = h.left ∙ (ap (λ l. first_left l later) e ∙ left_assoc before.left (decided (Shaped shape)) later);
         ahead = h.ahead;
-        tallies = tallies-more before.tally tally after.tally (bits_under value (crossed (Shaped shape))) more small tallies
+        tallies = tallies_more before.tally tally after.tally (bits_under value (crossed (Shaped shape))) more small tallies
             h.tallies;
       }
-  passed-work (Computed operation first second) (Finished state after) small base sound by_table e tallies h =
+  passed_work (Computed operation first second) (Finished state after) small base sound by_table e tallies h =
       let work = Computed operation first second in
       let later = left_in cutting (point ∷ past) (then_labels work) h.answers (go value) in
       let more = crossing cutting.masks (point ∷ past) (go value) in record {
@@ -180,14 +180,14 @@ module _ (region : ℕ) (cutting : Cutting) (past : List Point) (labels : TurnLa
         base = h.base ∙ base;
         labelled = h.labelled;
         look = h.look;
-        left = h.left ∙ (ap (λ l. first_left l later) e ∙ left-assoc before.left (decided work) later);
+        left = h.left ∙ (ap (λ l. first_left l later) e ∙ left_assoc before.left (decided work) later);
         ahead = h.ahead;
-        tallies = tallies-more before.tally tally after.tally (bits_under value (crossed work)) more small tallies
+        tallies = tallies_more before.tally tally after.tally (bits_under value (crossed work)) more small tallies
             h.tallies;
       }
-  passed-work work (Halted stop) small base sound by_table e tallies h = tt
+  passed_work work (Halted stop) small base sound by_table e tallies h = tt
 
-pub clears-passed : (region : ℕ) (cutting : Cutting) (past : List Point) (old new : TurnLabels) (before : Tape)
+pub clears_passed : (region : ℕ) (cutting : Cutting) (past : List Point) (old new : TurnLabels) (before : Tape)
     (shades : Shades) (tally : Tally) (left : Option LeftBits) (mask : ℕ) (passing : Passing) (go : ℕ → Walk)
     (out : Played NoMemory Tape) → before.tally.budget < 4294967295 → shades.base ≡ before.shades.base →
     Clears before.table cutting.skipped (crossing_at cutting past passing) old passing new mask →
@@ -196,8 +196,8 @@ pub clears-passed : (region : ℕ) (cutting : Cutting) (past : List Point) (old 
     PlaysCleared region cutting (passing.point ∷ past) new
     (record before { shades = shades; tally = tally; left = left }) (go passing.value) out →
     PlaysCleared region cutting past old before (Passed passing go) out
-clears-passed region cutting past old new before shades tally left mask passing go out small base note e tallies h =
-    passed-work region cutting past old before shades tally left note.answer passing.point passing.aim passing.sources
+clears_passed region cutting past old new before shades tally left mask passing go out small base note e tallies h =
+    passed_work region cutting past old before shades tally left note.answer passing.point passing.aim passing.sources
     passing.value go passing.work out small base note.sound note.by_table
     (e ∙ ap (λ m. first_left before.left (left_at passing.aim passing.point m)) note.mask_is) tallies
     (subst (λ l. PlaysCleared region cutting (passing.point ∷ past) l

@@ -20,50 +20,50 @@ pub record IsFine (look : Option SecretLook) (broken : Option Break) (mode : Ste
   pub within : nat_lt budget needed ≡ false
   pub undecided : left ≡ None
 
-fine-budget : (t : Bool) (budget needed : ℕ) (left : Option LeftBits) → unclear_budget t budget needed left ≡ None →
+fine_budget : (t : Bool) (budget needed : ℕ) (left : Option LeftBits) → unclear_budget t budget needed left ≡ None →
     (t ≡ false) × (left ≡ None)
-fine-budget true budget needed left e = absurd (cc)
-fine-budget false budget needed None e = (refl, refl)
-fine-budget false budget needed (Some left) e = absurd (cc)
+fine_budget true budget needed left e = absurd (cc)
+fine_budget false budget needed None e = (refl, refl)
+fine_budget false budget needed (Some left) e = absurd (cc)
 
-pub fine-of : (look : Option SecretLook) (broken : Option Break) (mode : Stepped) (budget needed : ℕ)
+pub fine_of : (look : Option SecretLook) (broken : Option Break) (mode : Stepped) (budget needed : ℕ)
     (left : Option LeftBits) → unclear_of look broken mode budget needed left ≡ None →
     IsFine look broken mode budget needed left
-fine-of (Some (Code pc)) broken mode budget needed left e = absurd (cc)
-fine-of (Some (BaseRegister region register)) broken mode budget needed left e = absurd (cc)
-fine-of None (Some broken) mode budget needed left e = absurd (cc)
-fine-of None None (Stopped fault) budget needed left e = absurd (cc)
-fine-of None None Ran budget needed left e =
-    let b = fine-budget (nat_lt budget needed) budget needed left e in
+fine_of (Some (Code pc)) broken mode budget needed left e = absurd (cc)
+fine_of (Some (BaseRegister region register)) broken mode budget needed left e = absurd (cc)
+fine_of None (Some broken) mode budget needed left e = absurd (cc)
+fine_of None None (Stopped fault) budget needed left e = absurd (cc)
+fine_of None None Ran budget needed left e =
+    let b = fine_budget (nat_lt budget needed) budget needed left e in
     record { unlooked = refl; unbroken = refl; within = b.0; undecided = b.1 }
-fine-of None None (Exited status) budget needed left e =
-    let b = fine-budget (nat_lt budget needed) budget needed left e in
+fine_of None None (Exited status) budget needed left e =
+    let b = fine_budget (nat_lt budget needed) budget needed left e in
     record { unlooked = refl; unbroken = refl; within = b.0; undecided = b.1 }
 
-budget-counted : (budget total counted : ℕ) (left : Option LeftBits) (t s : Bool) → budget < 4294967295 →
+budget_counted : (budget total counted : ℕ) (left : Option LeftBits) (t s : Bool) → budget < 4294967295 →
     counted ≡ counted_bits total → nat_lt budget counted ≡ t → nat_lt budget total ≡ s →
     unclear_budget t budget counted left ≡ unclear_budget s budget total left
-budget-counted budget total counted left true true small c p q =
+budget_counted budget total counted left true true small c p q =
     let same : counted_bits counted ≡ counted_bits total = omega (arith, c) in
     ap (λ n. Some (BudgetOverrun budget n)) same
-budget-counted budget total counted left false false small c p q = refl
-budget-counted budget total counted left true false small c p q =
+budget_counted budget total counted left false false small c p q = refl
+budget_counted budget total counted left true false small c p q =
     let more = ltb-true budget counted p in let less = ltb-false budget total q in
     absurd (omega (arith, c, more, less))
-budget-counted budget total counted left false true small c p q =
+budget_counted budget total counted left false true small c p q =
     let less = ltb-false budget counted p in let more = ltb-true budget total q in
     absurd (omega (arith, c, more, less, small))
 
-mode-counted : (mode : Stepped) (budget total counted : ℕ) (left : Option LeftBits) → budget < 4294967295 →
+mode_counted : (mode : Stepped) (budget total counted : ℕ) (left : Option LeftBits) → budget < 4294967295 →
     counted ≡ counted_bits total → unclear_mode mode budget counted left ≡ unclear_mode mode budget total left
-mode-counted Ran budget total counted left small c =
-    budget-counted budget total counted left (nat_lt budget counted) (nat_lt budget total) small c refl refl
-mode-counted (Exited status) budget total counted left small c =
-    budget-counted budget total counted left (nat_lt budget counted) (nat_lt budget total) small c refl refl
-mode-counted (Stopped fault) budget total counted left small c = refl
+mode_counted Ran budget total counted left small c =
+    budget_counted budget total counted left (nat_lt budget counted) (nat_lt budget total) small c refl refl
+mode_counted (Exited status) budget total counted left small c =
+    budget_counted budget total counted left (nat_lt budget counted) (nat_lt budget total) small c refl refl
+mode_counted (Stopped fault) budget total counted left small c = refl
 
-pub why-counted : (look : Option SecretLook) (broken : Option Break) (mode : Stepped) (budget total counted : ℕ)
+pub why_counted : (look : Option SecretLook) (broken : Option Break) (mode : Stepped) (budget total counted : ℕ)
     (left : Option LeftBits) → budget < 4294967295 → counted ≡ counted_bits total →
     unclear_of look broken mode budget counted left ≡ unclear_of look broken mode budget total left
-why-counted look broken mode budget total counted left small c =
-    ap (λ w. unclear_looked look (unclear_broken broken w)) (mode-counted mode budget total counted left small c)
+why_counted look broken mode budget total counted left small c =
+    ap (λ w. unclear_looked look (unclear_broken broken w)) (mode_counted mode budget total counted left small c)

@@ -19,20 +19,20 @@ use Rattle.taint_check.specs.Private.Tapes.{Tape}
 use Rattle.taint_check.specs.Private.Turns.{Begins, Stands, MakesMasked, crossed_after}
 
 -- a run with masks stands where the real run does, whatever the rules answer
-pub cleared-place : (task : Task) (secret : List ℕ) (answers : List (List ℕ)) →
+pub cleared_place : (task : Task) (secret : List ℕ) (answers : List (List ℕ)) →
     (Cleared task secret answers).place ≡ real_of task secret (length answers)
 unfolding Cleared Real
-cleared-place task secret [] = refl
-cleared-place task secret (last ∷ answers) =
-    ap (λ place. real_turn task.enclosures place) (cleared-place task secret answers)
+cleared_place task secret [] = refl
+cleared_place task secret (last ∷ answers) =
+    ap (λ place. real_turn task.enclosures place) (cleared_place task secret answers)
 
-crossed-next : (task : Task) (secret : List ℕ) (answers : List (List ℕ)) →
+crossed_next : (task : Task) (secret : List ℕ) (answers : List (List ℕ)) →
     crossed_after task (Cleared task secret answers) (Cross task secret (length answers))
     ≡ Cross task secret (suc (length answers))
 unfolding cross_after
-crossed-next task secret answers =
+crossed_next task secret answers =
     ap (λ place. Cross task secret (length answers) ++ crossing_of task.enclosures task.masks place)
-    (cleared-place task secret answers)
+    (cleared_place task secret answers)
 
 -- nothing has been found in so many turns, after which machine and masks stand so
 pub record IsGoing (table : ℕ) (task : Task) (limits : Limits) (secret : List ℕ) (turns : ℕ) (machine : State)
@@ -43,11 +43,11 @@ pub record IsGoing (table : ℕ) (task : Task) (limits : Limits) (secret : List 
   pub stands : Stands task limits (Cleared task secret answers) (Cross task secret (length answers)) machine tape
   pub none : found task limits secret answers ≡ None
 
-pub going-start : (table : ℕ) (task : Task) (limits : Limits) (secret : List ℕ) (machine : State) (tape : Tape)
+pub going_start : (table : ℕ) (task : Task) (limits : Limits) (secret : List ℕ) (machine : State) (tape : Tape)
     (regions : List Region) (skip : List ℕ) → Begins task limits secret machine tape regions skip →
     IsGoing table task limits secret 0 machine tape
 unfolding Cleared AreRunAnswers found cross_after
-going-start table task limits secret machine tape regions skip begins =
+going_start table task limits secret machine tape regions skip begins =
     record { answers = []; are_answers = tt; count = refl; stands = begins.stands; none = refl }
 
 module _ (table : ℕ) (task : Task) (limits : Limits) (secret : List ℕ) (turns : ℕ) (machine : State) (tape : Tape)
@@ -71,7 +71,7 @@ module _ (table : ℕ) (task : Task) (limits : Limits) (secret : List ℕ) (turn
       let now = found_in task limits secret makes.answers going.answers in
       let is : why ≡ unclear_turned task limits (length crossed) makes.answers (Cleared task secret going.answers) =
       makes.why_is ∙ ap (λ bits. unclear_turned task limits (length bits) makes.answers (Cleared task secret going.answers))
-      (crossed-next task secret going.answers) in
+      (crossed_next task secret going.answers) in
       ap (λ f. first_found f now) going.none
       ∙ (ap (λ w. found_turn w (Cleared task secret all).place.state crossed) (sym is)
       ∙ ap (λ s. found_turn why s crossed) (sym makes.state))
@@ -119,7 +119,7 @@ module _ (table : ℕ) (task : Task) (limits : Limits) (secret : List ℕ) (turn
       (IsClean after.tally.stream.bits (record { bytes = reached.control.output; status = status }))
   verdict-clean status fine exits below same =
       let bits : after.tally.stream.bits ≡ crossed =
-      (makes.next fine).bits ∙ crossed-next task secret going.answers in
+      (makes.next fine).bits ∙ crossed_next task secret going.answers in
       subst (λ b. IsVerdict table task limits secret
       (IsClean b (record { bytes = reached.control.output; status = status }))) (sym bits)
       (verdict-found (IsClean crossed (record { bytes = reached.control.output; status = status }))
@@ -134,15 +134,15 @@ module _ (table : ℕ) (task : Task) (limits : Limits) (secret : List ℕ) (turn
     are_answers = all-answers;
     count = omega (arith, going.count);
     stands = subst (λ bits. Stands task limits (Cleared task secret all) bits reached after)
-        (crossed-next task secret going.answers) (makes.next fine);
+        (crossed_next task secret going.answers) (makes.next fine);
     none = found-all ∙ (ap (λ w. found_turn w reached crossed) fine ∙ on-found reached.control.mode runs);
   }
 
 -- as many turns as may be made
-pub verdict-limit : (table : ℕ) (task : Task) (limits : Limits) (secret : List ℕ) (turns limit : ℕ) (machine : State)
+pub verdict_limit : (table : ℕ) (task : Task) (limits : Limits) (secret : List ℕ) (turns limit : ℕ) (machine : State)
     (tape : Tape) → IsGoing table task limits secret turns machine tape → turns ≡ limits.turns → limit ≡ limits.turns →
     length secret ≡ task.secret_length → IsVerdict table task limits secret (IsUnclear (TurnLimit limit))
-verdict-limit table task limits secret turns limit machine tape going all e same = record {
+verdict_limit table task limits secret turns limit machine tape going all e same = record {
   answers = going.answers;
   are_answers = going.are_answers;
   within = omega (arith, going.count, all);
@@ -153,16 +153,16 @@ verdict-limit table task limits secret turns limit machine tape going all e same
       ∙ ap (λ f. found_within f limits.turns) going.none);
 }
 
-pub none-of : {A : Type 0} (found : Option A) → ((item : A) → found ≡ Some item → ⊥) → found ≡ None
-none-of None h = refl
-none-of (Some item) h = absurd (h item refl)
+pub none_of : {A : Type 0} (found : Option A) → ((item : A) → found ≡ Some item → ⊥) → found ≡ None
+none_of None h = refl
+none_of (Some item) h = absurd (h item refl)
 
 -- a secret of another length is unclear before the first turn
-pub verdict-length : (table : ℕ) (task : Task) (limits : Limits) (secret : List ℕ) (cut got : ℕ) →
+pub verdict_length : (table : ℕ) (task : Task) (limits : Limits) (secret : List ℕ) (cut got : ℕ) →
     cut ≡ task.secret_length → got ≡ length secret → (length secret ≡ task.secret_length → ⊥) →
     IsVerdict table task limits secret (IsUnclear (SecretLength cut got))
 unfolding AreRunAnswers
-verdict-length table task limits secret cut got c g other = record {
+verdict_length table task limits secret cut got c g other = record {
   answers = [];
   are_answers = tt;
   within = omega arith;

@@ -17,7 +17,7 @@ use Rattle.region_machine.specs.Enclosures.{Kind, Enters, Leaves, Steps, kind_of
 use Rattle.region_machine.specs.Guests.{guest_walk, kind_walk}
 use Rattle.region_machine.specs.Runs.{Place, passed, visited, Real, turn_unless, unbroken_turn}
 use Rattle.region_machine.proofs.NoExitInside.{enclosed_runs_on}
-use Rattle.region_machine.proofs.RangesStayInside.{numbered, entered-found}
+use Rattle.region_machine.proofs.RangesStayInside.{numbered, entered_found}
 use Rattle.replay_machine.specs.Runs.{ReplayPlace, replay_fresh, replay_turn}
 use Rattle.lockstep_replay.specs.Crossing.{crossing, crossing_of, crossing_unbroken, crossing_unless}
 use Rattle.lockstep_replay.specs.Tasks.{Task, real_start, real_of}
@@ -35,7 +35,7 @@ use Rattle.acceptance_law.proofs.TurnKinds.{numbered_id}
 use Rattle.masked_turns.specs.Clearing.{Cutting, cleared_in}
 use Rattle.masked_turns.proofs.OutsideMasks.{AreSmall}
 use Rattle.taint_check.specs.Cleared.{MaskedRun, Cleared, is_hidden, leaves_skipped, labels_unless, next_masked}
-use Rattle.taint_check.proofs.RunVerdicts.{cleared-place}
+use Rattle.taint_check.proofs.RunVerdicts.{cleared_place}
 use Rattle.taint_check.proofs.SkipsAgree.{Within, skip_enters, skip_steps, skip_leaves}
 use Rattle.taint_check.proofs.StandsAgree.{At, HasStood, step_stands, entry_stands, leave_stands}
 use Rattle.taint_check.proofs.TurnsAgree.{IsClear}
@@ -162,7 +162,7 @@ module _ (task : Task) (secret other : List ℕ) (bytes : AreBytes secret) (othe
         crossing_of task.enclosures task.masks (real_of task secret (length answers))
         ≡ crossing task.masks past (guest_walk regions the_state)
     crosses exposed =
-        ap (λ (p : Place). crossing_of task.enclosures task.masks p) (sym (cleared-place task secret answers))
+        ap (λ (p : Place). crossing_of task.enclosures task.masks p) (sym (cleared_place task secret answers))
         ∙ ap (λ b. crossing_unbroken b task.enclosures task.masks the_run.place) unbroken
         ∙ ap (λ t. crossing_unless t task.masks past (guest_walk regions the_run.place.state)) exposed
         ∙ ap (λ s. crossing task.masks past (guest_walk regions s)) parts
@@ -170,7 +170,7 @@ module _ (task : Task) (secret other : List ℕ) (bytes : AreBytes secret) (othe
     real_enclosed : (t : Bool) → is_enclosed task.enclosures here ≡ t →
         is_enclosed task.enclosures (Real task.enclosures (length answers) the_start).state.control ≡ t
     real_enclosed t e =
-        ap (λ (p : Place). is_enclosed task.enclosures p.state.control) (sym (cleared-place task secret answers)) ∙ e
+        ap (λ (p : Place). is_enclosed task.enclosures p.state.control) (sym (cleared_place task secret answers)) ∙ e
 
     -- the mode after a turn, by what the turn was
     abbrev pub Later : Type 0
@@ -268,14 +268,14 @@ module _ (task : Task) (secret other : List ℕ) (bytes : AreBytes secret) (othe
             is_listed task.enclosures.skip region.id ≡ t → Later
         enters region e false unskipped =
             let found = numbered regions (λ other_region. other_region.enter == here.pc) region rules
-            (entered-found here.mode regions here region e) in
+            (entered_found here.mode regions here region e) in
             stood_as (Enters region) here at.copy e unskipped refl at.comes
             (entry_stands task.enclosures.skip regions task.masks setting secret other bytes others public_bytes
             small_start small proper here the_run.labels last values at.copy past region e unskipped found
             (unbroken_as (Enters region) e) at.stands (clear_as (Enters region) e refl))
         enters region e true skipped =
             let found = numbered regions (λ other_region. other_region.enter == here.pc) region rules
-            (entered-found here.mode regions here region e) in
+            (entered_found here.mode regions here region e) in
             let out = enters_outside here.mode regions here region e in
             skips_as (Enters region) here at.copy e skipped at.comes
             (skip_enters task.enclosures.skip regions task.masks setting secret other bytes others public_bytes small_start

@@ -33,7 +33,7 @@ use Rattle.acceptance_law.proofs.StepsKeepStanding.{state_of, placed, Stands, Ha
 use Rattle.acceptance_law.proofs.WritesKeepRelation.{Beside}
 use Rattle.masked_turns.specs.Clearing.{Cutting, cleared_in}
 use Rattle.masked_turns.specs.Looking.{looked_in}
-use Rattle.masked_turns.proofs.LooksAgree.{look_same, look-none}
+use Rattle.masked_turns.proofs.LooksAgree.{look_same, look_none}
 use Rattle.masked_turns.proofs.GuestStates.{guest_within}
 use Rattle.masked_turns.proofs.OutsideMasks.{AreSmall, everything}
 use Rattle.masked_turns.proofs.RegionsKeepStanding.{stands_entered, stands_left}
@@ -64,7 +64,7 @@ same_starts setting secret number cutting past labels answers real held copy tak
         × (looked_in number cutting past labels answers (walked setting secret rest real held) ≡ None)
     one None rest none = (refl, none)
     one (Some register) rest none =
-        let both = look-none _ _ none in
+        let both = look_none _ _ none in
         (look_same everything setting.base number labels real held copy taken beside (Base register) tt both.0, both.1)
 
 -- an entry keeps the masks of all registers

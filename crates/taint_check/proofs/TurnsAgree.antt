@@ -33,7 +33,7 @@ use Rattle.masked_turns.specs.Answers.{EachCleared}
 use Rattle.masked_turns.specs.Clearing.{Cutting, cleared_in, uncrossed}
 use Rattle.masked_turns.specs.Deciding.{first_left, left_at, left_in}
 use Rattle.masked_turns.specs.Looking.{looked_in}
-use Rattle.masked_turns.proofs.LooksAgree.{look_same, look-none}
+use Rattle.masked_turns.proofs.LooksAgree.{look_same, look_none}
 use Rattle.masked_turns.proofs.MovesAgree.{moved_beside}
 use Rattle.masked_turns.proofs.OutsideMasks.{AreSmall, close_of, decided_none, everything}
 
@@ -58,9 +58,9 @@ pub record KeepsAgreed (cutting : Cutting) (setting : Setting) (other : List ℕ
       (real_end walk).store none_held store none_held
   pub kept : store.kept ≡ copy.kept
 
-pub left-none : (first later : Option LeftBits) → first_left first later ≡ None → (first ≡ None) × (later ≡ None)
-left-none None later e = (refl, e)
-left-none (Some left) later e = absurd (cc)
+pub left_none : (first later : Option LeftBits) → first_left first later ≡ None → (first ≡ None) × (later ≡ None)
+left_none None later e = (refl, e)
+left_none (Some left) later e = absurd (cc)
 
 module _ (cutting : Cutting) (small : AreSmall cutting.masks) (setting : Setting) (secret other : List ℕ)
     (bytes : AreBytes secret) (others : AreBytes other) (number region : ℕ) where
@@ -149,7 +149,7 @@ module _ (cutting : Cutting) (small : AreSmall cutting.masks) (setting : Setting
       Kept turn labels answers real held copy taken past
   unfolding walked replayed crossing passed real_end cleared_in left_in looked_in EachCleared IsProper
   turn_kept (Looks seen go) labels answers real held copy taken past proper beside clear =
-      let parts = look-none _ _ clear.looks in
+      let parts = look_none _ _ clear.looks in
       let e : seen_value setting.base real seen ≡ seen_value setting.base copy seen =
       look_same everything setting.base number labels real held copy taken beside seen proper.0 parts.0 in
       let rest = turn_kept (go (seen_value setting.base real seen)) labels answers real held copy taken past
@@ -185,7 +185,7 @@ module _ (cutting : Cutting) (small : AreSmall cutting.masks) (setting : Setting
   turn_kept (Decides point making sources go) labels answers real held copy taken past proper beside clear =
       let r = real_value labels answers real held copy taken past beside point making sources proper.0 clear.sound.0 in
       let y = copy_value labels answers real held copy taken past beside point making sources proper.0 clear.sound.0 in
-      let parts = left-none _ _ clear.left in
+      let parts = left_none _ _ clear.left in
       let e = decided_equal labels answers real held copy taken past beside point making sources proper.0 clear.sound.0
       parts.0 in
       let word = real_word labels answers real held copy taken past beside point making sources proper.0 clear.sound.0 in

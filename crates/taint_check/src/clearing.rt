@@ -36,7 +36,7 @@ impl Passer for Clearing<'_> {
     ghost use Rattle.replay_machine.specs.Runs.{Masks};
     ghost use Rattle.replay_machine.specs.Visits.{IsAhead};
     ghost use Rattle.tracked_run.specs.Labels.{labels_of};
-    ghost use Rattle.taint_check.specs.Private.Tapes.{Tape, PlaysCleared, clears-Ended, tape_of};
+    ghost use Rattle.taint_check.specs.Private.Tapes.{Tape, PlaysCleared, clears_Ended, tape_of};
 
     type Stop = NoMemory;
 
@@ -97,7 +97,7 @@ impl Passer for Clearing<'_> {
     }
 
     ghost at_end = { λ side state masks past ahead.
-        clears-Ended side.region (record { masks = masks; skipped = side.skipped }) past
+        clears_Ended side.region (record { masks = masks; skipped = side.skipped }) past
         (labels_of side.shadow side.held)
         (tape_of side.book.now.table side.shadow side.tally side.look side.left) state refl
         side.tally.word ahead };
@@ -106,13 +106,13 @@ impl Passer for Clearing<'_> {
 impl Observer for Clearing<'_> {
     ghost use Rattle.std.specs.Prelude.{[]};
     ghost use Rattle.cut_file.specs.Masks.{MaskAt};
-    ghost use Rattle.replay_machine.proofs.MasksAhead.{ahead-self};
+    ghost use Rattle.replay_machine.proofs.MasksAhead.{ahead_self};
     ghost use Rattle.tracked_run.specs.Labels.{labels_of};
-    ghost use Rattle.taint_check.specs.Private.Tapes.{clears-real, tape_of};
+    ghost use Rattle.taint_check.specs.Private.Tapes.{clears_real, tape_of};
 
     ghost real = { λ side walk state after told.
-        clears-real side.region
+        clears_real side.region
         (record { masks = MaskAt side.tally.masks; skipped = side.skipped }) [] (labels_of side.shadow side.held)
         (tape_of side.book.now.table side.shadow side.tally side.look side.left) walk state after
-        (told (MaskAt side.tally.masks) [] (ahead-self side.tally.masks)) };
+        (told (MaskAt side.tally.masks) [] (ahead_self side.tally.masks)) };
 }

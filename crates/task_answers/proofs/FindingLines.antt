@@ -19,10 +19,10 @@ length_findings table task limits (secret ∷ secrets) (finding ∷ findings) ar
 
 -- ---- one secret after another
 
-clean-split : (finding : Finding) (rest : List Finding) →
+clean_split : (finding : Finding) (rest : List Finding) →
     clean_count (finding ∷ rest) ≡ clean_count (finding ∷ []) + clean_count rest
-clean-split (IsClean bits output) rest = omega arith
-clean-split (IsUnclear why) rest = omega arith
+clean_split (IsClean bits output) rest = omega arith
+clean_split (IsUnclear why) rest = omega arith
 
 abbrev WithRest : ℕ → JudgedTask → Limits → List (List ℕ) → List ℕ → ℕ → ℕ → List Finding → Type 0
 WithRest table task limits secrets text number clean rest =
@@ -36,7 +36,7 @@ pub next_finding : (table : ℕ) (task : JudgedTask) (limits : Limits) (secrets 
     WithRest table task limits secrets text number clean (finding ∷ rest) →
     WithRest table task limits secrets more later (clean + one) rest
 next_finding table task limits secrets text line more number later clean one finding rest next appended is counted (findings, are, lines, counts) =
-    let split = clean-split finding rest in
+    let split = clean_split finding rest in
     let tail : List ℕ = finding_lines (later + 1) rest in
     let here : finding_line later finding ++ tail ≡ finding_lines (number + 1) (finding ∷ rest) =
     ap (λ n. finding_line n finding ++ finding_lines (n + 1) rest) next in

@@ -8,27 +8,27 @@ use Rattle.command_tasks.specs.Guests.{Guest}
 use Rattle.command_tasks.specs.Tasks.{RunTask}
 use Rattle.task_answers.specs.Trials.{guest_of_number, run_of_number, trial_turns}
 
-abbrev made-guest : Picture → List ℕ → List Region → Guest
-made-guest program public_input regions = record {
+abbrev made_guest : Picture → List ℕ → List Region → Guest
+made_guest program public_input regions = record {
   program = program;
   public_input = public_input;
   regions = regions;
 }
 
-abbrev pub made-run : Guest → List ℕ → RunTask
-made-run guest secret = record { guest = guest; secret = secret; turns = trial_turns; table = 1 }
+abbrev pub made_run : Guest → List ℕ → RunTask
+made_run guest secret = record { guest = guest; secret = secret; turns = trial_turns; table = 1 }
 
 pub guest_of_trial : (number : ℕ) (program : Picture) (public_input : List ℕ) (regions : List Region) →
     program ≡ picture_of_number number → public_input ≡ [] → regions ≡ [] →
-    made-guest program public_input regions ≡ guest_of_number number
+    made_guest program public_input regions ≡ guest_of_number number
 guest_of_trial number program public_input regions a b c =
-    ap (λ v. made-guest v public_input regions) a
-    ∙ (ap (λ v. made-guest (picture_of_number number) v regions) b
-    ∙ ap (λ v. made-guest (picture_of_number number) [] v) c)
+    ap (λ v. made_guest v public_input regions) a
+    ∙ (ap (λ v. made_guest (picture_of_number number) v regions) b
+    ∙ ap (λ v. made_guest (picture_of_number number) [] v) c)
 
 pub run_of_trial : (number : ℕ) (program : Picture) (public_input : List ℕ) (regions : List Region) (secret : List ℕ) →
     program ≡ picture_of_number number → public_input ≡ [] → regions ≡ [] → secret ≡ secret_of number →
-    made-run (made-guest program public_input regions) secret ≡ run_of_number number
+    made_run (made_guest program public_input regions) secret ≡ run_of_number number
 run_of_trial number program public_input regions secret a b c d =
-    ap (λ v. made-run v secret) (guest_of_trial number program public_input regions a b c)
-    ∙ ap (λ v. made-run (guest_of_number number) v) d
+    ap (λ v. made_run v secret) (guest_of_trial number program public_input regions a b c)
+    ∙ ap (λ v. made_run (guest_of_number number) v) d

@@ -22,44 +22,44 @@ use Rattle.tracked_run.specs.Linking.{masked_events}
 
 -- ---- a byte that gets the label that it has
 
-same-byte : (bytes : ℕ → Label) (address : ℕ) (label : Label) → bytes address ≡ label → (a : ℕ) →
+same_byte : (bytes : ℕ → Label) (address : ℕ) (label : Label) → bytes address ≡ label → (a : ℕ) →
     (if a == address then label else bytes a) ≡ bytes a
-same-byte bytes address label has a = by (a == address) refl
+same_byte bytes address label has a = by (a == address) refl
   where
     by : (b : Bool) → (a == address) ≡ b → (if b then label else bytes a) ≡ bytes a
     by true e = sym has ∙ ap bytes (sym (eqb-true a address e))
     by false e = refl
 
-same-map : (map : LabelMap) (address : ℕ) (label : Label) → map.bytes address ≡ label →
+same_map : (map : LabelMap) (address : ℕ) (label : Label) → map.bytes address ≡ label →
     after (ToByte address label) map ≡ map
-same-map map address label has =
+same_map map address label has =
     let bytes : (λ a. if a == address then label else map.bytes a) ≡ map.bytes =
-    fun_ext (same-byte map.bytes address label has) in
+    fun_ext (same_byte map.bytes address label has) in
     λ i. record { registers = map.registers; kept = map.kept; bytes = bytes i }
 
-same-labels : (labels : TurnLabels) (address : ℕ) (label : Label) → labels.map.bytes address ≡ label →
+same_labels : (labels : TurnLabels) (address : ℕ) (label : Label) → labels.map.bytes address ≡ label →
     put_label (Byte address) label labels ≡ labels
-same-labels labels address label has =
-    let map : after (ToByte address label) labels.map ≡ labels.map = same-map labels.map address label has in
+same_labels labels address label has =
+    let map : after (ToByte address label) labels.map ≡ labels.map = same_map labels.map address label has in
     λ i. record { map = map i; first = labels.first; second = labels.second }
 
 labelled : (mask : ℕ) (point : Point) → (mask == 0) ≡ false → label_of mask point ≡ record { mask = mask; point = point }
 labelled mask point some = ap (λ b. if b then clean else record { mask = mask; point = point }) some
 
-pub labels-stay : (labels : TurnLabels) (passing : Passing) (mask : ℕ) → (mask == 0) ≡ false →
+pub labels_stay : (labels : TurnLabels) (passing : Passing) (mask : ℕ) → (mask == 0) ≡ false →
     GivesAgain labels passing mask → (answer : ℕ) → mask ≡ mask_of labels answer passing →
     labels ≡ labels_after labels answer passing
-labels-stay labels passing mask some again answer is =
+labels_stay labels passing mask some again answer is =
     sym (ap (λ m. aim_label passing.aim (label_of m passing.point) labels) (sym is)
     ∙ (ap (λ label. aim_label passing.aim label labels) (labelled mask passing.point some)
     ∙ (ap (λ aim. aim_label aim (record { mask = mask; point = passing.point }) labels) again.aim
-    ∙ same-labels labels again.address (record { mask = mask; point = passing.point }) again.label)))
+    ∙ same_labels labels again.address (record { mask = mask; point = passing.point }) again.label)))
 
 -- ---- its events
 
-pub events-again : (labels : TurnLabels) (passing : Passing) (mask : ℕ) → (mask == 0) ≡ false →
+pub events_again : (labels : TurnLabels) (passing : Passing) (mask : ℕ) → (mask == 0) ≡ false →
     GivesAgain labels passing mask → again_events passing.point mask ≡ masked_events labels mask passing
-events-again labels passing mask some again =
+events_again labels passing mask some again =
     let p : Point = passing.point in
     let outs : List Event = Out p.region p ∷ [] in
     let link : link_from (labels.map.bytes again.address) p ++ outs ≡ Link p p ∷ outs =

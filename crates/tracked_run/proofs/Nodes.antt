@@ -24,21 +24,21 @@ use Rattle.run_labels.specs.Masks.{labels_after, masks_of, moved_label}
 use Rattle.run_labels.specs.TurnLabels.{TurnLabels, put_label, save_labels, restore_labels}
 use Rattle.tracked_run.specs.Linking.{Appends}
 use Rattle.tracked_run.specs.Private.Tracks.{Left, Tracks}
-use Rattle.tracked_run.proofs.Appending.{appends-more}
+use Rattle.tracked_run.proofs.Appending.{appends_more}
 use Rattle.std.specs.Option.{option_or}
 
-first-assoc : (first second third : Option MeasureFault) →
+first_assoc : (first second third : Option MeasureFault) →
     option_or (option_or first second) third ≡ option_or first (option_or second third)
-first-assoc None second third = refl
-first-assoc (Some fault) second third = refl
+first_assoc None second third = refl
+first_assoc (Some fault) second third = refl
 
-pub tracks-looked : {E : Type 0} (stands : E → List Event → Type 0) (table region : ℕ) (labels : TurnLabels)
+pub tracks_looked : {E : Type 0} (stands : E → List Event → Type 0) (table region : ℕ) (labels : TurnLabels)
     (before : Left E) (refused : Option MeasureFault) (seen : Seen) (value : ℕ) (walk : Walk)
     (out : Played NoMemory (Left E)) → refused ≡ option_or before.refused (look_fault region labels seen) →
     Tracks stands table region labels (record before { refused = refused }) walk out →
     Tracks stands table region labels before (Looked seen value walk) out
 unfolding EachAnswer real_end labels_in secret_look events_in
-tracks-looked stands table region labels before refused seen value walk (Finished state after) e h = record {
+tracks_looked stands table region labels before refused seen value walk (Finished state after) e h = record {
   answers = h.answers;
   sound = h.sound;
   by_table = h.by_table;
@@ -46,21 +46,21 @@ tracks-looked stands table region labels before refused seen value walk (Finishe
   base = h.base;
   labelled = h.labelled;
   refused = h.refused ∙ (ap (λ r. option_or r (secret_look region labels h.answers walk)) e
-      ∙ first-assoc before.refused (look_fault region labels seen) (secret_look region labels h.answers walk));
+      ∙ first_assoc before.refused (look_fault region labels seen) (secret_look region labels h.answers walk));
   added = h.added;
   shadow_lent = h.shadow_lent;
   events_lent = h.events_lent;
 }
-tracks-looked stands table region labels before refused seen value walk (Halted stop) e h = tt
+tracks_looked stands table region labels before refused seen value walk (Halted stop) e h = tt
 
-pub tracks-moved : {E : Type 0} (stands : E → List Event → Type 0) (table region : ℕ) (old new : TurnLabels)
+pub tracks_moved : {E : Type 0} (stands : E → List Event → Type 0) (table region : ℕ) (old new : TurnLabels)
     (before : Left E) (shades : Shades) (place : Place) (shape : Shape) (source : Source) (value : ℕ) (walk : Walk)
     (out : Played NoMemory (Left E)) → shades.base ≡ before.shades.base →
     new ≡ put_label place (moved_label old shape source) old →
     Tracks stands table region new (record before { shades = shades }) walk out →
     Tracks stands table region old before (Moved place shape source value walk) out
 unfolding EachAnswer real_end labels_in secret_look events_in
-tracks-moved stands table region old new before shades place shape source value walk (Finished state after) base e k =
+tracks_moved stands table region old new before shades place shape source value walk (Finished state after) base e k =
     let h = subst (λ l. Tracks stands table region l (record before { shades = shades }) walk (Finished state after)) e k in
     record {
       answers = h.answers;
@@ -74,15 +74,15 @@ tracks-moved stands table region old new before shades place shape source value 
       shadow_lent = h.shadow_lent;
       events_lent = h.events_lent;
     }
-tracks-moved stands table region old new before shades place shape source value walk (Halted stop) base e k = tt
+tracks_moved stands table region old new before shades place shape source value walk (Halted stop) base e k = tt
 
-pub tracks-saved : {E : Type 0} (stands : E → List Event → Type 0) (table region : ℕ) (old new : TurnLabels)
+pub tracks_saved : {E : Type 0} (stands : E → List Event → Type 0) (table region : ℕ) (old new : TurnLabels)
     (before : Left E) (shades : Shades) (walk : Walk)
     (out : Played NoMemory (Left E)) → shades.base ≡ before.shades.base → new ≡ save_labels old →
     Tracks stands table region new (record before { shades = shades }) walk out →
     Tracks stands table region old before (Saved walk) out
 unfolding EachAnswer real_end labels_in secret_look events_in
-tracks-saved stands table region old new before shades walk (Finished state after) base e k =
+tracks_saved stands table region old new before shades walk (Finished state after) base e k =
     let h = subst (λ l. Tracks stands table region l (record before { shades = shades }) walk (Finished state after)) e k in
     record {
       answers = h.answers;
@@ -96,15 +96,15 @@ tracks-saved stands table region old new before shades walk (Finished state afte
       shadow_lent = h.shadow_lent;
       events_lent = h.events_lent;
     }
-tracks-saved stands table region old new before shades walk (Halted stop) base e k = tt
+tracks_saved stands table region old new before shades walk (Halted stop) base e k = tt
 
-pub tracks-restored : {E : Type 0} (stands : E → List Event → Type 0) (table region : ℕ) (old new : TurnLabels)
+pub tracks_restored : {E : Type 0} (stands : E → List Event → Type 0) (table region : ℕ) (old new : TurnLabels)
     (before : Left E) (shades : Shades) (registers : List ℕ) (walk back : Walk)
     (out : Played NoMemory (Left E)) → shades.base ≡ before.shades.base → new ≡ restore_labels registers old →
     Tracks stands table region new (record before { shades = shades }) walk out →
     Tracks stands table region old before (Restored registers walk back) out
 unfolding EachAnswer real_end labels_in secret_look events_in
-tracks-restored stands table region old new before shades registers walk back (Finished state after) base e k =
+tracks_restored stands table region old new before shades registers walk back (Finished state after) base e k =
     let h = subst (λ l. Tracks stands table region l (record before { shades = shades }) walk (Finished state after)) e k in
     record {
       answers = h.answers;
@@ -118,10 +118,10 @@ tracks-restored stands table region old new before shades registers walk back (F
       shadow_lent = h.shadow_lent;
       events_lent = h.events_lent;
     }
-tracks-restored stands table region old new before shades registers walk back (Halted stop) base e k = tt
+tracks_restored stands table region old new before shades registers walk back (Halted stop) base e k = tt
 
 -- what is shaped takes no answer, what is computed takes this one
-passed-work : {E : Type 0} (stands : E → List Event → Type 0) (table region : ℕ) (labels : TurnLabels)
+passed_work : {E : Type 0} (stands : E → List Event → Type 0) (table region : ℕ) (labels : TurnLabels)
     (before : Left E) (shades : Shades) (events : E) (answer : ℕ) (point : Point) (aim : Aim) (work : Work)
     (sources : Sources) (value : ℕ) (go : ℕ → Walk) (out : Played NoMemory (Left E)) →
     shades.base ≡ before.shades.base →
@@ -135,7 +135,7 @@ passed-work : {E : Type 0} (stands : E → List Event → Type 0) (table region 
     Tracks stands table region labels before
     (Passed (record { point = point; aim = aim; work = work; sources = sources; value = value }) go) out
 unfolding EachAnswer real_end labels_in secret_look events_in
-passed-work stands table region labels before shades events answer point aim (Shaped shape) sources value go
+passed_work stands table region labels before shades events answer point aim (Shaped shape) sources value go
     (Finished state after) base sound by_table added h = record {
       answers = h.answers;
       sound = (tt, h.sound);
@@ -144,11 +144,11 @@ passed-work stands table region labels before shades events answer point aim (Sh
       base = h.base ∙ base;
       labelled = h.labelled;
       refused = h.refused;
-      added = appends-more (stands before.events) (stands events) (stands after.events) _ _ added h.added;
+      added = appends_more (stands before.events) (stands events) (stands after.events) _ _ added h.added;
       shadow_lent = h.shadow_lent;
       events_lent = h.events_lent;
     }
-passed-work stands table region labels before shades events answer point aim (Computed operation first second) sources
+passed_work stands table region labels before shades events answer point aim (Computed operation first second) sources
     value go (Finished state after) base sound by_table added h = record {
       answers = answer ∷ h.answers;
       sound = (sound, h.sound);
@@ -157,14 +157,14 @@ passed-work stands table region labels before shades events answer point aim (Co
       base = h.base ∙ base;
       labelled = h.labelled;
       refused = h.refused;
-      added = appends-more (stands before.events) (stands events) (stands after.events) _ _ added h.added;
+      added = appends_more (stands before.events) (stands events) (stands after.events) _ _ added h.added;
       shadow_lent = h.shadow_lent;
       events_lent = h.events_lent;
     }
-passed-work stands table region labels before shades events answer point aim work sources value go (Halted stop)
+passed_work stands table region labels before shades events answer point aim work sources value go (Halted stop)
     base sound by_table added h = tt
 
-pub tracks-passed : {E : Type 0} (stands : E → List Event → Type 0) (table region : ℕ) (old new : TurnLabels)
+pub tracks_passed : {E : Type 0} (stands : E → List Event → Type 0) (table region : ℕ) (old new : TurnLabels)
     (before : Left E) (shades : Shades) (events : E) (answer : ℕ) (passing : Passing) (go : ℕ → Walk)
     (out : Played NoMemory (Left E)) → shades.base ≡ before.shades.base →
     HoldsOfAnswer IsSoundAnswer passing.work (masks_of old passing.sources) answer →
@@ -173,8 +173,8 @@ pub tracks-passed : {E : Type 0} (stands : E → List Event → Type 0) (table r
     Appends (stands before.events) (stands events) (passing_events old answer passing) →
     Tracks stands table region new (record before { shades = shades; events = events }) (go passing.value) out →
     Tracks stands table region old before (Passed passing go) out
-tracks-passed stands table region old new before shades events answer passing go out base sound by_table e added h =
-    passed-work stands table region old before shades events answer passing.point passing.aim passing.work
+tracks_passed stands table region old new before shades events answer passing go out base sound by_table e added h =
+    passed_work stands table region old before shades events answer passing.point passing.aim passing.work
     passing.sources passing.value go out base sound by_table added
     (subst (λ l. Tracks stands table region l (record before { shades = shades; events = events }) (go passing.value) out)
     e h)

@@ -38,28 +38,28 @@ never_enclosed regions (Steps (Some region)) = refl
 
 -- ---- refusals
 
-none-later : (first later : Option MeasureFault) → option_or first later ≡ None → later ≡ None
-none-later None later e = e
-none-later (Some fault) later e = absurd (cc)
+none_later : (first later : Option MeasureFault) → option_or first later ≡ None → later ≡ None
+none_later None later e = e
+none_later (Some fault) later e = absurd (cc)
 
-unbroken-of : (broken : Option Break) (later : Option MeasureFault) →
+unbroken_of : (broken : Option Break) (later : Option MeasureFault) →
     option_or (broken_fault broken) later ≡ None → broken ≡ None
-unbroken-of None later e = refl
-unbroken-of (Some broken) later e = absurd (cc)
+unbroken_of None later e = refl
+unbroken_of (Some broken) later e = absurd (cc)
 
-stopped-is : (fault : Fault) → stopped_fault (mode.Stopped fault) ≡ None → ⊥
-stopped-is fault e = absurd (cc)
+stopped_is : (fault : Fault) → stopped_fault (mode.Stopped fault) ≡ None → ⊥
+stopped_is fault e = absurd (cc)
 
-pub not-broken : (refused : Option MeasureFault) (broken : Option Break) (mode : Stepped) →
+pub not_broken : (refused : Option MeasureFault) (broken : Option Break) (mode : Stepped) →
     fault_of refused broken mode ≡ None → broken ≡ None
-not-broken refused broken mode e =
-    unbroken-of broken (stopped_fault mode) (none-later refused (option_or (broken_fault broken) (stopped_fault mode)) e)
+not_broken refused broken mode e =
+    unbroken_of broken (stopped_fault mode) (none_later refused (option_or (broken_fault broken) (stopped_fault mode)) e)
 
-not-stopped : (refused : Option MeasureFault) (broken : Option Break) (fault : Fault) →
+not_stopped : (refused : Option MeasureFault) (broken : Option Break) (fault : Fault) →
     fault_of refused broken (mode.Stopped fault) ≡ None → ⊥
-not-stopped refused broken fault e =
-    stopped-is fault (none-later (broken_fault broken) (stopped_fault (mode.Stopped fault))
-    (none-later refused (option_or (broken_fault broken) (stopped_fault (mode.Stopped fault))) e))
+not_stopped refused broken fault e =
+    stopped_is fault (none_later (broken_fault broken) (stopped_fault (mode.Stopped fault))
+    (none_later refused (option_or (broken_fault broken) (stopped_fault (mode.Stopped fault))) e))
 
 -- ---- the run, by the machine and the shadow
 
@@ -71,24 +71,24 @@ run_of machine past shadow events = record {
   events = events;
 }
 
-reads-same : (map : LabelMap) (shades : Shades) → ReadsAs map shades → map ≡ map_of shades
-reads-same map shades h =
+reads_same : (map : LabelMap) (shades : Shades) → ReadsAs map shades → map ≡ map_of shades
+reads_same map shades h =
     let registers : map.registers ≡ register_label shades = fun_ext (λ r. sym (h.registers r)) in
     let kept : map.kept ≡ kept_label shades = fun_ext (λ r. sym (h.kept r)) in
     let bytes : map.bytes ≡ byte_label shades = fun_ext (λ a. sym (h.bytes a)) in
     λ i. record { registers = registers i; kept = kept i; bytes = bytes i }
 
-pub reads-of : (map : LabelMap) (shades : Shades) → map_of shades ≡ map → ReadsAs map shades
-reads-of map shades e = record {
+pub reads_of : (map : LabelMap) (shades : Shades) → map_of shades ≡ map → ReadsAs map shades
+reads_of map shades e = record {
   registers = λ r. ap (λ (m : LabelMap). m.registers r) e;
   kept = λ r. ap (λ (m : LabelMap). m.kept r) e;
   bytes = λ a. ap (λ (m : LabelMap). m.bytes a) e;
 }
 
-stands-same : (machine : State) (shadow : Shades) (run : LabelledRun) → Stands machine shadow run →
+stands_same : (machine : State) (shadow : Shades) (run : LabelledRun) → Stands machine shadow run →
     run_of machine run.place.past shadow run.events ≡ run
-stands-same machine shadow run s =
-    let labels : map_of shadow ≡ run.labels = sym (reads-same run.labels shadow s.labels) in
+stands_same machine shadow run s =
+    let labels : map_of shadow ≡ run.labels = sym (reads_same run.labels shadow s.labels) in
     let unbroken : None ≡ run.place.broken = sym s.unbroken in
     λ i. record {
       place = record { state = s.state i; past = run.place.past; broken = unbroken i };
@@ -107,12 +107,12 @@ record Facts {E : Type 0} (stands : E → List Event → Type 0) (table : ℕ) (
   pub unrefused : before.refused ≡ None
   pub breaks : broken ≡ Breaks regions machine
 
-is-fault : {E : Type 0} (stands : E → List Event → Type 0) (table : ℕ) (regions : List Region) (machine : State)
+is_fault : {E : Type 0} (stands : E → List Event → Type 0) (table : ℕ) (regions : List Region) (machine : State)
     (past : List Point) (earlier : List Event) (before : Left E) (reached : State) (after : Left E)
     (broken : Option Break) (k : Facts stands table regions machine before reached after broken) →
     turn_fault regions k.tracked.answers (run_of machine past before.shades earlier)
     ≡ fault_of after.refused broken reached.control.mode
-is-fault stands table regions machine past earlier before reached after broken k =
+is_fault stands table regions machine past earlier before reached after broken k =
     let end : State = real_end (guest_walk regions machine) in
     let look : Option MeasureFault = secret_look (entered_number (kind_of regions machine.control))
     (labels_of before.shades clean_held) k.tracked.answers (guest_walk regions machine) in
@@ -132,35 +132,35 @@ made : {E : Type 0} (stands : E → List Event → Type 0) (table : ℕ) (region
 made stands table regions machine past earlier before reached after broken mode k none m = record {
   answers = k.tracked.answers;
   are_answers = record { sound = k.tracked.sound; by_table = k.tracked.by_table };
-  unrefused = is-fault stands table regions machine past earlier before reached after broken k ∙ none;
+  unrefused = is_fault stands table regions machine past earlier before reached after broken k ∙ none;
   next = record {
     state = k.tracked.ends;
-    unbroken = sym k.breaks ∙ not-broken after.refused broken reached.control.mode none;
-    labels = reads-of _ after.shades k.tracked.labelled;
+    unbroken = sym k.breaks ∙ not_broken after.refused broken reached.control.mode none;
+    labels = reads_of _ after.shades k.tracked.labelled;
   };
   in_mode = m;
   added = k.tracked.added;
 }
 
-turned-by : {E : Type 0} (stands : E → List Event → Type 0) (table : ℕ) (regions : List Region) (machine : State)
+turned_by : {E : Type 0} (stands : E → List Event → Type 0) (table : ℕ) (regions : List Region) (machine : State)
     (past : List Point) (earlier : List Event) (before : Left E) (reached : State) (after : Left E)
     (broken : Option Break) (fault : Option MeasureFault) (mode : Stepped) →
     Facts stands table regions machine before reached after broken →
     fault_of after.refused broken reached.control.mode ≡ fault → reached.control.mode ≡ mode →
     Turns table regions (run_of machine past before.shades earlier) (stands before.events) (stands after.events) reached
     after.shades (Ok (turn_answer fault mode))
-turned-by stands table regions machine past earlier before reached after broken None mode.Ran k f m =
+turned_by stands table regions machine past earlier before reached after broken None mode.Ran k f m =
     made stands table regions machine past earlier before reached after broken mode.Ran k f m
-turned-by stands table regions machine past earlier before reached after broken None (mode.Exited status) k f m =
+turned_by stands table regions machine past earlier before reached after broken None (mode.Exited status) k f m =
     made stands table regions machine past earlier before reached after broken (mode.Exited status) k f m
-turned-by stands table regions machine past earlier before reached after broken None (mode.Stopped fault) k f m =
-    absurd (not-stopped after.refused broken fault (ap (λ x. fault_of after.refused broken x) (sym m) ∙ f))
-turned-by stands table regions machine past earlier before reached after broken (Some fault) mode k f m = record {
+turned_by stands table regions machine past earlier before reached after broken None (mode.Stopped fault) k f m =
+    absurd (not_stopped after.refused broken fault (ap (λ x. fault_of after.refused broken x) (sym m) ∙ f))
+turned_by stands table regions machine past earlier before reached after broken (Some fault) mode k f m = record {
   answers = k.tracked.answers;
   are_answers = record { sound = k.tracked.sound; by_table = k.tracked.by_table };
-  refused = is-fault stands table regions machine past earlier before reached after broken k ∙ f;
+  refused = is_fault stands table regions machine past earlier before reached after broken k ∙ f;
   state = k.tracked.ends;
-  labels = reads-of _ after.shades k.tracked.labelled;
+  labels = reads_of _ after.shades k.tracked.labelled;
   added = k.tracked.added;
 }
 
@@ -174,29 +174,29 @@ pub turned : {E : Type 0} (stands : E → List Event → Type 0) (table : ℕ) (
 turned stands table regions machine before reached after broken run t new b s =
     subst (λ r. Turns table regions r (stands before.events) (stands after.events) reached after.shades
     (Ok (turn_answer (fault_of after.refused broken reached.control.mode) reached.control.mode)))
-    (stands-same machine before.shades run s)
-    (turned-by stands table regions machine run.place.past run.events before reached after broken
+    (stands_same machine before.shades run s)
+    (turned_by stands table regions machine run.place.past run.events before reached after broken
     (fault_of after.refused broken reached.control.mode) reached.control.mode
     (record { tracked = t; unrefused = new; breaks = b }) refl refl)
 
 -- ---- after a turn that is not refused
 
-not-ran : (fault : Option MeasureFault) (mode : Stepped) → spent_by (Ok (turn_answer fault mode)) ≡ None → fault ≡ None
-not-ran None mode e = refl
-not-ran (Some fault) mode e = absurd (cc)
+not_ran : (fault : Option MeasureFault) (mode : Stepped) → spent_by (Ok (turn_answer fault mode)) ≡ None → fault ≡ None
+not_ran None mode e = refl
+not_ran (Some fault) mode e = absurd (cc)
 
-pub base-stays : (regions : List Region) (machine reached : State) (old new : ℕ) →
+pub base_stays : (regions : List Region) (machine reached : State) (old new : ℕ) →
     reached ≡ real_end (guest_walk regions machine) → new ≡ old → old ≡ machine.setting.base →
     new ≡ reached.setting.base
-base-stays regions machine reached old new e n o =
+base_stays regions machine reached old new e n o =
     n ∙ (o ∙ (ap (λ (s : Setting). s.base) (sym (same_setting regions machine))
     ∙ ap (λ (s : State). s.setting.base) (sym e)))
 
-pub leave-stays : (regions : List Region) (machine reached : State) (refused : Option MeasureFault)
+pub leave_stays : (regions : List Region) (machine reached : State) (refused : Option MeasureFault)
     (broken : Option Break) (mode : Stepped) → are_regions regions ≡ true → may_leave regions machine ≡ true →
     reached ≡ real_end (guest_walk regions machine) → broken ≡ Breaks regions machine →
     spent_by (Ok (turn_answer (fault_of refused broken mode) mode)) ≡ None → may_leave regions reached ≡ true
-leave-stays regions machine reached refused broken mode rules leave e b ran =
+leave_stays regions machine reached refused broken mode rules leave e b ran =
     let unbroken : Breaks regions machine ≡ None =
-    sym b ∙ not-broken refused broken mode (not-ran (fault_of refused broken mode) mode ran) in
+    sym b ∙ not_broken refused broken mode (not_ran (fault_of refused broken mode) mode ran) in
     subst (λ (s : State). may_leave regions s ≡ true) (sym e) (guest_keeps regions machine rules leave unbroken)

@@ -29,7 +29,7 @@ impl<E: Events> Passer for Tracking<'_, E> {
     ghost use Rattle.std.specs.Prelude.{Some};
     ghost use Rattle.std.proofs.Common.{refl};
     ghost use Rattle.tracked_run.specs.Labels.{labels_of};
-    ghost use Rattle.tracked_run.specs.Private.Tracks.{Left, Tracks, tracks-Ended};
+    ghost use Rattle.tracked_run.specs.Private.Tracks.{Left, Tracks, tracks_Ended};
 
     type Stop = NoMemory;
 
@@ -90,7 +90,7 @@ impl<E: Events> Passer for Tracking<'_, E> {
     }
 
     ghost at_end = { λ side state.
-        tracks-Ended E.stands_for side.book.now.table side.region (labels_of side.shadow.now side.held)
+        tracks_Ended E.stands_for side.book.now.table side.region (labels_of side.shadow.now side.held)
         (record {
           shades = side.shadow.now;
           events = side.events.now;
@@ -102,10 +102,10 @@ impl<E: Events> Passer for Tracking<'_, E> {
 
 impl<E: Events> Observer for Tracking<'_, E> {
     ghost use Rattle.tracked_run.specs.Labels.{labels_of};
-    ghost use Rattle.tracked_run.specs.Private.Tracks.{tracks-real};
+    ghost use Rattle.tracked_run.specs.Private.Tracks.{tracks_real};
 
     ghost real = { λ side walk state after told.
-        tracks-real E.stands_for side.book.now.table side.region (labels_of side.shadow.now side.held)
+        tracks_real E.stands_for side.book.now.table side.region (labels_of side.shadow.now side.held)
         (record {
           shades = side.shadow.now;
           events = side.events.now;

@@ -5,10 +5,10 @@ use Rattle.rv32im_decode.specs.declared.instructions.Instr.{Instr}
 use Rattle.rv32im_decode.specs.Encoding.{encoded}
 use Rattle.trial_guests.specs.Programs.{code_of, masking, maskings, width_of}
 
-pub code_of-append : (first second : List Instr) → code_of (first ++ second) ≡ code_of first ++ code_of second
-code_of-append [] second = refl
-code_of-append (instr ∷ first) second =
-    ap (λ (l : List ℕ). to_le_bytes w32 (encoded instr) ++ l) (code_of-append first second)
+pub code_of_append : (first second : List Instr) → code_of (first ++ second) ≡ code_of first ++ code_of second
+code_of_append [] second = refl
+code_of_append (instr ∷ first) second =
+    ap (λ (l : List ℕ). to_le_bytes w32 (encoded instr) ++ l) (code_of_append first second)
     ∙ sym (append_assoc (to_le_bytes w32 (encoded instr)) (code_of first) (code_of second))
 
 -- an instruction more
@@ -25,7 +25,7 @@ masking_step code whole number index count fewer one so_far =
     let here = masking index (width_of number index) in
     let more = maskings fewer number (index + 1) in
     append_assoc code (code_of here) (code_of more)
-    ∙ (ap (λ (l : List ℕ). code ++ l) (sym (code_of-append here more))
+    ∙ (ap (λ (l : List ℕ). code ++ l) (sym (code_of_append here more))
     ∙ subst (λ n. code ++ code_of (maskings n number index) ≡ whole) one so_far)
 
 -- at the end no instruction is left
@@ -37,4 +37,4 @@ masking_end code whole number index count none so_far =
 pub three_parts : (first second third : List Instr) →
     code_of (first ++ (second ++ third)) ≡ code_of first ++ (code_of second ++ code_of third)
 three_parts first second third =
-    code_of-append first (second ++ third) ∙ ap (λ (l : List ℕ). code_of first ++ l) (code_of-append second third)
+    code_of_append first (second ++ third) ∙ ap (λ (l : List ℕ). code_of first ++ l) (code_of_append second third)

@@ -15,6 +15,6 @@ pub secret_end : (bytes whole : List ℕ) (count state : ℕ) → count ≡ 0 �
     bytes ++ [] ≡ whole
 secret_end bytes whole count state none so_far = subst (λ n. bytes ++ bytes_behind n state ≡ whole) none so_far
 
-pub length-bytes_behind : (count state : ℕ) → length (bytes_behind count state) ≡ count
-length-bytes_behind zero state = refl
-length-bytes_behind (suc count) state = ap suc (length-bytes_behind count (next state))
+pub length_bytes_behind : (count state : ℕ) → length (bytes_behind count state) ≡ count
+length_bytes_behind zero state = refl
+length_bytes_behind (suc count) state = ap suc (length_bytes_behind count (next state))

@@ -15,8 +15,8 @@ use Rattle.every_secret.specs.Masked.{Goes, masked, place_of}
 use Rattle.every_secret.specs.Rules.{Rules}
 use Rattle.every_secret.specs.Private.Tapes.{Tape, Lengthens, PlaysMasked, TellsWalk, EndsAt, knowledge_of}
 
-pub lengthens-none : (stream : Stream) → Lengthens stream stream
-lengthens-none stream = record {
+pub lengthens_none : (stream : Stream) → Lengthens stream stream
+lengthens_none stream = record {
   count = 0;
   bits = sym (append-nil stream.bits);
   taken = omega arith;
@@ -24,14 +24,14 @@ lengthens-none stream = record {
   whole = λ none. absurd (omega (arith, none));
 }
 
-pub masks-Ended : (cutting : Cutting) (region : ℕ) (past : List Point) (labels : TurnLabels) (tape : Tape)
+pub masks_Ended : (cutting : Cutting) (region : ℕ) (past : List Point) (labels : TurnLabels) (tape : Tape)
     (state : State) → map_of tape.shades ≡ labels.map → IsAhead tape.ahead cutting.masks past →
     PlaysMasked cutting region (knowledge_of past labels tape) tape (Ended state) (Finished state tape)
 unfolding EndsAt
-masks-Ended cutting region past labels tape state same ahead = record {
+masks_Ended cutting region past labels tape state same ahead = record {
   ends = refl;
   table = refl;
-  longer = lengthens-none tape.stream;
+  longer = lengthens_none tape.stream;
   tells = λ rules answers. told rules tape.unclear refl;
 }
   where

@@ -3,7 +3,7 @@ use Rattle.std.specs.Prelude.{◌≡◌, ℕ, ◌-◌, ◌&&◌, ◌||◌, nat_l
 use Rattle.std.proofs.Common.{sym}
 use Rattle.rv32im_machine.specs.State.{State}
 use Rattle.rv32im_machine.specs.Language.{Walk, Ended}
-use Rattle.rv32im_machine.specs.Folds.{real_end, real-Ended}
+use Rattle.rv32im_machine.specs.Folds.{real_end, real_Ended}
 use Rattle.rv32im_machine.specs.Playing.{Played, Finished, Halted}
 use Rattle.enclosure_regions.specs.declared.break_kinds.Place.{Place}
 use Rattle.enclosure_regions.specs.declared.break_kinds.Place.TheVariants.{Reg, Byte}
@@ -47,16 +47,16 @@ abbrev pub NotesPlay : Noted → Walk → Played Halt Noted → Type 0
 NotesPlay before walk (Finished state after) = Notes-walk before walk state after
 NotesPlay before walk (Halted halt) = Halts halt walk
 
-or-none : (b : Bool) → b ≡ (b || false)
-or-none true = refl
-or-none false = refl
+or_none : (b : Bool) → b ≡ (b || false)
+or_none true = refl
+or_none false = refl
 
-pub notes-Ended : (noted : Noted) (state : State) → NotesPlay noted (Ended state) (Finished state noted)
+pub notes_Ended : (noted : Noted) (state : State) → NotesPlay noted (Ended state) (Finished state noted)
 unfolding walk_calls walk_writes
-notes-Ended noted state = record {
-  end = sym (real-Ended state);
+notes_Ended noted state = record {
+  end = sym (real_Ended state);
   quiet = refl;
-  places = λ place. or-none (noted.has place);
+  places = λ place. or_none (noted.has place);
   changed = refl;
   region = refl;
   base = refl;

@@ -11,13 +11,13 @@ use Rattle.replay_machine.specs.Runs.{Masks, replayed}
 use Rattle.replay_machine.specs.Visits.{IsAhead}
 use Rattle.replay_machine.specs.Private.Sides.{fed_of, Replays}
 
-pub replays-Ended : (Stop : Type 0) (ahead : List CutPoint) (stream : Stream) (missing : ℕ) (masks : Masks)
+pub replays_Ended : (Stop : Type 0) (ahead : List CutPoint) (stream : Stream) (missing : ℕ) (masks : Masks)
     (past : List Point) (state : State) →
     IsAhead ahead masks past →
     Replays {Stop = Stop} masks stream (fed_of missing (replayed masks past (Ended state)) (left_of stream))
     (Finished state (record { ahead = ahead; stream = stream; missing = missing }))
 unfolding replayed
-replays-Ended Stop ahead stream zero masks past state known =
+replays_Ended Stop ahead stream zero masks past state known =
     record { state = refl; outside = refl; ahead = known; left = refl; missing = refl; bits = refl; room = refl }
-replays-Ended Stop ahead stream (suc missing) masks past state known =
+replays_Ended Stop ahead stream (suc missing) masks past state known =
     record { some = omega arith; missing = refl; bits = refl; room = refl }

@@ -12,7 +12,7 @@ use Rattle.shadow_masks.specs.Shades.{Shades}
 use Rattle.run_labels.specs.TurnLabels.{TurnLabels}
 use Rattle.tracked_run.specs.Labels.{map_of}
 use Rattle.lockstep_replay.specs.Crossing.{crossing}
-use Rattle.lockstep_replay.specs.Ends.{tallies-none}
+use Rattle.lockstep_replay.specs.Ends.{tallies_none}
 use Rattle.lockstep_replay.specs.declared.tallies.Tallying.{Tallying}
 use Rattle.lockstep_replay.specs.Sides.{tally_of}
 use Rattle.lockstep_replay.specs.Tapes.{Tally, Tallies}
@@ -57,35 +57,35 @@ PlaysCleared region cutting past labels before walk (Finished state after) =
     EndsCleared region cutting past labels before walk state after
 PlaysCleared region cutting past labels before walk (Halted stop) = Unit {0}
 
-no-look : (look : Option SecretLook) → look ≡ first_look look None
-no-look None = refl
-no-look (Some look) = refl
+no_look : (look : Option SecretLook) → look ≡ first_look look None
+no_look None = refl
+no_look (Some look) = refl
 
-no-left : (left : Option LeftBits) → left ≡ first_left left None
-no-left None = refl
-no-left (Some left) = refl
+no_left : (left : Option LeftBits) → left ≡ first_left left None
+no_left None = refl
+no_left (Some left) = refl
 
 -- at the end of a turn nothing more is left
-pub clears-Ended : (region : ℕ) (cutting : Cutting) (past : List Point) (labels : TurnLabels) (before : Tape)
+pub clears_Ended : (region : ℕ) (cutting : Cutting) (past : List Point) (labels : TurnLabels) (before : Tape)
     (state : State) → map_of before.shades ≡ labels.map → before.tally.needed < 4294967296 →
     IsAhead before.tally.ahead cutting.masks past →
     PlaysCleared region cutting past labels before (Ended state) (Finished state before)
 unfolding EachCleared real_end cleared_in looked_in left_in passed crossing
-clears-Ended region cutting past labels before state e small ahead = record {
+clears_Ended region cutting past labels before state e small ahead = record {
   answers = [];
   are_answers = record { sound = tt; by_table = tt };
   table = refl;
   ends = refl;
   base = refl;
   labelled = e;
-  look = no-look before.look;
-  left = no-left before.left;
+  look = no_look before.look;
+  left = no_left before.left;
   ahead = ahead;
-  tallies = tallies-none before.tally small;
+  tallies = tallies_none before.tally small;
 }
 
 -- such a turn ends as the real one
-pub clears-real : (region : ℕ) (cutting : Cutting) (past : List Point) (labels : TurnLabels) (before : Tape)
+pub clears_real : (region : ℕ) (cutting : Cutting) (past : List Point) (labels : TurnLabels) (before : Tape)
     (walk : Walk) (state : State) (after : Tape) →
     PlaysCleared region cutting past labels before walk (Finished state after) → state ≡ real_end walk
-clears-real region cutting past labels before walk state after h = h.ends
+clears_real region cutting past labels before walk state after h = h.ends

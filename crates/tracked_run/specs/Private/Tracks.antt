@@ -49,30 +49,30 @@ Tracks stands table region labels before walk (Finished state after) =
     EndsTracked stands table region labels before walk state after
 Tracks stands table region labels before walk (Halted stop) = Unit {0}
 
-none-more : (fault : Option MeasureFault) → fault ≡ option_or fault None
-none-more None = refl
-none-more (Some fault) = refl
+none_more : (fault : Option MeasureFault) → fault ≡ option_or fault None
+none_more None = refl
+none_more (Some fault) = refl
 
 -- at the end of a turn nothing more is added
-pub tracks-Ended : {E : Type 0} (stands : E → List Event → Type 0) (table region : ℕ) (labels : TurnLabels)
+pub tracks_Ended : {E : Type 0} (stands : E → List Event → Type 0) (table region : ℕ) (labels : TurnLabels)
     (before : Left E) (state : State) → map_of before.shades ≡ labels.map →
     Tracks stands table region labels before (Ended state) (Finished state before)
 unfolding EachAnswer real_end labels_in secret_look events_in
-tracks-Ended stands table region labels before state e = record {
+tracks_Ended stands table region labels before state e = record {
   answers = [];
   sound = tt;
   by_table = tt;
   ends = refl;
   base = refl;
   labelled = e;
-  refused = none-more before.refused;
+  refused = none_more before.refused;
   added = λ events h. subst (stands before.events) (sym (append-nil events)) h;
   shadow_lent = refl;
   events_lent = refl;
 }
 
 -- a turn whose labels are kept ends as the real one
-pub tracks-real : {E : Type 0} (stands : E → List Event → Type 0) (table region : ℕ) (labels : TurnLabels)
+pub tracks_real : {E : Type 0} (stands : E → List Event → Type 0) (table region : ℕ) (labels : TurnLabels)
     (before : Left E) (walk : Walk) (state : State) (after : Left E) →
     Tracks stands table region labels before walk (Finished state after) → state ≡ real_end walk
-tracks-real stands table region labels before walk state after h = h.ends
+tracks_real stands table region labels before walk state after h = h.ends

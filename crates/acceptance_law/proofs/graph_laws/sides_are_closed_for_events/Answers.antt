@@ -1,4 +1,4 @@
-use Rattle.acceptance_law.proofs.GraphEvents.{named-closed}
+use Rattle.acceptance_law.proofs.GraphEvents.{named_closed}
 use Rattle.acceptance_law.proofs.GraphTurns.{run_named}
 use Rattle.acceptance_law.specs.GraphLaws.{ClosedEventsLaw}
 use Rattle.run_labels.specs.Runs.{unlabelled, run_after}
@@ -7,7 +7,7 @@ use Rattle.acceptance_law.proofs.graph_laws.sides_are_closed_for_events.Goals as
 
 closed_law : ClosedEventsLaw
 closed_law side regions answers start proper closed =
-    named-closed side [] (run_after regions answers (unlabelled start)).events
+    named_closed side [] (run_after regions answers (unlabelled start)).events
     (run_named regions answers start proper).0 closed
 
 pub returns : goal.returns

@@ -2,7 +2,7 @@ use Rattle.std.proofs.Common.{◌∙◌, [], ◌∷◌, ◌++◌, option_map, sy
 use Rattle.command_tasks.specs.Guests.{region_wants, secret_wants}
 use Rattle.command_tasks.specs.Loading.{want}
 use Rattle.command_tasks.specs.declared.kinds.FileKind.TheVariants as kinds
-use Rattle.command_tasks.proofs.Others.{is_some-mapped, within-behind}
+use Rattle.command_tasks.proofs.Others.{is_some_mapped, within_behind}
 use Rattle.command_tasks.proofs.layouts.files_of_run.Goals as goal
 
 pub others_of-requires : goal.others_of-requires
@@ -14,7 +14,7 @@ others_of-requires c =
       within = (
         name,
         names,
-        is_some-mapped (λ word. word.now) guest.regions ∙ sym c.is_some.ensures,
-        within-behind (want guest.program.now kinds.Program) (want guest.public_input.now kinds.PublicInput) (region_wants name ++ secret_wants names) c.args.files.now c.requires.within,
+        is_some_mapped (λ word. word.now) guest.regions ∙ sym c.is_some.ensures,
+        within_behind (want guest.program.now kinds.Program) (want guest.public_input.now kinds.PublicInput) (region_wants name ++ secret_wants names) c.args.files.now c.requires.within,
       );
     }

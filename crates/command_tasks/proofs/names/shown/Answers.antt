@@ -2,7 +2,7 @@ use Rattle.std.proofs.Common.{◌≡◌, ◌++◌, ◌<◌, true, false, length,
 use Rattle.std.proofs.lemmas.Grind.{common_steps}
 use Rattle.std.proofs.lemmas.Str.{IsCharBoundary-start, IsCharBoundary-after_ascii}
 use Rattle.command_tasks.specs.Names.{is_control, shown}
-use Rattle.command_tasks.proofs.Shown.{control-ascii, keep_byte, spell_byte}
+use Rattle.command_tasks.proofs.Shown.{control_ascii, keep_byte, spell_byte}
 use Rattle.command_tasks.proofs.names.shown.Goals as goal
 use Rattle.command_tasks.proofs.names.shown.Goals.{then-is_control+in_ok-push_str+in_ok-push_escape, else-is_control}
 
@@ -24,7 +24,7 @@ loop-at-preserved c =
           let next = spell_byte name _ _ l.start l.at within control l.invariant.text in
           rw (w.start-is, w.text-is) (record {
             low = omega arith;
-            bound = IsCharBoundary-after_ascii name l.at c.utf8.name within (control-ascii _ control);
+            bound = IsCharBoundary-after_ascii name l.at c.utf8.name within (control_ascii _ control);
             text = grind (arith, common_steps, next, w.in_ok-push_str.ensures, w.in_ok-push_escape.ensures);
           })
       | else-is_control w ↦

@@ -6,8 +6,8 @@ use Rattle.cut_file.specs.Cuts.{are_runs, is_point, is_rest}
 use Rattle.cut_file.specs.Folds.{IsLeastPeriod, first_runs}
 use Rattle.cut_file.specs.Masks.{listed_masks}
 use Rattle.cut_file.proofs.Following.{is_so, is_true}
-use Rattle.cut_file.proofs.Periods.{period-rest}
-use Rattle.cut_file.proofs.Steps.{the-same}
+use Rattle.cut_file.proofs.Periods.{period_rest}
+use Rattle.cut_file.proofs.Steps.{the_same}
 use Rattle.cut_file.proofs.folding.folded_point.Goals as goal
 
 -- what the first round of the runs is, where the number that is found is a least one
@@ -18,9 +18,9 @@ round : (runs other : List Run) (count : ℕ) (period : Option ℕ) → are_runs
 round runs other count None known same e found = absurd cc
 round runs other count (Some least) known same e found =
     let own : IsLeastPeriod (listed_masks runs) count =
-    subst (λ (n : ℕ). IsLeastPeriod (listed_masks runs) n) (the-same least count e)
+    subst (λ (n : ℕ). IsLeastPeriod (listed_masks runs) n) (the_same least count e)
     (subst (λ (l : List Run). IsLeastPeriod (listed_masks l) least) same found) in
-    let rest = period-rest runs count known own.0 in
+    let rest = period_rest runs count known own.0 in
     (own, rest.0, rest.1)
 
 pub returns-clause-folded : goal.returns-clause-folded

@@ -3,7 +3,7 @@ use Rattle.std.specs.Prelude.{replicate}
 use Rattle.std.proofs.lemmas.List.{append-nil}
 use Rattle.cut_file.specs.declared.points.Run.{Run}
 use Rattle.cut_file.specs.Masks.{listed_masks}
-use Rattle.cut_file.proofs.Periods.{masks-split_at, masks-none_at}
+use Rattle.cut_file.proofs.Periods.{masks_split_at, masks_none_at}
 use Rattle.cut_file.proofs.folding.masks_of.Goals as goal
 
 pub loop-run-preserved : goal.loop-run-preserved
@@ -15,12 +15,12 @@ loop-run-preserved c =
     let more : List ℕ = listed_masks (drop (index + 1) runs) in
     ap (λ (l : List ℕ). l ++ more) c.in_ok-put_masks.ensures
     ∙ append_assoc c.loop-run.masks.items (replicate run.count run.mask) more
-    ∙ ap (λ (l : List ℕ). c.loop-run.masks.items ++ l) (sym (masks-split_at runs index none c.loop-run-test.true))
+    ∙ ap (λ (l : List ℕ). c.loop-run.masks.items ++ l) (sym (masks_split_at runs index none c.loop-run-test.true))
     ∙ c.loop-run.invariant
 
 pub returns : goal.returns
 returns c =
     sym (append-nil c.loop-run.masks.items)
     ∙ ap (λ (l : List ℕ). c.loop-run.masks.items ++ l)
-    (sym (masks-none_at c.args.runs.now c.loop-run.run-index c.loop-run-test.false))
+    (sym (masks_none_at c.args.runs.now c.loop-run.run-index c.loop-run-test.false))
     ∙ c.loop-run.invariant

@@ -6,7 +6,7 @@ use Rattle.cut_file.specs.Pictures.{cut_picture}
 use Rattle.cut_file.specs.Texts.{lines_text}
 use Rattle.cut_file.specs.declared.lines.Line.TheVariants.{Point, Skip}
 use Rattle.cut_file.specs.declared.points.CutPoint.{CutPoint}
-use Rattle.cut_file.proofs.Pieces.{later-pieces}
+use Rattle.cut_file.proofs.Pieces.{later_pieces}
 use Rattle.cut_file.proofs.writing.put_lines.Goals as goal
 
 pub returns : goal.returns
@@ -24,4 +24,4 @@ returns c =
     c.as_slice-2.ensures in
     on_ok_weaker c.put.result (λ last.
     joins _ skips _ _ _ skipped (joins _ points _ _ _ crossed last)
-    ∙ ap (λ (l : List ℕ). text ++ l) (sym (later-pieces cut.version (cut_picture cut)))) c.put.ensures.ok
+    ∙ ap (λ (l : List ℕ). text ++ l) (sym (later_pieces cut.version (cut_picture cut)))) c.put.ensures.ok

@@ -5,12 +5,12 @@ use Rattle.elf32_loader.specs.FirstFault.{HeaderRows, IsFirstFault, LoadRows}
 use Rattle.elf32_loader.proofs.load_checks.check_file.Goals as goal
 
 -- the first row of a table is the first one of a longer table
-first-row : {F A R S : Type 0} → (R → S) → (F × A) ⊎ ((¬ F) × R) → (F × A) ⊎ ((¬ F) × S)
-first-row go (inl row) = inl row
-first-row go (inr (none, rest)) = inr (none, go rest)
+first_row : {F A R S : Type 0} → (R → S) → (F × A) ⊎ ((¬ F) × R) → (F × A) ⊎ ((¬ F) × S)
+first_row go (inl row) = inl row
+first_row go (inr (none, rest)) = inr (none, go rest)
 
 headed : (file : List ℕ) (fault : ElfFault) → HeaderRows file fault ⊥ → IsFirstFault file fault
-headed file fault rows = first-row (first-row (first-row (first-row (first-row (first-row (λ none. absurd none)))))) rows
+headed file fault rows = first_row (first_row (first_row (first_row (first_row (first_row (λ none. absurd none)))))) rows
 
 pub returns-in_err-check_header-clause-err : goal.returns-in_err-check_header-clause-err
 returns-in_err-check_header-clause-err c =

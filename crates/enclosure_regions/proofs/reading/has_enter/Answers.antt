@@ -2,11 +2,11 @@ use Rattle.std.proofs.Common.{◌==◌, ◌∙◌, rules, sym, tests}
 use Rattle.std.proofs.lemmas.Iterator.{YieldsList-from_slice}
 use Rattle.std.proofs.lemmas.Iterator.Search.{any_from_yields_List}
 use Rattle.enclosure_regions.specs.declared.region_parts.Region.{Region}
-use Rattle.enclosure_regions.proofs.Searches.{list_any-map}
+use Rattle.enclosure_regions.proofs.Searches.{list_any_map}
 use Rattle.enclosure_regions.proofs.reading.has_enter.Goals as goal
 
 pub returns : goal.returns
 returns c =
     any_from_yields_List (λ (region : Region). region.enter == c.args.enter) _ _ _ c.any.ensures.ran
     (YieldsList-from_slice c.args.regions.now cc) (λ x b q k. search (rules, tests))
-    ∙ sym (list_any-map (λ other. other == c.args.enter) (λ (region : Region). region.enter) c.args.regions.now)
+    ∙ sym (list_any_map (λ other. other == c.args.enter) (λ (region : Region). region.enter) c.args.regions.now)

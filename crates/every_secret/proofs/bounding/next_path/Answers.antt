@@ -8,7 +8,7 @@ use Rattle.every_secret.specs.Private.Judging.{Judges}
 use Rattle.every_secret.specs.Private.Orders.{later}
 use Rattle.every_secret.specs.Paths.{tree_of}
 use Rattle.every_secret.specs.Replays.{MaskedReplay}
-use Rattle.every_secret.proofs.SteppedPaths.{is-walked, steps-join}
+use Rattle.every_secret.proofs.SteppedPaths.{is_walked, steps_join}
 use Rattle.every_secret.proofs.bounding.next_path.Goals as goal
 
 pub returns-in-Unclear-clause-steps : goal.returns-in-Unclear-clause-steps
@@ -17,7 +17,7 @@ returns-in-Unclear-clause-steps g c = λ rules answers untaken zeros_are opens.
     let asker = MaskedReplay rules (task_of (image_picture walks.image.now) walks.public.now walks.marked.now.regions.items
     (cut_picture walks.cut.now)) (record { budget = walks.budget; turns = walks.turns }) in
     let path = c.in_ok-walked.walked in
-    let walked = is-walked c.args.limit (found_by c.args.found) asker c.args.bits path.bits path.end
+    let walked = is_walked c.args.limit (found_by c.args.found) asker c.args.bits path.bits path.end
     c.in_ok-walked.ensures.longer (c.in_ok-walked.ensures.end rules answers untaken zeros_are) opens in
     walked.judged_is
     ∙ subst (λ j. Judges j path.bits.bits path.end (found_by c.args.found)) c.in-Unclear.is c.in_ok-why.ensures.judges
@@ -30,9 +30,9 @@ returns-in_ok-step-in-Found-clause-steps g c = λ rules answers untaken zeros_ar
     let asker = MaskedReplay rules (task_of (image_picture walks.image.now) walks.public.now walks.marked.now.regions.items
     (cut_picture walks.cut.now)) (record { budget = walks.budget; turns = walks.turns }) in
     let path = c.in_ok-walked.walked in
-    let walked = is-walked c.args.limit (found_by c.args.found) asker c.args.bits path.bits path.end
+    let walked = is_walked c.args.limit (found_by c.args.found) asker c.args.bits path.bits path.end
     c.in_ok-walked.ensures.longer (c.in_ok-walked.ensures.end rules answers untaken zeros_are) opens in
-    steps-join c.in_ok-step-in-Found.step c.args.limit (found_by c.args.found) (found_by c.in-Found.next) (tree_of asker)
+    steps_join c.in_ok-step-in-Found.step c.args.limit (found_by c.args.found) (found_by c.in-Found.next) (tree_of asker)
     c.args.bits.bits path.bits.bits path.end
     (walked.judged_is
     ∙ subst (λ j. Judges j path.bits.bits path.end (found_by c.args.found)) c.in-Found.is c.in_ok-why.ensures.judges

@@ -2,7 +2,7 @@ use Rattle.std.proofs.Common.{◌<◌, ◌++◌, take, false, get_or, length, sy
 use Rattle.std.proofs.Math.Seq.{take-suc}
 use Rattle.flow_base.specs.Words.{bits_under}
 use Rattle.every_secret.proofs.Strings.{count_one}
-use Rattle.every_secret.proofs.Trees.{bit-under}
+use Rattle.every_secret.proofs.Trees.{bit_under}
 use Rattle.every_secret.proofs.next_strings.copied.Goals as goal
 
 pub push_masked-requires : goal.push_masked-requires
@@ -15,7 +15,7 @@ loop-bit-preserved c =
     let below : index < length bits = omega arith in record {
       bits = c.in_ok-push_masked.ensures.pushed
           ∙ (ap₂ (λ s t. s ++ t) c.loop-bit.invariant.bits (ap (λ n. bits_under n 1) c.from.ensures
-          ∙ bit-under (get_or bits index false))
+          ∙ bit_under (get_or bits index false))
           ∙ sym (ap (λ n. take n bits) (add-one index) ∙ take-suc bits index false below));
       taken = c.in_ok-push_masked.ensures.taken ∙ c.loop-bit.invariant.taken;
     }

@@ -2,14 +2,14 @@ use Rattle.std.proofs.Common.{◌≤◌, ◌^◌, ap, sym, subst, ◌∙◌}
 use Rattle.std.proofs.lemmas.List.Sorted.{All-permutation, IsNonDecreasingBy-from_sort, sum_by-IsPermutation}
 use Rattle.every_secret.specs.Bounds.{IsLeastPower}
 use Rattle.every_secret.specs.Private.Ceilings.{Ascend, sum_of_powers}
-use Rattle.every_secret.proofs.Ceilings.{ascend-from-sorted}
+use Rattle.every_secret.proofs.Ceilings.{ascend_from_sorted}
 use Rattle.every_secret.proofs.numbers.output_bits.Goals as goal
 
 pub bits_for_powers-requires : goal.bits_for_powers-requires
 bits_for_powers-requires c =
     let sorted = c.sort_unstable.new.self.items in
     subst (λ exponents. Ascend 0 (2 ^ 70) exponents) (sym c.deref.ensures.value)
-    (ascend-from-sorted (2 ^ 70) sorted
+    (ascend_from_sorted (2 ^ 70) sorted
     (All-permutation (λ bits. bits ≤ 2 ^ 70) c.in_ok-exponents.exponents.items sorted c.sort_unstable.ensures.permutation
     c.in_ok-exponents.ensures.few)
     (IsNonDecreasingBy-from_sort (λ bits. bits) sorted c.sort_unstable.ensures.sorted))

@@ -4,7 +4,7 @@ use Rattle.replay_machine.specs.ReplayTurns.{kind_outside_range}
 use Rattle.tracked_run.specs.Labels.{map_of}
 use Rattle.every_secret.specs.Private.Tapes.{tape_of}
 use Rattle.every_secret.specs.Turns.{secret_base, secret_base_of}
-use Rattle.every_secret.proofs.MadeTurns.{none-of, walks-by}
+use Rattle.every_secret.proofs.MadeTurns.{none_of, walks-by}
 use Rattle.every_secret.proofs.turns.enter.Goals as goal
 
 pub returns-in_ok-skip_or_enter-in-None-clause-makes :
@@ -21,5 +21,5 @@ returns-in_ok-skip_or_enter-in-None-clause-makes g c = λ regions.
     new.unclear)
     (secret_base_of kind (map_of side.shadow)) (kind_outside_range kind machine)
     (ap (λ ranges. secret_base ranges (map_of side.shadow)) (sym c.as_slice.ensures) ∙ (sym c.secret_base.ensures
-    ∙ none-of c.secret_base.result c.in_default.not-Some)) (sym c.in-None.ensures.outside)
+    ∙ none_of c.secret_base.result c.in_default.not-Some)) (sym c.in-None.ensures.outside)
     (c.in_ok-skip_or_enter-in-None.ensures.plays regions) refl

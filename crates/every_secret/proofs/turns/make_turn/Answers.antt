@@ -5,7 +5,7 @@ use Rattle.replay_machine.specs.ReplayTurns.{kind_outside_range}
 use Rattle.tracked_run.specs.Labels.{map_of}
 use Rattle.every_secret.specs.Private.Tapes.{tape_of}
 use Rattle.every_secret.specs.Turns.{secret_base_of}
-use Rattle.every_secret.proofs.MadeTurns.{kind-longer, kind-ready, kind-table, turn-makes}
+use Rattle.every_secret.proofs.MadeTurns.{kind-longer, kind-ready, kind-table, turn_makes}
 use Rattle.every_secret.proofs.turns.make_turn.Goals as goal
 
 pub returns-clause-table : goal.returns-clause-table
@@ -57,7 +57,7 @@ returns-clause-makes g c = λ rules task place answers same at.
     let machine = c.args.machine.now in
     let enclosures : Enclosures = record { regions = c.args.marked.now.regions.items; skip = c.args.skip.now } in
     let kind = seen c.next_turn-turn.result in
-    turn-makes rules task place machine
+    turn_makes rules task place machine
     (tape_of side.book.now.table side.shadow side.masks side.bits side.crossed side.byte_masks.items side.status_mask
     side.unclear) c.in_ok-outside.outside c.make_kind.new.machine
     (tape_of new.book.now.table new.shadow new.masks new.bits new.crossed new.byte_masks.items new.status_mask

@@ -8,14 +8,14 @@ use Rattle.every_secret.specs.Private.Tapes.{tape_of}
 use Rattle.every_secret.specs.Private.Walks.{end_of, ending_after}
 use Rattle.every_secret.specs.declared.endings.Ending.TheVariants as ending
 use Rattle.every_secret.specs.declared.stops.PathStop.TheVariants.{Turns}
-use Rattle.every_secret.proofs.MadeTurns.{none-of}
-use Rattle.every_secret.proofs.Strings.{lengthens-more}
-use Rattle.every_secret.proofs.WalkedPaths.{IsOn, ends-here, ends-late, goes-on, none-after}
+use Rattle.every_secret.proofs.MadeTurns.{none_of}
+use Rattle.every_secret.proofs.Strings.{lengthens_more}
+use Rattle.every_secret.proofs.WalkedPaths.{IsOn, ends_here, ends_late, goes_on_so, none_after}
 use Rattle.every_secret.proofs.walks.walk_path.Goals as goal
 
 pub returns-in-Some-clause-longer : goal.returns-in-Some-clause-longer
 returns-in-Some-clause-longer g c =
-    lengthens-more c.args.side.now.bits c.loop.side.bits c.make_turn.new.side.bits c.loop.invariant.longer
+    lengthens_more c.args.side.now.bits c.loop.side.bits c.make_turn.new.side.bits c.loop.invariant.longer
     c.in_ok-outside.ensures.longer
 
 pub returns-in-Some-clause-ends : goal.returns-in-Some-clause-ends
@@ -39,7 +39,7 @@ returns-in-Some-clause-ends g c = λ rules task limits place answers same limits
     subst (λ (l : Limits). feed (walked_on rules task l c.args.turns place)
     (drop c.args.side.now.bits.taken new.bits.bits)
     ≡ Fed' (end_of c.in-Some.ending c.make_turn.new.machine after) (left_of new.bits)) (sym limits_are)
-    (ends-here rules task bounds place c.args.side.now.bits left c.loop.machine tape on c.in_ok-outside.outside
+    (ends_here rules task bounds place c.args.side.now.bits left c.loop.machine tape on c.in_ok-outside.outside
     c.make_turn.new.machine after c.loop.invariant.within c.in_ok-outside.ensures.longer
     (c.in_ok-outside.ensures.makes rules task on.next
     (subst (λ t. AnswerAs t rules) (sym c.loop.invariant.table) answers) same on.holds) c.in-Some.ending ends)
@@ -55,15 +55,15 @@ loop-preserved g c =
     let ends : ending_after c.in_ok-outside.outside after.unclear c.make_turn.new.machine.control.mode c.args.budget
     after.crossed ≡ None =
     ap (λ mode. ending_after c.in_ok-outside.outside after.unclear mode c.args.budget after.crossed)
-    (sym c.mode.ensures) ∙ (sym c.ended.ensures ∙ none-of c.ended.result c.in_default.not-Some) in
+    (sym c.mode.ensures) ∙ (sym c.ended.ensures ∙ none_of c.ended.result c.in_default.not-Some) in
     record {
       ready =
-          let fine = none-after c.in_ok-outside.outside after.unclear c.make_turn.new.machine.control.mode c.args.budget
+          let fine = none_after c.in_ok-outside.outside after.unclear c.make_turn.new.machine.control.mode c.args.budget
           after.crossed ends in
           c.in_ok-outside.ensures.ready fine.0 fine.1;
       table = c.in_ok-outside.ensures.table ∙ c.loop.invariant.table;
       within = c.in_ok-outside.ensures.longer.within c.loop.invariant.within;
-      longer = lengthens-more c.args.side.now.bits c.loop.side.bits c.make_turn.new.side.bits c.loop.invariant.longer
+      longer = lengthens_more c.args.side.now.bits c.loop.side.bits c.make_turn.new.side.bits c.loop.invariant.longer
           c.in_ok-outside.ensures.longer;
       on = λ rules task limits place answers same limits_are holds.
           let bounds : Limits = record { budget = c.args.budget; turns = c.args.turns } in
@@ -74,7 +74,7 @@ loop-preserved g c =
           (c.loop.invariant.on rules task bounds place answers same refl holds) in
           subst (λ (l : Limits). IsOn rules task l place c.args.side.now.bits left c.make_turn.new.machine after)
           (sym limits_are)
-          (goes-on rules task bounds place c.args.side.now.bits left c.loop.machine tape on c.in_ok-outside.outside
+          (goes_on_so rules task bounds place c.args.side.now.bits left c.loop.machine tape on c.in_ok-outside.outside
           c.make_turn.new.machine after c.loop.invariant.within c.in_ok-outside.ensures.longer
           (c.in_ok-outside.ensures.makes rules task on.next
           (subst (λ t. AnswerAs t rules) (sym c.loop.invariant.table) answers) same on.holds) ends);
@@ -93,4 +93,4 @@ returns-clause-ends g c = λ rules task limits place answers same limits_are hol
     subst (λ (l : Limits). feed (walked_on rules task l c.args.turns place)
     (drop c.args.side.now.bits.taken side.bits.bits)
     ≡ Fed' (end_of (ending.Stopped (Turns c.args.turns)) c.loop.machine tape) (left_of side.bits)) (sym limits_are)
-    (ends-late rules task bounds place c.args.side.now.bits c.loop.machine tape on)
+    (ends_late rules task bounds place c.args.side.now.bits c.loop.machine tape on)

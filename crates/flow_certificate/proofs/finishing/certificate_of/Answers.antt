@@ -2,12 +2,12 @@ use Rattle.std.proofs.Common.{ap, ◌∙◌}
 use Rattle.flow_graph.specs.declared.graphs.Graph.{Graph}
 use Rattle.max_flow.specs.declared.answers.Solved.{Solved}
 use Rattle.flow_certificate.specs.Private.Drafts.{sketch_of}
-use Rattle.flow_certificate.proofs.WholeDrafts.{parts-texts, same-picture}
+use Rattle.flow_certificate.proofs.WholeDrafts.{parts_texts, same_picture}
 use Rattle.flow_certificate.proofs.finishing.certificate_of.Goals as goal
 
 pub whole_of-requires-clause-texts : goal.whole_of-requires-clause-texts
 whole_of-requires-clause-texts c =
-    parts-texts c.graph_of-graph.result _ (sketch_of c.args.draft).picture (record {
+    parts_texts c.graph_of-graph.result _ (sketch_of c.args.draft).picture (record {
       value = c.in_ok-said.ensures.value;
       points = c.graph_of-graph.ensures.points ∙ c.in_ok-said.ensures.nodes;
       point_flows = c.in_ok-said.ensures.point_flows;
@@ -22,7 +22,7 @@ pub returns : goal.returns
 returns c =
     let graph = c.whole_of.ensures.graph in
     let solved = c.whole_of.ensures.solved in
-    same-picture c.whole_of.result.graph c.whole_of.result.solved (sketch_of c.args.draft).picture (record {
+    same_picture c.whole_of.result.graph c.whole_of.result.solved (sketch_of c.args.draft).picture (record {
       value = ap (λ (s : Solved). s.value) solved ∙ c.in_ok-said.ensures.value;
       points = ap (λ (g : Graph). g.points) graph ∙ (c.graph_of-graph.ensures.points ∙ c.in_ok-said.ensures.nodes);
       point_flows = ap (λ (s : Solved). s.flow.points) solved ∙ c.in_ok-said.ensures.point_flows;

@@ -1,6 +1,6 @@
 use Rattle.std.proofs.Common.{length, sym, refl, arith}
 use Rattle.max_flow.specs.Flows.{halves_from}
-use Rattle.max_flow.proofs.Graphs.{half-at}
+use Rattle.max_flow.proofs.Graphs.{half_at}
 use Rattle.flow_certificate.proofs.Counters.{added_none, added_more, added_room}
 use Rattle.flow_certificate.proofs.sums.add_points.Goals as goal
 
@@ -15,5 +15,5 @@ add_at-requires c = added_room c.args.base (halves_from c.args.start (length c.a
 pub loop-i-preserved : goal.loop-i-preserved
 loop-i-preserved c = added_more c.args.base (halves_from c.args.start (length c.args.flows.now)) c.args.flows.now
     c.loop-i.i _ _ c.args.sums.now c.loop-i.sums c.add_at.new.sums
-    (sym (half-at c.args.start (length c.args.flows.now) c.loop-i.i (omega arith))) refl c.loop-i.invariant
+    (sym (half_at c.args.start (length c.args.flows.now) c.loop-i.i (omega arith))) refl c.loop-i.invariant
     c.add_at.ensures

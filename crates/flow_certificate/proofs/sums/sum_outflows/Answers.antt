@@ -1,7 +1,7 @@
 use Rattle.std.proofs.Common.{◌≡◌, ℕ, ◌∙◌, length, sym, subst, arith}
 use Rattle.std.proofs.lemmas.List.{length-map}
 use Rattle.max_flow.specs.Flows.{halves_from}
-use Rattle.max_flow.proofs.Graphs.{length-halves}
+use Rattle.max_flow.proofs.Graphs.{length_halves}
 use Rattle.flow_certificate.specs.Private.Sums.{AreAdded, brought, tails_of}
 use Rattle.flow_certificate.proofs.SmallNumbers.{all_small}
 use Rattle.flow_certificate.proofs.Blocks.{room_after, sums_whole}
@@ -23,7 +23,7 @@ returns-clause-sums c =
     let points : AreAdded c.args.base (brought (halves_from 2 (length t.graph.points)) t.solved.flow.points
     (length (halves_from 2 (length t.graph.points)))) c.args.sums.now c.add_points.new.sums =
     subst (λ (n : ℕ). AreAdded c.args.base (brought (halves_from 2 (length t.graph.points)) t.solved.flow.points n)
-    c.args.sums.now c.add_points.new.sums) (sym (length-halves 2 (length t.graph.points)))
+    c.args.sums.now c.add_points.new.sums) (sym (length_halves 2 (length t.graph.points)))
     (subst (λ (n : ℕ). AreAdded c.args.base (brought (halves_from 2 n) t.solved.flow.points n) c.args.sums.now
     c.add_points.new.sums) count (rw c.as_slice.ensures at c.add_points.ensures)) in
     let links : AreAdded c.args.base (brought (tails_of (length t.graph.points) t.graph.links) t.solved.flow.links
@@ -33,4 +33,4 @@ returns-clause-sums c =
     (rw (c.as_slice-2.ensures, c.as_slice-3.ensures, c.len-count.ensures) at c.add_sources.ensures) in
     sums_whole c.args.base (halves_from 2 (length t.graph.points)) (tails_of (length t.graph.points) t.graph.links)
     t.solved.flow.points t.solved.flow.links c.args.sums.now c.add_points.new.sums c.add_sources.new.sums
-    (length-halves 2 (length t.graph.points) ∙ sym count) c.requires points links
+    (length_halves 2 (length t.graph.points) ∙ sym count) c.requires points links

@@ -1,13 +1,13 @@
 use Rattle.flow_certificate.specs.Pictures.{certificate_picture}
-use Rattle.flow_certificate.proofs.Written.{written-text, written-valid}
+use Rattle.flow_certificate.proofs.Written.{written_text, written_valid}
 use Rattle.flow_certificate.proofs.writing.put_lines.Goals as goal
 
 pub returns : goal.returns
 returns c =
     let t = c.args.certificate.now in
     record {
-      valid = written-valid t;
-      text = written-text (certificate_picture t.graph t.solved) c.put_line.new.text.items c.put_line-2.new.text.items
+      valid = written_valid t;
+      text = written_text (certificate_picture t.graph t.solved) c.put_line.new.text.items c.put_line-2.new.text.items
           c.put_points.new.text.items c.put_relays.new.text.items c.put_links.new.text.items
           c.put_line-3.new.text.items
           (rw c.requires at c.in_ok-put_line.ensures) c.in_ok-put_line-2.ensures

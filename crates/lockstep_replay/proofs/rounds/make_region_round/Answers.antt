@@ -1,6 +1,6 @@
 use Rattle.std.proofs.Common.{sym, refl, ◌∙◌, None}
-use Rattle.lockstep_replay.proofs.RoundResults.{Played, round-fails, round-enclosed, round-beside, output-begins}
-use Rattle.lockstep_replay.proofs.RoundResults.{used-played}
+use Rattle.lockstep_replay.proofs.RoundResults.{Played, round_fails, round_enclosed, round_beside, output_begins}
+use Rattle.lockstep_replay.proofs.RoundResults.{used_played}
 use Rattle.lockstep_replay.proofs.rounds.make_region_round.Goals as goal
 
 pub returns-in-Some : goal.returns-in-Some
@@ -13,7 +13,7 @@ returns-in-Some c =
       small = c.args.tally.now.small;
       rules = rw c.marked.ensures at c.marked.result.now.regions.keeps_rules;
     } in
-    round-fails c.args.real.now c.args.tally.now c.args.replay.now c.real_turn-turn.new.real
+    round_fails c.args.real.now c.args.tally.now c.args.replay.now c.real_turn-turn.new.real
     c.real_turn-turn.new.tally c.real_turn-turn.result
     c.in-Some.why played (sym (rw c.mode.ensures at c.real_reason.ensures) ∙ c.in-Some.is)
 
@@ -27,7 +27,7 @@ returns-then-enclosed c =
       small = c.args.tally.now.small;
       rules = rw c.marked.ensures at c.marked.result.now.regions.keeps_rules;
     } in
-    round-enclosed c.args.real.now c.args.tally.now c.args.replay.now c.real_turn-turn.new.real
+    round_enclosed c.args.real.now c.args.tally.now c.args.replay.now c.real_turn-turn.new.real
     c.real_turn-turn.new.tally c.real_turn-turn.result
     played (sym (rw c.mode.ensures at c.real_reason.ensures) ∙ c.in_default.is) c.if-enclosed.true
 
@@ -41,7 +41,7 @@ keeps_up-requires-clause-begins c =
       small = c.args.tally.now.small;
       rules = rw c.marked.ensures at c.marked.result.now.regions.keeps_rules;
     } in
-    output-begins c.args.real.now c.args.tally.now c.args.replay.now c.real_turn-turn.new.real
+    output_begins c.args.real.now c.args.tally.now c.args.replay.now c.real_turn-turn.new.real
     c.real_turn-turn.new.tally c.real_turn-turn.result
     played
 
@@ -55,7 +55,7 @@ keeps_up-requires-clause-used c =
       small = c.args.tally.now.small;
       rules = rw c.marked.ensures at c.marked.result.now.regions.keeps_rules;
     } in
-    used-played c.args.real.now c.args.tally.now c.args.replay.now c.real_turn-turn.new.real
+    used_played c.args.real.now c.args.tally.now c.args.replay.now c.real_turn-turn.new.real
     c.real_turn-turn.new.tally c.real_turn-turn.result
     played (sym (rw c.mode.ensures at c.real_reason.ensures) ∙ c.in_default.is)
 
@@ -69,7 +69,7 @@ returns-then-keeps_up c =
       small = c.args.tally.now.small;
       rules = rw c.marked.ensures at c.marked.result.now.regions.keeps_rules;
     } in
-    round-beside c.args.real.now c.args.tally.now c.args.replay.now c.real_turn-turn.new.real
+    round_beside c.args.real.now c.args.tally.now c.args.replay.now c.real_turn-turn.new.real
     c.real_turn-turn.new.tally c.real_turn-turn.result
     c.keeps_up.new.replay _ None played
     (sym (rw c.mode.ensures at c.real_reason.ensures) ∙ c.in_default.is) c.if-enclosed.false
@@ -94,7 +94,7 @@ returns c =
       small = c.args.tally.now.small;
       rules = rw c.marked.ensures at c.marked.result.now.regions.keeps_rules;
     } in
-    round-beside c.args.real.now c.args.tally.now c.args.replay.now c.real_turn-turn.new.real
+    round_beside c.args.real.now c.args.tally.now c.args.replay.now c.real_turn-turn.new.real
     c.real_turn-turn.new.tally c.real_turn-turn.result
     c.keeps_up.new.replay _ c.replay_reason-why.result played
     (sym (rw c.mode.ensures at c.real_reason.ensures) ∙ c.in_default.is) c.if-enclosed.false

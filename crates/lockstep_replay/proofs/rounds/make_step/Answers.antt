@@ -1,7 +1,7 @@
 use Rattle.std.proofs.Common.{sym, refl, ◌∙◌}
 use Rattle.lockstep_replay.specs.Private.Standings.{why_beside}
-use Rattle.lockstep_replay.proofs.RoundResults.{Played, none-fails, outside_turn, output-begins, step-beside, step-fails}
-use Rattle.lockstep_replay.proofs.RoundResults.{used-played}
+use Rattle.lockstep_replay.proofs.RoundResults.{Played, none_fails, outside_turn, output_begins, step_beside, step_fails}
+use Rattle.lockstep_replay.proofs.RoundResults.{used_played}
 use Rattle.lockstep_replay.proofs.rounds.make_step.Goals as goal
 
 pub returns-in-Some-clause-rounds : goal.returns-in-Some-clause-rounds
@@ -14,7 +14,7 @@ returns-in-Some-clause-rounds c =
       small = c.args.tally.now.small;
       rules = rw c.marked.ensures at c.marked.result.now.regions.keeps_rules;
     } in
-    step-fails c.args.real.now c.args.tally.now c.args.replay.now c.real_step.new.real c.real_step.new.tally
+    step_fails c.args.real.now c.args.tally.now c.args.replay.now c.real_step.new.real c.real_step.new.tally
     c.in-Some.field-0 played (sym (rw c.mode.ensures at c.mode_reason.ensures) ∙ c.in-Some.is)
 
 pub keeps_up-requires-clause-begins : goal.keeps_up-requires-clause-begins
@@ -27,7 +27,7 @@ keeps_up-requires-clause-begins c =
       small = c.args.tally.now.small;
       rules = rw c.marked.ensures at c.marked.result.now.regions.keeps_rules;
     } in
-    output-begins c.args.real.now c.args.tally.now c.args.replay.now c.real_step.new.real c.real_step.new.tally
+    output_begins c.args.real.now c.args.tally.now c.args.replay.now c.real_step.new.real c.real_step.new.tally
     outside_turn played
 
 pub keeps_up-requires-clause-used : goal.keeps_up-requires-clause-used
@@ -40,7 +40,7 @@ keeps_up-requires-clause-used c =
       small = c.args.tally.now.small;
       rules = rw c.marked.ensures at c.marked.result.now.regions.keeps_rules;
     } in
-    used-played c.args.real.now c.args.tally.now c.args.replay.now c.real_step.new.real c.real_step.new.tally
+    used_played c.args.real.now c.args.tally.now c.args.replay.now c.real_step.new.real c.real_step.new.tally
     outside_turn played (sym (rw c.mode.ensures at c.mode_reason.ensures) ∙ c.in_default.is)
 
 pub returns-clause-rounds : goal.returns-clause-rounds
@@ -53,7 +53,7 @@ returns-clause-rounds c =
       small = c.args.tally.now.small;
       rules = rw c.marked.ensures at c.marked.result.now.regions.keeps_rules;
     } in
-    step-beside c.args.real.now c.args.tally.now c.args.replay.now c.real_step.new.real c.real_step.new.tally
+    step_beside c.args.real.now c.args.tally.now c.args.replay.now c.real_step.new.real c.real_step.new.tally
     c.keeps_up.new.replay _ played (sym (rw c.mode.ensures at c.mode_reason.ensures) ∙ c.in_default.is)
     (record {
       says = c.keeps_up.ensures.why;
@@ -68,6 +68,6 @@ returns-clause-rounds c =
 
 pub returns-clause-fine : goal.returns-clause-fine
 returns-clause-fine c = λ fine.
-    none-fails c.real_step.new.real.control.mode c.real_step.new.tally.budget c.real_step.new.tally.needed
+    none_fails c.real_step.new.real.control.mode c.real_step.new.tally.budget c.real_step.new.tally.needed
     (why_beside c.real_step.new.real c.real_step.new.tally.needed c.keeps_up.new.replay)
     (sym (rw c.mode.ensures at c.mode_reason.ensures) ∙ c.in_default.is) ∙ c.keeps_up.ensures.fine fine

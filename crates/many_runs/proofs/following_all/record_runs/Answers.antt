@@ -2,20 +2,20 @@ use Rattle.std.proofs.Common.{subst, sym, ◌++◌, ◌∷◌, [], take, ◌+◌
 use Rattle.elf32_loader.specs.Images.{image_picture}
 use Rattle.many_runs.specs.Following.{AreFollowed, IsRunFault}
 use Rattle.many_runs.specs.Measures.{setup_of}
-use Rattle.many_runs.proofs.RecordedRuns.{first-refused, followed-more, next-taken, none-followed}
+use Rattle.many_runs.proofs.RecordedRuns.{first_refused, followed_more, next_taken, none_followed}
 use Rattle.many_runs.proofs.following_all.record_runs.Goals as goal
 
 pub loop-index-init : goal.loop-index-init
 loop-index-init g c = subst (λ recordings. AreFollowed (setup_of c.args.book.now.table (image_picture c.args.image.now)
     c.args.public.now c.args.regions.now.items c.args.turns) [] recordings) (sym c.new-recordings.ensures)
-    (none-followed _)
+    (none_followed _)
 
 pub returns-in-Err : goal.returns-in-Err
 returns-in-Err g c = record {
   ok = tt;
   err = subst (IsRunFault (setup_of c.args.book.now.table (image_picture c.args.image.now) c.args.public.now
       c.args.regions.now.items c.args.turns) c.args.secrets.now) (sym c.many_fault.ensures)
-      (first-refused _ c.args.secrets.now c.loop-index.recordings c.loop-index.index c.index-secrets-index.result
+      (first_refused _ c.args.secrets.now c.loop-index.recordings c.loop-index.index c.index-secrets-index.result
       c.in-Err.fault c.loop-index-test.true c.index-secrets-index.is c.loop-index.invariant c.in-Err.ensures.err);
 }
 
@@ -28,7 +28,7 @@ loop-index-preserved g c =
     (sym c.in_ok-push-in-Ok.ensures.ok)
     (subst (λ secrets. AreFollowed (setup_of c.args.book.now.table (image_picture c.args.image.now) c.args.public.now
     c.args.regions.now.items c.args.turns) secrets (c.loop-index.recordings ++ c.in-Ok.recording ∷ []))
-    (sym (next-taken c.args.secrets.now c.loop-index.index c.index-secrets-index.result c.loop-index-test.true
+    (sym (next_taken c.args.secrets.now c.loop-index.index c.index-secrets-index.result c.loop-index-test.true
     c.index-secrets-index.is))
-    (followed-more _ (take c.loop-index.index c.args.secrets.now) c.loop-index.recordings c.index-secrets-index.result
+    (followed_more _ (take c.loop-index.index c.args.secrets.now) c.loop-index.recordings c.index-secrets-index.result
     c.in-Ok.recording c.loop-index.invariant c.in-Ok.ensures.ok)))

@@ -7,14 +7,14 @@ use Rattle.many_runs.specs.Private.Weighing.{WeighsAll}
 use Rattle.many_runs.proofs.WeighedRuns.{unweighed, weighed}
 use Rattle.many_runs.proofs.measuring_all.measure_runs.Goals as goal
 
-if-both : {T E : Type 0} (r : Result T E) (P Q R : T → Type 0) → ((x : T) → P x → Q x → R x) → IfOk r P → IfOk r Q →
+if_both : {T E : Type 0} (r : Result T E) (P Q R : T → Type 0) → ((x : T) → P x → Q x → R x) → IfOk r P → IfOk r Q →
     IfOk r R
-if-both (Ok x) P Q R both p q = both x p q
-if-both (Err e) P Q R both p q = tt
+if_both (Ok x) P Q R both p q = both x p q
+if_both (Err e) P Q R both p q = tt
 
 pub returns-clause-ok : goal.returns-clause-ok
 returns-clause-ok g c =
-    if-both c.weigh_all.result _ _ _
+    if_both c.weigh_all.result _ _ _
     (λ many weighs budget. weighed _ c.args.secrets.now c.in_ok-recordings.recordings c.in_ok-union.union
     c.in_ok-secret_len.ensures.alike c.in_ok-recordings.ensures.ok
     (subst (λ list. (runs : List (List Event)) → AllKeep list runs → RecordsUnion runs c.in_ok-union.union)

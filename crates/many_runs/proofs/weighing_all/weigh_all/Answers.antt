@@ -3,7 +3,7 @@ use Rattle.cut_file.proofs.Following.{is_true}
 use Rattle.measuring.proofs.RunCut.{cut_is}
 use Rattle.measuring.proofs.CutNames.{cut_is_in}
 use Rattle.measuring.proofs.GraphWithinLimits.{recorded_within, recorded_exceeds_none}
-use Rattle.many_runs.proofs.FewCutPoints.{few-points}
+use Rattle.many_runs.proofs.FewCutPoints.{points_are_few}
 use Rattle.many_runs.proofs.weighing_all.weigh_all.Goals as goal
 
 pub solve-requires : goal.solve-requires
@@ -33,7 +33,7 @@ invariant_of-result c =
       few_points = within.points;
       few_links = within.links;
       small = within.capacities;
-      few_cut_points = few-points c.in_ok-cut.cut.points _ _ _ c.in_ok-cut.ensures.points within.points;
+      few_cut_points = points_are_few c.in_ok-cut.cut.points _ _ _ c.in_ok-cut.ensures.points within.points;
       known = is_true _ (cut_is_in _ c.in_ok-graph.graph.points _ c.in_ok-cut.cut.points c.in_ok-cut.ensures.points);
     }
 

@@ -1,7 +1,7 @@
 use Rattle.std.proofs.Common.{◌≡◌, ◌≢◌, ◌+◌}
 use Rattle.max_flow.specs.Networks.{source_flow}
 use Rattle.max_flow.specs.Private.Solving.{net_of}
-use Rattle.max_flow.proofs.WalksBack.{walking_first, walking_on, walked_flow, walked-value}
+use Rattle.max_flow.proofs.WalksBack.{walking_first, walking_on, walked_flow, walked_value}
 use Rattle.max_flow.proofs.Amounts.{raising_first, raising_on, raised_most}
 use Rattle.max_flow.proofs.augmenting.augment.Goals as goal
 
@@ -33,13 +33,13 @@ returns-clause-flow c =
 
 pub returns-clause-value : goal.returns-clause-value
 returns-clause-value c =
-    walked-value (net_of c.args.network.now) c.loop-at.flows _ _ _ _ c.loop-at.at c.room-amount.result
+    walked_value (net_of c.args.network.now) c.loop-at.flows _ _ _ _ c.loop-at.at c.room-amount.result
     c.requires.network.net c.loop-at-test.false c.loop-at.invariant.walking
 
 pub returns-clause-most : goal.returns-clause-most
 returns-clause-most c =
     let total : source_flow (net_of c.args.network.now) c.loop-at.flows ≡ source_flow (net_of c.args.network.now)
     c.args.flows.now + c.room-amount.result =
-    walked-value (net_of c.args.network.now) c.loop-at.flows _ _ _ _ c.loop-at.at c.room-amount.result
+    walked_value (net_of c.args.network.now) c.loop-at.flows _ _ _ _ c.loop-at.at c.room-amount.result
     c.requires.network.net c.loop-at-test.false c.loop-at.invariant.walking in
     raised_most c.loop-at.flows _ _ total c.loop-at.invariant.raising.most

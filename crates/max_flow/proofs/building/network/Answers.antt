@@ -1,13 +1,13 @@
 use Rattle.std.proofs.Common.{◌≡◌, ◌+◌, ◌∙◌, length, refl, arith}
 use Rattle.max_flow.specs.Flows.{network_of}
 use Rattle.max_flow.proofs.Graphs.{graph_net}
-use Rattle.max_flow.proofs.GraphAnswers.{edges-count, limits_fit}
+use Rattle.max_flow.proofs.GraphAnswers.{edges_count, limits_fit}
 use Rattle.max_flow.proofs.building.network.Goals as goal
 
 pub chains_of-requires-clause-few : goal.chains_of-requires-clause-few
 chains_of-requires-clause-few c =
     let count : length (network_of c.args.graph.now).tails ≡ length c.args.graph.now.points + length
-    c.args.graph.now.links = edges-count c.args.graph.now in
+    c.args.graph.now.links = edges_count c.args.graph.now in
     rw (c.as_slice-2.ensures, c.in_ok-ends.ensures.tails)
     (omega (arith, count, c.requires.points, c.requires.links))
 
@@ -15,7 +15,7 @@ pub chains_of-requires-2-clause-few : goal.chains_of-requires-2-clause-few
 chains_of-requires-2-clause-few c =
     let same = (graph_net c.args.graph.now).same in
     let count : length (network_of c.args.graph.now).tails ≡ length c.args.graph.now.points + length
-    c.args.graph.now.links = edges-count c.args.graph.now in
+    c.args.graph.now.links = edges_count c.args.graph.now in
     rw (c.as_slice-3.ensures, c.in_ok-ends.ensures.heads)
     (omega (arith, same, count, c.requires.points, c.requires.links))
 
@@ -52,7 +52,7 @@ returns-clause-network c =
     record {
       net = rw (c.len.ensures, tails, heads, limits) (graph_net c.args.graph.now);
       nodes_few = omega (arith, c.len.ensures, c.requires.points);
-      edges_few = rw tails (omega (arith, edges-count c.args.graph.now, c.requires.points, c.requires.links));
+      edges_few = rw tails (omega (arith, edges_count c.args.graph.now, c.requires.points, c.requires.links));
       fits = rw limits (limits_fit c.args.graph.now c.requires);
       leaving = rw c.into_vec.ensures (rw c.as_slice-2.ensures at c.in_ok-leaving.ensures);
       entering = rw (tails, ← same, c.into_vec-2.ensures, ← c.in_ok-ends.ensures.heads)

@@ -1,5 +1,5 @@
 use Rattle.max_flow.specs.Private.Solving.{net_of}
-use Rattle.max_flow.proofs.FirstAndLastFlows.{raised_side, raised-capacity, raised_least}
+use Rattle.max_flow.proofs.FirstAndLastFlows.{raised_side, raised_capacity, raised_least}
 use Rattle.max_flow.proofs.raising.solve_network.Goals as goal
 
 pub returns-clause-count : goal.returns-clause-count
@@ -10,7 +10,7 @@ returns-clause-side c = raised_side (net_of c.args.network.now) c.raise.new.flow
     c.in_ok-value.field-0.tree c.requires.network.net c.requires.small c.in_ok-value.ensures
 
 pub returns-clause-capacity : goal.returns-clause-capacity
-returns-clause-capacity c = raised-capacity (net_of c.args.network.now) c.raise.new.flows c.in_ok-value.field-0.value
+returns-clause-capacity c = raised_capacity (net_of c.args.network.now) c.raise.new.flows c.in_ok-value.field-0.value
     c.in_ok-value.field-0.tree c.requires.network.net c.requires.small c.in_ok-value.ensures
 
 pub returns-clause-least : goal.returns-clause-least

@@ -1,7 +1,7 @@
 use Rattle.std.proofs.Common.{◌+◌, length, refl, ap, ◌∙◌, rules}
 use Rattle.std.proofs.lemmas.List.{length_push}
 use Rattle.max_flow.specs.Private.Marks.{found_marks}
-use Rattle.max_flow.proofs.FoundNodesAreMembers.{marks-push, found-more}
+use Rattle.max_flow.proofs.FoundNodesAreMembers.{marks_push, found_more}
 use Rattle.max_flow.proofs.sides.found_halves.Goals as goal
 
 pub loop-i-init : goal.loop-i-init
@@ -14,10 +14,10 @@ loop-i-preserved c = record {
       c.loop-i.invariant.count);
   marks = rw (
     c.in_ok-push.ensures.ok,
-    marks-push,
+    marks_push,
     c.loop-i.invariant.marks,
     c.half_of-half.ensures.first,
     c.half_of-half.ensures.second,
-    found-more,
+    found_more,
   ) refl;
 }

@@ -6,8 +6,8 @@ use Rattle.max_flow.specs.Flows.{network_of}
 use Rattle.max_flow.specs.Private.Searching.{is_found}
 use Rattle.max_flow.specs.Private.Solving.{net_of}
 use Rattle.max_flow.proofs.SmallSides.{small_side}
-use Rattle.max_flow.proofs.FoundNodesAreMembers.{IsMade, made-capacity}
-use Rattle.max_flow.proofs.GraphAnswers.{edges-count, flow_from, front_most, back_most, least_from, greatest_from}
+use Rattle.max_flow.proofs.FoundNodesAreMembers.{IsMade, made_capacity}
+use Rattle.max_flow.proofs.GraphAnswers.{edges_count, flow_from, front_most, back_most, least_from, greatest_from}
 use Rattle.max_flow.proofs.solving.solve.Goals as goal
 
 pub solve_network-requires-clause-small : goal.solve_network-requires-clause-small
@@ -19,7 +19,7 @@ flow_of-requires c =
     let e : net_of c.in_ok-network.network ≡ network_of c.args.graph.now = c.in_ok-network.ensures.net in
     let flow : IsFlow (network_of c.args.graph.now) c.in_ok-value.field-0.flows.items =
     subst (λ n. IsFlow n c.in_ok-value.field-0.flows.items) e c.in_ok-value.ensures.flow in
-    flow.count ∙ edges-count c.args.graph.now
+    flow.count ∙ edges_count c.args.graph.now
 
 pub returns-clause-flow : goal.returns-clause-flow
 returns-clause-flow c =
@@ -82,7 +82,7 @@ returns-clause-capacity c =
       source = side.source;
       sink = side.sink;
     } in
-    made-capacity c.args.graph.now c.in_ok-value.field-0.places.items c.in_ok-side.side.points
+    made_capacity c.args.graph.now c.in_ok-value.field-0.places.items c.in_ok-side.side.points
     c.in_ok-side.side.relays made ∙ capacity
 
 pub returns-clause-greatest : goal.returns-clause-greatest

@@ -4,7 +4,7 @@ use Rattle.std.proofs.lemmas.Bool.{and_parts}
 use Rattle.cut_file.specs.Cuts.{is_run, neighbours_pass, have_other_masks}
 use Rattle.acceptance_law.specs.RunCuts.{united}
 use Rattle.measuring.specs.CutRuns.{once, united_runs}
-use Rattle.measuring.proofs.CutRuns.{point_valid, united-runs}
+use Rattle.measuring.proofs.CutRuns.{point_valid, runs_united}
 use Rattle.measuring.proofs.cut_points.cut_point.Goals as goal
 
 pub returns-clause-valid : goal.returns-clause-valid
@@ -20,5 +20,5 @@ returns-clause-masks c =
     record {
       masks = c.in_ok-runs.ensures.masks;
       rest = c.in_ok-rest.ensures ∙ ap once (c.union.ensures ∙ (ap united_runs c.as_slice.ensures
-          ∙ (sym (united-runs c.in_ok-runs.runs valid) ∙ ap united c.in_ok-runs.ensures.masks)));
+          ∙ (sym (runs_united c.in_ok-runs.runs valid) ∙ ap united c.in_ok-runs.ensures.masks)));
     }

@@ -2,7 +2,7 @@ use Rattle.std.proofs.Common.{◌≡◌, sym, ap, ◌∙◌, subst, ◌++◌, �
 use Rattle.std.specs.List.{list_all, AllByRecursion}
 use Rattle.std.proofs.lemmas.Bool.{and_from}
 use Rattle.cut_file.specs.Cuts.{is_point_of}
-use Rattle.cut_file.proofs.Following.{all-push}
+use Rattle.cut_file.proofs.Following.{all_push}
 use Rattle.measuring.specs.CutRuns.{HasKeptMasks, points_of}
 use Rattle.measuring.proofs.CutRuns.{points_step, all_by_push}
 use Rattle.measuring.proofs.cut_points.cut_points.Goals as goal
@@ -17,6 +17,6 @@ loop-rest-preserved c = record {
       (all_by_push (HasKeptMasks c.args.visits.now) c.loop-rest.made c.in_ok-next.next c.loop-rest.invariant.masks
       c.in_ok-next.ensures.masks);
   valid = ap (list_all (is_point_of 1)) c.in_ok-push.ensures.ok
-      ∙ (all-push (is_point_of 1) c.loop-rest.made c.in_ok-next.next
+      ∙ (all_push (is_point_of 1) c.loop-rest.made c.in_ok-next.next
       ∙ and_from _ _ c.loop-rest.invariant.valid c.in_ok-next.ensures.valid);
 }

@@ -4,7 +4,7 @@ use Rattle.region_machine.specs.Enclosures.{Leaves}
 use Rattle.region_learn.specs.declared.notes.Notes.{Notes}
 use Rattle.region_learn.specs.Private.Books.{NotesAfter}
 use Rattle.region_learn.specs.Private.Marks.{has_bit}
-use Rattle.region_learn.proofs.BookTurns.{book-after, leaves-of, left}
+use Rattle.region_learn.proofs.BookTurns.{book_after, leaves_of, left}
 use Rattle.std.proofs.lemmas.List.{get_or_default}
 use Rattle.region_learn.proofs.turns.leave_noting.Goals as goal
 
@@ -19,8 +19,8 @@ returns-clause-noted c =
     let old : before ≡ get_or book place after =
     get_or_default book place c.index-book-place.result after c.place_of-place.ensures.within in
     let number : before.region ≡ region.id = c.place_of-place.ensures.found c.index-book-place.result in
-    book-after (Leaves region) state book place region.id after c.requires.own c.place_of-place.ensures.within
-    c.place_of-place.ensures.found (leaves-of region)
+    book_after (Leaves region) state book place region.id after c.requires.own c.place_of-place.ensures.within
+    c.place_of-place.ensures.found (leaves_of region)
     (subst (λ (n : Notes). NotesAfter (Leaves region) state n after) old
     (left region state before after number c.note_leave.ensures.written c.note_leave.ensures.bytes
     c.note_leave.ensures.region c.note_leave.ensures.base

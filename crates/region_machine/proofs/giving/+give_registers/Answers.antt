@@ -1,12 +1,12 @@
 use Rattle.std.proofs.Common.{◌∙◌}
 use Rattle.region_machine.proofs.KeptRegistersStay.{stays_more, stays_same}
-use Rattle.region_machine.proofs.SlicePatterns.{first-all, gives_registers-more, gives_registers-none, goes-before}
-use Rattle.region_machine.proofs.SlicePatterns.{rest-all, rest-falls}
+use Rattle.region_machine.proofs.SlicePatterns.{first_all, gives_registers_more, gives_registers_none, goes_before}
+use Rattle.region_machine.proofs.SlicePatterns.{rest_all, rest_falls}
 use Rattle.region_machine.proofs.giving.+give_registers.Goals as goal
 
 pub returns-in_default-clause-goes : goal.returns-in_default-clause-goes
 returns-in_default-clause-goes g t c = λ turn out after.
-    let none = gives_registers-none c.args.region.now c.args.registers.now turn c.in_default.len_below in
+    let none = gives_registers_none c.args.region.now c.args.registers.now turn c.in_default.len_below in
     rw none after
 
 pub returns-in_default-clause-stays : goal.returns-in_default-clause-stays
@@ -14,19 +14,19 @@ returns-in_default-clause-stays g t c = stays_same c.args.machine.now
 
 pub give_register-requires-clause-register : goal.give_register-requires-clause-register
 give_register-requires-clause-register g t c =
-    first-all _ c.args.registers.now _ c.in-len1-up.len_at_least c.requires.registers
+    first_all _ c.args.registers.now _ c.in-len1-up.len_at_least c.requires.registers
 
 pub give_registers-requires : goal.give_registers-requires
 give_registers-requires g t c κs within =
     let some = c.in-len1-up.len_at_least in (
-      rest-falls c.args.registers.now t c.decreases some,
+      rest_falls c.args.registers.now t c.decreases some,
       (
         within.0,
         (
           within.1,
           (
             c.give_register.ensures.memory,
-            rest-all _ c.args.registers.now some c.requires.registers,
+            rest_all _ c.args.registers.now some c.requires.registers,
           ),
         ),
       ),
@@ -34,8 +34,8 @@ give_registers-requires g t c κs within =
 
 pub returns-clause-goes : goal.returns-clause-goes
 returns-clause-goes g t c = λ turn.
-    let more = gives_registers-more c.args.region.now c.args.registers.now turn c.in-len1-up.len_at_least in
-    goes-before c.give_registers.result _ _ _ (λ out after. rw more (c.in_ok-give_register.ensures.goes _ out after))
+    let more = gives_registers_more c.args.region.now c.args.registers.now turn c.in-len1-up.len_at_least in
+    goes_before c.give_registers.result _ _ _ (λ out after. rw more (c.in_ok-give_register.ensures.goes _ out after))
     (c.give_registers.ensures.goes turn)
 
 pub returns-clause-stays : goal.returns-clause-stays

@@ -7,7 +7,7 @@ use Rattle.rv32im_asm.specs.Operands.{both}
 use Rattle.rv32im_asm.specs.Private.Pieces.{bytes_in}
 use Rattle.rv32im_asm.specs.Sizes.{line_size, places_up_to, total_size}
 use Rattle.rv32im_asm.proofs.Fronts.{HasNext, has_next}
-use Rattle.rv32im_asm.proofs.LabelSteps.{total_size-push}
+use Rattle.rv32im_asm.proofs.LabelSteps.{total_size_push}
 use Rattle.rv32im_asm.proofs.ProgramSteps.{failing_step, standing_step}
 use Rattle.rv32im_asm.proofs.assembling.first_failing.Goals as goal
 
@@ -42,7 +42,7 @@ loop-rest-preserved c =
     let fits : c.loop-rest.here + c.in-Ok.size ≤ 1048576 = grind (arith, common_steps) in
     record {
       left = rw add-one next.left;
-      here = ap total_size grown ∙ (total_size-push front line
+      here = ap total_size grown ∙ (total_size_push front line
           ∙ (ap (λ offset. both (λ m n. m + n) offset (line_size line)) c.loop-rest.invariant.here
           ∙ ap (λ size. both (λ m n. m + n) (Some c.loop-rest.here) size) sized));
       first = standing_step all more c.loop-rest.index c.loop-rest.here _ line (bytes_in c.in-Ok.field-0-0) places

@@ -8,7 +8,7 @@ use Rattle.rv32im_asm.specs.Operands.{both}
 use Rattle.rv32im_asm.specs.Private.Pieces.{bytes_in}
 use Rattle.rv32im_asm.specs.Sizes.{line_size, places_up_to, total_size}
 use Rattle.rv32im_asm.proofs.Fronts.{HasNext, has_next}
-use Rattle.rv32im_asm.proofs.LabelSteps.{total_size-push}
+use Rattle.rv32im_asm.proofs.LabelSteps.{total_size_push}
 use Rattle.rv32im_asm.proofs.ProgramSteps.{bytes_step, fault_step, same_places}
 use Rattle.rv32im_asm.proofs.assembling.program.Goals as goal
 
@@ -65,7 +65,7 @@ loop-rest-preserved c =
     ap length put ∙ length-append c.loop-rest.program.items (bytes_in c.in_ok-piece.piece) in
     record {
       left = rw add-one next.left;
-      here = ap total_size grown ∙ (total_size-push front line
+      here = ap total_size grown ∙ (total_size_push front line
           ∙ (ap (λ offset. both (λ m n. m + n) offset (line_size line)) c.loop-rest.invariant.here
           ∙ ap (λ size. both (λ m n. m + n) (Some c.loop-rest.here) size) sized));
       program = ap (λ items. followed (Ok items) (readings known all (c.loop-rest.index + 1) more)) put

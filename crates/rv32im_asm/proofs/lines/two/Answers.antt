@@ -1,20 +1,20 @@
 use Rattle.std.proofs.Common.{◌≡◌, ◌≢◌, None, Some, sym, arith}
 use Rattle.std.proofs.lemmas.Grind.{common_steps}
 use Rattle.rv32im_asm.specs.Lines.{cut_at}
-use Rattle.rv32im_asm.proofs.Commas.{two-none, two-last, two-more}
+use Rattle.rv32im_asm.proofs.Commas.{two_none, two_last, more_than_two}
 use Rattle.rv32im_asm.proofs.lines.two.Goals as goal
 
 pub returns-in_err-first : goal.returns-in_err-first
 returns-in_err-first c =
     let cut : cut_at 44 c.args.text.now ≡ None = grind (arith, common_steps) in
-    grind (arith, common_steps, two-none c.args.text.now cut)
+    grind (arith, common_steps, two_none c.args.text.now cut)
 
 pub returns-in-Some : goal.returns-in-Some
 returns-in-Some c =
     let cut : cut_at 44 c.args.text.now ≡ Some (c.in_ok-first.first.now, c.in_ok-first.second.now) = grind
     (arith, common_steps) in
     let more : cut_at 44 c.in_ok-first.second.now ≢ None = grind (arith, common_steps) in
-    sym (two-more c.args.text.now c.in_ok-first.first.now c.in_ok-first.second.now cut more)
+    sym (more_than_two c.args.text.now c.in_ok-first.first.now c.in_ok-first.second.now cut more)
 
 pub returns-in-None : goal.returns-in-None
 returns-in-None c =
@@ -22,4 +22,4 @@ returns-in-None c =
     (arith, common_steps) in
     let last : cut_at 44 c.in_ok-first.second.now ≡ None = grind (arith, common_steps) in
     rw (c.trimmed.ensures, c.trimmed-in-None.ensures)
-    (sym (two-last c.args.text.now c.in_ok-first.first.now c.in_ok-first.second.now cut last))
+    (sym (two_last c.args.text.now c.in_ok-first.first.now c.in_ok-first.second.now cut last))

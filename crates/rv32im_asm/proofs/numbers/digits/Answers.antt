@@ -1,7 +1,7 @@
 use Rattle.std.proofs.Common.{◌≡◌, ◌∙◌, ◌+◌, ◌*◌, drop, min, option_map, arith}
 use Rattle.std.proofs.lemmas.Grind.{common_steps}
 use Rattle.rv32im_asm.specs.Operands.{digits_after}
-use Rattle.rv32im_asm.proofs.Digits.{digits-bounded, bound}
+use Rattle.rv32im_asm.proofs.Digits.{digits_bounded, bound}
 use Rattle.rv32im_asm.proofs.numbers.digits.Goals as goal
 
 pub loop-rest-preserved : goal.loop-rest-preserved
@@ -9,7 +9,7 @@ loop-rest-preserved c =
     let grown = c.loop-rest.number * c.args.base + c.from-digit.result in
     let same : option_map (min bound) (digits_after c.args.base c.min-number.result (drop 1 c.loop-rest.rest.now))
     ≡ option_map (min bound) (digits_after c.args.base grown (drop 1 c.loop-rest.rest.now)) =
-    digits-bounded c.args.base c.requires.base_at_least (drop 1 c.loop-rest.rest.now) c.min-number.result grown
+    digits_bounded c.args.base c.requires.base_at_least (drop 1 c.loop-rest.rest.now) c.min-number.result grown
     (omega (arith, c.min-number.ensures)) in
     let all : option_map (min bound) (digits_after c.args.base grown (drop 1 c.loop-rest.rest.now))
     ≡ option_map (min bound) (digits_after c.args.base 0 c.args.text.now) = grind

@@ -6,7 +6,7 @@ use Rattle.rv32im_asm.specs.Operands.{both}
 use Rattle.rv32im_asm.specs.Sizes.{line_size, place_of, total_size}
 use Rattle.rv32im_asm.specs.declared.places.Place.{Place}
 use Rattle.rv32im_asm.proofs.Fronts.{HasNext, has_next, all_front}
-use Rattle.rv32im_asm.proofs.LabelSteps.{nearby, no_lines, noted_near, places_next, small_next, total_size-push}
+use Rattle.rv32im_asm.proofs.LabelSteps.{nearby, no_lines, noted_near, places_next, small_next, total_size_push}
 use Rattle.rv32im_asm.proofs.placing.place_labels.Goals as goal
 
 pub loop-rest-preserved : goal.loop-rest-preserved
@@ -22,7 +22,7 @@ loop-rest-preserved c =
       left = rw add-one next.left;
       offset = c.grown-offset.ensures.exact
           ∙ (ap (λ offset. both (λ m n. m + n) offset (line_size line)) c.loop-rest.invariant.offset
-          ∙ sym (ap total_size grown ∙ total_size-push front line));
+          ∙ sym (ap total_size grown ∙ total_size_push front line));
       places = λ name. places_next front line name c.loop-rest.index c.loop-rest.offset _ _ _ next.count
           c.loop-rest.invariant.offset c.label.ensures (c.loop-rest.invariant.places name) (c.in_ok-note.ensures name)
           ∙ ap (λ lines. place_of lines name) (sym grown);

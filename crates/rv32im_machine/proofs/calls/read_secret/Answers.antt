@@ -1,20 +1,20 @@
 use Rattle.std.proofs.Common.{arith, ◌≡◌, ◌+◌, ◌-◌}
 use Rattle.rv32im_machine.specs.Language.{walked}
 use Rattle.rv32im_machine.specs.State.{secret_taken}
-use Rattle.rv32im_machine.proofs.Rounds.{secret_reads-none, secret_reads-more}
+use Rattle.rv32im_machine.proofs.Rounds.{secret_reads_none, secret_reads_more}
 use Rattle.rv32im_machine.proofs.calls.read_secret.Goals as goal
 
 pub returns-in-Err-clause-plays : goal.returns-in-Err-clause-plays
 unfolding walked
 returns-in-Err-clause-plays g c =
-    let more = secret_reads-more (c.args.count - c.loop-i.i) (c.args.count - (c.loop-i.i + 1)) (c.args.to + c.loop-i.i) c.args.count c.loop-i.machine.control (omega arith) in
+    let more = secret_reads_more (c.args.count - c.loop-i.i) (c.args.count - (c.loop-i.i + 1)) (c.args.to + c.loop-i.i) c.args.count c.loop-i.machine.control (omega arith) in
     let goes = rw (c.point.ensures, c.secret_at.ensures, c.from.ensures, c.next_secret-byte.ensures) at c.in-Err.ensures.goes in
     c.loop-i.invariant.rest _ (rw more (goes _))
 
 pub loop-i-preserved : goal.loop-i-preserved
 unfolding walked secret_taken
 loop-i-preserved g c =
-    let more = secret_reads-more (c.args.count - c.loop-i.i) (c.args.count - (c.loop-i.i + 1)) (c.args.to + c.loop-i.i) c.args.count c.loop-i.machine.control (omega arith) in
+    let more = secret_reads_more (c.args.count - c.loop-i.i) (c.args.count - (c.loop-i.i + 1)) (c.args.to + c.loop-i.i) c.args.count c.loop-i.machine.control (omega arith) in
     let goes = rw (c.point.ensures, c.secret_at.ensures, c.from.ensures, c.next_secret-byte.ensures) at c.in-Ok.ensures.goes in
     let next : c.args.to + (c.loop-i.i + 1) ≡ c.args.to + c.loop-i.i + 1 = omega arith in
     record {
@@ -28,5 +28,5 @@ loop-i-preserved g c =
 pub returns-clause-plays : goal.returns-clause-plays
 unfolding walked
 returns-clause-plays g c =
-    let none = secret_reads-none (c.args.count - c.loop-i.i) (c.args.to + c.loop-i.i) c.args.count c.loop-i.machine.control (omega arith) in
+    let none = secret_reads_none (c.args.count - c.loop-i.i) (c.args.to + c.loop-i.i) c.args.count c.loop-i.machine.control (omega arith) in
     c.loop-i.invariant.rest _ (rw none c.answer.ensures.plays)

@@ -1,5 +1,5 @@
-use Rattle.taint_check.proofs.Beginnings.{new-masks}
+use Rattle.taint_check.proofs.Beginnings.{new_masks}
 use Rattle.taint_check.proofs.beginning.no_masks.Goals as goal
 
 pub returns-clause-masks : goal.returns-clause-masks
-returns-clause-masks c = new-masks c.in_ok-shadow.ensures
+returns-clause-masks c = new_masks c.in_ok-shadow.ensures

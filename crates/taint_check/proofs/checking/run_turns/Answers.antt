@@ -4,8 +4,8 @@ use Rattle.taint_check.specs.Cleared.{Cleared}
 use Rattle.taint_check.specs.declared.whys.TaintWhy.TheVariants.{TurnLimit}
 use Rattle.taint_check.specs.Tainted.{IsClean, IsUnclear, IsVerdict, exit_of}
 use Rattle.taint_check.specs.Private.Tapes.{tape_of}
-use Rattle.taint_check.proofs.RunVerdicts.{IsGoing, going-start, going-on, none-of, verdict-unclear, verdict-clean}
-use Rattle.taint_check.proofs.RunVerdicts.{verdict-limit}
+use Rattle.taint_check.proofs.RunVerdicts.{IsGoing, going_start, going-on, none_of, verdict-unclear, verdict-clean}
+use Rattle.taint_check.proofs.RunVerdicts.{verdict_limit}
 use Rattle.taint_check.proofs.checking.run_turns.Goals as goal
 
 pub loop-init : goal.loop-init
@@ -14,7 +14,7 @@ loop-init g c =
       ready = c.requires;
       table = refl;
       going = λ task limits secret begins.
-          going-start side.book.now.table task limits secret c.args.machine
+          going_start side.book.now.table task limits secret c.args.machine
           (tape_of side.book.now.table side.shadow side.tally side.look side.left) c.args.marked.now.regions.items
           c.args.skip.now begins;
     }
@@ -47,16 +47,16 @@ returns-in-Some-exit_status g c = λ task limits secret begins limit same.
     (tape_of side.book.now.table side.shadow side.tally side.look side.left) going c.make_turn.new.machine
     (tape_of new.book.now.table new.shadow new.tally new.look new.left) c.in_ok-why.field-0
     (c.in_ok-why.ensures.makes task limits (Cleared task secret going.answers) (Cross task secret (length going.answers))
-    begins.enclosures going.stands) c.in-Some-exit_status.status (none-of c.in_ok-why.field-0 c.in_default.not-Some) exits
+    begins.enclosures going.stands) c.in-Some-exit_status.status (none_of c.in_ok-why.field-0 c.in_default.not-Some) exits
     below same))
 
 pub loop-preserved : goal.loop-preserved
 loop-preserved g c =
     let side = c.loop.side in
     let new = c.make_turn.new.side in
-    let fine = none-of c.in_ok-why.field-0 c.in_default.not-Some in
+    let fine = none_of c.in_ok-why.field-0 c.in_default.not-Some in
     let runs = sym (ap (λ mode. exit_of mode) c.mode.ensures)
-    ∙ (sym c.exit_status.ensures ∙ none-of c.exit_status.result c.in_default-exit_status.not-Some) in
+    ∙ (sym c.exit_status.ensures ∙ none_of c.exit_status.result c.in_default-exit_status.not-Some) in
     record {
       ready = c.in_ok-why.ensures.ready fine;
       table = c.in_ok-why.ensures.table ∙ c.loop.invariant.table;
@@ -78,6 +78,6 @@ returns g c = λ task limits secret begins limit same.
     let side = c.loop.side in
     let all : c.loop.counter ≡ limits.turns = omega (arith, limit) in
     subst (λ t. IsVerdict t task limits secret (IsUnclear (TurnLimit c.args.turns))) c.loop.invariant.table
-    (verdict-limit side.book.now.table task limits secret c.loop.counter c.args.turns c.loop.machine
+    (verdict_limit side.book.now.table task limits secret c.loop.counter c.args.turns c.loop.machine
     (tape_of side.book.now.table side.shadow side.tally side.look side.left)
     (c.loop.invariant.going task limits secret begins) all limit same)

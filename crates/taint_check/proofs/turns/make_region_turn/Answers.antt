@@ -3,14 +3,14 @@ use Rattle.std.proofs.lemmas.Bool.{cases_Bool}
 use Rattle.cut_file.specs.Masks.{MaskAt}
 use Rattle.region_machine.specs.Enclosures.{Enclosures, is_enclosed_kind, kind_of}
 use Rattle.region_machine.specs.Guests.{guest_walk}
-use Rattle.replay_machine.proofs.MasksAhead.{ahead-self}
+use Rattle.replay_machine.proofs.MasksAhead.{ahead_self}
 use Rattle.run_labels.specs.Runs.{entered_number}
 use Rattle.run_labels.specs.TurnLabels.{at_start}
 use Rattle.tracked_run.specs.Labels.{map_of, labels_of}
 use Rattle.taint_check.specs.Cleared.{is_hidden, leaves_skipped}
 use Rattle.taint_check.specs.Private.Tapes.{tape_of}
 use Rattle.taint_check.specs.Private.Turns.{MakesMasked}
-use Rattle.taint_check.proofs.MadeTurns.{region-makes, ready-after, told-same}
+use Rattle.taint_check.proofs.MadeTurns.{region_makes, ready_after, told_same}
 use Rattle.taint_check.proofs.turns.make_region_turn.Goals as goal
 
 pub returns-clause-makes : goal.returns-clause-makes
@@ -30,12 +30,12 @@ returns-clause-makes g c = λ task limits run cross e stands.
     (c.hiding.ensures regions) in
     subst (λ why. MakesMasked side.book.now.table task limits run cross c.real_turn_by.new.machine after why)
     (sym c.reason_of.ensures)
-    (region-makes task limits run cross machine before enclosures e stands c.requires.look c.requires.left
+    (region_makes task limits run cross machine before enclosures e stands c.requires.look c.requires.left
     side.tally.small c.real_turn_by.new.machine after c.in_ok-made.made.broken c.in_ok-made.ensures.broken
     c.in_ok-made.ensures.state
     (λ hidden. sym (ap (λ o. tape_of o.book.now.table o.shadow o.tally o.look o.left)
     (c.in_ok-made.ensures.untold (hides ∙ hidden))))
-    (λ shown. told-same (entered_number kind) c.entered_number-side.result task.masks (leaves_skipped enclosures kind)
+    (λ shown. told_same (entered_number kind) c.entered_number-side.result task.masks (leaves_skipped enclosures kind)
     c.leaves_skipped-side.result run.place.past (at_start (map_of side.shadow))
     (labels_of side.shadow c.none-side.result) before (guest_walk regions machine) c.real_turn_by.new.machine after
     (c.entered_number-side.ensures ∙ ap (λ k. entered_number k) is)
@@ -49,7 +49,7 @@ returns-clause-ready g c = λ none.
     let new = c.real_turn_by.new.observer in
     let base : new.shadow.base ≡ side.shadow.base =
     let same : Some new.shadow.base ≡ Some side.shadow.base = c.in_ok-made.ensures.memory in cc in
-    ready-after c.args.marked.now.regions.items c.args.machine.now c.real_turn_by.new.machine
+    ready_after c.args.marked.now.regions.items c.args.machine.now c.real_turn_by.new.machine
     (tape_of side.book.now.table side.shadow side.tally side.look side.left)
     (tape_of new.book.now.table new.shadow new.tally new.look new.left) c.in_ok-made.made.broken
     c.args.marked.now.regions.keeps_rules c.requires base c.in_ok-made.ensures.setting c.in_ok-made.ensures.state
@@ -63,5 +63,5 @@ returns-clause-table g c =
     elim (cases_Bool (is_enclosed_kind hiding (kind_of regions c.args.machine.now.control))) [
       | inl hidden ↦ ap (λ o. o.book.now.table) (c.in_ok-made.ensures.untold hidden)
       | inr shown ↦
-          (c.in_ok-made.ensures.plays shown (MaskAt side.tally.masks) [] (ahead-self side.tally.masks)).table
+          (c.in_ok-made.ensures.plays shown (MaskAt side.tally.masks) [] (ahead_self side.tally.masks)).table
     ]

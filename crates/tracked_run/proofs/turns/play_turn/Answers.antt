@@ -1,5 +1,5 @@
 use Rattle.region_machine.specs.Enclosures.{kind_of}
-use Rattle.tracked_run.proofs.TrackedTurns.{turned, base-stays, leave-stays, never_enclosed}
+use Rattle.tracked_run.proofs.TrackedTurns.{turned, base_stays, leave_stays, never_enclosed}
 use Rattle.tracked_run.proofs.turns.play_turn.Goals as goal
 
 pub returns-clause-turns : goal.returns-clause-turns
@@ -28,12 +28,12 @@ pub returns-clause-base : goal.returns-clause-base
 returns-clause-base g c =
     let kind = kind_of c.args.marked.now.regions.items c.args.machine.now.control in
     let t = c.in_ok-turn.ensures.plays (never_enclosed c.args.marked.now.regions.items kind) in
-    base-stays c.args.marked.now.regions.items c.args.machine.now c.real_turn_by.new.machine c.args.side.now.shadow.now.base
+    base_stays c.args.marked.now.regions.items c.args.machine.now c.real_turn_by.new.machine c.args.side.now.shadow.now.base
     c.real_turn_by.new.observer.shadow.now.base c.in_ok-turn.ensures.state t.base c.requires.base
 
 pub returns-clause-leave : goal.returns-clause-leave
 returns-clause-leave g c = λ ran.
-    leave-stays c.args.marked.now.regions.items c.args.machine.now c.real_turn_by.new.machine
+    leave_stays c.args.marked.now.regions.items c.args.machine.now c.real_turn_by.new.machine
     c.real_turn_by.new.observer.refused c.in_ok-turn.turn.broken c.real_turn_by.new.machine.control.mode
     c.args.marked.now.regions.keeps_rules c.requires.leave c.in_ok-turn.ensures.state c.in_ok-turn.ensures.broken
     (rw c.decided.ensures at ran)

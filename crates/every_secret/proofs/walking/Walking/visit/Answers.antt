@@ -4,12 +4,12 @@ use Rattle.run_labels.specs.TurnLabels.{aim_label}
 use Rattle.every_secret.specs.Masked.{unclear_by_left}
 use Rattle.every_secret.specs.Private.Tapes.{tape_of}
 use Rattle.every_secret.proofs.Nodes.{masks-passed}
-use Rattle.every_secret.proofs.OneVisit.{put-width, visited}
+use Rattle.every_secret.proofs.OneVisit.{put_width, visited}
 use Rattle.every_secret.proofs.walking.Walking.visit.Goals as goal
 
 pub returns-clause-width : goal.returns-clause-width
 returns-clause-width g c =
-    put-width c.args.passing c.in_ok-mask.mask c.next-crossing.result c.in_ok-value.value _ c.requires.value
+    put_width c.args.passing c.in_ok-mask.mask c.next-crossing.result c.in_ok-value.value _ c.requires.value
     c.next-crossing.ensures.width c.in_ok-value.ensures.value
 
 pub returns-clause-goes : goal.returns-clause-goes

@@ -10,9 +10,9 @@ use Rattle.flow_graph.specs.EventGraphs.{named_links, is_among, named}
 use Rattle.flow_graph.specs.Builders.{arc_at}
 use Rattle.flow_graph.specs.Keeping.{is_sound}
 use Rattle.flow_graph.proofs.Indices.{is_in}
-use Rattle.flow_graph.proofs.LinksByIndex.{arcs_ascend, links_there, named-among}
+use Rattle.flow_graph.proofs.LinksByIndex.{arcs_ascend, links_there, named_among}
 use Rattle.flow_graph.proofs.SameLinksSameRelays.{same_relays, relay_there}
-use Rattle.flow_graph.proofs.CapacityEntries.{capacity-lookup, sound_names, names_ordered, points_kept}
+use Rattle.flow_graph.proofs.CapacityEntries.{capacity_lookup, sound_names, names_ordered, points_kept}
 use Rattle.flow_graph.proofs.builders.Builder.finish.Goals as goal
 
 pub links_of-requires-clause-sorted : goal.links_of-requires-clause-sorted
@@ -61,11 +61,11 @@ returns c = λ events stands.
     c.args.self.now.links.keys = c.in_ok-links.ensures.links ∙ ap (λ n. map (arc_at n) c.args.self.now.links.keys)
     names in
     record {
-      points = λ q. capacity-lookup c.in_ok-points.points q ∙
+      points = λ q. capacity_lookup c.in_ok-points.points q ∙
           (ap (λ es. unwrap_or (lookup (is_at (point_cmp q)) es) 0) c.in_ok-points.ensures.nodes ∙ stands.counted q);
       relays = λ r. c.in_ok-relays.ensures.relays r ∙ same_relays r c.args.self.now.links.keys (named_links events)
           stands.linked;
       links = λ j. ap (λ l. is_among (map (named c.in_ok-points.points) l) j) links ∙
-          (named-among c.in_ok-points.points c.args.self.now.links.keys j sound ∙
+          (named_among c.in_ok-points.points c.args.self.now.links.keys j sound ∙
           stands.linked j);
     }

@@ -1,7 +1,7 @@
 use Rattle.std.proofs.Common.{ap, ◌∙◌, arith}
 use Rattle.std.specs.Map.{keys_of}
 use Rattle.std.proofs.lemmas.Map.Entries.{length-keys_of}
-use Rattle.hinted_map.proofs.Places.{keys-added}
+use Rattle.hinted_map.proofs.Places.{keys_added}
 use Rattle.location_collapse.proofs.LinkMarks.{takes_put, unknown_none}
 use Rattle.location_collapse.proofs.kept_links.KeptLinks.put.Goals as goal
 
@@ -19,4 +19,4 @@ returns-then-len-ge-MAX_LINKS-clause-full c = λ e. record {
 pub returns-in-Ok-clause-ok : goal.returns-in-Ok-clause-ok
 returns-in-Ok-clause-ok c =
     takes_put (keys_of c.args.self.now.named.map.entries) _ c.args.link
-    (ap keys_of c.in-Ok.ensures.added ∙ keys-added c.args.self.now.named.map.entries c.args.link _)
+    (ap keys_of c.in-Ok.ensures.added ∙ keys_added c.args.self.now.named.map.entries c.args.link _)

@@ -8,7 +8,7 @@ use Rattle.std.proofs.lemmas.Result.{on_ok_weaker}
 use Rattle.flow_base.specs.Words.{bit_count}
 use Rattle.flow_base.specs.PointOrders.{is_same}
 use Rattle.flow_graph.specs.Keeping.{capacity_in, count_in}
-use Rattle.flow_graph.proofs.MaskBitCounts.{bit_count-zero, bit_count-ones, bit_count_bound, ones_some}
+use Rattle.flow_graph.proofs.MaskBitCounts.{bit_count_zero, bit_count_ones, bit_count_bound, ones_some}
 use Rattle.hinted_map.specs.Places.{StandsAt}
 use Rattle.hinted_map.proofs.Places.{value_at}
 use Rattle.location_collapse.proofs.CapacityMaps.{found_small, grows_put, counted_put}
@@ -16,7 +16,7 @@ use Rattle.location_collapse.proofs.kept_points.KeptPoints.pass.Goals as goal
 
 pub returns-then-mask-eq0-clause-counted : goal.returns-then-mask-eq0-clause-counted
 returns-then-mask-eq0-clause-counted c = λ q.
-    let none : bit_count c.args.mask ≡ 0 = ap bit_count c.if-mask-eq0.true ∙ bit_count-zero in
+    let none : bit_count c.args.mask ≡ 0 = ap bit_count c.if-mask-eq0.true ∙ bit_count_zero in
     rw none (⊎_elim (λ (t : is_same c.args.point q ≡ true). rw t (omega arith))
     (λ (t : is_same c.args.point q ≡ false). rw t (omega arith)) (cases_Bool (is_same c.args.point q)))
 
@@ -27,7 +27,7 @@ overflow_add-before c =
     let before : c.index-before.result.now ≡ count_in c.args.self.now.capacities.map.entries c.args.point =
     sym (ap (λ o. unwrap_or o 0) (value_at c.args.self.now.capacities.map.entries c.args.point c.in-Some.index
     c.index-before.result.now c.in-Some.ensures.at c.index-before.ensures)) in
-    let bits : bit_count c.args.mask ≡ count_ones c.args.mask = bit_count-ones c.args.mask (omega arith) in
+    let bits : bit_count c.args.mask ≡ count_ones c.args.mask = bit_count_ones c.args.mask (omega arith) in
     let bound : bit_count c.args.mask ≤ 32 = bit_count_bound c.args.mask in
     omega (arith, small, before, bits, bound, c.from-bits.ensures)
 
@@ -47,7 +47,7 @@ start-requires-clause-some c =
 
 pub returns-in-Some-clause-counted : goal.returns-in-Some-clause-counted
 returns-in-Some-clause-counted c =
-    let bits : bit_count c.args.mask ≡ count_ones c.args.mask = bit_count-ones c.args.mask (omega arith) in
+    let bits : bit_count c.args.mask ≡ count_ones c.args.mask = bit_count_ones c.args.mask (omega arith) in
     let before : c.index-before.result.now ≡ count_in c.args.self.now.capacities.map.entries c.args.point =
     sym (ap (λ o. unwrap_or o 0) (value_at c.args.self.now.capacities.map.entries c.args.point c.in-Some.index
     c.index-before.result.now c.in-Some.ensures.at c.index-before.ensures)) in
@@ -66,7 +66,7 @@ returns-in-Some-clause-grows c =
 
 pub returns-in-Some-clause-limit : goal.returns-in-Some-clause-limit
 returns-in-Some-clause-limit c = λ e.
-    let bits : bit_count c.args.mask ≡ count_ones c.args.mask = bit_count-ones c.args.mask (omega arith) in
+    let bits : bit_count c.args.mask ≡ count_ones c.args.mask = bit_count_ones c.args.mask (omega arith) in
     let before : c.index-before.result.now ≡ count_in c.args.self.now.capacities.map.entries c.args.point =
     sym (ap (λ o. unwrap_or o 0) (value_at c.args.self.now.capacities.map.entries c.args.point c.in-Some.index
     c.index-before.result.now c.in-Some.ensures.at c.index-before.ensures)) in
@@ -75,7 +75,7 @@ returns-in-Some-clause-limit c = λ e.
 
 pub returns-in-None-clause-counted : goal.returns-in-None-clause-counted
 returns-in-None-clause-counted c =
-    let bits : bit_count c.args.mask ≡ count_ones c.args.mask = bit_count-ones c.args.mask (omega arith) in
+    let bits : bit_count c.args.mask ≡ count_ones c.args.mask = bit_count_ones c.args.mask (omega arith) in
     let none : 0 ≡ count_in c.args.self.now.capacities.map.entries c.args.point =
     sym (ap (λ o. unwrap_or o 0) c.in-None.ensures.none) in
     on_ok_weaker c.start.result
@@ -88,7 +88,7 @@ start-requires-clause-unknown c = c.in-None.ensures.none
 
 pub start-requires-clause-small : goal.start-requires-clause-small
 start-requires-clause-small c =
-    let bits : bit_count c.args.mask ≡ count_ones c.args.mask = bit_count-ones c.args.mask (omega arith) in
+    let bits : bit_count c.args.mask ≡ count_ones c.args.mask = bit_count_ones c.args.mask (omega arith) in
     let bound : bit_count c.args.mask ≤ 32 = bit_count_bound c.args.mask in
     omega (arith, bits, bound, c.from-bits.ensures)
 
@@ -105,7 +105,7 @@ returns-in-None-clause-latest c = inl c.start.ensures.latest
 pub returns-in-None-clause-limit : goal.returns-in-None-clause-limit
 returns-in-None-clause-limit c = λ e.
     let some : 0 < count_ones c.args.mask = ones_some c.args.mask (omega arith) in
-    let bits : bit_count c.args.mask ≡ count_ones c.args.mask = bit_count-ones c.args.mask (omega arith) in
+    let bits : bit_count c.args.mask ≡ count_ones c.args.mask = bit_count_ones c.args.mask (omega arith) in
     inl (record {
       some = omega (arith, some, bits);
       unknown = ap is_some c.in-None.ensures.none;

@@ -4,7 +4,7 @@ use Rattle.masked_turns.specs.Deciding.{first_left}
 use Rattle.masked_turns.specs.Notes.{Clears}
 use Rattle.taint_check.specs.Private.Tapes.{tape_of}
 use Rattle.lockstep_replay.specs.Sides.{tally_of}
-use Rattle.taint_check.proofs.Nodes.{clears-passed}
+use Rattle.taint_check.proofs.Nodes.{clears_passed}
 use Rattle.taint_check.proofs.clearing.ClearingPasser.pass.Goals as goal
 
 pub returns-clause-goes : goal.returns-clause-goes
@@ -13,7 +13,7 @@ returns-clause-goes g c = λ go out after masks past ahead.
     let passing = c.args.passing in
     let new = labels_of c.note_cleared.new.shadow c.note_cleared.new.held in
     let is = c.cross-crossing.ensures.mask masks past ahead in
-    clears-passed self.region (record { masks = masks; skipped = self.skipped }) past
+    clears_passed self.region (record { masks = masks; skipped = self.skipped }) past
     (labels_of self.shadow self.held) new (tape_of self.book.now.table self.shadow self.tally self.look self.left)
     c.note_cleared.new.shadow (tally_of c.cross-crossing.new.self) c.earlier_left-self.result c.in_ok-mask.mask
     passing go out self.tally.small c.in_ok-mask.ensures.base

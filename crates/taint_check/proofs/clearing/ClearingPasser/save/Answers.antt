@@ -1,12 +1,12 @@
 use Rattle.tracked_run.specs.Labels.{labels_of}
 use Rattle.taint_check.specs.Private.Tapes.{tape_of}
-use Rattle.taint_check.proofs.Nodes.{clears-saved}
+use Rattle.taint_check.proofs.Nodes.{clears_saved}
 use Rattle.taint_check.proofs.clearing.ClearingPasser.save.Goals as goal
 
 pub returns-clause-goes : goal.returns-clause-goes
 returns-clause-goes g c = λ walk out after masks past ahead.
     let self = c.args.self.now in
-    clears-saved self.region (record { masks = masks; skipped = self.skipped }) past (labels_of self.shadow self.held)
+    clears_saved self.region (record { masks = masks; skipped = self.skipped }) past (labels_of self.shadow self.held)
     (labels_of c.note_save.new.shadow self.held)
     (tape_of self.book.now.table self.shadow self.tally self.look self.left) c.note_save.new.shadow walk out
     c.note_save.ensures.base (c.note_save.ensures.labels self.held) (after masks past ahead)

@@ -1,12 +1,12 @@
 use Rattle.std.proofs.Common.{ap, ◌∙◌}
 use Rattle.tracked_run.specs.Labels.{labels_of}
-use Rattle.tracked_run.proofs.Nodes.{tracks-looked}
+use Rattle.tracked_run.proofs.Nodes.{tracks_looked}
 use Rattle.std.specs.Option.{option_or}
 use Rattle.tracked_run.proofs.tracking.TrackingPasser.look.Goals as goal
 
 pub returns-clause-goes : goal.returns-clause-goes
 returns-clause-goes g c = λ walk out after.
-    tracks-looked g.E.Events.stands_for c.args.self.now.book.now.table c.args.self.now.region
+    tracks_looked g.E.Events.stands_for c.args.self.now.book.now.table c.args.self.now.region
     (labels_of c.args.self.now.shadow.now c.args.self.now.held)
     (record {
       shades = c.args.self.now.shadow.now;

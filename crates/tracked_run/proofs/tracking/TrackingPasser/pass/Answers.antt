@@ -1,10 +1,10 @@
 use Rattle.tracked_run.specs.Labels.{labels_of}
-use Rattle.tracked_run.proofs.Nodes.{tracks-passed}
+use Rattle.tracked_run.proofs.Nodes.{tracks_passed}
 use Rattle.tracked_run.proofs.tracking.TrackingPasser.pass.Goals as goal
 
 pub returns-clause-goes : goal.returns-clause-goes
 returns-clause-goes g c = λ go out after.
-    tracks-passed g.E.Events.stands_for c.args.self.now.book.now.table c.args.self.now.region
+    tracks_passed g.E.Events.stands_for c.args.self.now.book.now.table c.args.self.now.region
     (labels_of c.args.self.now.shadow.now c.args.self.now.held)
     (labels_of c.note_passing.new.shadow c.note_passing.new.held)
     (record {

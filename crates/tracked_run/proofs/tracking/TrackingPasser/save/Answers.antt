@@ -1,10 +1,10 @@
 use Rattle.tracked_run.specs.Labels.{labels_of}
-use Rattle.tracked_run.proofs.Nodes.{tracks-saved}
+use Rattle.tracked_run.proofs.Nodes.{tracks_saved}
 use Rattle.tracked_run.proofs.tracking.TrackingPasser.save.Goals as goal
 
 pub returns-clause-goes : goal.returns-clause-goes
 returns-clause-goes g c = λ walk out after.
-    tracks-saved g.E.Events.stands_for c.args.self.now.book.now.table c.args.self.now.region
+    tracks_saved g.E.Events.stands_for c.args.self.now.book.now.table c.args.self.now.region
     (labels_of c.args.self.now.shadow.now c.args.self.now.held)
     (labels_of c.note_save.new.shadow c.args.self.now.held)
     (record {
