@@ -2,7 +2,7 @@
 from cuts import Cut
 from flows import solve
 from guest import RealGuest
-from measures import MeasuredRun, Refused, leaves_region
+from measures import MeasuredRun, Refused, is_inner
 from passings import Collapsed
 
 MOST_VALUE = 1 << 20
@@ -57,10 +57,10 @@ class Many:
             raise Refused(f"budget-limit {self.bits}")
 
     def cut(self):
-        """The cut of all runs: the points that the side splits, but those inside a skipped region."""
+        """The cut of all runs: the points that the side splits, but those of instructions inside a skipped region."""
         points = {}
         for point in (self.graph.points[index] for index in self.solved.split):
-            if leaves_region(point) or point[0] not in self.skip:
+            if not is_inner(point, self.skip):
                 union = 0
                 for _, mask in self.united.runs[point]:
                     union |= mask

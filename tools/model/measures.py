@@ -84,9 +84,13 @@ class MeasuredRun:
             raise self.refusal(f"secret-code {shown(pc)}")
 
 
-def leaves_region(point):
-    """Whether a point is one of an output of a region."""
-    return point[2] != "rs" and point[2][0] in "xr"
+# The slots of instructions that are no calls.
+INSTRUCTION_SLOTS = "u1", "u2", "ad", "rs", "de"
+
+
+def is_inner(point, skip):
+    """Whether a point is at a slot of an instruction inside a skipped region. A call breaks the region."""
+    return point[0] in skip and point[2] in INSTRUCTION_SLOTS
 
 
 class Measured:
@@ -103,10 +107,10 @@ class Measured:
         self.output = self.run.guest.output
 
     def cut(self):
-        """The cut of the run: the points that the side splits, but those inside a skipped region."""
+        """The cut of the run: the points that the side splits, but those of instructions inside a skipped region."""
         points = {}
         for point in (self.graph.points[index] for index in self.solved.split):
-            if leaves_region(point) or point[0] not in self.skip:
+            if not is_inner(point, self.skip):
                 runs, union = self.run.passings.runs[point], 0
                 for _, mask in runs:
                     union |= mask

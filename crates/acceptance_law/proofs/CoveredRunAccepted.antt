@@ -27,7 +27,7 @@ use Rattle.acceptance_law.specs.Sides.{NamedSide}
 use Rattle.acceptance_law.specs.Proper.{AreBytes, IsProperGuest, IsProperPlace, place_limit}
 use Rattle.acceptance_law.specs.ProperLaws.{ProperTurnsLaw}
 use Rattle.acceptance_law.proofs.WritesKeepRelation.{Close, close_refl}
-use Rattle.acceptance_law.proofs.StepsKeepStanding.{state_of, placed, Stands}
+use Rattle.acceptance_law.proofs.StepsKeepStanding.{state_of, placed, Stands, SkipsRelays}
 use Rattle.acceptance_law.proofs.RunFacts.{Premises, earlier, run_facts, next_turn, turn_known}
 use Rattle.acceptance_law.proofs.StandsOrSkips.{the_start, enclosures, the_run, the_real, control_at, copy_start, Outside}
 use Rattle.acceptance_law.proofs.StandsOrSkips.{Inside}
@@ -58,7 +58,7 @@ same_fed x y bits e = cc
 
 module _ (side : NamedSide) (skip : List ℕ) (regions : List Region) (masks : Masks) (setting : Setting)
     (secret other : List ℕ) (first : Control) (store : Store) (bytes : AreBytes secret) (others : AreBytes other)
-    (skips : (region : ℕ) → is_listed skip region ≡ side.relay region) (proper : ProperTurnsLaw)
+    (skips : SkipsRelays side skip regions) (proper : ProperTurnsLaw)
     (rules : are_regions regions ≡ true) (nowhere : is_listed skip 0 ≡ false)
     (is : IsProperGuest (state_of setting secret first store)) (outside : first.region ≡ 0) where
   start_stands : Stands side skip regions setting.base first default_map store store [] []

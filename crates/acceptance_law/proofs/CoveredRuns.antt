@@ -22,6 +22,7 @@ use Rattle.acceptance_law.proofs.ProperRows.{proper_law}
 use Rattle.acceptance_law.proofs.ProperRuns.{proper_events_law}
 use Rattle.acceptance_law.proofs.RunFacts.{Premises, run_facts}
 use Rattle.acceptance_law.proofs.StepsKeepStanding.{state_of}
+use Rattle.acceptance_law.proofs.TurnKinds.{skips_relays}
 
 pub covered_law : CoveredLaw
 covered_law program public_input regions secret cut side answers budget turns output rules measured shorter same covers
@@ -43,7 +44,8 @@ covered_law program public_input regions secret cut side answers budget turns ou
       contained = covers.contains;
     } in
     let facts = run_facts side cut.skip regions masks setting secret first store answers known in
-    let nowhere = covers.skips 0 ∙ covers.outside in
+    let nowhere = covers.outside in
+    let skips = skips_relays side cut.skip regions covers.skips in
     let long : length secret ≡ length other = same ∙ sym (length_zeros cut.secret_len) in
     let starts : replay_fresh (state_of setting other first store) ≡ replay_start task =
     ap (λ n. replay_fresh (state_of (record setting { secret_length = n }) other first store)) long in
@@ -55,7 +57,7 @@ covered_law program public_input regions secret cut side answers budget turns ou
     (subst (λ (s : State). HasExited s output) (sym facts.same_state) measured.exits) (omega (arith, fewer, within))
     (λ turn below exposed.
     let at = follows_at side cut.skip regions masks setting secret other first store measured.guest.secret
-    (zero_bytes cut.secret_len) covers.skips proper_law rules nowhere measured.guest refl answers known turn below
+    (zero_bytes cut.secret_len) skips proper_law rules nowhere measured.guest refl answers known turn below
     exposed in record {
       place = at.0;
       uses = subst (λ z. feed (Replay both masks (common_turns both (suc turn) place) z)
@@ -65,7 +67,7 @@ covered_law program public_input regions secret cut side answers budget turns ou
     })
     (λ last.
     exits_alike side cut.skip regions masks setting secret other first store measured.guest.secret
-    (zero_bytes cut.secret_len) covers.skips proper_law rules nowhere measured.guest refl answers output last.place
+    (zero_bytes cut.secret_len) skips proper_law rules nowhere measured.guest refl answers output last.place
     known measured.exits
     (subst (λ z. feed (Replay both masks (common_turns both (length answers) place) z)
     (cross_after both masks (length answers) place) ≡ Fed' last.place []) (sym starts) last.uses)))

@@ -24,6 +24,7 @@ use Rattle.acceptance_law.proofs.CutVisits.{IsLike, like_contains, mask_missing}
 use Rattle.acceptance_law.proofs.GraphSides.{side_closed, side_outside}
 use Rattle.acceptance_law.proofs.ProperRuns.{proper_events_law}
 use Rattle.acceptance_law.proofs.ProperStarts.{guest_start_law}
+use Rattle.acceptance_law.proofs.TurnKinds.{all_regions}
 use Rattle.flow_base.specs.Listed.{is_listed}
 
 -- ---- a fold has the points of its cut
@@ -72,14 +73,16 @@ folded_law covered program public_input regions secret answers graph halves rela
     run.sound in
     let events = (labelled_run program public_input regions secret answers).events in
     let side = named_side graph halves relays in
+    let skip : (region : ℕ) → is_listed folded.skip region ≡ side.relay region =
+    λ region. ap (λ skip. is_listed skip region) fold.skip ∙ is_cut.skip region in
     let measured : IsMeasuredRun regions answers (guest program public_input secret) output =
     record { guest = start; sound = run.sound; unrefused = run.unrefused; exits = run.exits } in
     covered program public_input regions secret folded side answers (side_capacity graph halves relays) turns output
     inputs.regions_valid measured enough (sym (fold.secret_len ∙ is_cut.length))
     (record {
       closed = side_closed events graph halves relays is_graph is_side;
-      outside = side_outside events graph halves relays is_graph;
-      skips = λ region. ap (λ skip. is_listed skip region) fold.skip ∙ is_cut.skip region;
+      outside = skip 0 ∙ side_outside events graph halves relays is_graph;
+      skips = all_regions (λ n. is_listed folded.skip n ≡ side.relay n) skip regions;
       contains = subst (λ (skip : List ℕ). AreContained side skip (MaskAt folded.points) [] events) (sym fold.skip)
           (like_contains side cut (length secret) (side_capacity graph halves relays) (MaskAt folded.points) like events
           is_cut slots proper);

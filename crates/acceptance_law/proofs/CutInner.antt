@@ -1,11 +1,11 @@
--- Inside a skipped region a turn passes inner points alone.
-use Rattle.std.proofs.Common.{◌≡◌, ℕ, ◌+◌, ◌==◌, ◌++◌, ◌∷◌, [], Bool, true, false, not, List}
+-- Inside a skipped region that it does not break a turn passes inner points alone.
+use Rattle.std.proofs.Common.{◌≡◌, ℕ, ◌+◌, ◌==◌, ◌++◌, ◌∷◌, [], Bool, true, false, List}
 use Rattle.std.proofs.Common.{refl, sym, ap, ◌∙◌, arith, inl, inr}
 use Rattle.std.specs.Prelude.{if◌then◌else◌}
 use Rattle.std.specs.List.{AllByRecursion}
 use Rattle.std.proofs.lemmas.Bool.{and_from, cases_Bool, cond-false}
 use Rattle.flow_base.specs.declared.points.Point.{Point}
-use Rattle.flow_base.specs.Points.{is_slot, is_output_slot}
+use Rattle.flow_base.specs.Points.{is_slot}
 use Rattle.flow_base.specs.PointOrders.{is_same}
 use Rattle.flow_base.proofs.PointOrders.{one_if_same}
 use Rattle.flow_graph.specs.declared.events.Event.{Event}
@@ -20,11 +20,12 @@ use Rattle.shadow_masks.specs.Pages.{label_of}
 use Rattle.run_labels.specs.TurnLabels.{TurnLabels, put_label}
 use Rattle.run_labels.specs.Masks.{masks_of, work_mask, mask_of, answers_after, moved_label}
 use Rattle.run_labels.specs.Flowing.{flow_events, passing_events, events_in, sources_events, aim_events}
-use Rattle.acceptance_law.specs.RunCuts.{is_inner, mask_at_event, visit_masks}
+use Rattle.acceptance_law.specs.RunCuts.{is_inner, is_instruction_slot, mask_at_event, visit_masks}
 use Rattle.acceptance_law.specs.Proper.{AreBytes, IsProper}
 use Rattle.acceptance_law.proofs.GraphEvents.{all_append, all_more}
 use Rattle.acceptance_law.proofs.Passings.{made_fits, slot_word}
 use Rattle.acceptance_law.proofs.ProperTurns.{HasLimits, limits_put, moved-value, inner_slot}
+use Rattle.acceptance_law.proofs.SlotsInsideRegions.{WalkSlots}
 use Rattle.acceptance_law.proofs.Turns.{NoPass, NoPasses, none_append, none_sources, none_aim, seen_word}
 use Rattle.flow_base.specs.Listed.{is_listed}
 
@@ -64,22 +65,22 @@ passing_inner skip labels answer passing inner slot = (
 )
 
 point_inner : (skip : List ℕ) (region : ℕ) (point : Point) → is_listed skip region ≡ true → point.region ≡ region →
-    is_output_slot point.slot ≡ false → is_inner skip point ≡ true
-point_inner skip region point stands inside no_output =
-    and_from (is_listed skip point.region) (not (is_output_slot point.slot)) (ap (is_listed skip) inside ∙ stands)
-    (ap not no_output)
+    is_instruction_slot point.slot ≡ true → is_inner skip point ≡ true
+point_inner skip region point stands inside slot =
+    and_from (is_listed skip point.region) (is_instruction_slot point.slot) (ap (is_listed skip) inside ∙ stands) slot
 
--- the turn of an instruction in a skipped region passes such points alone
+-- the turn of an instruction in a skipped region passes such points alone, where it is no call
 module _ (setting : Setting) (secret : List ℕ) (bytes : AreBytes secret) (skip : List ℕ) (region : ℕ)
     (stands : is_listed skip region ≡ true) where
   pub turn-inner : (turn : Turn) (labels : TurnLabels) (answers : List ℕ) (store : Store) (held : Held) →
       IsProper setting.base region turn → HasLimits setting.base store held →
+      WalkSlots (walked setting secret turn store held) →
       AreInnerEvents skip (events_in labels answers (walked setting secret turn store held))
   unfolding IsProper walked events_in
-  turn-inner (Looks seen go) labels answers store held proper has =
+  turn-inner (Looks seen go) labels answers store held proper has slots =
       turn-inner (go (seen_value setting.base store seen)) labels answers store held
-      (proper.1 (seen_value setting.base store seen) (seen_word setting.base store held has.places seen)) has
-  turn-inner (Passes point place making sources turn) labels answers store held proper has =
+      (proper.1 (seen_value setting.base store seen) (seen_word setting.base store held has.places seen)) has slots
+  turn-inner (Passes point place making sources turn) labels answers store held proper has slots =
       let values = values_of setting secret store held sources in
       let mask = work_mask (work_of making values) (masks_of labels sources) (first_of answers) in
       let value = made_fits setting secret bytes store held has.places point making sources proper.0.named
@@ -88,32 +89,32 @@ module _ (setting : Setting) (secret : List ℕ) (bytes : AreBytes secret) (skip
       all_append (IsInnerEvent skip)
       (passing_events labels (first_of answers) (passing point (Put place) making sources values)) _
       (passing_inner skip labels (first_of answers) (passing point (Put place) making sources values)
-      (point_inner skip region point stands proper.0.inside proper.0.no_output)
+      (point_inner skip region point stands proper.0.inside slots.0)
       (inner_slot point.slot proper.0.no_output))
       (turn-inner turn (put_label place (label_of mask point) labels) (answers_after (work_of making values) answers)
       (put setting.base place (made making values) store) (hold place (made making values) held) proper.2
-      (limits_put setting.base place (made making values) store held (omega (arith, value, width)) has))
-  turn-inner (Decides point making sources go) labels answers store held proper has =
+      (limits_put setting.base place (made making values) store held (omega (arith, value, width)) has) slots.1)
+  turn-inner (Decides point making sources go) labels answers store held proper has slots =
       let values = values_of setting secret store held sources in
       let value = made_fits setting secret bytes store held has.places point making sources proper.0.named
       proper.0.fits in
       all_append (IsInnerEvent skip)
       (passing_events labels (first_of answers) (passing point Decide making sources values)) _
       (passing_inner skip labels (first_of answers) (passing point Decide making sources values)
-      (point_inner skip region point stands proper.0.inside proper.0.no_output)
+      (point_inner skip region point stands proper.0.inside slots.0)
       (inner_slot point.slot proper.0.no_output))
       (turn-inner (go (made making values)) labels (answers_after (work_of making values) answers) store held
-      (proper.1 (made making values) (slot_word point.slot (made making values) value)) has)
-  turn-inner (Gives point place turn) labels answers store held proper has = absurd proper
-  turn-inner (Moves place shape source turn) labels answers store held proper has =
+      (proper.1 (made making values) (slot_word point.slot (made making values) value)) has slots.1)
+  turn-inner (Gives point place turn) labels answers store held proper has slots = absurd proper
+  turn-inner (Moves place shape source turn) labels answers store held proper has slots =
       let value = shaped shape (value_of setting secret store held source ∷ []) in
       turn-inner turn (put_label place (moved_label labels shape source) labels) answers
       (put setting.base place value store) (hold place value held) proper.1
       (limits_put setting.base place value store held
-      (moved-value setting secret bytes store held place shape source has proper.0) has)
-  turn-inner (Saves turn) labels answers store held proper has = absurd proper
-  turn-inner (Restores registers turn) labels answers store held proper has = absurd proper
-  turn-inner (Ends control) labels answers store held proper has = tt
+      (moved-value setting secret bytes store held place shape source has proper.0) has) slots
+  turn-inner (Saves turn) labels answers store held proper has slots = absurd proper
+  turn-inner (Restores registers turn) labels answers store held proper has slots = absurd proper
+  turn-inner (Ends control) labels answers store held proper has slots = tt
 
 -- ---- they are no visits of other points
 

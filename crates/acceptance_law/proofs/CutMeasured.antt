@@ -1,5 +1,5 @@
 -- A measured run is accepted with its cut, since the cut covers it and no more bits cross than the side's capacity.
-use Rattle.std.proofs.Common.{◌≡◌, ◌∷◌, [], true, List, length, sym, refl, nat_le}
+use Rattle.std.proofs.Common.{◌≡◌, ◌∷◌, ◌∙◌, [], true, List, length, sym, refl, nat_le}
 use Rattle.std.specs.List.{list_all}
 use Rattle.std.proofs.lemmas.Bool.{and_parts, and_from}
 use Rattle.cut_file.specs.declared.points.CutPoint.{CutPoint}
@@ -16,6 +16,8 @@ use Rattle.acceptance_law.proofs.CutVisits.{cut_contains}
 use Rattle.acceptance_law.proofs.GraphSides.{side_closed, side_outside}
 use Rattle.acceptance_law.proofs.ProperRuns.{proper_events_law}
 use Rattle.acceptance_law.proofs.ProperStarts.{guest_start_law}
+use Rattle.acceptance_law.proofs.TurnKinds.{all_regions}
+use Rattle.flow_base.specs.Listed.{is_listed}
 
 -- ---- the points of a cut have slots
 
@@ -53,8 +55,8 @@ measured_law covered program public_input regions secret answers graph halves re
     (side_capacity graph halves relays) turns output inputs.regions_valid measured enough (sym is_cut.length)
     (record {
       closed = side_closed events graph halves relays is_graph is_side;
-      outside = side_outside events graph halves relays is_graph;
-      skips = is_cut.skip;
+      outside = is_cut.skip 0 ∙ side_outside events graph halves relays is_graph;
+      skips = all_regions (λ n. is_listed cut.skip n ≡ (named_side graph halves relays).relay n) is_cut.skip regions;
       contains = cut_contains (named_side graph halves relays) cut (length secret)
           (side_capacity graph halves relays) events is_cut slots proper;
     })

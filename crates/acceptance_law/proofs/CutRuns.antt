@@ -16,7 +16,7 @@ use Rattle.enclosure_regions.specs.Regions.{are_regions}
 use Rattle.flow_graph.specs.declared.events.Event.{Event}
 use Rattle.lockstep_replay.specs.Crossing.{crossing_unless, crossing_unbroken, crossing_of, cross_after}
 use Rattle.lockstep_replay.proofs.Stillness.{cross_later}
-use Rattle.region_machine.specs.Breaking.{Breaks}
+use Rattle.region_machine.specs.Breaking.{Breaks, kind_break}
 use Rattle.region_machine.specs.Enclosures.{Enclosures, Kind, Enters, Leaves, Steps, is_enclosed, is_enclosed_kind}
 use Rattle.region_machine.specs.Enclosures.{kind_of, kind_in, kind_within, kind_outside, region_numbered}
 use Rattle.region_machine.specs.Enclosures.{region_entered_at}
@@ -57,10 +57,11 @@ use Rattle.acceptance_law.proofs.GraphCapacities.{split_bits_within}
 use Rattle.acceptance_law.proofs.GraphEvents.{all_parts}
 use Rattle.acceptance_law.proofs.ProperRows.{proper_law}
 use Rattle.acceptance_law.proofs.ProperRuns.{guest_limits, run_proper}
+use Rattle.acceptance_law.proofs.SlotsInsideRegions.{WalkSlots, step_slots}
 use Rattle.acceptance_law.proofs.Turns.{first_none}
 use Rattle.flow_base.specs.Listed.{is_listed}
 
--- ---- a turn that the replay makes beside the leave alone passes inner points
+-- ---- a turn of a skipped region other than its leave passes inner points alone, where it breaks nothing
 
 entry_inner : (skip : List ℕ) (setting : Setting) (secret : List ℕ) (ranges : List Range) (turn : Turn)
     (labels : TurnLabels) (answers : List ℕ) (store : Store) (held : Held) →
@@ -78,17 +79,18 @@ entry_inner skip setting secret (range ∷ ranges) turn labels answers store hel
     look None rest = rest
     look (Some register) rest = rest
 
-step_inner : (mode : Stepped) (skip : List ℕ) (state : State) (labels : TurnLabels) (answers : List ℕ) → IsProperGuest state →
-    is_listed skip state.control.region ≡ true →
+step_inner : (mode : Stepped) (skip : List ℕ) (state : State) (labels : TurnLabels) (answers : List ℕ) →
+    IsProperGuest state → is_listed skip state.control.region ≡ true →
+    WalkSlots (walked state.setting state.secret (turn_in mode state.setting state.control) state.store none_held) →
     AreInnerEvents skip (events_in labels answers
     (walked state.setting state.secret (turn_in mode state.setting state.control) state.store none_held))
 unfolding walked events_in
-step_inner Ran skip state labels answers guest stands =
+step_inner Ran skip state labels answers guest stands slots =
     turn-inner state.setting state.secret guest.secret skip state.control.region stands
     (running state.setting state.control) labels answers state.store none_held (proper_law state guest)
-    (guest_limits state guest)
-step_inner (Exited status) skip state labels answers guest stands = tt
-step_inner (Stopped fault) skip state labels answers guest stands = tt
+    (guest_limits state guest) slots
+step_inner (Exited status) skip state labels answers guest stands slots = tt
+step_inner (Stopped fault) skip state labels answers guest stands slots = tt
 
 -- a step inside a region is one inside the entered region
 abbrev IsEntered : ℕ → Kind → Type 0
@@ -145,16 +147,17 @@ kind_entered (Stopped fault) regions control = tt
 
 kind_inner : (enclosures : Enclosures) (kind : Kind) (state : State) (labels : TurnLabels) (answers : List ℕ) →
     IsProperGuest state → IsEntered state.control.region kind → is_enclosed_kind enclosures kind ≡ true →
-    AreInnerEvents enclosures.skip (events_in labels answers (kind_walk kind state))
+    kind_break kind state ≡ None → AreInnerEvents enclosures.skip (events_in labels answers (kind_walk kind state))
 unfolding walked events_in
-kind_inner enclosures (Enters region) state labels answers guest known enclosed =
+kind_inner enclosures (Enters region) state labels answers guest known enclosed unbroken =
     entry_inner enclosures.skip state.setting state.secret region.ranges
     (Saves (Ends (entered region.id state.control))) labels answers state.store none_held tt
-kind_inner enclosures (Leaves region) state labels answers guest known enclosed = absurd (cc)
-kind_inner enclosures (Steps None) state labels answers guest known enclosed = absurd (cc)
-kind_inner enclosures (Steps (Some region)) state labels answers guest known enclosed =
+kind_inner enclosures (Leaves region) state labels answers guest known enclosed unbroken = absurd (cc)
+kind_inner enclosures (Steps None) state labels answers guest known enclosed unbroken = absurd (cc)
+kind_inner enclosures (Steps (Some region)) state labels answers guest known enclosed unbroken =
     step_inner state.control.mode enclosures.skip state labels answers guest
     (ap (is_listed enclosures.skip) (sym known) ∙ enclosed)
+    (step_slots region state.store.kept state.control.pc state unbroken)
 
 -- ---- one turn of a run
 
@@ -231,7 +234,7 @@ module _ (side : NamedSide) (cut : CutPicture)
       (subst (λ es. AllByRecursion (HasVisitMasks es) cut.points) (append_assoc run.events turn more) have) proper.1
       before.counts
       (λ enclosed. kind_inner enclosures (kind_of regions run.place.state.control) run.place.state (at_start run.labels)
-      last guest (kind_entered run.place.state.control.mode regions run.place.state.control) enclosed) in
+      last guest (kind_entered run.place.state.control.mode regions run.place.state.control) enclosed whole) in
       let cross : crossing_of enclosures masks place
       ≡ crossing_unless (is_enclosed enclosures run.place.state.control) masks place.past walk =
       ap (λ b. crossing_unbroken b enclosures masks place) before.unbroken

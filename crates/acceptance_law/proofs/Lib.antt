@@ -33,6 +33,7 @@ pub mod Outputs
 pub mod RegionOutputsPass
 pub mod Unchanged
 pub mod QuietInsideRegions
+pub mod SlotsInsideRegions
 pub mod Entering
 pub mod Leaving
 pub mod Skipping

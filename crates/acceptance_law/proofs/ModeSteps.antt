@@ -27,7 +27,7 @@ use Rattle.acceptance_law.specs.Sides.{NamedSide}
 use Rattle.acceptance_law.specs.Proper.{AreBytes}
 use Rattle.acceptance_law.specs.ProperLaws.{ProperTurnsLaw}
 use Rattle.acceptance_law.proofs.TurnsKeepRelation.{CoveredTurn}
-use Rattle.acceptance_law.proofs.StepsKeepStanding.{state_of, placed, Stood, step_stands}
+use Rattle.acceptance_law.proofs.StepsKeepStanding.{state_of, placed, Stood, SkipsRelays, step_stands}
 use Rattle.acceptance_law.proofs.RegionTurns.{entry_stands, leave_stands}
 use Rattle.acceptance_law.proofs.SkippedTurns.{Skips, skip_enters, skip_steps, skip_leaves}
 use Rattle.acceptance_law.proofs.TurnKinds.{enters_outside, leaves_inside, steps_inside, inside_turn, numbered_rules}
@@ -45,7 +45,7 @@ ran_of (Stopped fault) e f = absurd (cc)
 module _ (side : NamedSide) (skip : List ℕ) (regions : List Region) (masks : Masks) (setting : Setting)
     (secret other : List ℕ) (first : Control) (store : Store) (bytes : AreBytes secret) (others : AreBytes other)
     (public_bytes : AreBytes setting.public_input) (small_start : setting.start_break < 2 ^ 32)
-    (skips : (region : ℕ) → is_listed skip region ≡ side.relay region) (proper : ProperTurnsLaw)
+    (skips : SkipsRelays side skip regions) (proper : ProperTurnsLaw)
     (rules : are_regions regions ≡ true) (nowhere : is_listed skip 0 ≡ false) where
   abbrev pub IsOutside : List (List ℕ) → Type 0
   IsOutside answers = Outside side skip regions masks setting secret other first store answers

@@ -1,7 +1,7 @@
 -- The outputs of a region pass one after another, in the real run at its leave and in the replay at its leave or skip.
 use Rattle.std.proofs.Common.{◌≡◌, ℕ, zero, suc, ◌+◌, ◌<◌, ◌≤◌, Bool, true, false, List, [], ◌∷◌, ◌++◌, length}
 use Rattle.std.proofs.Common.{refl, sym, ap, subst, ◌∙◌, arith, inl, inr, ⊎_elim}
-use Rattle.std.specs.Prelude.{◌==◌, ◌&&◌, not, if◌then◌else◌}
+use Rattle.std.specs.Prelude.{◌==◌, ◌&&◌, if◌then◌else◌}
 use Rattle.std.proofs.lemmas.Bool.{and_parts}
 use Rattle.flow_base.specs.declared.points.Slot.{Slot}
 use Rattle.flow_base.specs.declared.points.Slot.TheVariants.{First as FirstSlot, Second as SecondSlot, Address}
@@ -9,7 +9,7 @@ use Rattle.flow_base.specs.declared.points.Slot.TheVariants.{Result as ResultSlo
 use Rattle.flow_base.specs.declared.points.Slot.TheVariants.{Arg0, Arg1, Arg2, SecretIn, ByteOut, Status, OutReg}
 use Rattle.flow_base.specs.declared.points.Slot.TheVariants.{OutRange}
 use Rattle.flow_base.specs.declared.points.Point.{Point}
-use Rattle.flow_base.specs.Points.{width_of, slot_number, is_output_slot}
+use Rattle.flow_base.specs.Points.{width_of, slot_number}
 use Rattle.flow_base.specs.Words.{Agree, bits_under, patched}
 use Rattle.flow_base.proofs.PointOrders.{one_if_same}
 use Rattle.flow_base.specs.PointOrders.{is_same}
@@ -38,10 +38,10 @@ use Rattle.run_labels.specs.Answers.{EachAnswer}
 use Rattle.acceptance_law.specs.Sides.{NamedSide, is_split}
 use Rattle.acceptance_law.specs.ClosedEvents.{AreClosedEvents}
 use Rattle.acceptance_law.specs.Covers.{IsMaskWithin, IsContained, AreContained}
-use Rattle.acceptance_law.specs.RunCuts.{is_inner}
+use Rattle.acceptance_law.specs.RunCuts.{is_inner, is_instruction_slot}
 use Rattle.acceptance_law.specs.Proper.{IsProperPlace, place_limit}
 use Rattle.acceptance_law.proofs.WritesKeepRelation.{close_label_of, Beside, put_limits, put_label_limits, put_registers}
-use Rattle.acceptance_law.proofs.WritesKeepRelation.{put_memory, put_kept, not_alike, fresh_beside}
+use Rattle.acceptance_law.proofs.WritesKeepRelation.{put_memory, put_kept, fresh_beside}
 use Rattle.acceptance_law.proofs.Passings.{slot_word, slot_agree, link_equal, patched_slot, closed_append}
 use Rattle.acceptance_law.proofs.Turns.{none_if, feed_bits, NeverInner, SameCounts, counts_step, mask_same}
 use Rattle.acceptance_law.proofs.Turns.{none_append, none_sources, none_aim, contained_after, CloseAt, patched_close}
@@ -69,32 +69,25 @@ never_inner : (skip : List ℕ) (region : Region) (o : Output) →
 never_inner skip region (OfRegister register) = and_false (is_listed skip region.id)
 never_inner skip region (OfByte range address) = and_false (is_listed skip region.id)
 
-low_number : (slot : Slot) → is_output_slot slot ≡ false → slot_number slot ≤ 12
+low_number : (slot : Slot) → is_instruction_slot slot ≡ true → slot_number slot ≤ 5
 low_number FirstSlot e = omega arith
 low_number SecondSlot e = omega arith
 low_number Address e = omega arith
 low_number ResultSlot e = omega arith
 low_number DecisionSlot e = omega arith
-low_number Number e = omega arith
-low_number Arg0 e = omega arith
-low_number Arg1 e = omega arith
-low_number Arg2 e = omega arith
-low_number SecretIn e = omega arith
-low_number ByteOut e = omega arith
-low_number Status e = omega arith
-low_number (OutReg register) e = absurd (not_alike refl e)
-low_number (OutRange range) e = absurd (not_alike refl e)
+low_number Number e = absurd (cc)
+low_number Arg0 e = absurd (cc)
+low_number Arg1 e = absurd (cc)
+low_number Arg2 e = absurd (cc)
+low_number SecretIn e = absurd (cc)
+low_number ByteOut e = absurd (cc)
+low_number Status e = absurd (cc)
+low_number (OutReg register) e = absurd (cc)
+low_number (OutRange range) e = absurd (cc)
 
 high_number : (base : ℕ) (o : Output) → IsOutput base o → 12 < slot_number (output_slot o)
 high_number base (OfRegister register) is = omega (arith, is)
 high_number base (OfByte range address) is = omega arith
-
-no_output : (slot : Slot) → not (is_output_slot slot) ≡ true → is_output_slot slot ≡ false
-no_output slot e = pick (is_output_slot slot) e
-  where
-    pick : (t : Bool) → not t ≡ true → t ≡ false
-    pick false e = refl
-    pick true e = absurd (not_alike refl (sym e))
 
 never_same : (skip : List ℕ) (base : ℕ) (region : Region) (o : Output) → IsOutput base o →
     NeverInner skip (output_point region (output_slot o))
@@ -105,8 +98,8 @@ never_same skip base region o is other inner = pick (is_same (output_point regio
     pick true e =
         let same : slot_number (output_slot o) ≡ slot_number other.slot =
         ap (λ (p : Point). slot_number p.slot) (one_if_same (output_point region (output_slot o)) other e) in
-        let low = low_number other.slot (no_output other.slot
-        (and_parts (is_listed skip other.region) (not (is_output_slot other.slot)) inner).1) in
+        let low = low_number other.slot
+        (and_parts (is_listed skip other.region) (is_instruction_slot other.slot) inner).1 in
         let high = high_number base o is in
         absurd (omega (arith, same, low, high))
 

@@ -32,7 +32,7 @@ use Rattle.acceptance_law.proofs.Turns.{SameCounts}
 use Rattle.acceptance_law.proofs.TurnsKeepRelation.{CoveredTurn}
 use Rattle.acceptance_law.proofs.Unchanged.{real_ends}
 use Rattle.acceptance_law.proofs.Entering.{SameStarts, same_starts, outside_same, entry_end, entry_passed, entry_labels}
-use Rattle.acceptance_law.proofs.StepsKeepStanding.{state_of, placed, Stands, Stood, HasRules}
+use Rattle.acceptance_law.proofs.StepsKeepStanding.{state_of, placed, Stands, Stood, HasRules, SkipsRelays}
 use Rattle.rv32im_machine.specs.State.{moved_to}
 use Rattle.region_machine.specs.Breaking.{walk_break}
 use Rattle.region_machine.specs.Enclosures.{kind_in, kind_within}
@@ -43,6 +43,7 @@ use Rattle.acceptance_law.proofs.StepsKeepStanding.{proper_turn}
 use Rattle.acceptance_law.proofs.SkipsKeepRelation.{SkippedTo, skip_kept}
 use Rattle.acceptance_law.proofs.Unchanged.{declared, SamePlace}
 use Rattle.acceptance_law.proofs.QuietInsideRegions.{SameInside, step_quiet}
+use Rattle.acceptance_law.proofs.SlotsInsideRegions.{step_slots}
 use Rattle.std.proofs.lemmas.Bool.{eqb-true}
 use Rattle.flow_base.specs.Listed.{is_listed}
 
@@ -158,7 +159,7 @@ entered_to base region labels real limits tags = record {
 module _ (side : NamedSide) (skip : List ℕ) (regions : List Region) (masks : Masks) (setting : Setting)
     (secret other : List ℕ) (bytes : AreBytes secret) (others : AreBytes other)
     (public_bytes : AreBytes setting.public_input) (small_start : setting.start_break < 2 ^ 32)
-    (skips : (region : ℕ) → is_listed skip region ≡ side.relay region) (proper : ProperTurnsLaw) where
+    (skips : SkipsRelays side skip regions) (proper : ProperTurnsLaw) where
   -- ---- the entry
 
   pub skip_enters : (control : Control) (labels : LabelMap) (answers : List ℕ) (real copy : Store)
@@ -264,6 +265,7 @@ module _ (side : NamedSide) (skip : List ℕ) (regions : List Region) (masks : M
       at.to.limits at.to.label_limits sound in
       let on : has_exited control.mode ≡ false = ap (λ m. has_exited m) at.ran in
       let quiet = step_quiet region real.kept control.pc (state_of setting secret control real) on unbroken in
+      let slots = step_slots region real.kept control.pc (state_of setting secret control real) unbroken in
       let here : control.region ≡ region.id = at.quiet.region ∙ region_of_entered region.id entered_by in
       let stands : is_listed skip control.region ≡ true = subst (λ r. is_listed skip r ≡ true) (sym here) at.skipped in
       record {
@@ -271,7 +273,7 @@ module _ (side : NamedSide) (skip : List ℕ) (regions : List Region) (masks : M
         before = at.before;
         entry = at.entry;
         beside = at.beside;
-        counts = λ p never. at.counts p never ∙ sym (alone.inner skip stands all p never);
+        counts = λ p never. at.counts p never ∙ sym (alone.inner skip stands slots all p never);
         skipped = at.skipped;
         numbered = subst (λ r. region_numbered regions r ≡ Some region) (sym alone.ends.same_region) at.numbered;
         to = record {
@@ -314,7 +316,10 @@ module _ (side : NamedSide) (skip : List ℕ) (regions : List Region) (masks : M
       let region = at.region in
       let walk = walked setting secret (leave region real.kept control) real none_held in
       let alike = same_control control entered_by region.leave region.id at.quiet at.ran at.entry_ran at.nowhere pc in
-      let relay = sym (skips region.id) ∙ at.skipped in
+      let here : control.region ≡ region.id = at.quiet.region ∙ region_of_entered region.id entered_by in
+      let relay : side.relay region.id ≡ true =
+      subst (λ r. side.relay r ≡ true) here (sym (skips control.region region at.numbered)
+      ∙ subst (λ r. is_listed skip r ≡ true) (sym here) at.skipped) in
       let inside = subst (λ xs. are_inside region.ranges xs setting.base ≡ true) (sym at.to.kept) at.inside in
       let starts = subst (λ xs. SameStarts region.ranges xs copy.registers) (sym at.to.kept) at.starts in
       let kept = skip_kept side skip masks setting secret other 0 region relay at.before labels at.entry real copy

@@ -1,7 +1,7 @@
 -- Between two turns: how the replay stands beside the real run outside skipped regions, and that each turn keeps it so.
 use Rattle.std.proofs.Common.{◌≡◌, ℕ, ◌+◌, ◌^◌, ◌<◌, ◌≤◌, true, false, List, []}
 use Rattle.std.proofs.Common.{Option, Some, None, refl, sym, ap, subst, ◌∙◌, arith}
-use Rattle.std.specs.Prelude.{◌-◌, slice_index}
+use Rattle.std.specs.Prelude.{◌-◌, ◌==◌, slice_index}
 use Rattle.std.specs.List.{list_all}
 use Rattle.flow_base.specs.declared.points.Point.{Point}
 use Rattle.crossing_bits.specs.Askers.{feed, Fed'}
@@ -79,6 +79,12 @@ pub record HasRules (region : Region) : Type 0 where
   pub outs : list_all is_register region.outs ≡ true
   pub keeps : list_all is_register region.keep ≡ true
 
+-- an entered region is skipped where its relay is in the side
+abbrev pub SkipsRelays : NamedSide → List ℕ → List Region → Type 0
+SkipsRelays side skip regions =
+    (number : ℕ) (region : Region) → region_numbered regions number ≡ Some region →
+    is_listed skip number ≡ side.relay number
+
 -- ---- moves of what is kept
 
 pub kept_moved : (side : NamedSide) (base : ℕ) (region : Region) (labels later : LabelMap) (real new copy changed : Store) →
@@ -104,7 +110,7 @@ kept_moved side base region labels later real new copy changed el er ec h = reco
 module _ (side : NamedSide) (skip : List ℕ) (regions : List Region) (masks : Masks) (setting : Setting)
     (secret other : List ℕ) (bytes : AreBytes secret) (others : AreBytes other)
     (public_bytes : AreBytes setting.public_input) (small_start : setting.start_break < 2 ^ 32)
-    (skips : (region : ℕ) → is_listed skip region ≡ side.relay region) (proper : ProperTurnsLaw) where
+    (skips : SkipsRelays side skip regions) (proper : ProperTurnsLaw) where
   abbrev pub At : Control → LabelMap → Store → Store → List Point → List Point → Type 0
   At control labels real copy past all = Stands side skip regions setting.base control labels real copy past all
 
@@ -150,8 +156,18 @@ module _ (side : NamedSide) (skip : List ℕ) (regions : List Region) (masks : M
       pick (Exited status) = still_proper control guest.current_break
       pick (Stopped fault) = still_proper control guest.current_break
 
-  away : (control : Control) → is_listed skip control.region ≡ false → side.relay control.region ≡ false
-  away control e = sym (skips control.region) ∙ e
+  -- the relay of the entered region is outside the side
+  away : (control : Control) → is_listed skip control.region ≡ false →
+      (region_numbered regions control.region ≡ None → control.region ≡ 0) → (control.region == 0) ≡ false →
+      side.relay control.region ≡ false
+  away control runs nowhere within = pick (region_numbered regions control.region) refl
+    where
+      pick : (found : Option Region) → region_numbered regions control.region ≡ found →
+          side.relay control.region ≡ false
+      pick None lost =
+          let zeroth : (control.region == 0) ≡ true = ap (λ n. n == 0) (nowhere lost) in
+          let both : true ≡ false = sym zeroth ∙ within in absurd (cc)
+      pick (Some region) found = sym (skips control.region region found) ∙ runs
 
   -- ---- a step
 
@@ -165,8 +181,9 @@ module _ (side : NamedSide) (skip : List ℕ) (regions : List Region) (masks : M
       let turn = turn_of setting control in
       let walk = walked setting secret turn real none_held in
       let is = proper_turn control real (is_guest control labels real copy past all at) in
-      let kept = turn_kept side skip masks setting secret other bytes others 0 control.region (away control at.runs)
-      at.runs turn (at_start labels) answers real none_held copy none_held past all is at.beside at.counts covered in
+      let kept = turn_kept side skip masks setting secret other bytes others 0 control.region
+      (away control at.runs at.nowhere) at.runs turn (at_start labels) answers real none_held copy none_held past all is
+      at.beside at.counts covered in
       let alone = real_ends setting secret bytes control.region turn (at_start labels) answers real none_held is
       at.beside.real_limits at.beside.label_limits covered.sound in
       let same = alone.ends.same_region in record {

@@ -1,7 +1,7 @@
 -- What the kind of a turn says of the entered region, and the rules of the regions of a list.
 use Rattle.std.proofs.Common.{◌≡◌, ℕ, Bool, true, false, List, [], ◌∷◌, Option, Some, None, refl, ap, subst, ◌∙◌}
 use Rattle.std.specs.Prelude.{◌==◌, not, if◌then◌else◌}
-use Rattle.std.specs.List.{find, list_all}
+use Rattle.std.specs.List.{AllByRecursion, find, list_all}
 use Rattle.std.proofs.lemmas.Bool.{eqb-true, and_parts}
 use Rattle.enclosure_regions.specs.declared.region_parts.Region.{Region}
 use Rattle.enclosure_regions.specs.Regions.{are_regions, is_region, is_code_address, are_registers}
@@ -11,7 +11,9 @@ use Rattle.rv32im_machine.specs.declared.stepping.Stepped.TheVariants.{Ran, Exit
 use Rattle.rv32im_machine.specs.State.{Control}
 use Rattle.region_machine.specs.Enclosures.{Kind, Enters, Leaves, Steps, kind_in, kind_within, kind_outside}
 use Rattle.region_machine.specs.Enclosures.{region_numbered, region_entered_at, is_enclosed_kind}
-use Rattle.acceptance_law.proofs.StepsKeepStanding.{HasRules}
+use Rattle.acceptance_law.specs.Sides.{NamedSide}
+use Rattle.acceptance_law.proofs.StepsKeepStanding.{HasRules, SkipsRelays}
+use Rattle.flow_base.specs.Listed.{is_listed}
 use Rattle.flow_base.specs.Points.{is_region_number}
 
 -- ---- kinds
@@ -111,6 +113,26 @@ found_rules test (first ∷ regions) region rules e =
         (and_parts (is_region first) (list_all is_region regions) rules).0
     pick false there later = later there
 
+-- what holds of all numbers holds of those of regions
+pub all_regions : (P : ℕ → Type 0) → ((number : ℕ) → P number) → (regions : List Region) →
+    AllByRecursion (λ region. P region.id) regions
+all_regions P all [] = tt
+all_regions P all (region ∷ regions) = (all region.id, all_regions P all regions)
+
+-- what holds of all regions holds of one that is found
+found_has : (P : Region → Type 0) (test : Region → Bool) (regions : List Region) (region : Region) →
+    AllByRecursion P regions → find test regions ≡ Some region → P region
+found_has P test [] region all e = absurd (cc)
+found_has P test (first ∷ regions) region all e =
+    pick (test first) e (λ later. found_has P test regions region all.1 later)
+  where
+    pick : (t : Bool) → (if t then Some first else find test regions) ≡ Some region →
+        (find test regions ≡ Some region → P region) → P region
+    pick true here later =
+        let same : first ≡ region = cc in
+        subst (λ (r : Region). P r) same all.0
+    pick false there later = later there
+
 found_id : (regions : List Region) (number : ℕ) (region : Region) →
     find (λ region. region.id == number) regions ≡ Some region → region.id ≡ number
 found_id [] number region e = absurd (cc)
@@ -160,3 +182,12 @@ pub numbered_id : (regions : List Region) (number : ℕ) (region : Region) →
     region_numbered regions number ≡ Some region →
     region.id ≡ number
 numbered_id regions number region e = found_id regions number region (numbered_found regions number region e)
+
+-- the relays of all regions are those of the regions that are entered
+pub skips_relays : (side : NamedSide) (skip : List ℕ) (regions : List Region) →
+    AllByRecursion (λ region. is_listed skip region.id ≡ side.relay region.id) regions →
+    SkipsRelays side skip regions
+skips_relays side skip regions all number region e =
+    subst (λ n. is_listed skip n ≡ side.relay n) (numbered_id regions number region e)
+    (found_has (λ region. is_listed skip region.id ≡ side.relay region.id) (λ region. region.id == number) regions
+    region all (numbered_found regions number region e))

@@ -82,7 +82,8 @@ pub record KeptTurn (side : NamedSide) (skip : List ℕ) (masks : Masks) (settin
   pub kept : store.kept ≡ copy.kept
 
 module _ (side : NamedSide) (skip : List ℕ) (masks : Masks) (setting : Setting) (secret other : List ℕ)
-    (bytes : AreBytes secret) (others : AreBytes other) (number region : ℕ) (away : side.relay region ≡ false)
+    (bytes : AreBytes secret) (others : AreBytes other) (number region : ℕ)
+    (away : (region == 0) ≡ false → side.relay region ≡ false)
     (run : is_listed skip region ≡ false) where
   abbrev pub Covered : TurnLabels → List ℕ → List Point → Walk → Type 0
   Covered labels answers past walk = CoveredTurn side skip masks number labels answers past walk
@@ -97,11 +98,11 @@ module _ (side : NamedSide) (skip : List ℕ) (masks : Masks) (setting : Setting
 
   -- the outlet of the region is not in the side
   outlet_away : (x : Point) → x.region ≡ region → ends_in side (outlet_of x.region) ≡ false
-  outlet_away x e = rw e (pick (region == 0))
+  outlet_away x e = rw e (pick (region == 0) refl)
     where
-      pick : (t : Bool) → ends_in side (if t then Sink else Relay region) ≡ false
-      pick true = refl
-      pick false = away
+      pick : (t : Bool) → (region == 0) ≡ t → ends_in side (if t then Sink else Relay region) ≡ false
+      pick true is = refl
+      pick false is = away is
 
   second_away : (x : Point) → x.region ≡ region → Stays side (AtEnd x) (outlet_of x.region) → side.second x ≡ false
   second_away x e stays = pick (side.second x) stays

@@ -22,10 +22,9 @@ use Rattle.rv32im_machine.specs.Language.{walked, Held, none_held, at_place, put
 use Rattle.rv32im_machine.specs.Language.{work_of, shaped, first_of, seen_value}
 use Rattle.rv32im_machine.specs.Folds.{real_end}
 use Rattle.flow_base.specs.declared.points.Point.{Point}
-use Rattle.flow_base.specs.Points.{is_output_slot}
 use Rattle.region_machine.specs.Runs.{passed}
 use Rattle.replay_machine.specs.Runs.{times_passed}
-use Rattle.acceptance_law.specs.RunCuts.{is_inner}
+use Rattle.acceptance_law.specs.RunCuts.{is_inner, is_instruction_slot}
 use Rattle.region_machine.specs.Breaking.{place_break, walk_break}
 use Rattle.shadow_masks.specs.declared.labels.Label.{Label}
 use Rattle.shadow_masks.specs.Writes.{LabelMap}
@@ -38,6 +37,7 @@ use Rattle.acceptance_law.specs.Proper.{AreBytes, IsProperPlace, place_limit, Is
 use Rattle.acceptance_law.proofs.WritesKeepRelation.{put_limits, put_label_limits, put_registers, put_memory, put_kept}
 use Rattle.acceptance_law.proofs.WritesKeepRelation.{put_label_kept, not_alike, apart_of}
 use Rattle.acceptance_law.proofs.Passings.{slot_word, made_fits, mask_fits}
+use Rattle.acceptance_law.proofs.SlotsInsideRegions.{WalkSlots}
 use Rattle.acceptance_law.proofs.Turns.{NeverInner, inner_step, seen_word, label_of_limit}
 use Rattle.flow_base.specs.Listed.{is_listed}
 use Rattle.std.specs.Option.{option_or}
@@ -161,8 +161,8 @@ pub record RealEnds (setting : Setting) (secret : List ℕ) (number : ℕ) (labe
       (q : Place) → IsProperPlace setting.base q → declared region registers q ≡ false →
       SamePlace setting.base q labels store held (at_start (labels_in labels answers walk)) (real_end walk).store
       none_held
-  -- inside a skipped region it counts for no other point
-  pub inner : (skip : List ℕ) → is_listed skip number ≡ true → (past : List Point) (point : Point) →
+  -- inside a skipped region it counts for no other point, where it passes slots of instructions alone
+  pub inner : (skip : List ℕ) → is_listed skip number ≡ true → WalkSlots walk → (past : List Point) (point : Point) →
       NeverInner skip point → times_passed point (passed past walk) ≡ times_passed point past
 
 module _ (setting : Setting) (secret : List ℕ) (bytes : AreBytes secret) (number : ℕ) where
@@ -172,7 +172,7 @@ module _ (setting : Setting) (secret : List ℕ) (bytes : AreBytes secret) (numb
       labels_in labels answers whole ≡ labels_in (put_label p label labels) later walk →
       ((region : Region) (registers : List ℕ) (pc : ℕ) → walk_break region registers pc whole
       ≡ option_or (place_break region registers pc p) (walk_break region registers pc walk)) →
-      ((skip : List ℕ) → is_listed skip number ≡ true → (past : List Point) (point : Point) →
+      ((skip : List ℕ) → is_listed skip number ≡ true → WalkSlots whole → (past : List Point) (point : Point) →
       NeverInner skip point → times_passed point (passed past whole) ≡ times_passed point past) →
       RealEnds setting secret number (put_label p label labels) later (put setting.base p value store)
       (hold p value held) walk → RealEnds setting secret number labels answers store held whole
@@ -221,9 +221,9 @@ module _ (setting : Setting) (secret : List ℕ) (bytes : AreBytes secret) (numb
   start_label_limits labels limits First = omega arith
   start_label_limits labels limits Second = omega arith
 
-  inner_is : (skip : List ℕ) (point : Point) → point.region ≡ number → is_output_slot point.slot ≡ false →
+  inner_is : (skip : List ℕ) (point : Point) → point.region ≡ number → is_instruction_slot point.slot ≡ true →
       is_listed skip number ≡ true → is_inner skip point ≡ true
-  inner_is skip point inside none stands = rw (inside, stands, none) refl
+  inner_is skip point inside slot stands = rw (inside, stands, slot) refl
 
   pub move_limit : (place : Place) (shape : Shape) (source : Source) (store : Store) (held : Held) →
       ((place : Place) → at_place setting.base store held place ≤ place_limit place) →
@@ -263,7 +263,7 @@ module _ (setting : Setting) (secret : List ℕ) (bytes : AreBytes secret) (numb
         memory = rest.memory;
         kept = rest.kept;
         same = λ region registers pc none q iq dq. rest.same region registers pc none q iq dq;
-        inner = λ skip ins past q never. rest.inner skip ins past q never;
+        inner = λ skip ins slots past q never. rest.inner skip ins slots past q never;
       }
   real_ends (Passes point place making sources turn) labels answers store held proper limits tags sound =
       let vs = values_of setting secret store held sources in
@@ -284,8 +284,8 @@ module _ (setting : Setting) (secret : List ℕ) (bytes : AreBytes secret) (numb
       (walked setting secret turn (put setting.base place value store) (hold place value held))
       (walked setting secret (Passes point place making sources turn) store held) proper.1.0 refl refl
       (λ region registers pc. refl)
-      (λ skip ins past q never. rest.inner skip ins (point ∷ past) q never
-      ∙ inner_step skip point q past (inner_is skip point is.inside is.no_output ins) never)
+      (λ skip ins slots past q never. rest.inner skip ins slots.1 (point ∷ past) q never
+      ∙ inner_step skip point q past (inner_is skip point is.inside slots.0 ins) never)
       rest
   real_ends (Decides point making sources go) labels answers store held proper limits tags sound =
       let vs = values_of setting secret store held sources in
@@ -302,8 +302,8 @@ module _ (setting : Setting) (secret : List ℕ) (bytes : AreBytes secret) (numb
         kept = rest.kept;
         same = λ region registers pc none q iq dq.
             rest.same region registers pc (first_unbroken _ _ none).1 q iq dq;
-        inner = λ skip ins past q never. rest.inner skip ins (point ∷ past) q never
-            ∙ inner_step skip point q past (inner_is skip point proper.0.inside proper.0.no_output ins) never;
+        inner = λ skip ins slots past q never. rest.inner skip ins slots.1 (point ∷ past) q never
+            ∙ inner_step skip point q past (inner_is skip point is.inside slots.0 ins) never;
       }
   real_ends (Moves place shape source turn) labels answers store held proper limits tags sound =
       let value = shaped shape (value_of setting secret store held source ∷ []) in
@@ -317,7 +317,7 @@ module _ (setting : Setting) (secret : List ℕ) (bytes : AreBytes secret) (numb
       put_ends place label value labels answers answers store held
       (walked setting secret turn (put setting.base place value store) (hold place value held))
       (walked setting secret (Moves place shape source turn) store held) (move_place place shape source proper.0) refl
-      refl (λ region registers pc. refl) (λ skip ins past q never. rest.inner skip ins past q never) rest
+      refl (λ region registers pc. refl) (λ skip ins slots past q never. rest.inner skip ins slots past q never) rest
   real_ends (Gives point place turn) labels answers store held proper limits tags sound = absurd proper
   real_ends (Saves turn) labels answers store held proper limits tags sound = absurd proper
   real_ends (Restores registers turn) labels answers store held proper limits tags sound = absurd proper
@@ -335,5 +335,5 @@ module _ (setting : Setting) (secret : List ℕ) (bytes : AreBytes secret) (numb
     memory = refl;
     kept = refl;
     same = λ region registers pc none q iq dq. same_start q region registers labels store held dq;
-    inner = λ skip ins past q never. refl;
+    inner = λ skip ins slots past q never. refl;
   }

@@ -1,10 +1,12 @@
--- What it is that a cut covers a run: no link of the run's graph leaves the side, the cut skips the regions whose
--- relays are in it, and it has at each visit of a split point the bits of the run's mask.
+-- What it is that a cut covers a run: no link of the run's graph leaves the side, the cut skips of the listed regions
+-- those whose relays are in it, and it has at each visit of a split point the bits of the run's mask.
 use Rattle.std.specs.Prelude.{◌≡◌, ℕ, true, false, List, [], ◌∷◌}
 use Rattle.std.specs.Int.{bit_at}
+use Rattle.std.specs.List.{AllByRecursion}
 use Rattle.flow_base.specs.declared.points.Point.{Point}
 use Rattle.cut_file.specs.Cuts.{CutPicture}
 use Rattle.cut_file.specs.Masks.{MaskAt}
+use Rattle.enclosure_regions.specs.declared.region_parts.Region.{Region}
 use Rattle.flow_graph.specs.declared.events.Event.{Event}
 use Rattle.flow_graph.specs.declared.events.Event.TheVariants.{Pass, Link, FromSecret, Implicit, Out}
 use Rattle.flow_graph.specs.EventGraphs.{named_links}
@@ -41,10 +43,11 @@ AreContained side skip masks past [] = Unit {0}
 AreContained side skip masks past (event ∷ events) =
     IsContained side skip masks past event × AreContained side skip masks (past_after event past) events
 
--- Covers: the cut covers a run with these events, by this side
-pub record Covers (side : NamedSide) (events : List Event) (cut : CutPicture) : Type 0 where
+-- Covers: the cut covers a run with these regions and these events, by this side. A number that no region has may be
+-- skipped or not, since no turn of the run enters such a region.
+pub record Covers (side : NamedSide) (regions : List Region) (events : List Event) (cut : CutPicture) : Type 0 where
   pub closed : IsClosedFor side (named_links events)
   -- outside regions, where the number is 0, nothing is skipped
-  pub outside : side.relay 0 ≡ false
-  pub skips : (region : ℕ) → is_listed cut.skip region ≡ side.relay region
+  pub outside : is_listed cut.skip 0 ≡ false
+  pub skips : AllByRecursion (λ region. is_listed cut.skip region.id ≡ side.relay region.id) regions
   pub contains : AreContained side cut.skip (MaskAt cut.points) [] events

@@ -55,10 +55,10 @@ SplitBitsLaw =
     IsSideOf graph halves relays →
     sum_by (split_bits (named_side graph halves relays)) events ≤ side_capacity graph halves relays
 
--- The cut of a run and a side of its graph covers the run by this side.
+-- The cut of a run and a side of its graph covers the run by this side, whatever the regions are.
 abbrev pub CutCoversLaw : Type 0
 CutCoversLaw =
-    (events : List Event) (graph : Graph) (halves : List Half) (relays : List Bool) (secret_len capacity : ℕ)
-    (cut : CutPicture) → IsGraphOf events graph → IsSideOf graph halves relays → AreProperEvents events →
-    IsCutOf secret_len events (named_side graph halves relays) capacity cut → list_all has_slot cut.points ≡ true →
-    Covers (named_side graph halves relays) events cut
+    (regions : List Region) (events : List Event) (graph : Graph) (halves : List Half) (relays : List Bool)
+    (secret_len capacity : ℕ) (cut : CutPicture) → IsGraphOf events graph → IsSideOf graph halves relays →
+    AreProperEvents events → IsCutOf secret_len events (named_side graph halves relays) capacity cut →
+    list_all has_slot cut.points ≡ true → Covers (named_side graph halves relays) regions events cut

@@ -32,6 +32,6 @@ CoveredLaw =
     are_regions regions ≡ true →
     IsMeasuredRun regions answers (guest program public_input secret) output → length answers ≤ turns →
     length secret ≡ cut.secret_len →
-    Covers side (run_after regions answers (unlabelled (guest program public_input secret))).events cut →
+    Covers side regions (run_after regions answers (unlabelled (guest program public_input secret))).events cut →
     length (Cross (task_of program public_input regions cut) secret turns) ≤ budget →
     Accept (task_of program public_input regions cut) (record { budget = budget; turns = turns }) secret output

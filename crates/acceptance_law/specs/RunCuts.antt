@@ -1,8 +1,9 @@
 -- The cut of a run and a side: it is split where the side splits points, with the masks of the run.
-use Rattle.std.specs.Prelude.{◌≡◌, ℕ, ◌&&◌, not, Bool, cond, List, [], ◌∷◌, ◌++◌, bit_or}
+use Rattle.std.specs.Prelude.{◌≡◌, ℕ, ◌&&◌, not, Bool, true, false, cond, List, [], ◌∷◌, ◌++◌, bit_or}
 use Rattle.std.specs.List.{list_any, AllByRecursion}
 use Rattle.flow_base.specs.declared.points.Point.{Point}
-use Rattle.flow_base.specs.Points.{is_output_slot}
+use Rattle.flow_base.specs.declared.points.Slot.{Slot}
+use Rattle.flow_base.specs.declared.points.Slot.TheVariants.{First, Second, Address, Result, Decision, Number, Arg0, Arg1, Arg2, SecretIn, ByteOut, Status, OutReg, OutRange}
 use Rattle.cut_file.specs.declared.points.CutPoint.{CutPoint}
 use Rattle.cut_file.specs.Cuts.{CutPicture}
 use Rattle.cut_file.specs.Masks.{listed_masks}
@@ -33,10 +34,27 @@ united (mask ∷ masks) = bit_or mask (united masks)
 
 -- ---- the points
 
--- a point that the replay never visits, where these regions are skipped: inside a region every slot but those of its
--- outputs is an inner one
+-- the slots of instructions that are no calls: both operands, an address, a result and a decision
+abbrev pub is_instruction_slot : Slot → Bool
+is_instruction_slot First = true
+is_instruction_slot Second = true
+is_instruction_slot Address = true
+is_instruction_slot Result = true
+is_instruction_slot Decision = true
+is_instruction_slot Number = false
+is_instruction_slot Arg0 = false
+is_instruction_slot Arg1 = false
+is_instruction_slot Arg2 = false
+is_instruction_slot SecretIn = false
+is_instruction_slot ByteOut = false
+is_instruction_slot Status = false
+is_instruction_slot (OutReg register) = false
+is_instruction_slot (OutRange range) = false
+
+-- a point that the replay never visits, where these regions are skipped: such a slot inside one of them; a call breaks
+-- the region that it is made in
 abbrev pub is_inner : List ℕ → Point → Bool
-is_inner skip point = is_listed skip point.region && not (is_output_slot point.slot)
+is_inner skip point = is_listed skip point.region && is_instruction_slot point.slot
 
 abbrev pub names_point : List CutPoint → Point → Bool
 names_point points point = list_any (λ cut_point. is_same cut_point.point point) points

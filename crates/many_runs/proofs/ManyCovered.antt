@@ -40,6 +40,7 @@ use Rattle.acceptance_law.proofs.GraphSides.{side_closed, side_outside}
 use Rattle.many_runs.specs.Uniting.{IsUnited, joined_masks}
 use Rattle.acceptance_law.proofs.ProperRuns.{proper_events_law}
 use Rattle.acceptance_law.proofs.ProperStarts.{guest_start_law}
+use Rattle.acceptance_law.proofs.TurnKinds.{all_regions}
 use Rattle.many_runs.proofs.MasksOfRuns.{IsPartOf, joined_fits}
 use Rattle.many_runs.proofs.PastBits.{cross_bits}
 use Rattle.many_runs.proofs.RunPasts.{runs_beside}
@@ -202,13 +203,15 @@ module _ (runs : List (List Event)) (united_events : List Event) (graph : Graph)
       let few = beside.within.few point in
       let most = (part.masks point).few in
       omega (arith, masks, few, most)) in
+      let skip : (region : ℕ) → is_listed used.skip region ≡ side.relay region =
+      λ region. ap (λ skip. is_listed skip region) is_used.skip ∙ all.cut_of.skip region in
       covered_law program public_input regions secret used side answers (side_capacity graph halves relays) turns output
       inputs.regions_valid measured enough (long ∙ sym (is_used.length_is ∙ all.cut_of.length))
       (record {
         closed = run-closed runs united_events all.united graph halves relays secret_len
             (side_capacity graph halves relays) cut (MaskAt used.points) cuts events part;
-        outside = side_outside united_events graph halves relays all.graph_of;
-        skips = λ region. ap (λ skip. is_listed skip region) is_used.skip ∙ all.cut_of.skip region;
+        outside = skip 0 ∙ side_outside united_events graph halves relays all.graph_of;
+        skips = all_regions (λ n. is_listed used.skip n ≡ side.relay n) skip regions;
         contains = subst (λ (skip : List ℕ). AreContained side skip (MaskAt used.points) [] events) (sym is_used.skip)
             (contained runs united_events all.united graph halves relays secret_len (side_capacity graph halves relays)
             cut (MaskAt used.points) cuts events part proper);

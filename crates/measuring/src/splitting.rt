@@ -1,11 +1,11 @@
 ghost use Rattle.std.specs.Prelude.{◌≡◌, ◌&&◌, ◌++◌, not, true, IfOk, OnOk};
 ghost use Rattle.std.specs.List.{list_all};
 ghost use Rattle.max_flow.specs.Flows.{has_first, has_second};
-ghost use Rattle.acceptance_law.specs.RunCuts.{is_inner};
+ghost use Rattle.acceptance_law.specs.RunCuts.{is_inner, is_instruction_slot};
 ghost use Rattle.measuring.specs.Splits.{is_cut, point_if, region_if, skipped, split_points};
 ghost use Rattle.flow_base.specs.Points.{is_region_number};
 
-use flow_base::{List, NoMemory, Point};
+use flow_base::{List, NoMemory, Point, Slot};
 use flow_graph::Node;
 use max_flow::Half;
 use std::alloc::Global;
@@ -46,11 +46,21 @@ pub(crate) fn skipped_regions(
     Ok(skip)
 }
 
-/// Whether a point is inside one of these regions, and none of its outputs.
+/// Whether an instruction that is no call passes this slot.
+fn is_of_instruction(slot: Slot) -> bool
+    ensures { result ≡ is_instruction_slot slot }
+{
+    match slot {
+        Slot::First | Slot::Second | Slot::Address | Slot::Result | Slot::Decision => true,
+        _ => false,
+    }
+}
+
+/// Whether a point is inside one of these regions, at a slot of an instruction that is no call.
 fn is_inside(skip: &[u16], point: &Point) -> bool
     ensures { result ≡ is_inner skip.now point.now }
 {
-    skip.contains(&point.region) && !point.slot.is_output()
+    skip.contains(&point.region) && is_of_instruction(point.slot)
 }
 
 /// Whether the side has the first half of a point and not the second.

@@ -118,7 +118,7 @@ module _ (skip : List ℕ) (regions : List Region) (masks : Masks) (setting : Se
       IsProper setting.base control.region (turn_of setting control)
   is_proper control real guest =
       proper_turn (a_side skip) skip regions masks setting secret other bytes others public_bytes small_start
-      (λ region. refl) proper control real guest
+      (λ number region found. refl) proper control real guest
 
   -- ---- a step
 
