@@ -21,7 +21,8 @@ use Rattle.replay_machine.specs.Runs.{Masks, times_passed, mask_at}
 use Rattle.rv32im_machine.specs.Language.{Walk, Looked, Passed, Moved, Saved, Restored, Ended, first_of}
 use Rattle.run_labels.specs.TurnLabels.{TurnLabels, put_label, save_labels, restore_labels}
 use Rattle.run_labels.specs.Masks.{mask_of, answers_after, labels_after, moved_label}
-use Rattle.run_labels.specs.Flowing.{flow_events, passing_events, events_in}
+use Rattle.run_labels.specs.Flowing.{flow_events, passing_events}
+use Rattle.run_labels.specs.Traces.{traced, events_in}
 use Rattle.acceptance_law.specs.Sides.{NamedSide, is_split}
 use Rattle.acceptance_law.specs.RunCuts.{is_inner, names_point, mask_at_event, visit_masks, HasVisitMasks}
 use Rattle.acceptance_law.specs.ClosedEvents.{IsProperEvent, AreProperEvents}
@@ -135,7 +136,7 @@ module _ (side : NamedSide) (cut : CutPicture)
       AllByRecursion (HasVisitMasks (seen ++ (events_in labels answers walk ++ more))) cut.points →
       AreProperEvents (events_in labels answers walk) → CountsOutside cut.skip past seen →
       CrossesTurn past seen walk (events_in labels answers walk)
-  unfolding events_in crossing passed
+  unfolding traced crossing passed
   turn-crosses seen more past labels answers (Looked look value walk) have proper counts =
       let rest = turn-crosses seen more past labels answers walk have proper counts in
       record { bits = rest.bits; counts = rest.counts }

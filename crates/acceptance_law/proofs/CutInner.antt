@@ -19,7 +19,8 @@ use Rattle.rv32im_machine.specs.Language.{passing, first_of}
 use Rattle.shadow_masks.specs.Pages.{label_of}
 use Rattle.run_labels.specs.TurnLabels.{TurnLabels, put_label}
 use Rattle.run_labels.specs.Masks.{masks_of, work_mask, mask_of, answers_after, moved_label}
-use Rattle.run_labels.specs.Flowing.{flow_events, passing_events, events_in, sources_events, aim_events}
+use Rattle.run_labels.specs.Flowing.{flow_events, passing_events, sources_events, aim_events}
+use Rattle.run_labels.specs.Traces.{traced, events_in}
 use Rattle.acceptance_law.specs.RunCuts.{is_inner, is_instruction_slot, mask_at_event, visit_masks}
 use Rattle.acceptance_law.specs.Proper.{AreBytes, IsProper}
 use Rattle.acceptance_law.proofs.GraphEvents.{all_append, all_more}
@@ -76,7 +77,7 @@ module _ (setting : Setting) (secret : List ℕ) (bytes : AreBytes secret) (skip
       IsProper setting.base region turn → HasLimits setting.base store held →
       WalkSlots (walked setting secret turn store held) →
       AreInnerEvents skip (events_in labels answers (walked setting secret turn store held))
-  unfolding IsProper walked events_in
+  unfolding IsProper walked traced
   turn-inner (Looks seen go) labels answers store held proper has slots =
       turn-inner (go (seen_value setting.base store seen)) labels answers store held
       (proper.1 (seen_value setting.base store seen) (seen_word setting.base store held has.places seen)) has slots

@@ -31,7 +31,7 @@ use Rattle.rv32im_machine.specs.Language.{Turn, Saves, Ends, Walk, walked, Held,
 use Rattle.rv32im_machine.specs.Rows.{turn_in, running}
 use Rattle.rv32im_machine.specs.State.{Setting, Control, Store, State, entered}
 use Rattle.run_labels.specs.Answers.{IsSoundAnswer}
-use Rattle.run_labels.specs.Flowing.{events_in}
+use Rattle.run_labels.specs.Traces.{traced, events_in}
 use Rattle.run_labels.specs.Runs.{enclosing, unlabelled, run_after, next_walk, turn_events, broken_fault}
 use Rattle.run_labels.specs.Runs.{EachRunAnswer, IsUnrefused}
 use Rattle.run_labels.specs.TurnLabels.{TurnLabels, at_start}
@@ -67,7 +67,7 @@ entry_inner : (skip : List ℕ) (setting : Setting) (secret : List ℕ) (ranges 
     (labels : TurnLabels) (answers : List ℕ) (store : Store) (held : Held) →
     AreInnerEvents skip (events_in labels answers (walked setting secret turn store held)) →
     AreInnerEvents skip (events_in labels answers (walked setting secret (looks ranges turn) store held))
-unfolding looks walked events_in
+unfolding looks walked traced
 entry_inner skip setting secret [] turn labels answers store held inner = inner
 entry_inner skip setting secret (range ∷ ranges) turn labels answers store held inner =
     look range.base (entry_inner skip setting secret ranges turn labels answers store held inner)
@@ -84,7 +84,7 @@ step_inner : (mode : Stepped) (skip : List ℕ) (state : State) (labels : TurnLa
     WalkSlots (walked state.setting state.secret (turn_in mode state.setting state.control) state.store none_held) →
     AreInnerEvents skip (events_in labels answers
     (walked state.setting state.secret (turn_in mode state.setting state.control) state.store none_held))
-unfolding walked events_in
+unfolding walked traced
 step_inner Ran skip state labels answers guest stands slots =
     turn-inner state.setting state.secret guest.secret skip state.control.region stands
     (running state.setting state.control) labels answers state.store none_held (proper_law state guest)
@@ -148,7 +148,7 @@ kind_entered (Stopped fault) regions control = tt
 kind_inner : (enclosures : Enclosures) (kind : Kind) (state : State) (labels : TurnLabels) (answers : List ℕ) →
     IsProperGuest state → IsEntered state.control.region kind → is_enclosed_kind enclosures kind ≡ true →
     kind_break kind state ≡ None → AreInnerEvents enclosures.skip (events_in labels answers (kind_walk kind state))
-unfolding walked events_in
+unfolding walked traced
 kind_inner enclosures (Enters region) state labels answers guest known enclosed unbroken =
     entry_inner enclosures.skip state.setting state.secret region.ranges
     (Saves (Ends (entered region.id state.control))) labels answers state.store none_held tt

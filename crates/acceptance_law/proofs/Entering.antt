@@ -21,8 +21,7 @@ use Rattle.replay_machine.specs.Runs.{Masks, replayed}
 use Rattle.lockstep_replay.specs.Crossing.{crossing}
 use Rattle.shadow_masks.specs.Writes.{after, Save}
 use Rattle.run_labels.specs.TurnLabels.{TurnLabels}
-use Rattle.run_labels.specs.Flowing.{labels_in, events_in}
-use Rattle.run_labels.specs.Looking.{secret_look}
+use Rattle.run_labels.specs.Traces.{traced, labels_in, events_in, secret_look}
 use Rattle.acceptance_law.specs.Sides.{NamedSide}
 use Rattle.acceptance_law.proofs.WritesKeepRelation.{Beside}
 use Rattle.acceptance_law.proofs.Turns.{first_none, look_equal}
@@ -54,7 +53,7 @@ pub same_starts : (side : NamedSide) (setting : Setting) (secret : List ℕ) (nu
     Beside side setting.base labels real held copy taken → (ranges : List Range) (turn : Turn) →
     secret_look number labels answers (walked setting secret (looks ranges turn) real held) ≡ None →
     SameStarts ranges real.registers copy.registers
-unfolding looks walked secret_look
+unfolding looks walked traced
 same_starts side setting secret number labels answers real held copy taken beside [] turn e = tt
 same_starts side setting secret number labels answers real held copy taken beside (range ∷ ranges) turn e =
     let parts = one range.base (looks ranges turn) e in (
@@ -147,7 +146,7 @@ module _ (setting : Setting) (secret : List ℕ) (store : Store) (held : Held) (
 
   pub entry_labels : (labels : TurnLabels) (answers : List ℕ) →
       labels_in labels answers (walked setting secret (entry region control) store held) ≡ after Save labels.map
-  unfolding labels_in walked
+  unfolding traced walked
   entry_labels labels answers =
       looks_same setting secret store held (λ w. labels_in labels answers w) blind region.ranges saving ∙ ending
     where
@@ -160,7 +159,7 @@ module _ (setting : Setting) (secret : List ℕ) (store : Store) (held : Held) (
 
   pub entry_events : (labels : TurnLabels) (answers : List ℕ) →
       events_in labels answers (walked setting secret (entry region control) store held) ≡ []
-  unfolding events_in walked
+  unfolding traced walked
   entry_events labels answers =
       looks_same setting secret store held (λ w. events_in labels answers w) blind region.ranges saving ∙ ending
     where

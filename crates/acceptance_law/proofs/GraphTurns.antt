@@ -39,7 +39,8 @@ use Rattle.run_labels.specs.TurnLabels.{TurnLabels, at_start, label_at, put_labe
 use Rattle.run_labels.specs.TurnLabels.{restore_labels}
 use Rattle.run_labels.specs.Masks.{mask_of, answers_after, labels_after, moved_label}
 use Rattle.run_labels.specs.Flowing.{link_from, source_events, byte_events, sources_events, aim_events, flow_events}
-use Rattle.run_labels.specs.Flowing.{passing_events, labels_in, events_in}
+use Rattle.run_labels.specs.Flowing.{passing_events}
+use Rattle.run_labels.specs.Traces.{traced, labels_in, events_in}
 use Rattle.run_labels.specs.Runs.{unlabelled, next_walk, turn_events, run_after}
 use Rattle.acceptance_law.specs.ClosedEvents.{IsProperEvent, AreProperEvents}
 use Rattle.acceptance_law.proofs.GraphEvents.{Knows, knows_more, knows_pass, Names, AreNamed, all_named, named_append}
@@ -308,7 +309,7 @@ pub turn_named : (before : List Event) (labels : TurnLabels) (answers : List ℕ
     AreKnownInTurn before labels → AreProperEvents (events_in labels answers walk) →
     AreNamed before (events_in labels answers walk)
     × AreKnown (before ++ events_in labels answers walk) (labels_in labels answers walk)
-unfolding events_in labels_in
+unfolding traced
 turn_named before labels answers (Looked seen value walk) known proper =
     turn_named before labels answers walk known proper
 turn_named before labels answers (Passed passing go) known proper =

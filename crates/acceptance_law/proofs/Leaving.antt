@@ -25,9 +25,7 @@ use Rattle.replay_machine.specs.Runs.{Masks, replayed}
 use Rattle.lockstep_replay.specs.Crossing.{crossing}
 use Rattle.shadow_masks.specs.Writes.{LabelMap}
 use Rattle.run_labels.specs.TurnLabels.{TurnLabels, label_at, at_start, restore_labels}
-use Rattle.run_labels.specs.Flowing.{labels_in, events_in}
-use Rattle.run_labels.specs.Looking.{secret_look}
-use Rattle.run_labels.specs.Answers.{EachAnswer}
+use Rattle.run_labels.specs.Traces.{traced, labels_in, events_in, secret_look, EachAnswer}
 use Rattle.acceptance_law.specs.Sides.{NamedSide}
 use Rattle.acceptance_law.specs.Proper.{IsProperPlace, place_limit}
 use Rattle.acceptance_law.proofs.WritesKeepRelation.{Close, close_refl, Beside, not_alike, apart_of}
@@ -324,7 +322,7 @@ module _ (side : NamedSide) (skip : List ℕ) (masks : Masks) (setting : Setting
   pub leave_covered : (labels : TurnLabels) (answers : List ℕ) (all : List Point) (keep : List ℕ) (walk back : Walk) →
       CoveredTurn side skip masks number labels answers all (Restored keep walk back) →
       CoveredTurn side skip masks number (restore_labels keep labels) answers all walk
-  unfolding EachAnswer secret_look events_in
+  unfolding traced
   leave_covered labels answers all keep walk back covered = record {
     sound = covered.sound;
     looks = covered.looks;
@@ -337,7 +335,7 @@ module _ (side : NamedSide) (skip : List ℕ) (masks : Masks) (setting : Setting
       KeptTurn side skip masks setting other (restore_labels keep labels) answers walk put changed past all →
       KeptTurn side skip masks setting other labels answers (Restored keep walk back) (Restored others copied put) copy
       past all
-  unfolding replayed crossing passed real_end labels_in
+  unfolding replayed crossing passed real_end traced
   leave_kept_of labels answers keep others walk back copied put copy changed past all same kept = record {
     store = kept.store;
     uses = kept.uses;

@@ -20,7 +20,7 @@ use Rattle.region_machine.proofs.RangesStayInside.{numbered, entered_found}
 use Rattle.region_machine.proofs.NoExitInside.{enclosed_runs_on}
 use Rattle.replay_machine.specs.Runs.{Masks}
 use Rattle.shadow_masks.specs.Writes.{LabelMap}
-use Rattle.run_labels.specs.Flowing.{labels_in}
+use Rattle.run_labels.specs.Traces.{labels_in}
 use Rattle.run_labels.specs.Runs.{stopped_fault, entered_number}
 use Rattle.run_labels.specs.TurnLabels.{at_start}
 use Rattle.acceptance_law.specs.Sides.{NamedSide}

@@ -10,7 +10,8 @@ use Rattle.region_machine.specs.Runs.{passed}
 use Rattle.replay_machine.specs.Runs.{Masks}
 use Rattle.run_labels.specs.TurnLabels.{TurnLabels, put_label, save_labels, restore_labels}
 use Rattle.run_labels.specs.Masks.{mask_of, answers_after, labels_after, moved_label}
-use Rattle.run_labels.specs.Flowing.{flow_events, events_in, sources_events, aim_events}
+use Rattle.run_labels.specs.Flowing.{flow_events, sources_events, aim_events}
+use Rattle.run_labels.specs.Traces.{traced, events_in}
 use Rattle.acceptance_law.specs.Sides.{NamedSide}
 use Rattle.acceptance_law.specs.Covers.{AreContained, past_after}
 use Rattle.acceptance_law.proofs.Turns.{none_if, NoPass, NoPasses, none_append, none_sources, none_aim}
@@ -40,7 +41,7 @@ pasts_none (e ∷ es) past h = ap (λ p. pasts es p) (no_past e past h.0) ∙ pa
 -- the events of a turn pass what the turn passes
 pub events_past : (walk : Walk) (labels : TurnLabels) (answers : List ℕ) (past : List Point) →
     pasts (events_in labels answers walk) past ≡ passed past walk
-unfolding pasts events_in passed
+unfolding pasts traced passed
 events_past (Looked seen value walk) labels answers past = events_past walk labels answers past
 events_past (Passed passing go) labels answers past =
     let m = mask_of labels (first_of answers) passing in

@@ -23,8 +23,8 @@ use Rattle.rv32im_machine.specs.declared.language.Place.{Place}
 use Rattle.rv32im_machine.specs.declared.language.Place.TheVariants.{Register, Byte, First, Second}
 use Rattle.rv32im_machine.specs.Folds.{real_end}
 use Rattle.rv32im_machine.specs.Rows.{turn_in, turn_of, running}
-use Rattle.run_labels.specs.Answers.{IsSoundAnswer, EachAnswer}
-use Rattle.run_labels.specs.Flowing.{labels_in, events_in}
+use Rattle.run_labels.specs.Answers.{IsSoundAnswer}
+use Rattle.run_labels.specs.Traces.{EachAnswer, labels_in, events_in}
 use Rattle.run_labels.specs.TurnLabels.{at_start}
 use Rattle.run_labels.specs.Runs.{LabelledRun, enclosing, unlabelled, run_after, turn_events, EachRunAnswer}
 use Rattle.shadow_masks.specs.Writes.{LabelMap, default_map}

@@ -34,8 +34,9 @@ use Rattle.shadow_masks.specs.Writes.{LabelMap}
 use Rattle.run_labels.specs.TurnLabels.{TurnLabels, label_at, put_label, save_labels, restore_labels, at_start}
 use Rattle.run_labels.specs.Masks.{masks_of, work_mask, mask_of, answers_after, moved_label}
 use Rattle.run_labels.specs.Flowing.{link_from, source_events, byte_events, sources_events, aim_events, flow_events}
-use Rattle.run_labels.specs.Flowing.{passing_events, labels_in, events_in}
-use Rattle.run_labels.specs.Answers.{IsSoundAnswer, EachAnswer}
+use Rattle.run_labels.specs.Flowing.{passing_events}
+use Rattle.run_labels.specs.Traces.{traced, labels_in, events_in, EachAnswer}
+use Rattle.run_labels.specs.Answers.{IsSoundAnswer}
 use Rattle.acceptance_law.specs.ClosedEvents.{IsProperEvent, AreProperEvents}
 use Rattle.acceptance_law.specs.Proper.{AreAllWords, AreBytes, IsProperGuest, IsMove, AreProperSources, FitsSlot, IsProper, place_limit}
 use Rattle.acceptance_law.proofs.WritesKeepRelation.{put_limits, put_label_limits, put_kept, put_label_kept}
@@ -277,7 +278,7 @@ module _ (setting : Setting) (secret : List ℕ) (bytes : AreBytes secret) where
       EachAnswer IsSoundAnswer labels answers (walked setting secret turn store held) →
       AreProperEvents (events_in labels answers (walked setting secret turn store held))
       × AreLimitedLabels (labels_in labels answers (walked setting secret turn store held))
-  unfolding IsOrderly walked events_in labels_in EachAnswer
+  unfolding IsOrderly walked traced
   turn-events (Looks seen go) labels answers store held orderly limited has sound =
       turn-events (go (seen_value setting.base store seen)) labels answers store held
       (orderly (seen_value setting.base store seen) (seen_word setting.base store held has.places seen)) limited has

@@ -32,9 +32,8 @@ use Rattle.replay_machine.specs.Runs.{Masks, mask_at, replayed}
 use Rattle.lockstep_replay.specs.Crossing.{crossing}
 use Rattle.shadow_masks.specs.Pages.{label_of}
 use Rattle.run_labels.specs.TurnLabels.{TurnLabels, label_at, put_label}
-use Rattle.run_labels.specs.Flowing.{source_events, labels_in, events_in}
-use Rattle.run_labels.specs.Looking.{secret_look}
-use Rattle.run_labels.specs.Answers.{EachAnswer}
+use Rattle.run_labels.specs.Flowing.{source_events}
+use Rattle.run_labels.specs.Traces.{traced, labels_in, events_in, secret_look, EachAnswer}
 use Rattle.acceptance_law.specs.Sides.{NamedSide, is_split}
 use Rattle.acceptance_law.specs.ClosedEvents.{AreClosedEvents}
 use Rattle.acceptance_law.specs.Covers.{IsMaskWithin, IsContained, AreContained}
@@ -242,7 +241,7 @@ module _ (side : NamedSide) (skip : List ℕ) (masks : Masks) (setting : Setting
       KeptTurn side skip masks setting other labels answers
       (walked setting secret (given region os (Ends control)) real held)
       (walked setting other (given region os (Ends control)) copy taken) copy past all
-  unfolding given walked replayed crossing passed real_end labels_in events_in secret_look EachAnswer AreContained
+  unfolding given walked replayed crossing passed real_end traced AreContained
   given_kept [] control labels answers real held copy taken past all are waiting counts covered = record {
     store = copy;
     uses = refl;

@@ -16,9 +16,8 @@ use Rattle.region_machine.specs.Breaking.{Breaks}
 use Rattle.region_machine.specs.Runs.{Place, fresh, passed, visited, unbroken_turn, turn_unless, Real}
 use Rattle.replay_machine.specs.Runs.{Masks}
 use Rattle.lockstep_replay.specs.Crossing.{crossing_unless, crossing_unbroken, cross_after}
-use Rattle.run_labels.specs.Answers.{IsSoundAnswer, EachAnswer}
-use Rattle.run_labels.specs.Flowing.{labels_in, events_in}
-use Rattle.run_labels.specs.Looking.{secret_look}
+use Rattle.run_labels.specs.Answers.{IsSoundAnswer}
+use Rattle.run_labels.specs.Traces.{EachAnswer, labels_in, events_in, secret_look}
 use Rattle.run_labels.specs.Runs.{LabelledRun, unlabelled, enclosing, run_after, broken_fault, stopped_fault}
 use Rattle.run_labels.specs.Runs.{entered_number, EachRunAnswer, IsUnrefused}
 use Rattle.run_labels.specs.TurnLabels.{at_start}

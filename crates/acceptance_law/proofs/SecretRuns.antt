@@ -17,8 +17,7 @@ use Rattle.region_machine.specs.Runs.{Place, real_turn, turn_unless}
 use Rattle.region_machine.specs.Starts.{guest}
 use Rattle.run_labels.specs.declared.faults.MeasureFault.{MeasureFault}
 use Rattle.run_labels.specs.TurnLabels.{TurnLabels, at_start}
-use Rattle.run_labels.specs.Flowing.{events_in}
-use Rattle.run_labels.specs.Looking.{secret_look}
+use Rattle.run_labels.specs.Traces.{events_in, secret_look}
 use Rattle.run_labels.specs.Runs.{IsUnrefused, LabelledRun, broken_fault, enclosing, entered_number, next_run}
 use Rattle.run_labels.specs.Runs.{next_walk, run_after, stopped_fault, turn_events, turn_fault, unlabelled}
 use Rattle.acceptance_law.specs.SecretBits.{SecretBitsLaw, is_from_secret, secret_bits, secret_bits_of}

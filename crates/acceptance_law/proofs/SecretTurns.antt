@@ -27,7 +27,8 @@ use Rattle.rv32im_machine.specs.Folds.{real_end}
 use Rattle.shadow_masks.specs.declared.labels.Label.{Label}
 use Rattle.run_labels.specs.TurnLabels.{TurnLabels, label_at, put_label, restore_labels, save_labels}
 use Rattle.run_labels.specs.Masks.{answers_after, labels_after, mask_of, moved_label}
-use Rattle.run_labels.specs.Flowing.{aim_events, byte_events, events_in, flow_events, link_from, passing_events}
+use Rattle.run_labels.specs.Flowing.{aim_events, byte_events, flow_events, link_from, passing_events}
+use Rattle.run_labels.specs.Traces.{traced, events_in}
 use Rattle.run_labels.specs.Flowing.{source_events, sources_events}
 use Rattle.acceptance_law.specs.SecretBits.{is_from_secret, is_secret_slot, secret_bits, secret_bits_of}
 use Rattle.acceptance_law.proofs.RowCounts.{Counts, Limits, NoSecret, NoSecrets, Takes}
@@ -169,7 +170,7 @@ module _ (Known : Type 0) (limits : Limits) (setting : Setting) (secret : List �
       (answers : List ℕ) → Counts Known limits count used turn →
       Counted limits.secret setting count (events_in labels answers (walked setting secret turn store held))
       (real_end (walked setting secret turn store held))
-  unfolding Counts walked events_in real_end
+  unfolding Counts walked traced real_end
   turn_counted (Looks seen go) count used store held labels answers r =
       turn_counted (go (seen_value setting.base store seen)) count used store held labels answers
       (r (seen_value setting.base store seen))

@@ -23,7 +23,7 @@ use Rattle.replay_machine.specs.Runs.{Masks, replayed, replay_inside}
 use Rattle.lockstep_replay.specs.Crossing.{crossing}
 use Rattle.shadow_masks.specs.Writes.{LabelMap, after, Save}
 use Rattle.run_labels.specs.TurnLabels.{label_at, at_start}
-use Rattle.run_labels.specs.Flowing.{labels_in}
+use Rattle.run_labels.specs.Traces.{labels_in, EachAnswer}
 use Rattle.acceptance_law.specs.Sides.{NamedSide}
 use Rattle.acceptance_law.specs.Proper.{AreBytes, IsProperGuest, place_limit}
 use Rattle.acceptance_law.specs.ProperLaws.{ProperTurnsLaw}
@@ -37,7 +37,7 @@ use Rattle.rv32im_machine.specs.State.{moved_to}
 use Rattle.region_machine.specs.Breaking.{walk_break}
 use Rattle.region_machine.specs.Enclosures.{kind_in, kind_within}
 use Rattle.region_machine.specs.Runs.{has_exited}
-use Rattle.run_labels.specs.Answers.{IsSoundAnswer, EachAnswer}
+use Rattle.run_labels.specs.Answers.{IsSoundAnswer}
 use Rattle.acceptance_law.proofs.RegionTurns.{left_stands, ranges_unbroken}
 use Rattle.acceptance_law.proofs.StepsKeepStanding.{proper_turn}
 use Rattle.acceptance_law.proofs.SkipsKeepRelation.{SkippedTo, skip_kept}

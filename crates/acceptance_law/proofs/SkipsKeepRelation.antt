@@ -18,7 +18,7 @@ use Rattle.shadow_masks.specs.declared.labels.Label.{Label}
 use Rattle.shadow_masks.specs.Labels.{clean}
 use Rattle.shadow_masks.specs.Writes.{LabelMap}
 use Rattle.run_labels.specs.TurnLabels.{TurnLabels, label_at, at_start, restore_labels}
-use Rattle.run_labels.specs.Flowing.{labels_in}
+use Rattle.run_labels.specs.Traces.{traced, labels_in}
 use Rattle.acceptance_law.specs.Sides.{NamedSide}
 use Rattle.acceptance_law.specs.Proper.{IsProperPlace, place_limit}
 use Rattle.acceptance_law.proofs.WritesKeepRelation.{Close, close_refl, Beside}
@@ -181,7 +181,7 @@ left_kept : (side : NamedSide) (cut_skip : List ℕ) (masks : Masks) (setting : 
     (Restored keep (walked setting secret turn real none_held)
     (walked setting secret turn (restored keep real) none_held))
     copied copy past all
-unfolding crossing passed real_end labels_in
+unfolding crossing passed real_end traced
 left_kept side cut_skip masks setting secret other labels answers keep turn real copied copy past all kept = record {
   store = kept.store;
   uses = kept.uses;

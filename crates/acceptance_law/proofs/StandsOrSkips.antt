@@ -13,7 +13,7 @@ use Rattle.region_machine.specs.Runs.{Place, passed, visited, common_turns}
 use Rattle.replay_machine.specs.Runs.{ReplayPlace, replay_fresh, Masks, Replay, replay_turn}
 use Rattle.lockstep_replay.specs.Crossing.{crossing, crossing_unless, cross_after}
 use Rattle.lockstep_replay.proofs.RunsGrow.{common_enclosed, common_exposed}
-use Rattle.run_labels.specs.Flowing.{labels_in}
+use Rattle.run_labels.specs.Traces.{labels_in}
 use Rattle.run_labels.specs.Runs.{LabelledRun}
 use Rattle.run_labels.specs.TurnLabels.{at_start}
 use Rattle.acceptance_law.specs.Sides.{NamedSide}

@@ -22,7 +22,7 @@ use Rattle.replay_machine.specs.Runs.{ReplayPlace, Masks, replayed, replay_turn,
 use Rattle.lockstep_replay.specs.Crossing.{crossing}
 use Rattle.shadow_masks.specs.Writes.{LabelMap}
 use Rattle.run_labels.specs.TurnLabels.{at_start}
-use Rattle.run_labels.specs.Flowing.{labels_in}
+use Rattle.run_labels.specs.Traces.{labels_in}
 use Rattle.acceptance_law.specs.Sides.{NamedSide}
 use Rattle.acceptance_law.specs.Proper.{AreBytes, IsProperGuest, IsProper}
 use Rattle.acceptance_law.specs.ProperLaws.{ProperTurnsLaw}

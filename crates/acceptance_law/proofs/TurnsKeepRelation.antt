@@ -29,9 +29,9 @@ use Rattle.shadow_masks.specs.Labels.{clean}
 use Rattle.shadow_masks.specs.Pages.{label_of}
 use Rattle.run_labels.specs.TurnLabels.{TurnLabels, label_at, put_label, at_start}
 use Rattle.run_labels.specs.Masks.{masks_of, work_mask, labels_after, answers_after, moved_label}
-use Rattle.run_labels.specs.Flowing.{sources_events, aim_events, labels_in, events_in}
-use Rattle.run_labels.specs.Looking.{secret_look}
-use Rattle.run_labels.specs.Answers.{IsSoundAnswer, HoldsOfAnswer, EachAnswer}
+use Rattle.run_labels.specs.Flowing.{sources_events, aim_events}
+use Rattle.run_labels.specs.Traces.{traced, labels_in, events_in, secret_look, EachAnswer}
+use Rattle.run_labels.specs.Answers.{IsSoundAnswer, HoldsOfAnswer}
 use Rattle.acceptance_law.specs.Sides.{NamedSide, is_split}
 use Rattle.acceptance_law.specs.ClosedEvents.{AreClosedEvents, Stays, ends_in}
 use Rattle.acceptance_law.specs.Covers.{IsMaskWithin, IsContained, AreContained}
@@ -242,7 +242,7 @@ module _ (side : NamedSide) (skip : List ℕ) (masks : Masks) (setting : Setting
       Beside side setting.base labels real held copy taken → SameCounts skip past all →
       Covered labels answers all (walked setting secret turn real held) →
       Kept turn labels answers real held copy taken past all
-  unfolding walked replayed crossing passed real_end labels_in events_in secret_look EachAnswer AreContained IsProper
+  unfolding walked replayed crossing passed real_end traced AreContained IsProper
   turn_kept (Looks seen go) labels answers real held copy taken past all proper beside counts covered =
       let parts = first_none _ _ covered.looks in
       let e : seen_value setting.base real seen ≡ seen_value setting.base copy seen =

@@ -29,10 +29,10 @@ use Rattle.region_machine.specs.Breaking.{place_break, walk_break}
 use Rattle.shadow_masks.specs.declared.labels.Label.{Label}
 use Rattle.shadow_masks.specs.Writes.{LabelMap}
 use Rattle.run_labels.specs.TurnLabels.{TurnLabels, label_at, put_label, at_start}
-use Rattle.run_labels.specs.Answers.{IsSoundAnswer, EachAnswer}
+use Rattle.run_labels.specs.Answers.{IsSoundAnswer}
+use Rattle.run_labels.specs.Traces.{traced, EachAnswer, labels_in}
 use Rattle.run_labels.specs.Masks.{masks_of, work_mask, answers_after, moved_label}
 use Rattle.shadow_masks.specs.Pages.{label_of}
-use Rattle.run_labels.specs.Flowing.{labels_in}
 use Rattle.acceptance_law.specs.Proper.{AreBytes, IsProperPlace, place_limit, IsProper, IsMove}
 use Rattle.acceptance_law.proofs.WritesKeepRelation.{put_limits, put_label_limits, put_registers, put_memory, put_kept}
 use Rattle.acceptance_law.proofs.WritesKeepRelation.{put_label_kept, not_alike, apart_of}
@@ -252,7 +252,7 @@ module _ (setting : Setting) (secret : List ℕ) (bytes : AreBytes secret) (numb
       ((place : Place) → (label_at labels place).mask ≤ place_limit place) →
       EachAnswer IsSoundAnswer labels answers (walked setting secret turn store held) →
       RealEnds setting secret number labels answers store held (walked setting secret turn store held)
-  unfolding walked real_end IsProper labels_in walk_break EachAnswer passed
+  unfolding walked real_end IsProper traced walk_break passed
   real_ends (Looks seen go) labels answers store held proper limits tags sound =
       let rest = real_ends (go (seen_value setting.base store seen)) labels answers store held
       (proper.1 _ (seen_word setting.base store held limits seen)) limits tags sound in record {

@@ -29,8 +29,7 @@ use Rattle.region_machine.specs.Guests.{entry, kind_walk, leave}
 use Rattle.region_machine.specs.Runs.{real_turn}
 use Rattle.region_machine.specs.Starts.{guest, output_limit}
 use Rattle.run_labels.specs.TurnLabels.{TurnLabels, at_start}
-use Rattle.run_labels.specs.Flowing.{events_in}
-use Rattle.run_labels.specs.Looking.{secret_look}
+use Rattle.run_labels.specs.Traces.{events_in, secret_look}
 use Rattle.run_labels.specs.Runs.{IsUnrefused, LabelledRun, enclosing, entered_number, next_run, next_walk, run_after}
 use Rattle.run_labels.specs.Runs.{stopped_fault, turn_events, turn_fault, unlabelled}
 use Rattle.region_machine.specs.Breaking.{Breaks}

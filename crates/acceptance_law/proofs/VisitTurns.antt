@@ -30,7 +30,8 @@ use Rattle.rv32im_machine.specs.Folds.{real_end}
 use Rattle.shadow_masks.specs.declared.labels.Label.{Label}
 use Rattle.run_labels.specs.TurnLabels.{TurnLabels, label_at, put_label, restore_labels, save_labels}
 use Rattle.run_labels.specs.Masks.{answers_after, labels_after, mask_of, moved_label}
-use Rattle.run_labels.specs.Flowing.{aim_events, byte_events, events_in, flow_events, link_from, passing_events}
+use Rattle.run_labels.specs.Flowing.{aim_events, byte_events, flow_events, link_from, passing_events}
+use Rattle.run_labels.specs.Traces.{traced, events_in}
 use Rattle.run_labels.specs.Flowing.{source_events, sources_events}
 use Rattle.acceptance_law.specs.SecretBits.{is_secret_slot}
 use Rattle.acceptance_law.specs.VisitLaws.{is_at_slot}
@@ -220,7 +221,7 @@ module _ (Known : Type 0) (limits : Limits) (setting : Setting) (secret : List �
       (answers : List ℕ) → Counts Known limits count used turn →
       Tallied Known limits setting used (events_in labels answers (walked setting secret turn store held))
       (real_end (walked setting secret turn store held))
-  unfolding Counts walked events_in real_end
+  unfolding Counts walked traced real_end
   turn_tallied (Looks seen go) count used store held labels answers f =
       turn_tallied (go (seen_value setting.base store seen)) count used store held labels answers
       (f (seen_value setting.base store seen))

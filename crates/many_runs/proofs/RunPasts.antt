@@ -15,7 +15,7 @@ use Rattle.region_machine.specs.Enclosures.{Enclosures, is_enclosed}
 use Rattle.region_machine.specs.Guests.{guest_walk}
 use Rattle.region_machine.specs.Runs.{Place, passed, Real, real_turn, turn_unless, unbroken_turn, visited}
 use Rattle.replay_machine.specs.Runs.{times_passed}
-use Rattle.run_labels.specs.Flowing.{events_in}
+use Rattle.run_labels.specs.Traces.{events_in}
 use Rattle.run_labels.specs.Runs.{IsUnrefused, broken_fault, enclosing, next_walk, run_after, turn_events, unlabelled}
 use Rattle.run_labels.specs.TurnLabels.{TurnLabels, at_start}
 use Rattle.rv32im_machine.specs.Folds.{real_end}

@@ -17,9 +17,10 @@ use Rattle.rv32im_machine.specs.Language.{Walk, Looked, Passed, Moved, Saved, Re
 use Rattle.shadow_masks.specs.Pages.{label_of}
 use Rattle.shadow_masks.specs.Writes.{LabelMap}
 use Rattle.transfer_rules.specs.declared.operands.Operands.{Operands}
-use Rattle.run_labels.specs.Answers.{EachAnswer, HoldsOfAnswer, IsTableAnswer, operands_of}
-use Rattle.run_labels.specs.Flowing.{labels_in, events_in, flow_events}
-use Rattle.run_labels.specs.Looking.{look_fault, secret_look}
+use Rattle.run_labels.specs.Answers.{HoldsOfAnswer, IsTableAnswer, operands_of}
+use Rattle.run_labels.specs.Traces.{traced, EachAnswer, labels_in, events_in, secret_look}
+use Rattle.run_labels.specs.Flowing.{flow_events}
+use Rattle.run_labels.specs.Looking.{look_fault}
 use Rattle.run_labels.specs.Masks.{aimed_mask, answered_mask, answers_after, mask_of, masks_of, moved_label}
 use Rattle.run_labels.specs.Masks.{work_mask}
 use Rattle.run_labels.specs.Runs.{LabelledRun, EachRunAnswer, broken_fault, enclosing, entered_number, next_run}
@@ -85,7 +86,7 @@ same_passed labels first second later other passing walk m n same go = (
 same_turn : (table : ℕ) → IsDeciding table → (labels : TurnLabels) (first second : List ℕ) (walk : Walk) →
     EachAnswer (IsTableAnswer table) labels first walk → EachAnswer (IsTableAnswer table) labels second walk →
     Same labels first second walk
-unfolding labels_in events_in secret_look EachAnswer
+unfolding traced
 same_turn table deciding labels first second (Looked seen value walk) by also =
     let go : Same labels first second walk = same_turn table deciding labels first second walk by also in
     record {

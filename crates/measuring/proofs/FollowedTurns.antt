@@ -16,7 +16,8 @@ use Rattle.rv32im_machine.specs.declared.language.Seen.TheVariants.{Word, Base}
 use Rattle.rv32im_machine.specs.Language.{Walk, Looked, Passed, Moved, Saved, Restored, Ended, first_of}
 use Rattle.rv32im_machine.specs.State.{State}
 use Rattle.shadow_masks.specs.Shades.{Shades}
-use Rattle.run_labels.specs.Looking.{look_fault, secret_look}
+use Rattle.run_labels.specs.Looking.{look_fault}
+use Rattle.run_labels.specs.Traces.{traced, secret_look}
 use Rattle.run_labels.specs.Masks.{byte_mask, answers_after, labels_after, moved_label}
 use Rattle.run_labels.specs.TurnLabels.{TurnLabels, at_start, put_label, save_labels, restore_labels}
 use Rattle.run_labels.specs.Runs.{LabelledRun, entered_number, next_walk, run_after, turn_fault, broken_fault}
@@ -149,7 +150,7 @@ look_of_turn region labels (Base register) = either ((labels.map.registers regis
 
 looks_of_turn : (region : ℕ) (labels : TurnLabels) (answers : List ℕ) (walk : Walk) →
     is_of_turn (secret_look region labels answers walk) ≡ true
-unfolding secret_look
+unfolding traced
 looks_of_turn region labels answers (Looked seen value walk) =
     first_of_turn (look_fault region labels seen) (secret_look region labels answers walk)
     (look_of_turn region labels seen) (looks_of_turn region labels answers walk)

@@ -13,7 +13,8 @@ use Rattle.rv32im_machine.specs.Folds.{real_end}
 use Rattle.rv32im_machine.specs.Language.{none_held, walked}
 use Rattle.rv32im_machine.specs.Rows.{turn_in}
 use Rattle.rv32im_machine.specs.State.{Control, Setting, State, Store}
-use Rattle.run_labels.specs.Answers.{EachAnswer, IsTableAnswer}
+use Rattle.run_labels.specs.Answers.{IsTableAnswer}
+use Rattle.run_labels.specs.Traces.{EachAnswer}
 use Rattle.run_labels.specs.Runs.{LabelledRun, EachRunAnswer, IsUnrefused, enclosing, next_walk, run_after}
 use Rattle.run_labels.specs.Runs.{turn_fault}
 use Rattle.run_labels.specs.TurnLabels.{at_start}

@@ -4,7 +4,8 @@ use Rattle.std.specs.Prelude.{◌⊎◌}
 use Rattle.std.proofs.lemmas.Bool.{cases_lt}
 use Rattle.enclosure_regions.specs.declared.region_parts.Region.{Region}
 use Rattle.flow_base.specs.declared.outputs.Output.{Output}
-use Rattle.run_labels.specs.Answers.{EachAnswer, IsTableAnswer}
+use Rattle.run_labels.specs.Answers.{IsTableAnswer}
+use Rattle.run_labels.specs.Traces.{EachAnswer}
 use Rattle.run_labels.specs.Runs.{LabelledRun, next_walk, run_after, turn_fault}
 use Rattle.run_labels.specs.TurnLabels.{at_start}
 use Rattle.run_labels.specs.declared.faults.MeasureFault.{MeasureFault}

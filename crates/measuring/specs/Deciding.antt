@@ -2,7 +2,8 @@
 -- reason to be refused. Of the answers of other books nothing but their soundness is known.
 use Rattle.std.specs.Prelude.{◌≡◌, ℕ, List, length}
 use Rattle.enclosure_regions.specs.declared.region_parts.Region.{Region}
-use Rattle.run_labels.specs.Answers.{EachAnswer, IsTableAnswer}
+use Rattle.run_labels.specs.Answers.{IsTableAnswer}
+use Rattle.run_labels.specs.Traces.{EachAnswer}
 use Rattle.run_labels.specs.Runs.{LabelledRun, EachRunAnswer, next_walk, run_after, turn_fault}
 use Rattle.run_labels.specs.TurnLabels.{at_start}
 use Rattle.run_labels.specs.declared.faults.MeasureFault.{MeasureFault}

@@ -4,13 +4,11 @@ use Rattle.rv32im_machine.specs.declared.language.Operation.{Operation}
 use Rattle.rv32im_machine.specs.declared.language.Operation.TheVariants.{Result, Decision, Target}
 use Rattle.rv32im_machine.specs.declared.language.Work.{Work}
 use Rattle.rv32im_machine.specs.declared.language.Work.TheVariants.{Shaped, Computed}
-use Rattle.rv32im_machine.specs.Language.{Walk, Looked, Passed, Moved, Saved, Restored, Ended, first_of, second_of}
+use Rattle.rv32im_machine.specs.Language.{first_of, second_of}
 use Rattle.transfer_rules.specs.declared.operands.Operands.{Operands}
 use Rattle.transfer_rules.specs.Classes.{branch_class, operation_class}
 use Rattle.transfer_rules.specs.Soundness.{IsSound, IsSoundTarget}
 use Rattle.transfer_rules.specs.Tables.{IsByTable, Table, mask_of_target}
-use Rattle.run_labels.specs.TurnLabels.{TurnLabels, put_label, save_labels, restore_labels}
-use Rattle.run_labels.specs.Masks.{masks_of, answers_after, labels_after, moved_label}
 
 -- whatever the operands may be instead, the operation gives a result that agrees outside the mask
 abbrev pub KeepsAgreement : Operation → Operands → ℕ → Type 0
@@ -39,17 +37,3 @@ operands_of first second masks = record { v1 = first; m1 = first_of masks; v2 = 
 abbrev pub HoldsOfAnswer : (Operation → Operands → ℕ → Type 0) → Work → List ℕ → ℕ → Type 0
 HoldsOfAnswer Fact (Shaped shape) masks answer = Unit {0}
 HoldsOfAnswer Fact (Computed operation first second) masks answer = Fact operation (operands_of first second masks) answer
-
--- the fact holds of each answer that a turn takes
-unfoldable pub EachAnswer : (Operation → Operands → ℕ → Type 0) → TurnLabels → List ℕ → Walk → Type 0
-EachAnswer Fact labels answers (Looked seen value walk) = EachAnswer Fact labels answers walk
-EachAnswer Fact labels answers (Passed passing go) =
-    HoldsOfAnswer Fact passing.work (masks_of labels passing.sources) (first_of answers)
-    × EachAnswer Fact (labels_after labels (first_of answers) passing) (answers_after passing.work answers)
-    (go passing.value)
-EachAnswer Fact labels answers (Moved place shape source value walk) =
-    EachAnswer Fact (put_label place (moved_label labels shape source) labels) answers walk
-EachAnswer Fact labels answers (Saved walk) = EachAnswer Fact (save_labels labels) answers walk
-EachAnswer Fact labels answers (Restored registers walk replayed) =
-    EachAnswer Fact (restore_labels registers labels) answers walk
-EachAnswer Fact labels answers (Ended state) = Unit {0}

@@ -1,4 +1,4 @@
--- The labels after a turn, and the events that it adds.
+-- The events that a passing adds.
 use Rattle.std.specs.Prelude.{ℕ, ◌+◌, ◌==◌, List, [], ◌∷◌, ◌++◌, if◌then◌else◌}
 use Rattle.flow_base.specs.declared.points.Point.{Point}
 use Rattle.flow_graph.specs.declared.events.Event.{Event}
@@ -10,11 +10,9 @@ use Rattle.rv32im_machine.specs.declared.language.Source.{Source}
 use Rattle.rv32im_machine.specs.declared.language.Source.TheVariants.{At, Constant, Secret}
 use Rattle.rv32im_machine.specs.declared.language.Sources.{Sources}
 use Rattle.rv32im_machine.specs.declared.language.Sources.TheVariants.{One, Two, Byte as BytesOne, Half as BytesTwo, Word as BytesFour}
-use Rattle.rv32im_machine.specs.Language.{Walk, Looked, Passed, Moved, Saved, Restored, Ended, first_of}
 use Rattle.shadow_masks.specs.declared.labels.Label.{Label}
-use Rattle.shadow_masks.specs.Writes.{LabelMap}
-use Rattle.run_labels.specs.TurnLabels.{TurnLabels, label_at, put_label, save_labels, restore_labels}
-use Rattle.run_labels.specs.Masks.{mask_of, answers_after, labels_after, moved_label}
+use Rattle.run_labels.specs.TurnLabels.{TurnLabels, label_at}
+use Rattle.run_labels.specs.Masks.{mask_of}
 
 -- ---- the events of a passing
 
@@ -58,29 +56,3 @@ abbrev pub passing_events : TurnLabels → ℕ → Passing → List Event
 passing_events labels answer passing =
     Pass passing.point (mask_of labels answer passing)
     ∷ (if mask_of labels answer passing == 0 then [] else flow_events labels passing)
-
--- ---- a turn in which every value goes on as it is
-
--- the labels after it
-unfoldable pub labels_in : TurnLabels → List ℕ → Walk → LabelMap
-labels_in labels answers (Looked seen value walk) = labels_in labels answers walk
-labels_in labels answers (Passed passing go) =
-    labels_in (labels_after labels (first_of answers) passing) (answers_after passing.work answers) (go passing.value)
-labels_in labels answers (Moved place shape source value walk) =
-    labels_in (put_label place (moved_label labels shape source) labels) answers walk
-labels_in labels answers (Saved walk) = labels_in (save_labels labels) answers walk
-labels_in labels answers (Restored registers walk replayed) = labels_in (restore_labels registers labels) answers walk
-labels_in labels answers (Ended state) = labels.map
-
--- the events that it adds
-unfoldable pub events_in : TurnLabels → List ℕ → Walk → List Event
-events_in labels answers (Looked seen value walk) = events_in labels answers walk
-events_in labels answers (Passed passing go) =
-    passing_events labels (first_of answers) passing
-    ++ events_in (labels_after labels (first_of answers) passing) (answers_after passing.work answers)
-    (go passing.value)
-events_in labels answers (Moved place shape source value walk) =
-    events_in (put_label place (moved_label labels shape source) labels) answers walk
-events_in labels answers (Saved walk) = events_in (save_labels labels) answers walk
-events_in labels answers (Restored registers walk replayed) = events_in (restore_labels registers labels) answers walk
-events_in labels answers (Ended state) = []

@@ -3,6 +3,7 @@ pub mod Masks
 pub mod Flowing
 pub mod Looking
 pub mod Answers
+pub mod Traces
 pub mod Runs
 pub mod Laws
 pub mod FaultTexts

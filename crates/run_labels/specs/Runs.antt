@@ -16,9 +16,7 @@ use Rattle.transfer_rules.specs.declared.operands.Operands.{Operands}
 use Rattle.rv32im_machine.specs.declared.language.Operation.{Operation}
 use Rattle.run_labels.specs.declared.faults.MeasureFault.{MeasureFault}
 use Rattle.run_labels.specs.declared.faults.MeasureFault.TheVariants.{Guest as GuestFault, Region as RegionFault}
-use Rattle.run_labels.specs.Answers.{EachAnswer}
-use Rattle.run_labels.specs.Flowing.{labels_in, events_in}
-use Rattle.run_labels.specs.Looking.{secret_look}
+use Rattle.run_labels.specs.Traces.{EachAnswer, labels_in, events_in, secret_look}
 use Rattle.run_labels.specs.TurnLabels.{at_start}
 use Rattle.std.specs.Option.{option_or}
 

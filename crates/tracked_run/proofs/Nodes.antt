@@ -17,9 +17,10 @@ use Rattle.rv32im_machine.specs.Language.{Walk, Looked, Passed, Moved, Saved, Re
 use Rattle.rv32im_machine.specs.Playing.{Played, Finished, Halted}
 use Rattle.shadow_masks.specs.Shades.{Shades}
 use Rattle.run_labels.specs.declared.faults.MeasureFault.{MeasureFault}
-use Rattle.run_labels.specs.Answers.{EachAnswer, HoldsOfAnswer, IsSoundAnswer, IsTableAnswer}
-use Rattle.run_labels.specs.Flowing.{labels_in, events_in, passing_events}
-use Rattle.run_labels.specs.Looking.{look_fault, secret_look}
+use Rattle.run_labels.specs.Answers.{HoldsOfAnswer, IsSoundAnswer, IsTableAnswer}
+use Rattle.run_labels.specs.Traces.{traced, EachAnswer, labels_in, events_in, secret_look}
+use Rattle.run_labels.specs.Flowing.{passing_events}
+use Rattle.run_labels.specs.Looking.{look_fault}
 use Rattle.run_labels.specs.Masks.{labels_after, masks_of, moved_label}
 use Rattle.run_labels.specs.TurnLabels.{TurnLabels, put_label, save_labels, restore_labels}
 use Rattle.tracked_run.specs.Linking.{Appends}
@@ -37,7 +38,7 @@ pub tracks_looked : {E : Type 0} (stands : E → List Event → Type 0) (table r
     (out : Played NoMemory (Left E)) → refused ≡ option_or before.refused (look_fault region labels seen) →
     Tracks stands table region labels (record before { refused = refused }) walk out →
     Tracks stands table region labels before (Looked seen value walk) out
-unfolding EachAnswer real_end labels_in secret_look events_in
+unfolding traced real_end
 tracks_looked stands table region labels before refused seen value walk (Finished state after) e h = record {
   answers = h.answers;
   sound = h.sound;
@@ -59,7 +60,7 @@ pub tracks_moved : {E : Type 0} (stands : E → List Event → Type 0) (table re
     new ≡ put_label place (moved_label old shape source) old →
     Tracks stands table region new (record before { shades = shades }) walk out →
     Tracks stands table region old before (Moved place shape source value walk) out
-unfolding EachAnswer real_end labels_in secret_look events_in
+unfolding traced real_end
 tracks_moved stands table region old new before shades place shape source value walk (Finished state after) base e k =
     let h = subst (λ l. Tracks stands table region l (record before { shades = shades }) walk (Finished state after)) e k in
     record {
@@ -81,7 +82,7 @@ pub tracks_saved : {E : Type 0} (stands : E → List Event → Type 0) (table re
     (out : Played NoMemory (Left E)) → shades.base ≡ before.shades.base → new ≡ save_labels old →
     Tracks stands table region new (record before { shades = shades }) walk out →
     Tracks stands table region old before (Saved walk) out
-unfolding EachAnswer real_end labels_in secret_look events_in
+unfolding traced real_end
 tracks_saved stands table region old new before shades walk (Finished state after) base e k =
     let h = subst (λ l. Tracks stands table region l (record before { shades = shades }) walk (Finished state after)) e k in
     record {
@@ -103,7 +104,7 @@ pub tracks_restored : {E : Type 0} (stands : E → List Event → Type 0) (table
     (out : Played NoMemory (Left E)) → shades.base ≡ before.shades.base → new ≡ restore_labels registers old →
     Tracks stands table region new (record before { shades = shades }) walk out →
     Tracks stands table region old before (Restored registers walk back) out
-unfolding EachAnswer real_end labels_in secret_look events_in
+unfolding traced real_end
 tracks_restored stands table region old new before shades registers walk back (Finished state after) base e k =
     let h = subst (λ l. Tracks stands table region l (record before { shades = shades }) walk (Finished state after)) e k in
     record {
@@ -134,7 +135,7 @@ passed_work : {E : Type 0} (stands : E → List Event → Type 0) (table region 
     (record before { shades = shades; events = events }) (go value) out →
     Tracks stands table region labels before
     (Passed (record { point = point; aim = aim; work = work; sources = sources; value = value }) go) out
-unfolding EachAnswer real_end labels_in secret_look events_in
+unfolding traced real_end
 passed_work stands table region labels before shades events answer point aim (Shaped shape) sources value go
     (Finished state after) base sound by_table added h = record {
       answers = h.answers;

@@ -19,7 +19,7 @@ use Rattle.region_machine.specs.Guests.{guest_walk}
 use Rattle.region_machine.specs.Within.{may_leave}
 use Rattle.region_machine.proofs.RangesStayInside.{guest_keeps}
 use Rattle.run_labels.specs.declared.faults.MeasureFault.{MeasureFault}
-use Rattle.run_labels.specs.Looking.{secret_look}
+use Rattle.run_labels.specs.Traces.{secret_look}
 use Rattle.run_labels.specs.Runs.{LabelledRun, enclosing, entered_number, broken_fault, stopped_fault, turn_fault}
 use Rattle.tracked_run.specs.Labels.{map_of, labels_of, clean_held}
 use Rattle.tracked_run.specs.Outcomes.{fault_of, spent_by, turn_answer}

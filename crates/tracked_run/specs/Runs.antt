@@ -9,7 +9,8 @@ use Rattle.rv32im_machine.specs.State.{State}
 use Rattle.shadow_masks.specs.Shades.{Shades}
 use Rattle.shadow_masks.specs.Writes.{ReadsAs}
 use Rattle.run_labels.specs.declared.faults.MeasureFault.{MeasureFault}
-use Rattle.run_labels.specs.Answers.{EachAnswer, IsSoundAnswer, IsTableAnswer}
+use Rattle.run_labels.specs.Answers.{IsSoundAnswer, IsTableAnswer}
+use Rattle.run_labels.specs.Traces.{EachAnswer}
 use Rattle.run_labels.specs.Runs.{LabelledRun, next_walk, next_run, turn_events, turn_fault}
 use Rattle.run_labels.specs.TurnLabels.{at_start}
 use Rattle.tracked_run.specs.declared.outcomes.TrackedTurn.{TrackedTurn}

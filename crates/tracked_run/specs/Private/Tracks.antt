@@ -10,9 +10,8 @@ use Rattle.rv32im_machine.specs.Playing.{Played, Finished, Halted}
 use Rattle.rv32im_machine.specs.State.{State}
 use Rattle.shadow_masks.specs.Shades.{Shades}
 use Rattle.run_labels.specs.declared.faults.MeasureFault.{MeasureFault}
-use Rattle.run_labels.specs.Answers.{EachAnswer, IsSoundAnswer, IsTableAnswer}
-use Rattle.run_labels.specs.Flowing.{labels_in, events_in}
-use Rattle.run_labels.specs.Looking.{secret_look}
+use Rattle.run_labels.specs.Answers.{IsSoundAnswer, IsTableAnswer}
+use Rattle.run_labels.specs.Traces.{traced, EachAnswer, labels_in, events_in, secret_look}
 use Rattle.run_labels.specs.TurnLabels.{TurnLabels}
 use Rattle.tracked_run.specs.Labels.{map_of}
 use Rattle.tracked_run.specs.Linking.{Appends}
@@ -57,7 +56,7 @@ none_more (Some fault) = refl
 pub tracks_Ended : {E : Type 0} (stands : E → List Event → Type 0) (table region : ℕ) (labels : TurnLabels)
     (before : Left E) (state : State) → map_of before.shades ≡ labels.map →
     Tracks stands table region labels before (Ended state) (Finished state before)
-unfolding EachAnswer real_end labels_in secret_look events_in
+unfolding traced real_end
 tracks_Ended stands table region labels before state e = record {
   answers = [];
   sound = tt;
