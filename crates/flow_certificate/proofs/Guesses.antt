@@ -9,14 +9,16 @@ use Rattle.std.proofs.lemmas.Bool.{and_parts, lt-ltb, ltb-true}
 use Rattle.flow_base.specs.HexWords.{hex_digit, hex_digits, hex_word}
 use Rattle.flow_base.specs.Points.{is_slot, slot_text}
 use Rattle.flow_base.specs.TextPieces.{after_text}
+use Rattle.flow_base.specs.TextWords.{is_digit, number_at, slot_at, word_at}
+use Rattle.flow_base.proofs.NumberTexts.{number_first}
+use Rattle.flow_base.proofs.SlotTexts.{slot_first}
 use Rattle.flow_base.proofs.WantedTexts.{after_found, after_own}
+use Rattle.flow_base.proofs.WordTexts.{word_first}
 use Rattle.flow_base.specs.declared.points.Slot.{Slot}
-use Rattle.flow_base.specs.declared.points.Slot.TheVariants.{First, Second, Address, Result, Decision, Number, Arg0}
-use Rattle.flow_base.specs.declared.points.Slot.TheVariants.{Arg1, Arg2, SecretIn, ByteOut, Status, OutReg, OutRange}
 use Rattle.flow_graph.specs.declared.ends.End.{End}
 use Rattle.flow_graph.specs.declared.ends.End.TheVariants as ends
-use Rattle.flow_certificate.specs.Private.Guessing.{below, digit_of, digits_at, end_at, grown, is_digit, number_at, slot_at}
-use Rattle.flow_certificate.specs.Private.Guessing.{guess, half_of, line_in, link_at, point_at, relay_at, with_line, word_at}
+use Rattle.flow_certificate.specs.Private.Guessing.{below, end_at, guess, half_of, line_in, link_at, point_at, relay_at}
+use Rattle.flow_certificate.specs.Private.Guessing.{with_line}
 use Rattle.flow_certificate.specs.Keeping.{is_number, is_certificate_point, is_region_or_outside}
 use Rattle.flow_certificate.specs.Lines.{half_text, inside_text, is_end, is_line, line_text, link_text, point_text}
 use Rattle.flow_certificate.specs.Lines.{relay_text}
@@ -29,137 +31,21 @@ use Rattle.max_flow.specs.declared.answers.Half.{Half}
 use Rattle.max_flow.specs.declared.answers.Half.TheVariants.{Both, FirstOnly, SecondOnly, Neither}
 use Rattle.flow_certificate.specs.VerdictTexts.{end_text}
 
--- ---- numbers
+-- ---- parts of a line
 
-digit_step : (number digit : ℕ) (rest : List ℕ) → digit < 10 → number < 2 ^ 48 →
-    digits_at number ((48 + digit) ∷ rest) ≡ digits_at (number * 10 + digit) rest
-unfolding grown
-digit_step number digit rest small fits = grind arith
-
-abbrev ReadsBack : ℕ → List ℕ → Type 0
-ReadsBack number digits = (rest : List ℕ) → number < 2 ^ 48 → digits_at 0 (digits ++ rest) ≡ digits_at number rest
-
-one_digit : (number : ℕ) → number < 10 → ReadsBack number ((48 + number) ∷ [])
-one_digit number small rest fits =
-    digit_step 0 number rest small (omega arith)
-    ∙ ap (λ (n : ℕ). digits_at n rest) (let e : 0 * 10 + number ≡ number = omega arith in e)
-
-more_digits : (number : ℕ) (digits : List ℕ) → 10 ≤ number → ReadsBack (number / 10) digits →
-    ReadsBack number (digits ++ ((48 + number % 10) ∷ []))
-more_digits number digits large ih rest fits =
-    let e : number / 10 * 10 + number % 10 ≡ number = omega arith in
-    rw append_assoc (ih ((48 + number % 10) ∷ rest) (omega arith)
-    ∙ digit_step (number / 10) (number % 10) rest (omega arith) (omega arith) ∙ ap (λ (n : ℕ). digits_at n rest) e)
-
-stops : (number byte : ℕ) (rest : List ℕ) → is_digit byte ≡ false → digits_at number (byte ∷ rest) ≡ (number, byte ∷ rest)
-stops number byte rest other = rw other refl
-
-pub number_own : (number byte : ℕ) (rest : List ℕ) → number < 2 ^ 48 → is_digit byte ≡ false →
+number_own : (number byte : ℕ) (rest : List ℕ) → number < 2 ^ 48 → is_digit byte ≡ false →
     number_at (decimal number ++ (byte ∷ rest)) ≡ (number, byte ∷ rest)
-unfolding number_at
-number_own number byte rest small other =
-    decimal_by_steps ReadsBack one_digit more_digits number (omega arith) (byte ∷ rest) small
-    ∙ stops number byte rest other
+number_own number byte rest small other = number_first number (byte ∷ rest) small other
+
+word_own : (word : ℕ) (rest : List ℕ) → nat_lt word (2 ^ 32) ≡ true → word_at (hex_digits word ++ rest) ≡ word
+word_own word rest known = word_first word rest (ltb-true word (2 ^ 32) known)
+
+slot_own : (slot : Slot) (byte : ℕ) (rest : List ℕ) → is_slot slot ≡ true → is_digit byte ≡ false →
+    slot_at (slot_text slot ++ (byte ∷ rest)) ≡ (slot, byte ∷ rest)
+slot_own slot byte rest known other = slot_first slot (byte ∷ rest) known other
 
 pub below_own : (limit number : ℕ) → nat_lt number limit ≡ true → below limit number ≡ number
 below_own limit number small = rw small refl
-
--- ---- words
-
-digit_own : (digit : ℕ) → digit < 16 → digit_of (hex_digit digit) ≡ digit
-digit_own digit small = grind arith
-
-linear : (a b c d e f g h i j k l m n o p : ℕ) → a ≡ 16 * b + i → b ≡ 16 * c + j → c ≡ 16 * d + k → d ≡ 16 * e + l →
-    e ≡ 16 * f + m → f ≡ 16 * g + n → g ≡ 16 * h + o → p ≡ h →
-    p * 268435456 + o * 16777216 + n * 1048576 + m * 65536 + l * 4096 + k * 256 + j * 16 + i ≡ a
-linear a b c d e f g h i j k l m n o p q r s t u v w x = omega arith
-
-digits_sum : (word : ℕ) → word < 4294967296 →
-    word / 268435456 % 16 * 268435456 + word / 16777216 % 16 * 16777216 + word / 1048576 % 16 * 1048576
-    + word / 65536 % 16 * 65536 + word / 4096 % 16 * 4096 + word / 256 % 16 * 256 + word / 16 % 16 * 16 + word % 16 ≡
-    word
-digits_sum word small =
-    let a : word ≡ 16 * (word / 16) + word % 16 = omega arith in
-    let b : word / 16 ≡ 16 * (word / 256) + word / 16 % 16 = omega arith in
-    let c : word / 256 ≡ 16 * (word / 4096) + word / 256 % 16 = omega arith in
-    let d : word / 4096 ≡ 16 * (word / 65536) + word / 4096 % 16 = omega arith in
-    let e : word / 65536 ≡ 16 * (word / 1048576) + word / 65536 % 16 = omega arith in
-    let f : word / 1048576 ≡ 16 * (word / 16777216) + word / 1048576 % 16 = omega arith in
-    let g : word / 16777216 ≡ 16 * (word / 268435456) + word / 16777216 % 16 = omega arith in
-    let h : word / 268435456 % 16 ≡ word / 268435456 = omega arith in
-    linear word (word / 16) (word / 256) (word / 4096) (word / 65536) (word / 1048576) (word / 16777216)
-    (word / 268435456)
-    (word % 16) (word / 16 % 16) (word / 256 % 16) (word / 4096 % 16) (word / 65536 % 16) (word / 1048576 % 16)
-    (word / 16777216 % 16) (word / 268435456 % 16) a b c d e f g h
-
-pub word_own : (word : ℕ) (rest : List ℕ) → nat_lt word (2 ^ 32) ≡ true → word_at (hex_digits word ++ rest) ≡ word
-unfolding word_at
-word_own word rest known =
-    let small : word < 4294967296 = ltb-true word (2 ^ 32) known in
-    let low : (quotient : ℕ) → quotient % 16 < 16 = λ quotient. omega arith in
-    rw (
-      digit_own _ (low (word / 268435456)),
-      digit_own _ (low (word / 16777216)),
-      digit_own _ (low (word / 1048576)),
-      digit_own _ (low (word / 65536)),
-      digit_own _ (low (word / 4096)),
-      digit_own _ (low (word / 256)),
-      digit_own _ (low (word / 16)),
-      digit_own _ (low word),
-    )
-    (digits_sum word small)
-
--- ---- slots and ends
-
--- a number begins with a digit
-record Begins (number : ℕ) (digits : List ℕ) : Type 0 where
-  some : 0 < length digits
-  digit : is_digit (get_or digits 0 0) ≡ true
-
-one_begins : (number : ℕ) → number < 10 → Begins number ((48 + number) ∷ [])
-one_begins number small = record { some = omega arith; digit = grind arith }
-
-more_begin : (number : ℕ) (digits : List ℕ) → 10 ≤ number → Begins (number / 10) digits →
-    Begins number (digits ++ ((48 + number % 10) ∷ []))
-more_begin number [] large ih = absurd (let some = ih.some in omega (arith, some))
-more_begin number (digit ∷ digits) large ih = record { some = omega arith; digit = ih.digit }
-
-begins_before : (digits rest : List ℕ) → 0 < length digits → is_digit (get_or digits 0 0) ≡ true →
-    is_digit (get_or (digits ++ rest) 0 0) ≡ true
-begins_before [] rest some begins = absurd (omega arith)
-begins_before (digit ∷ digits) rest some begins = begins
-
-decimal_begins : (number : ℕ) (rest : List ℕ) → number < 2 ^ 48 →
-    is_digit (get_or (decimal number ++ rest) 0 0) ≡ true
-decimal_begins number rest small =
-    let begins = decimal_by_steps Begins one_begins more_begin number (omega arith) in
-    begins_before (decimal number) rest begins.some begins.digit
-
-pub slot_own : (slot : Slot) (byte : ℕ) (rest : List ℕ) → is_slot slot ≡ true → is_digit byte ≡ false →
-    slot_at (slot_text slot ++ (byte ∷ rest)) ≡ (slot, byte ∷ rest)
-unfolding slot_at
-slot_own First byte rest known other = refl
-slot_own Second byte rest known other = refl
-slot_own Address byte rest known other = refl
-slot_own Result byte rest known other = refl
-slot_own Decision byte rest known other = refl
-slot_own Number byte rest known other = refl
-slot_own Arg0 byte rest known other = refl
-slot_own Arg1 byte rest known other = refl
-slot_own Arg2 byte rest known other = refl
-slot_own SecretIn byte rest known other = refl
-slot_own ByteOut byte rest known other = refl
-slot_own Status byte rest known other = refl
-slot_own (OutReg register) byte rest known other =
-    let small : register < 256 = grind arith in
-    rw (number_own register byte rest (omega arith) other, below_own 256 register (lt-ltb register 256 small)) refl
-slot_own (OutRange range) byte rest known other =
-    let small : range < 64 = ltb-true range 64 known in
-    rw (
-      decimal_begins range (byte ∷ rest) (omega arith),
-      number_own range byte rest (omega arith) other,
-      below_own 256 range (lt-ltb range 256 (omega arith)),
-    ) refl
 
 pub end_own : (end : End) (byte : ℕ) (rest : List ℕ) → is_end end ≡ true → is_digit byte ≡ false →
     end_at (end_text end ++ (byte ∷ rest)) ≡ (end, byte ∷ rest)

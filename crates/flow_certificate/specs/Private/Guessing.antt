@@ -1,9 +1,9 @@
 -- What a line may be, by its first letters and the numbers at their places. The text of what is guessed decides.
-use Rattle.std.specs.Prelude.{ℕ, ◌+◌, ◌-◌, ◌*◌, ◌%◌, ◌^◌, ◌==◌, ◌&&◌, nat_le, nat_lt, Bool, List, [], ◌∷◌, ◌++◌, drop}
+use Rattle.std.specs.Prelude.{ℕ, ◌==◌, nat_lt, List, [], ◌∷◌, ◌++◌, drop}
 use Rattle.std.specs.Prelude.{slice_index, if◌then◌else◌, Option, None, option_map}
 use Rattle.flow_base.specs.declared.points.Slot.{Slot}
-use Rattle.flow_base.specs.declared.points.Slot.TheVariants as slots
 use Rattle.flow_base.specs.TextPieces.{after_text}
+use Rattle.flow_base.specs.TextWords.{number_at, slot_at, word_at}
 use Rattle.flow_graph.specs.declared.ends.End.{End}
 use Rattle.flow_graph.specs.declared.ends.End.TheVariants as ends
 use Rattle.max_flow.specs.declared.answers.Half.{Half}
@@ -15,62 +15,9 @@ use Rattle.flow_certificate.specs.declared.lines.PointLine.{PointLine}
 use Rattle.flow_certificate.specs.declared.lines.RelayLine.{RelayLine}
 use Rattle.flow_certificate.specs.Lines.{is_line, line_text}
 
--- ---- numbers
-
-abbrev pub is_digit : ℕ → Bool
-is_digit byte = nat_le 48 byte && nat_le byte 57
-
--- a number with one digit more; one that is too large stays too large
-unfoldable pub grown : ℕ → ℕ → ℕ
-grown number byte = if nat_lt number (2 ^ 48) then number * 10 + (byte - 48) else number
-
--- the number of the digits in front, after those of another, and the rest
-abbrev pub digits_at : ℕ → List ℕ → ℕ × List ℕ
-digits_at number [] = (number, [])
-digits_at number (byte ∷ bytes) =
-    if is_digit byte then digits_at (grown number byte) bytes else (number, byte ∷ bytes)
-
-unfoldable pub number_at : List ℕ → ℕ × List ℕ
-number_at bytes = digits_at 0 bytes
-
 -- a number below a limit, or 0
 abbrev pub below : ℕ → ℕ → ℕ
 below limit number = if nat_lt number limit then number else 0
-
--- the value of a hexadecimal digit; of another byte, some number below 16
-abbrev pub digit_of : ℕ → ℕ
-digit_of byte = if nat_lt byte 58 then byte % 16 else (byte + 9) % 16
-
--- the number of the first eight digits
-unfoldable pub word_at : List ℕ → ℕ
-word_at bytes =
-    digit_of (slice_index bytes 0) * 268435456 + digit_of (slice_index bytes 1) * 16777216
-    + digit_of (slice_index bytes 2) * 1048576 + digit_of (slice_index bytes 3) * 65536
-    + digit_of (slice_index bytes 4) * 4096 + digit_of (slice_index bytes 5) * 256
-    + digit_of (slice_index bytes 6) * 16 + digit_of (slice_index bytes 7)
-
--- ---- words
-
--- the slot with a name of these two letters, if any has
-abbrev pub named_slot : ℕ → ℕ → Slot
-named_slot first second =
-    if first == 117 then (if second == 49 then slots.First else slots.Second)
-    else if first == 97 then (if second == 100 then slots.Address else if second == 48 then slots.Arg0
-    else if second == 49 then slots.Arg1 else slots.Arg2)
-    else if first == 114 then slots.Result
-    else if first == 100 then slots.Decision
-    else if first == 110 then slots.Number
-    else if first == 105 then slots.SecretIn
-    else if first == 111 then slots.ByteOut
-    else slots.Status
-
-unfoldable pub slot_at : List ℕ → Slot × List ℕ
-slot_at bytes =
-    if slice_index bytes 0 == 120
-    then (slots.OutReg (below 256 (number_at (drop 1 bytes)).0), (number_at (drop 1 bytes)).1)
-    else if (slice_index bytes 0 == 114) && is_digit (slice_index bytes 1)
-    then (slots.OutRange (below 256 (number_at (drop 1 bytes)).0), (number_at (drop 1 bytes)).1)
-    else (named_slot (slice_index bytes 0) (slice_index bytes 1), drop 2 bytes)
 
 unfoldable pub end_at : List ℕ → End × List ℕ
 end_at bytes =
