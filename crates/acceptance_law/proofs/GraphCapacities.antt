@@ -1,11 +1,11 @@
 -- The capacity of a side is the sum of the bits that pass its split points.
-use Rattle.std.proofs.Common.{◌≡◌, ℕ, zero, suc, ◌+◌, ◌*◌, ◌≤◌, ◌<◌, ◌&&◌, ◌∷◌, [], cond, not}
-use Rattle.std.proofs.Common.{Bool, true, false, List, length, map, get_or, slice_index, sym, ap, ◌∙◌, arith, inl, inr}
+use Rattle.std.proofs.Common.{◌≡◌, ℕ, zero, suc, ◌+◌, ◌≤◌, ◌<◌, ◌&&◌, ◌∷◌, [], cond, not}
+use Rattle.std.proofs.Common.{Bool, true, false, List, length, map, get_or, sym, ap, ◌∙◌, arith, inl, inr}
 use Rattle.std.proofs.Common.{refl}
 use Rattle.std.specs.List.{sum_by}
 use Rattle.std.specs.List.Sorted.{IsStrictlySortedBy}
 use Rattle.std.proofs.lemmas.Bool.{and_parts, cases_Bool, cond-true, cond-false}
-use Rattle.std.proofs.lemmas.List.{get_or_append_left, length-map}
+use Rattle.std.proofs.lemmas.List.{length-map}
 use Rattle.std.proofs.lemmas.List.Sums.{sum_by-cons}
 use Rattle.flow_base.specs.declared.points.Point.{Point}
 use Rattle.flow_base.specs.Words.{bit_count}
@@ -17,16 +17,15 @@ use Rattle.flow_graph.specs.EventGraphs.{bits_at, passed, capacity_at, IsGraphOf
 use Rattle.flow_base.specs.PointOrders.{point_cmp, is_same}
 use Rattle.flow_base.proofs.PointOrders.{is_equal}
 use Rattle.max_flow.specs.declared.answers.Half.{Half}
-use Rattle.max_flow.specs.Flows.{tail_of, head_of, halves_from, network_of, member, has_first, has_second, IsSideOf}
-use Rattle.max_flow.specs.Flows.{side_capacity}
-use Rattle.max_flow.specs.Networks.{sum_below, leaves, capacity_of}
-use Rattle.max_flow.proofs.Graphs.{length_halves, half_at}
+use Rattle.max_flow.specs.declared.answers.Half.TheVariants.{Neither}
+use Rattle.max_flow.specs.Flows.{IsSideOf, capacities, has_first, has_second, is_cut, side_capacity}
+use Rattle.max_flow.specs.Private.Networks.{sum_below}
+use Rattle.max_flow.proofs.NamedFlows.{sum_first, where_places}
 use Rattle.max_flow.proofs.Sums.{sum_same, sum_add, sum_item}
 use Rattle.acceptance_law.specs.Sides.{NamedSide, halves_at, named_side, is_split}
 use Rattle.acceptance_law.specs.GraphLaws.{split_bits, CapacityLaw}
 use Rattle.acceptance_law.proofs.GraphEvents.{same_itself}
-use Rattle.acceptance_law.proofs.GraphSides.{points_of, graph_sorted, name_later, less_apart, halves_alike}
-use Rattle.acceptance_law.proofs.GraphSides.{member_first, member_second}
+use Rattle.acceptance_law.proofs.GraphSides.{points_of, graph_sorted, half_named, name_later, less_apart, halves_alike}
 use Rattle.flow_base.specs.Points.{nowhere}
 
 -- the name of the point with an index
@@ -53,59 +52,31 @@ capacity_is_at (node ∷ nodes) (suc i) sorted below =
 abbrev pub split_at : Graph → NamedSide → List Event → ℕ → ℕ
 split_at graph side events i = cond (is_split side (name_at graph i)) (passed events (name_at graph i)) 0
 
-tail_at : (graph : Graph) (i : ℕ) → i < length graph.points → slice_index (network_of graph).tails i ≡ 2 + 2 * i
-tail_at graph i below =
-    get_or_append_left (halves_from 2 (length graph.points)) (map (λ link. tail_of (length graph.points) link.source)
-    graph.links) 0 i (let c = length_halves 2 (length graph.points) in omega (arith, c))
-    ∙ half_at 2 (length graph.points) i below
-
-head_at : (graph : Graph) (i : ℕ) → i < length graph.points → slice_index (network_of graph).heads i ≡ 3 + 2 * i
-head_at graph i below =
-    get_or_append_left (halves_from 3 (length graph.points)) (map (λ link. head_of (length graph.points) link.target)
-    graph.links) 0 i (let c = length_halves 3 (length graph.points) in omega (arith, c))
-    ∙ half_at 3 (length graph.points) i below
-
-leaves_at : (graph : Graph) (halves : List Half) (relays : List Bool) (i : ℕ) → i < length graph.points →
-    length halves ≡ length graph.points →
-    leaves (network_of graph) (member graph halves relays) i
-    ≡ is_split (named_side graph halves relays) (name_at graph i)
-leaves_at graph halves relays i below same =
-    ap (λ a. a && not (member graph halves relays (slice_index (network_of graph).heads i)))
-    (ap (member graph halves relays) (tail_at graph i below) ∙ member_first graph halves relays i below same)
-    ∙ ap (λ b. (named_side graph halves relays).first (name_at graph i) && not b)
-    (ap (member graph halves relays) (head_at graph i below) ∙ member_second graph halves relays i below same)
-
 pub sum_of_side_capacity : (events : List Event) (graph : Graph) (halves : List Half) (relays : List Bool) →
     IsGraphOf events graph → IsSideOf graph halves relays →
     side_capacity graph halves relays
     ≡ sum_below (length graph.points) (split_at graph (named_side graph halves relays) events)
-unfolding capacity_of
 sum_of_side_capacity events graph halves relays is side =
-    let count : length (network_of graph).limits ≡ length graph.points =
-    length-map graph.points (λ node. node.capacity) in
-    ap (λ n. sum_below n (λ i. cond (leaves (network_of graph) (member graph halves relays) i)
-    (slice_index (network_of graph).limits i) 0)) count
+    let same : length halves ≡ length graph.points = side.points_count in
+    sym (where_places is_cut halves (capacities graph) Neither
+    (length-map graph.points (λ node. node.capacity) ∙ sym same))
+    ∙ (ap (λ n. sum_below n (λ i. cond (is_cut (get_or halves i Neither)) (get_or (capacities graph) i 0) 0)) same
     ∙ sum_same (length graph.points)
-    (λ i. cond (leaves (network_of graph) (member graph halves relays) i) (slice_index (network_of graph).limits i) 0)
+    (λ i. cond (is_cut (get_or halves i Neither)) (get_or (capacities graph) i 0) 0)
     (split_at graph (named_side graph halves relays) events)
     (λ i below.
-    ap (λ b. cond b (slice_index (network_of graph).limits i) 0)
-    (leaves_at graph halves relays i below side.points_count)
+    ap (λ h. cond (is_cut h) (get_or (capacities graph) i 0) 0)
+    (half_named graph.points halves i (graph_sorted graph) below same)
     ∙ ap (λ n. cond (is_split (named_side graph halves relays) (name_at graph i)) n 0)
-    (sym (capacity_is_at graph.points i (graph_sorted graph) below) ∙ is.points (name_at graph i)))
+    (sym (capacity_is_at graph.points i (graph_sorted graph) below) ∙ is.points (name_at graph i))))
 
 -- the same over the list of the points
-sum_front : (n : ℕ) (f : ℕ → ℕ) → sum_below (suc n) f ≡ f 0 + sum_below n (λ i. f (suc i))
-unfolding sum_below
-sum_front zero f = omega arith
-sum_front (suc n) f = let earlier = sum_front n f in omega (arith, earlier)
-
 sum_listed : (f : Point → ℕ) (nodes : List Node) →
     sum_below (length nodes) (λ i. f (get_or (points_of nodes) i nowhere)) ≡ sum_by (λ node. f node.point) nodes
 unfolding sum_below
 sum_listed f [] = refl
 sum_listed f (node ∷ nodes) =
-    let first = sum_front (length nodes) (λ i. f (get_or (points_of (node ∷ nodes)) i nowhere)) in
+    let first = sum_first (length nodes) (λ i. f (get_or (points_of (node ∷ nodes)) i nowhere)) in
     let rest = sum_listed f nodes in
     let all = sum_by-cons (λ (n : Node). f n.point) node nodes in
     first ∙ ap (λ n. f node.point + n) rest ∙ sym all

@@ -1,8 +1,8 @@
 -- A side of the graph of some events, by the names of its points: no link of the events leaves it.
-use Rattle.std.proofs.Common.{◌≡◌, ℕ, zero, suc, ◌+◌, ◌-◌, ◌*◌, ◌<◌, ◌==◌, ◌&&◌, ◌||◌, ◌++◌, ◌∷◌, [], cond, not}
+use Rattle.std.proofs.Common.{◌≡◌, ℕ, zero, suc, ◌<◌, ◌==◌, ◌&&◌, ◌||◌, ◌++◌, ◌∷◌, [], cond, not}
 use Rattle.std.proofs.Common.{nat_eq, nat_lt}
-use Rattle.std.proofs.Common.{Bool, true, false, List, length, map, get_or, slice_index, refl, sym, ap, ◌∙◌, arith}
-use Rattle.std.proofs.Common.{inl, inr, length-append}
+use Rattle.std.proofs.Common.{Bool, true, false, List, length, map, get_or, refl, sym, ap, ◌∙◌, arith}
+use Rattle.std.proofs.Common.{inl, inr}
 use Rattle.std.specs.List.{AllByRecursion, list_all, list_any}
 use Rattle.std.specs.List.Sorted.{IsStrictlySortedBy}
 use Rattle.std.specs.Ordering.{is_eq, is_lt, nat_cmp, ordering_then, ordering_reverse}
@@ -10,8 +10,8 @@ use Rattle.std.specs.declared.cmp.Ordering.{Ordering}
 use Rattle.std.specs.declared.cmp.Ordering.TheVariants.{Less, Equal, Greater}
 use Rattle.std.proofs.lemmas.Bool.{and_parts, cases_Bool, cond-true, cond-false, eq-eqb, eqb-true, lt-ltb, le-ltb}
 use Rattle.std.proofs.lemmas.Bool.{ltb-true, ne_eqb, eqb-false, cases_order}
-use Rattle.std.proofs.lemmas.Bool.{or_cases, or_left, or_right}
-use Rattle.std.proofs.lemmas.List.{get_or-append_right, length-map}
+use Rattle.std.proofs.lemmas.Bool.{or_cases, or_left, or_parts, or_right}
+use Rattle.std.proofs.lemmas.List.{length-map}
 use Rattle.flow_base.specs.declared.points.Point.{Point}
 use Rattle.flow_base.specs.PointOrders.{point_cmp, is_same}
 use Rattle.flow_base.proofs.PointOrders.{point_total, is_equal}
@@ -31,11 +31,9 @@ use Rattle.flow_graph.specs.EventGraphs.{is_among, is_relay_of, names_relay, nam
 use Rattle.flow_graph.specs.Graphs.{ascend, node_cmp, has_capacity, is_origin, is_target, is_link}
 use Rattle.flow_graph.proofs.LinksByIndex.{link_total, named_end_cmp}
 use Rattle.max_flow.specs.declared.answers.Half.{Half}
-use Rattle.max_flow.specs.Flows.{tail_of, head_of, halves_from, network_of, marks, relay_in, member, has_first}
-use Rattle.max_flow.specs.Flows.{has_second}
-use Rattle.max_flow.specs.Flows.{IsSideOf}
-use Rattle.max_flow.specs.Networks.{IsSide}
-use Rattle.max_flow.proofs.Graphs.{length_halves}
+use Rattle.max_flow.specs.declared.answers.Half.TheVariants.{Neither}
+use Rattle.max_flow.specs.Flows.{IsSideOf, entered_in, has_first, has_second, leads_out, left_in, relay_in}
+use Rattle.max_flow.proofs.NamedSides.{not_and, or_false}
 use Rattle.acceptance_law.specs.Sides.{halves_at, named_side}
 use Rattle.acceptance_law.specs.ClosedEvents.{starts_in, ends_in, IsClosedLink, IsClosedFor}
 use Rattle.acceptance_law.proofs.GraphEvents.{itself, same_itself, all_more}
@@ -83,166 +81,60 @@ less_apart p q less =
 
 -- ---- the halves of the point with an index
 
-double : (i : ℕ) → 2 * suc i ≡ suc (suc (2 * i))
-double i = omega arith
-
-pub first_at : (nodes : List Node) (halves : List Half) (i : ℕ) → IsStrictlySortedBy point_cmp (points_of nodes) →
+pub half_named : (nodes : List Node) (halves : List Half) (i : ℕ) → IsStrictlySortedBy point_cmp (points_of nodes) →
     i < length nodes → length halves ≡ length nodes →
-    get_or (marks halves) (2 * i) false ≡ has_first (halves_at nodes halves (get_or (points_of nodes) i nowhere))
+    get_or halves i Neither ≡ halves_at nodes halves (get_or (points_of nodes) i nowhere)
 unfolding IsStrictlySortedBy
-first_at [] halves i sorted below same = absurd (omega arith)
-first_at (node ∷ nodes) [] i sorted below same = absurd (omega arith)
-first_at (node ∷ nodes) (half ∷ halves) zero sorted below same =
-    ap has_first (sym (cond-true (is_same node.point node.point) half (halves_at nodes halves node.point)
-    (same_itself node.point)))
-first_at (node ∷ nodes) (half ∷ halves) (suc i) sorted below same =
+half_named [] halves i sorted below same = absurd (omega arith)
+half_named (node ∷ nodes) [] i sorted below same = absurd (omega arith)
+half_named (node ∷ nodes) (half ∷ halves) zero sorted below same =
+    sym (cond-true (is_same node.point node.point) half (halves_at nodes halves node.point) (same_itself node.point))
+half_named (node ∷ nodes) (half ∷ halves) (suc i) sorted below same =
     let point = get_or (points_of nodes) i nowhere in
     let later : point_cmp node.point point ≡ Less =
     name_later node.point (points_of nodes) i sorted.0
     (let c : length (points_of nodes) ≡ length nodes = length-map nodes (λ n. n.point) in omega (arith, c)) in
-    ap (λ j. get_or (has_first half ∷ has_second half ∷ marks halves) j false) (double i)
-    ∙ first_at nodes halves i sorted.1 (omega arith) (omega arith)
-    ∙ ap has_first (sym (cond-false (is_same point node.point) half (halves_at nodes halves point)
-    (less_apart point node.point later)))
+    half_named nodes halves i sorted.1 (omega arith) (omega arith)
+    ∙ sym (cond-false (is_same point node.point) half (halves_at nodes halves point)
+    (less_apart point node.point later))
 
-pub second_at : (nodes : List Node) (halves : List Half) (i : ℕ) → IsStrictlySortedBy point_cmp (points_of nodes) →
-    i < length nodes → length halves ≡ length nodes →
-    get_or (marks halves) (1 + 2 * i) false ≡ has_second (halves_at nodes halves (get_or (points_of nodes) i nowhere))
-unfolding IsStrictlySortedBy
-second_at [] halves i sorted below same = absurd (omega arith)
-second_at (node ∷ nodes) [] i sorted below same = absurd (omega arith)
-second_at (node ∷ nodes) (half ∷ halves) zero sorted below same =
-    ap has_second (sym (cond-true (is_same node.point node.point) half (halves_at nodes halves node.point)
-    (same_itself node.point)))
-second_at (node ∷ nodes) (half ∷ halves) (suc i) sorted below same =
-    let point = get_or (points_of nodes) i nowhere in
-    let later : point_cmp node.point point ≡ Less =
-    name_later node.point (points_of nodes) i sorted.0
-    (let c : length (points_of nodes) ≡ length nodes = length-map nodes (λ n. n.point) in omega (arith, c)) in
-    ap (λ j. get_or (has_first half ∷ has_second half ∷ marks halves) j false)
-    (let d : 1 + 2 * suc i ≡ suc (suc (1 + 2 * i)) = omega arith in d)
-    ∙ second_at nodes halves i sorted.1 (omega arith) (omega arith)
-    ∙ ap has_second (sym (cond-false (is_same point node.point) half (halves_at nodes halves point)
-    (less_apart point node.point later)))
+-- ---- the ends of links by their names
 
--- ---- members by their names
-
--- a node below the relays
-pub member_low : (graph : Graph) (halves : List Half) (relays : List Bool) (node : ℕ) →
-    node < 2 + 2 * length graph.points →
-    member graph halves relays node ≡ get_or (true ∷ false ∷ marks halves) node false
-member_low graph halves relays node below =
-    cond-true (nat_lt node (2 + 2 * length graph.points)) (get_or (true ∷ false ∷ marks halves) node false)
-    (relay_in graph.relays relays (node - (2 + 2 * length graph.points))) (lt-ltb _ _ below)
-
-member_relay : (graph : Graph) (halves : List Half) (relays : List Bool) (region : ℕ) →
-    member graph halves relays (2 + 2 * length graph.points + region) ≡ relay_in graph.relays relays region
-member_relay graph halves relays region =
-    cond-false (nat_lt (2 + 2 * length graph.points + region) (2 + 2 * length graph.points))
-    (get_or (true ∷ false ∷ marks halves) (2 + 2 * length graph.points + region) false)
-    (relay_in graph.relays relays (2 + 2 * length graph.points + region - (2 + 2 * length graph.points)))
-    (le-ltb _ _ (omega arith))
-    ∙ ap (relay_in graph.relays relays)
-    (let d : 2 + 2 * length graph.points + region - (2 + 2 * length graph.points) ≡ region = omega arith in d)
-
-pub member_first : (graph : Graph) (halves : List Half) (relays : List Bool) (i : ℕ) → i < length graph.points →
-    length halves ≡ length graph.points →
-    member graph halves relays (2 + 2 * i)
-    ≡ (named_side graph halves relays).first (get_or (points_of graph.points) i nowhere)
-member_first graph halves relays i below same =
-    member_low graph halves relays (2 + 2 * i) (omega arith)
-    ∙ ap (λ j. get_or (true ∷ false ∷ marks halves) j false)
-    (let d : 2 + 2 * i ≡ suc (suc (2 * i)) = omega arith in d)
-    ∙ first_at graph.points halves i (graph_sorted graph) below same
-
-pub member_second : (graph : Graph) (halves : List Half) (relays : List Bool) (i : ℕ) → i < length graph.points →
-    length halves ≡ length graph.points →
-    member graph halves relays (3 + 2 * i)
-    ≡ (named_side graph halves relays).second (get_or (points_of graph.points) i nowhere)
-member_second graph halves relays i below same =
-    member_low graph halves relays (3 + 2 * i) (omega arith)
-    ∙ ap (λ j. get_or (true ∷ false ∷ marks halves) j false)
-    (let d : 3 + 2 * i ≡ suc (suc (1 + 2 * i)) = omega arith in d)
-    ∙ second_at graph.points halves i (graph_sorted graph) below same
-
-pub tail_named : (graph : Graph) (halves : List Half) (relays : List Bool) → length halves ≡ length graph.points →
+pub left_named : (graph : Graph) (halves : List Half) (relays : List Bool) → length halves ≡ length graph.points →
     (end : End) → is_origin (length graph.points) graph.relays end ≡ true →
-    member graph halves relays (tail_of (length graph.points) end)
-    ≡ starts_in (named_side graph halves relays) (named_end graph.points end)
-tail_named graph halves relays same SourceEnd is = member_low graph halves relays 0 (omega arith)
-tail_named graph halves relays same (PointEnd i) is =
-    member_second graph halves relays i (ltb-true i (length graph.points) is) same
-tail_named graph halves relays same (RelayEnd region) is = member_relay graph halves relays region
-tail_named graph halves relays same SinkEnd is = member_low graph halves relays 1 (omega arith)
+    left_in graph halves relays end ≡ starts_in (named_side graph halves relays) (named_end graph.points end)
+left_named graph halves relays same SourceEnd is = refl
+left_named graph halves relays same (PointEnd i) is = ap has_second (half_named graph.points halves i
+    (graph_sorted graph) (ltb-true i (length graph.points) is) same)
+left_named graph halves relays same (RelayEnd region) is = refl
+left_named graph halves relays same SinkEnd is = refl
 
-pub head_named : (graph : Graph) (halves : List Half) (relays : List Bool) → length halves ≡ length graph.points →
+pub entered_named : (graph : Graph) (halves : List Half) (relays : List Bool) → length halves ≡ length graph.points →
     (end : End) → is_target (length graph.points) graph.relays end ≡ true →
-    member graph halves relays (head_of (length graph.points) end)
-    ≡ ends_in (named_side graph halves relays) (named_end graph.points end)
-head_named graph halves relays same SourceEnd is = absurd (cc)
-head_named graph halves relays same (PointEnd i) is =
-    member_first graph halves relays i (ltb-true i (length graph.points) is) same
-head_named graph halves relays same (RelayEnd region) is = member_relay graph halves relays region
-head_named graph halves relays same SinkEnd is = member_low graph halves relays 1 (omega arith)
+    entered_in graph halves relays end ≡ ends_in (named_side graph halves relays) (named_end graph.points end)
+entered_named graph halves relays same SourceEnd is = refl
+entered_named graph halves relays same (PointEnd i) is = ap has_first (half_named graph.points halves i
+    (graph_sorted graph) (ltb-true i (length graph.points) is) same)
+entered_named graph halves relays same (RelayEnd region) is = refl
+entered_named graph halves relays same SinkEnd is = refl
 
 -- ---- the links of a graph
-
-each_link : {X : Type 0} (side : ℕ → Bool) (f g : X → ℕ) (links : List X) →
-    ((j : ℕ) → j < length links → side (get_or (map f links) j 0) ≡ true → side (get_or (map g links) j 0) ≡ true) →
-    AllByRecursion (λ link. side (f link) ≡ true → side (g link) ≡ true) links
-each_link side f g [] closed = tt
-each_link side f g (link ∷ links) closed =
-    (closed 0 (omega arith), each_link side f g links (λ j below. closed (suc j) (omega arith)))
-
-pub length_tails : (graph : Graph) → length (network_of graph).tails ≡ length graph.points + length graph.links
-length_tails graph =
-    length-append (halves_from 2 (length graph.points)) (map (λ link. tail_of (length graph.points) link.source)
-    graph.links)
-    ∙ omega (
-      arith,
-      length_halves 2 (length graph.points),
-      length-map graph.links (λ link. tail_of (length graph.points) link.source),
-    )
-
-links_stay : (graph : Graph) (side : ℕ → Bool) → IsSide (network_of graph) side →
-    AllByRecursion (λ link. side (tail_of (length graph.points) link.source) ≡ true →
-    side (head_of (length graph.points) link.target) ≡ true) graph.links
-links_stay graph side is =
-    let f : Arc → ℕ = λ link. tail_of (length graph.points) link.source in
-    let g : Arc → ℕ = λ link. head_of (length graph.points) link.target in
-    let tails : length (network_of graph).tails ≡ length graph.points + length graph.links =
-    length_tails graph in
-    let limits : length (network_of graph).limits ≡ length graph.points =
-    length-map graph.points (λ node. node.capacity) in
-    each_link side f g graph.links
-    (λ j below inside.
-    let back : length graph.points + j - length graph.points ≡ j = omega arith in
-    let tail : slice_index (network_of graph).tails (length graph.points + j) ≡ get_or (map f graph.links) j 0 =
-    get_or-append_right (halves_from 2 (length graph.points)) (map f graph.links) (length graph.points)
-    (length graph.points + j) 0 (length_halves 2 (length graph.points)) (omega arith)
-    ∙ ap (λ k. get_or (map f graph.links) k 0) back in
-    let head : slice_index (network_of graph).heads (length graph.points + j) ≡ get_or (map g graph.links) j 0 =
-    get_or-append_right (halves_from 3 (length graph.points)) (map g graph.links) (length graph.points)
-    (length graph.points + j) 0 (length_halves 3 (length graph.points)) (omega arith)
-    ∙ ap (λ k. get_or (map g graph.links) k 0) back in
-    ap side (sym head)
-    ∙ is.closed (length graph.points + j) (omega (arith, limits)) (omega (arith, tails, below)) (ap side tail ∙ inside))
 
 -- each link of the graph, by its names
 named_stay : (graph : Graph) (halves : List Half) (relays : List Bool) → length halves ≡ length graph.points →
     (links : List Arc) → list_all (is_link (length graph.points) graph.relays) links ≡ true →
-    AllByRecursion (λ link. member graph halves relays (tail_of (length graph.points) link.source) ≡ true →
-    member graph halves relays (head_of (length graph.points) link.target) ≡ true) links →
+    list_any (leads_out graph halves relays) links ≡ false →
     IsClosedFor (named_side graph halves relays) (map (named graph.points) links)
 named_stay graph halves relays same [] valid stay = tt
 named_stay graph halves relays same (link ∷ links) valid stay =
     let both = and_parts (is_link (length graph.points) graph.relays link)
     (list_all (is_link (length graph.points) graph.relays) links) valid in
     let origin = and_parts (is_origin (length graph.points) graph.relays link.source) _ both.0 in
-    let target = and_parts (is_target (length graph.points) graph.relays link.target) _ origin.1 in (
-      (λ inside. sym (head_named graph halves relays same link.target target.0)
-          ∙ stay.0 (tail_named graph halves relays same link.source origin.0 ∙ inside)),
-      named_stay graph halves relays same links both.1 stay.1,
+    let target = and_parts (is_target (length graph.points) graph.relays link.target) _ origin.1 in
+    let out = or_parts (leads_out graph halves relays link) (list_any (leads_out graph halves relays) links) stay in (
+      (λ inside. sym (entered_named graph halves relays same link.target target.0)
+          ∙ not_and _ _ out.0 (left_named graph halves relays same link.source origin.0 ∙ inside)),
+      named_stay graph halves relays same links both.1 out.1,
     )
 
 -- ---- links that are the same
@@ -325,16 +217,11 @@ pub side_closed : (events : List Event) (graph : Graph) (halves : List Half) (re
     IsGraphOf events graph → IsSideOf graph halves relays →
     IsClosedFor (named_side graph halves relays) (named_links events)
 side_closed events graph halves relays is side =
-    let closed = named_stay graph halves relays side.points_count graph.links graph.links_are_valid
-    (links_stay graph (member graph halves relays) side.side) in
+    let closed = named_stay graph halves relays side.points_count graph.links graph.links_are_valid side.closed in
     each_among (IsClosedLink (named_side graph halves relays)) (named_links events)
     (λ k among. among_closed graph halves relays (map (named graph.points) graph.links) k closed (is.links k ∙ among))
 
 -- ---- there is no relay of what is outside regions
-
-or_none : (a b : Bool) → a ≡ false → b ≡ false → (a || b) ≡ false
-or_none true b first second = absurd (cc)
-or_none false b first second = second
 
 or_later : (a b : Bool) → (a || b) ≡ false → b ≡ false
 or_later true b none = absurd (cc)
@@ -343,7 +230,7 @@ or_later false b none = none
 one_unnamed : (region : ℕ) (there : Bool) (s t : NamedEnd) (rest : List NamedLink) → is_relay_of region s ≡ false →
     is_relay_of region t ≡ false → list_any (names_relay region) rest ≡ false →
     list_any (names_relay region) (one_if there s t ++ rest) ≡ false
-one_unnamed region true s t rest none also later = or_none _ _ (or_none _ _ none also) later
+one_unnamed region true s t rest none also later = or_false _ _ (or_false _ _ none also) later
 one_unnamed region false s t rest none also later = later
 
 outlet_unnamed : (region : ℕ) (outside : Bool) → (region == 0) ≡ outside →

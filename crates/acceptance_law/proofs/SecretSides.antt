@@ -1,14 +1,14 @@
 -- The points that read the secret are the first halves of a side, whose capacity is eight bits for each byte that is
 -- read; so the least capacity of a side is no more.
-use Rattle.std.proofs.Common.{◌≡◌, ◌⊎◌, ℕ, zero, suc, ◌+◌, ◌-◌, ◌≤◌, ◌<◌, ◌&&◌, ◌++◌, ◌∷◌, [], cond}
-use Rattle.std.proofs.Common.{Bool, true, false, List, length, map, get_or, slice_index, refl, sym, ap, ◌∙◌, arith, inl, inr}
-use Rattle.std.specs.List.{AllByRecursion, list_all}
+use Rattle.std.proofs.Common.{◌≡◌, ◌⊎◌, ℕ, zero, suc, ◌+◌, ◌≤◌, ◌<◌, ◌&&◌, ◌++◌, ◌∷◌, [], cond}
+use Rattle.std.proofs.Common.{Bool, true, false, List, length, map, get_or, refl, sym, ap, ◌∙◌, arith, inl, inr}
+use Rattle.std.specs.List.{AllByRecursion, list_all, list_any}
 use Rattle.std.specs.List.Sorted.{IsStrictlySortedBy}
 use Rattle.std.specs.Ordering.{is_eq}
 use Rattle.std.specs.declared.cmp.Ordering.{Ordering}
 use Rattle.std.specs.declared.cmp.Ordering.TheVariants.{Less, Equal, Greater}
 use Rattle.std.proofs.lemmas.Bool.{and_parts, cases_Bool, cond-true, cond-false, or_cases, or_left, or_right, ltb-true}
-use Rattle.std.proofs.lemmas.List.{get_or-append_right, length-map}
+use Rattle.std.proofs.lemmas.List.{length-map}
 use Rattle.std.proofs.lemmas.List.Sums.{sum_by-cons}
 use Rattle.flow_base.specs.declared.points.Point.{Point}
 use Rattle.flow_base.specs.Words.{bit_count}
@@ -28,16 +28,16 @@ use Rattle.flow_graph.specs.Graphs.{is_link, is_origin, is_target, leads_on}
 use Rattle.flow_graph.specs.EventGraphs.{is_among, bits_at, has_passed, link_cmp, links_after, named, named_end, named_links, one_if, outlet_of, IsGraphOf}
 use Rattle.max_flow.specs.declared.answers.Half.{Half}
 use Rattle.max_flow.specs.declared.answers.Half.TheVariants.{FirstOnly, Neither}
-use Rattle.max_flow.specs.Flows.{IsSideOf, halves_from, has_first, has_second, head_of, member, network_of, relay_in, tail_of}
-use Rattle.max_flow.specs.Networks.{sum_below}
-use Rattle.max_flow.proofs.Graphs.{length_halves}
+use Rattle.max_flow.specs.Flows.{IsSideOf, has_first, has_second, leads_out, relay_in}
+use Rattle.max_flow.specs.Private.Networks.{sum_below}
+use Rattle.max_flow.proofs.NamedSides.{and_not, or_false}
 use Rattle.max_flow.proofs.Sums.{sum_add, sum_same, sum_zero}
 use Rattle.acceptance_law.specs.Sides.{NamedSide, halves_at, is_split, named_side}
 use Rattle.acceptance_law.specs.ClosedEvents.{ends_in, starts_in}
 use Rattle.acceptance_law.specs.SecretBits.{is_from_secret, is_secret_slot, secret_bits, secret_bits_of}
 use Rattle.acceptance_law.specs.SecretSides.{LeastBitsLaw}
 use Rattle.acceptance_law.proofs.GraphEvents.{same_itself}
-use Rattle.acceptance_law.proofs.GraphSides.{graph_sorted, head_named, length_tails, link_itself, member_low, name_later, points_of, tail_named}
+use Rattle.acceptance_law.proofs.GraphSides.{entered_named, graph_sorted, left_named, link_itself, name_later, points_of}
 use Rattle.acceptance_law.proofs.GraphCapacities.{name_at, sum_of_side_capacity, split_more, split_at}
 use Rattle.flow_base.specs.Points.{nowhere}
 
@@ -219,59 +219,33 @@ all_named points (link ∷ links) more h = (
       (λ other e. h other (or_right (is_eq (link_cmp (named points link) (named points other))) _ e)),
 )
 
-all_stay : (events : List Event) (graph : Graph) → IsGraphOf events graph → list_all is_from_secret events ≡ true →
+none_out : (events : List Event) (graph : Graph) → IsGraphOf events graph → list_all is_from_secret events ≡ true →
     (links : List Arc) → list_all (is_link (length graph.points) graph.relays) links ≡ true →
     AllByRecursion (λ link. is_among (map (named graph.points) graph.links) (named graph.points link) ≡ true) links →
-    (j : ℕ) → j < length links →
-    member graph (reading graph.points) (no_relays graph.relays)
-    (get_or (map (λ link. tail_of (length graph.points) link.source) links) j 0) ≡ true →
-    member graph (reading graph.points) (no_relays graph.relays)
-    (get_or (map (λ link. head_of (length graph.points) link.target) links) j 0) ≡ true
-all_stay events graph is all [] valid among j below h = absurd (omega arith)
-all_stay events graph is all (link ∷ links) valid among zero below h =
+    list_any (leads_out graph (reading graph.points) (no_relays graph.relays)) links ≡ false
+none_out events graph is all [] valid among = refl
+none_out events graph is all (link ∷ links) valid among =
     let both = and_parts (is_link (length graph.points) graph.relays link)
     (list_all (is_link (length graph.points) graph.relays) links) valid in
     let origin = and_parts (is_origin (length graph.points) graph.relays link.source) _ both.0 in
     let target = and_parts (is_target (length graph.points) graph.relays link.target) _ origin.1 in
     let same : length (reading graph.points) ≡ length graph.points =
     length-map graph.points (λ node. chosen (is_secret_slot node.point.slot)) in
-    head_named graph (reading graph.points) (no_relays graph.relays) same link.target target.0
+    or_false _ _
+    (and_not _ _ (λ inside. entered_named graph (reading graph.points) (no_relays graph.relays) same link.target target.0
     ∙ link_stays events graph is all link both.0 among.0
-    (sym (tail_named graph (reading graph.points) (no_relays graph.relays) same link.source origin.0) ∙ h)
-all_stay events graph is all (link ∷ links) valid among (suc j) below h =
-    let both = and_parts (is_link (length graph.points) graph.relays link)
-    (list_all (is_link (length graph.points) graph.relays) links) valid in
-    all_stay events graph is all links both.1 among.1 j (omega arith) h
+    (sym (left_named graph (reading graph.points) (no_relays graph.relays) same link.source origin.0) ∙ inside)))
+    (none_out events graph is all links both.1 among.1)
 
 reading_is_side : (events : List Event) (graph : Graph) → IsGraphOf events graph →
     list_all is_from_secret events ≡ true →
     IsSideOf graph (reading graph.points) (no_relays graph.relays)
-reading_is_side events graph is all =
-    let f : Arc → ℕ = λ link. tail_of (length graph.points) link.source in
-    let g : Arc → ℕ = λ link. head_of (length graph.points) link.target in
-    let tails : length (network_of graph).tails ≡ length graph.points + length graph.links = length_tails graph in
-    let limits : length (network_of graph).limits ≡ length graph.points =
-    length-map graph.points (λ node. node.capacity) in
-    let among = all_named graph.points graph.links graph.links (λ link e. e) in
-    record {
-      points_count = length-map graph.points (λ node. chosen (is_secret_slot node.point.slot));
-      relays_count = length-map graph.relays (λ relay. false);
-      side = record {
-        source = member_low graph (reading graph.points) (no_relays graph.relays) 0 (omega arith);
-        sink = member_low graph (reading graph.points) (no_relays graph.relays) 1 (omega arith);
-        closed = λ i from below inside.
-            let tail : slice_index (network_of graph).tails i ≡ get_or (map f graph.links) (i - length graph.points) 0 =
-            get_or-append_right (halves_from 2 (length graph.points)) (map f graph.links) (length graph.points) i 0
-            (length_halves 2 (length graph.points)) (omega (arith, limits, from)) in
-            let head : slice_index (network_of graph).heads i ≡ get_or (map g graph.links) (i - length graph.points) 0 =
-            get_or-append_right (halves_from 3 (length graph.points)) (map g graph.links) (length graph.points) i 0
-            (length_halves 3 (length graph.points)) (omega (arith, limits, from)) in
-            let side = member graph (reading graph.points) (no_relays graph.relays) in
-            ap side head
-            ∙ all_stay events graph is all graph.links graph.links_are_valid among (i - length graph.points)
-            (omega (arith, limits, tails, from, below)) (sym (ap side tail) ∙ inside);
-      };
-    }
+reading_is_side events graph is all = record {
+  points_count = length-map graph.points (λ node. chosen (is_secret_slot node.point.slot));
+  relays_count = length-map graph.relays (λ relay. false);
+  closed = none_out events graph is all graph.links graph.links_are_valid
+      (all_named graph.points graph.links graph.links (λ link e. e));
+}
 
 -- ---- its capacity
 

@@ -1,52 +1,16 @@
 -- The sums of a block of nodes, over the points and then over the links, are those of the network.
-use Rattle.std.proofs.Common.{◌≡◌, ℕ, zero, suc, ◌+◌, ◌-◌, ◌*◌, ◌^◌, ◌≤◌, ◌<◌, ◌==◌, ◌++◌, cond, eqb, not, Bool}
-use Rattle.std.proofs.Common.{List, length, get_or, slice_index, refl, sym, ap, ◌∙◌, arith, add-one}
-use Rattle.std.proofs.Common.{length-append}
-use Rattle.std.proofs.lemmas.List.{get_or_append_left, get_or-append_right}
-use Rattle.max_flow.specs.Networks.{at_node, sum_below}
-use Rattle.max_flow.proofs.Sums.{sum_none, sum_suc, sum_same}
+use Rattle.std.proofs.Common.{◌≡◌, ℕ, ◌+◌, ◌-◌, ◌*◌, ◌^◌, ◌≤◌, ◌<◌, ◌==◌, ◌++◌, not, Bool}
+use Rattle.std.proofs.Common.{List, length, slice_index, sym, ap, ◌∙◌, arith}
+use Rattle.max_flow.specs.Private.Networks.{at_node}
+use Rattle.max_flow.proofs.NamedFlows.{at_append}
 use Rattle.flow_certificate.specs.Private.Sums.{AreAdded, AreSmall, AreZero, HaveRoom, HaveSums, brought, differ_at}
 use Rattle.flow_certificate.specs.Verdicts.{HasNone, IsFirst}
 use Rattle.flow_certificate.proofs.Counters.{brought_small}
 
-sum_split : (m n : ℕ) (f : ℕ → ℕ) → sum_below (m + n) f ≡ sum_below m f + sum_below n (λ i. f (m + i))
-sum_split m zero f =
-    let none : sum_below 0 (λ i. f (m + i)) ≡ 0 = sum_none (λ i. f (m + i)) in
-    let same : sum_below (m + 0) f ≡ sum_below m f = ap (λ k. sum_below k f) (let e : m + 0 ≡ m = omega arith in e) in
-    omega (arith, none, same)
-sum_split m (suc n) f =
-    let earlier : sum_below (m + n) f ≡ sum_below m f + sum_below n (λ i. f (m + i)) = sum_split m n f in
-    let long : sum_below (m + n + 1) f ≡ sum_below (m + n) f + f (m + n) = sum_suc (m + n) f in
-    let short : sum_below (n + 1) (λ i. f (m + i)) ≡ sum_below n (λ i. f (m + i)) + f (m + n) =
-    sum_suc n (λ i. f (m + i)) in
-    let whole : sum_below (m + n + 1) f ≡ sum_below m f + sum_below (n + 1) (λ i. f (m + i)) =
-    omega (arith, earlier, long, short) in
-    ap (λ k. sum_below k f) (let e : m + suc n ≡ m + n + 1 = omega arith in e) ∙ (whole
-    ∙ ap (λ k. sum_below m f + sum_below k (λ i. f (m + i))) (add-one n))
-
 pub at_node_split : (a b x y : List ℕ) (v : ℕ) → length a ≡ length x →
     at_node (a ++ b) (x ++ y) v ≡ brought a x (length a) v + brought b y (length b) v
 unfolding at_node brought
-at_node_split a b x y v same =
-    let whole : ℕ → ℕ = λ i. cond (eqb (slice_index (a ++ b) i) v) (slice_index (x ++ y) i) 0 in
-    let split = ap (λ k. sum_below k whole) (length-append a b) ∙ sum_split (length a) (length b) whole in
-    let front : sum_below (length a) whole ≡ sum_below (length a) (λ i. cond (eqb (slice_index a i) v)
-    (slice_index x i) 0) =
-    sum_same (length a) whole (λ i. cond (eqb (slice_index a i) v) (slice_index x i) 0)
-    (λ i below. ap (λ (k : ℕ). cond (eqb k v) (slice_index (x ++ y) i) 0) (get_or_append_left a b 0 i below)
-    ∙ ap (λ (n : ℕ). cond (eqb (slice_index a i) v) n 0) (get_or_append_left x y 0 i (omega (arith, same, below)))) in
-    let back : sum_below (length b) (λ i. whole (length a + i)) ≡ sum_below (length b) (λ i. cond
-    (eqb (slice_index b i) v) (slice_index y i) 0) =
-    sum_same (length b) (λ i. whole (length a + i)) (λ i. cond (eqb (slice_index b i) v) (slice_index y i) 0)
-    (λ i below.
-    let past : length a + i - length a ≡ i = omega arith in
-    ap (λ (k : ℕ). cond (eqb k v) (slice_index (x ++ y) (length a + i)) 0)
-    (get_or-append_right a b (length a) (length a + i) 0 refl (omega arith) ∙ ap (λ (j : ℕ). get_or b j 0) past)
-    ∙ ap (λ (n : ℕ). cond (eqb (slice_index b i) v) n 0)
-    (get_or-append_right x y (length a) (length a + i) 0 (sym same) (omega arith) ∙ ap (λ (j : ℕ). get_or y j 0)
-    past)) in
-    split ∙ (ap (λ (n : ℕ). n + sum_below (length b) (λ i. whole (length a + i))) front
-    ∙ ap (λ (n : ℕ). sum_below (length a) (λ i. cond (eqb (slice_index a i) v) (slice_index x i) 0) + n) back)
+at_node_split a b x y v same = at_append a b x y v (sym same)
 
 pub room_after : (base : ℕ) (keys flows : List ℕ) (n : ℕ) (old new : List ℕ) → AreZero old → n < 2 ^ 32 →
     AreSmall flows → AreAdded base (brought keys flows n) old new → HaveRoom new

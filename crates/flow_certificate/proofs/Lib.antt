@@ -4,6 +4,7 @@ pub mod Blocks
 pub mod Sides
 pub mod SideCapacity
 pub mod Verified
+pub mod Evenness
 pub mod Guesses
 pub mod LastItems
 pub mod DraftedPictures
@@ -15,3 +16,4 @@ pub mod Written
 pub mod OneText
 pub mod OneFault
 pub mod OneVerdict
+pub mod NotVerified

@@ -1,18 +1,23 @@
 -- A certificate has one verdict.
-use Rattle.std.proofs.Common.{◌≡◌, ℕ, ◌<◌, Bool, true, false, length, Some, sym, ap, subst, ◌∙◌, arith}
+use Rattle.std.proofs.Common.{◌≡◌, ℕ, zero, suc, ◌<◌, Bool, true, false, List, [], ◌∷◌, length, take, Some, sym, ap, subst}
+use Rattle.std.proofs.Common.{◌∙◌, arith}
+use Rattle.std.specs.List.{list_any}
 use Rattle.std.specs.Prelude.{slice_get}
+use Rattle.std.proofs.lemmas.Bool.{or_parts}
 use Rattle.std.proofs.lemmas.Bool.Decides.{nat_tests}
 use Rattle.flow_graph.specs.declared.ends.Arc.{Arc}
 use Rattle.flow_graph.specs.declared.graphs.Graph.{Graph}
 use Rattle.max_flow.specs.declared.answers.Solved.{Solved}
-use Rattle.max_flow.specs.Flows.{network_of}
 use Rattle.flow_certificate.specs.declared.verdicts.Member.{Member}
 use Rattle.flow_certificate.specs.declared.verdicts.Member.TheVariants.{In, Out, Relay}
 use Rattle.flow_certificate.specs.declared.verdicts.CertFault.{CertFault}
 use Rattle.flow_certificate.specs.declared.verdicts.CertFault.TheVariants.{Over, Unbalanced, OpenAcross, Values}
 use Rattle.flow_certificate.specs.declared.verdicts.CertVerdict.{CertVerdict}
 use Rattle.flow_certificate.specs.declared.verdicts.CertVerdict.TheVariants.{Verified, Rejected}
-use Rattle.flow_certificate.specs.Verdicts.{HasNone, HasNoneAcross, HasNoneOver, HasNoneUnbalanced, HasValues, IsFirst, IsFirstAcross, IsFirstFlowFault, IsOpenAcross, IsOver, IsUnbalanced, IsVerdict, IsVerified, is_across, is_node_of, is_over, is_unbalanced, member_number}
+use Rattle.flow_certificate.specs.Verdicts.{HasNone, HasNoneAcross, HasNoneOver, HasNoneUnbalanced, HasValues, IsFirst}
+use Rattle.flow_certificate.specs.Verdicts.{IsFirstAcross, IsFirstFlowFault, IsFirstUnbalanced, IsOpenAcross, IsOver}
+use Rattle.flow_certificate.specs.Verdicts.{IsUnbalanced, IsVerdict, IsVerified, is_across, is_node_of, is_over}
+use Rattle.flow_certificate.specs.Verdicts.{place_of}
 
 -- ---- the first that passes
 
@@ -34,10 +39,10 @@ not_none test from end i first none =
     let fails : test i ≡ false = none i first.from_on first.below in
     absurd cc
 
--- ---- a node has a number of its own
+-- ---- a node has a place of its own
 
 one_member : (count : ℕ) (a b : Member) → is_node_of count a ≡ true → is_node_of count b ≡ true →
-    member_number count a ≡ member_number count b → a ≡ b
+    place_of count a ≡ place_of count b → a ≡ b
 one_member count (In p) (In q) known other same = ap (λ (n : ℕ). In n) (omega (arith, same))
 one_member count (In p) (Out q) known other same = absurd (omega (arith, same))
 one_member count (In p) (Relay q) known other same =
@@ -60,27 +65,62 @@ over_clash graph solved point first none =
 
 unbalanced_clash : (graph : Graph) (solved : Solved) (node : Member) → IsUnbalanced graph solved node →
     HasNoneUnbalanced graph solved → ⊥
-unbalanced_clash graph solved node first none =
-    not_none (is_unbalanced graph solved) 2 ((network_of graph).nodes) (member_number (length graph.points) node)
-    first.first none
+unbalanced_clash graph solved node is none =
+    let passes = is.first.unbalanced in
+    let fails = none node is.first.known in
+    absurd cc
+
+pub none_has : (test : Arc → Bool) (links : List Arc) (i : ℕ) (link : Arc) → list_any test links ≡ false →
+    slice_get links i ≡ Some link → test link ≡ false
+none_has test [] i link none is = absurd cc
+none_has test (first ∷ links) zero link none is =
+    let same : first ≡ link = cc in
+    subst (λ (l : Arc). test l ≡ false) same (or_parts (test first) (list_any test links) none).0
+none_has test (first ∷ links) (suc i) link none is =
+    none_has test links i link (or_parts (test first) (list_any test links) none).1 is
+
+taken_get : (links : List Arc) (i j : ℕ) (link : Arc) → i < j → slice_get links i ≡ Some link →
+    slice_get (take j links) i ≡ Some link
+taken_get links i zero link earlier is = absurd (omega (arith, earlier))
+taken_get [] i (suc j) link earlier is = absurd cc
+taken_get (first ∷ links) zero (suc j) link earlier is = is
+taken_get (first ∷ links) (suc i) (suc j) link earlier is = taken_get links i j link (omega (arith, earlier)) is
 
 across_clash : (graph : Graph) (solved : Solved) (link : Arc) → IsOpenAcross graph solved link →
     HasNoneAcross graph solved → ⊥
-across_clash graph solved link first none =
-    not_none (is_across graph solved) 0 (length graph.links) first.first.index first.first.first none
+across_clash graph solved link is none =
+    let passes = is.first.across in
+    let fails = none_has (is_across graph solved) graph.links is.first.index link none is.first.is in
+    absurd cc
+
+unbalanced_earlier : (graph : Graph) (solved : Solved) (a b : Member) → IsFirstUnbalanced graph solved a →
+    IsFirstUnbalanced graph solved b → place_of (length graph.points) a < place_of (length graph.points) b → ⊥
+unbalanced_earlier graph solved a b first second earlier =
+    let passes = first.unbalanced in
+    let fails = second.before a first.known earlier in
+    absurd cc
 
 one_unbalanced : (graph : Graph) (solved : Solved) (a b : Member) → IsUnbalanced graph solved a →
     IsUnbalanced graph solved b → a ≡ b
 one_unbalanced graph solved a b first second =
-    one_member (length graph.points) a b first.known second.known
-    (one_of_first (is_unbalanced graph solved) 2 ((network_of graph).nodes) (member_number (length graph.points) a)
-    (member_number (length graph.points) b) first.first second.first)
+    let not_below = unbalanced_earlier graph solved a b first.first second.first in
+    let not_above = unbalanced_earlier graph solved b a second.first first.first in
+    one_member (length graph.points) a b first.first.known second.first.known (omega (arith, not_below, not_above))
+
+across_earlier : (graph : Graph) (solved : Solved) (a b : Arc) (first : IsFirstAcross graph solved a) (second :
+    IsFirstAcross graph solved b) → first.index < second.index → ⊥
+across_earlier graph solved a b first second earlier =
+    let passes = first.across in
+    let fails = none_has (is_across graph solved) (take second.index graph.links) first.index a second.before
+    (taken_get graph.links first.index second.index a earlier first.is) in
+    absurd cc
 
 one_across : (graph : Graph) (solved : Solved) (a b : Arc) → IsFirstAcross graph solved a →
     IsFirstAcross graph solved b → a ≡ b
 one_across graph solved a b first second =
-    let same : first.index ≡ second.index = one_of_first (is_across graph solved) 0 (length graph.links) first.index
-    second.index first.first second.first in
+    let not_below = across_earlier graph solved a b first second in
+    let not_above = across_earlier graph solved b a second first in
+    let same : first.index ≡ second.index = omega (arith, not_below, not_above) in
     let link : slice_get graph.links first.index ≡ Some a = first.is in
     let other : slice_get graph.links first.index ≡ Some b =
     ap (λ (i : ℕ). slice_get graph.links i) same ∙ second.is in

@@ -1,67 +1,46 @@
 -- The capacity of the side of a certificate, point by point.
-use Rattle.std.proofs.Common.{◌≡◌, ℕ, zero, suc, ◌+◌, ◌*◌, ◌^◌, ◌≤◌, ◌<◌, ◌&&◌, cond, not, Bool, true, false}
+use Rattle.std.proofs.Common.{◌≡◌, ℕ, zero, suc, ◌+◌, ◌*◌, ◌^◌, ◌≤◌, ◌<◌, cond, Bool, true, false}
 use Rattle.std.proofs.Common.{List, [], ◌∷◌, length, get_or, slice_index, sym, ap, ◌∙◌, arith}
 use Rattle.std.specs.List.{list_all}
 use Rattle.std.proofs.lemmas.Bool.{and_parts, ltb-true}
-use Rattle.std.proofs.lemmas.List.{get_or-map, get_or_append_left, length-map}
+use Rattle.std.proofs.lemmas.List.{get_or-map, get_or_default, length-map}
 use Rattle.flow_graph.specs.declared.graphs.Graph.{Graph}
 use Rattle.flow_graph.specs.declared.nodes.Node.{Node}
 use Rattle.max_flow.specs.declared.answers.Half.{Half}
+use Rattle.max_flow.specs.declared.answers.Half.TheVariants.{Neither}
 use Rattle.max_flow.specs.declared.answers.Solved.{Solved}
-use Rattle.max_flow.specs.Flows.{halves_from, has_first, has_second, member, network_of}
-use Rattle.max_flow.specs.Networks.{capacity_of, leaves, sum_below}
-use Rattle.max_flow.proofs.Graphs.{half_at, length_halves}
+use Rattle.max_flow.specs.Flows.{capacities, is_cut}
+use Rattle.max_flow.specs.Private.Networks.{sum_below}
+use Rattle.max_flow.proofs.NamedFlows.{where_places}
 use Rattle.max_flow.proofs.Sums.{sum_none, sum_suc}
 use Rattle.flow_certificate.specs.Keeping.{is_node}
 use Rattle.flow_certificate.specs.Private.Sides.{cut_below}
-use Rattle.flow_certificate.specs.Private.Sums.{heads_of, tails_of}
 use Rattle.flow_certificate.specs.Verdicts.{cut_in}
-use Rattle.flow_certificate.proofs.Sides.{member_first, member_second}
-
-abbrev is_split : Half → Bool
-is_split half = has_first half && not (has_second half)
 
 pub cut_none : (graph : Graph) (solved : Solved) → cut_below graph solved 0 ≡ 0
 unfolding cut_below
 cut_none graph solved = sum_none _
 
-pub cut_whole : (graph : Graph) (solved : Solved) → cut_below graph solved (length graph.points) ≡ cut_in graph solved
-unfolding cut_below capacity_of
-cut_whole graph solved = ap (λ n. sum_below n (λ i. cond (leaves (network_of graph) (member graph solved.side.points
-    solved.side.relays) i) (slice_index (network_of graph).limits i) 0))
-    (sym (length-map graph.points (λ node. node.capacity)))
-
-leaves_at : (graph : Graph) (solved : Solved) (i : ℕ) (half : Half) → i < length graph.points →
-    length solved.side.points ≡ length graph.points →
-    leaves (network_of graph) (member graph solved.side.points solved.side.relays) i ≡ is_split
-    (get_or solved.side.points i half)
-leaves_at graph solved i half below same =
-    let tail : slice_index (network_of graph).tails i ≡ 2 + 2 * i =
-    get_or_append_left (halves_from 2 (length graph.points)) (tails_of (length graph.points) graph.links) 0 i
-    (let n = length_halves 2 (length graph.points) in omega (arith, n, below))
-    ∙ half_at 2 (length graph.points) i below in
-    let head : slice_index (network_of graph).heads i ≡ 3 + 2 * i =
-    get_or_append_left (halves_from 3 (length graph.points)) (heads_of (length graph.points) graph.links) 0 i
-    (let n = length_halves 3 (length graph.points) in omega (arith, n, below))
-    ∙ half_at 3 (length graph.points) i below in
-    ap (λ (a : Bool). a && not (member graph solved.side.points solved.side.relays (slice_index
-    (network_of graph).heads i))) (ap (member graph solved.side.points solved.side.relays) tail ∙ member_first graph
-    solved.side.points solved.side.relays i half below same)
-    ∙ ap (λ (b : Bool). has_first (get_or solved.side.points i half) && not b)
-    (ap (member graph solved.side.points solved.side.relays) head ∙ member_second graph
-    solved.side.points solved.side.relays i half below same)
+pub cut_whole : (graph : Graph) (solved : Solved) → length solved.side.points ≡ length graph.points →
+    cut_below graph solved (length graph.points) ≡ cut_in graph solved
+unfolding cut_below
+cut_whole graph solved same =
+    ap (λ n. sum_below n (λ i. cond (is_cut (get_or solved.side.points i Neither)) (slice_index (capacities graph) i)
+    0)) (sym same)
+    ∙ where_places is_cut solved.side.points (capacities graph) Neither
+    (length-map graph.points (λ node. node.capacity) ∙ sym same)
 
 pub cut_more : (graph : Graph) (solved : Solved) (i : ℕ) (half : Half) (node : Node) → i < length graph.points →
     length solved.side.points ≡ length graph.points →
-    cut_below graph solved (i + 1) ≡ cut_below graph solved i + cond (is_split (get_or solved.side.points i half))
+    cut_below graph solved (i + 1) ≡ cut_below graph solved i + cond (is_cut (get_or solved.side.points i half))
     ((get_or graph.points i node).capacity) 0
 unfolding cut_below
 cut_more graph solved i half node below same =
-    let term : ℕ → ℕ = λ k. cond (leaves (network_of graph) (member graph solved.side.points
-    solved.side.relays) k) (slice_index (network_of graph).limits k) 0 in
-    let here : term i ≡ cond (is_split (get_or solved.side.points i half)) ((get_or graph.points i node).capacity) 0 =
-    ap (λ (b : Bool). cond b (slice_index (network_of graph).limits i) 0) (leaves_at graph solved i half below same)
-    ∙ ap (λ (n : ℕ). cond (is_split (get_or solved.side.points i half)) n 0)
+    let term : ℕ → ℕ = λ k. cond (is_cut (get_or solved.side.points k Neither)) (slice_index (capacities graph) k) 0 in
+    let here : term i ≡ cond (is_cut (get_or solved.side.points i half)) ((get_or graph.points i node).capacity) 0 =
+    ap (λ (h : Half). cond (is_cut h) (slice_index (capacities graph) i) 0) (get_or_default solved.side.points i Neither
+    half (omega (arith, same, below)))
+    ∙ ap (λ (n : ℕ). cond (is_cut (get_or solved.side.points i half)) n 0)
     (get_or-map (λ (node : Node). node.capacity) graph.points i node 0 below) in
     sum_suc i term ∙ ap (λ (n : ℕ). sum_below i term + n) here
 
@@ -84,11 +63,11 @@ pub record IsCutStep (graph : Graph) (solved : Solved) (i total : ℕ) : Type 0 
 pub cut_step : (graph : Graph) (solved : Solved) (i total part : ℕ) (half : Half) (node : Node) →
     i < length graph.points → length solved.side.points ≡ length graph.points →
     list_all is_node graph.points ≡ true → total ≡ cut_below graph solved i → total ≤ i * 2 ^ 48 →
-    part ≡ cond (is_split (get_or solved.side.points i half)) ((get_or graph.points i node).capacity) 0 →
+    part ≡ cond (is_cut (get_or solved.side.points i half)) ((get_or graph.points i node).capacity) 0 →
     IsCutStep graph solved i (total + part)
 cut_step graph solved i total part half node below same named sum small is =
     let more = cut_more graph solved i half node below same in
-    let low : cond (is_split (get_or solved.side.points i half)) ((get_or graph.points i node).capacity) 0 < 2 ^ 48 =
-    part_small (is_split (get_or solved.side.points i half)) ((get_or graph.points i node).capacity)
+    let low : cond (is_cut (get_or solved.side.points i half)) ((get_or graph.points i node).capacity) 0 < 2 ^ 48 =
+    part_small (is_cut (get_or solved.side.points i half)) ((get_or graph.points i node).capacity)
     (capacity_small graph.points i node named below) in
     record { sum = omega (arith, sum, is, more); small = omega (arith, small, is, low) }

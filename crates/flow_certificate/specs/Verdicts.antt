@@ -1,12 +1,13 @@
 -- What a certificate shows: that its flow is a maximum flow and its side a minimum cut, or the first thing that is
 -- wrong with it.
-use Rattle.std.specs.Prelude.{◌≡◌, ℕ, ◌+◌, ◌*◌, ◌≤◌, ◌<◌, ◌==◌, not, nat_lt, Bool, true, false, List, length, ◌++◌}
+use Rattle.std.specs.Prelude.{◌≡◌, ℕ, ◌+◌, ◌*◌, ◌≤◌, ◌<◌, ◌==◌, not, nat_lt, Bool, true, false, length, take}
 use Rattle.std.specs.Prelude.{slice_index, slice_get, Some}
+use Rattle.std.specs.List.{list_any}
 use Rattle.flow_graph.specs.declared.ends.Arc.{Arc}
 use Rattle.flow_graph.specs.declared.graphs.Graph.{Graph}
 use Rattle.max_flow.specs.declared.answers.Solved.{Solved}
-use Rattle.max_flow.specs.Flows.{IsFlowOf, IsSideOf, flow_value, member, network_of, side_capacity}
-use Rattle.max_flow.specs.Networks.{at_node, leaves}
+use Rattle.max_flow.specs.Flows.{IsFlowOf, IsSideOf, at_point, at_relay, capacities, flow_into, flow_out, flow_value}
+use Rattle.max_flow.specs.Flows.{leads_out, side_capacity}
 use Rattle.flow_certificate.specs.declared.verdicts.Member.{Member}
 use Rattle.flow_certificate.specs.declared.verdicts.Member.TheVariants.{In, Out, Relay}
 use Rattle.flow_certificate.specs.declared.verdicts.CertFault.{CertFault}
@@ -29,31 +30,28 @@ HasNone test from end = (k : ℕ) → from ≤ k → k < end → test k ≡ fals
 
 -- ---- what may be wrong
 
--- what flows through each edge of the graph's network: through the points, and then over the links
-abbrev pub flows_of : Solved → List ℕ
-flows_of solved = solved.flow.points ++ solved.flow.links
-
 -- more flows through a point than its capacity
 abbrev pub is_over : Graph → Solved → ℕ → Bool
-is_over graph solved point =
-    nat_lt (slice_index (network_of graph).limits point) (slice_index (flows_of solved) point)
+is_over graph solved point = nat_lt (slice_index (capacities graph) point) (slice_index solved.flow.points point)
 
--- what flows into a node is not what flows out of it
-abbrev pub is_unbalanced : Graph → Solved → ℕ → Bool
-is_unbalanced graph solved node =
-    not (at_node (network_of graph).heads (flows_of solved) node == at_node (network_of graph).tails (flows_of solved)
-    node)
+-- what flows into a half of a point, or into a relay, is not what flows out of it
+abbrev pub is_unbalanced : Graph → Solved → Member → Bool
+is_unbalanced graph solved (In point) =
+    not (flow_into graph solved.flow.links (at_point point) == slice_index solved.flow.points point)
+is_unbalanced graph solved (Out point) =
+    not (slice_index solved.flow.points point == flow_out graph solved.flow.links (at_point point))
+is_unbalanced graph solved (Relay region) =
+    not (flow_into graph solved.flow.links (at_relay region) == flow_out graph solved.flow.links (at_relay region))
 
 -- a link leaves the source side
-abbrev pub is_across : Graph → Solved → ℕ → Bool
-is_across graph solved link =
-    leaves (network_of graph) (member graph solved.side.points solved.side.relays) (length graph.points + link)
+abbrev pub is_across : Graph → Solved → Arc → Bool
+is_across graph solved link = leads_out graph solved.side.points solved.side.relays link
 
--- the number of a node of the network, where there are so many points
-abbrev pub member_number : ℕ → Member → ℕ
-member_number count (In point) = 2 + 2 * point
-member_number count (Out point) = 3 + 2 * point
-member_number count (Relay region) = 2 + 2 * count + region
+-- the place of a node among those of a graph of so many points: the halves in the order of the points, then the relays
+abbrev pub place_of : ℕ → Member → ℕ
+place_of count (In point) = 2 * point
+place_of count (Out point) = 1 + 2 * point
+place_of count (Relay region) = 2 * count + region
 
 -- the node stands in a graph of so many points
 abbrev pub is_node_of : ℕ → Member → Bool
@@ -67,10 +65,11 @@ abbrev pub HasNoneOver : Graph → Solved → Type 0
 HasNoneOver graph solved = HasNone (is_over graph solved) 0 (length graph.points)
 
 abbrev pub HasNoneUnbalanced : Graph → Solved → Type 0
-HasNoneUnbalanced graph solved = HasNone (is_unbalanced graph solved) 2 ((network_of graph).nodes)
+HasNoneUnbalanced graph solved = (node : Member) → is_node_of (length graph.points) node ≡ true →
+    is_unbalanced graph solved node ≡ false
 
 abbrev pub HasNoneAcross : Graph → Solved → Type 0
-HasNoneAcross graph solved = HasNone (is_across graph solved) 0 (length graph.links)
+HasNoneAcross graph solved = list_any (is_across graph solved) graph.links ≡ false
 
 -- the flow out of the source, and the capacity of the side
 abbrev pub flow_in : Graph → Solved → ℕ
@@ -91,17 +90,25 @@ pub record IsVerified (graph : Graph) (solved : Solved) (value : ℕ) : Type 0 w
 abbrev pub IsOver : Graph → Solved → ℕ → Type 0
 IsOver graph solved point = IsFirst (is_over graph solved) 0 (length graph.points) point
 
--- none is, and this node is the first that is not balanced
+-- this node is the first that is not balanced
+pub record IsFirstUnbalanced (graph : Graph) (solved : Solved) (node : Member) : Type 0 where
+  pub known : is_node_of (length graph.points) node ≡ true
+  pub unbalanced : is_unbalanced graph solved node ≡ true
+  pub before : (other : Member) → is_node_of (length graph.points) other ≡ true →
+      place_of (length graph.points) other < place_of (length graph.points) node →
+      is_unbalanced graph solved other ≡ false
+
+-- none is over its capacity, and this node is the first that is not balanced
 pub record IsUnbalanced (graph : Graph) (solved : Solved) (node : Member) : Type 0 where
   pub none_over : HasNoneOver graph solved
-  pub known : is_node_of (length graph.points) node ≡ true
-  pub first : IsFirst (is_unbalanced graph solved) 2 ((network_of graph).nodes) (member_number (length graph.points) node)
+  pub first : IsFirstUnbalanced graph solved node
 
 -- this link is the first that leaves the source side
 pub record IsFirstAcross (graph : Graph) (solved : Solved) (link : Arc) : Type 0 where
   pub index : ℕ
-  pub first : IsFirst (is_across graph solved) 0 (length graph.links) index
   pub is : slice_get graph.links index ≡ Some link
+  pub across : is_across graph solved link ≡ true
+  pub before : list_any (is_across graph solved) (take index graph.links) ≡ false
 
 -- all are, and this link is the first that leaves the source side
 pub record IsOpenAcross (graph : Graph) (solved : Solved) (link : Arc) : Type 0 where

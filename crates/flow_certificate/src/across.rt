@@ -1,9 +1,7 @@
 ghost use Rattle.std.specs.Prelude.{◌≡◌, None, IfSome, length, true};
 ghost use Rattle.flow_graph.specs.Graphs.{are_relays, is_link, is_origin, is_relay, is_target};
-ghost use Rattle.max_flow.specs.Flows.{has_first as first_in, has_second as second_in, head_of, member, relay_in};
-ghost use Rattle.max_flow.specs.Flows.{tail_of};
-ghost use Rattle.flow_certificate.specs.Verdicts.{HasNoneAcross, IsFirstAcross};
-ghost use Rattle.flow_certificate.specs.Private.Sides.{leads_out};
+ghost use Rattle.max_flow.specs.Flows.{entered_in, has_first as first_in, has_second as second_in, left_in, relay_in};
+ghost use Rattle.flow_certificate.specs.Verdicts.{HasNoneAcross, IsFirstAcross, is_across};
 
 use crate::certificates::Certificate;
 use flow_graph::{Arc, End};
@@ -36,11 +34,11 @@ fn has_relay(relays: &[u16], answers: &[bool], region: u16) -> bool
     }
 }
 
-/// Whether the node that a link leaves is in the side.
+/// Whether what a link leaves is in the side.
 fn has_source(certificate: &Certificate, end: End) -> bool
     requires { is_origin (length certificate.now.graph.points) certificate.now.graph.relays end ≡ true }
-    ensures { result ≡ member certificate.now.graph certificate.now.solved.side.points
-        certificate.now.solved.side.relays (tail_of (length certificate.now.graph.points) end) }
+    ensures { result ≡ left_in certificate.now.graph certificate.now.solved.side.points
+        certificate.now.solved.side.relays end }
 {
     let Certificate { graph, solved } = certificate;
     match end {
@@ -55,11 +53,11 @@ fn has_source(certificate: &Certificate, end: End) -> bool
     }
 }
 
-/// Whether the node that a link enters is in the side.
+/// Whether what a link enters is in the side.
 fn has_target(certificate: &Certificate, end: End) -> bool
     requires { is_target (length certificate.now.graph.points) certificate.now.graph.relays end ≡ true }
-    ensures { result ≡ member certificate.now.graph certificate.now.solved.side.points
-        certificate.now.solved.side.relays (head_of (length certificate.now.graph.points) end) }
+    ensures { result ≡ entered_in certificate.now.graph certificate.now.solved.side.points
+        certificate.now.solved.side.relays end }
 {
     let Certificate { graph, solved } = certificate;
     match end {
@@ -77,7 +75,7 @@ fn has_target(certificate: &Certificate, end: End) -> bool
 /// Whether a link leads out of the side.
 fn is_leaving(certificate: &Certificate, link: &Arc) -> bool
     requires { is_link (length certificate.now.graph.points) certificate.now.graph.relays link.now ≡ true }
-    ensures { result ≡ leads_out certificate.now.graph certificate.now.solved link.now }
+    ensures { result ≡ is_across certificate.now.graph certificate.now.solved link.now }
 {
     has_source(certificate, link.source) && !has_target(certificate, link.target)
 }

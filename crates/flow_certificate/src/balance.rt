@@ -1,8 +1,8 @@
 ghost use Rattle.std.specs.Prelude.{◌≡◌, ◌+◌, ◌*◌, ◌≤◌, ◌<◌, None, IfSome, length, true};
-ghost use Rattle.max_flow.specs.Flows.{network_of};
-ghost use Rattle.flow_certificate.specs.Private.Sums.{AreZero, differ_at};
-ghost use Rattle.flow_certificate.specs.Verdicts.{HasNone, HasNoneUnbalanced, IsFirst, is_node_of, is_unbalanced};
-ghost use Rattle.flow_certificate.specs.Verdicts.{member_number};
+ghost use Rattle.max_flow.specs.Private.GraphNetworks.{network_of};
+ghost use Rattle.flow_certificate.specs.Private.Sums.{AreZero, differ_at, is_uneven};
+ghost use Rattle.flow_certificate.specs.Verdicts.{HasNone, HasNoneUnbalanced, IsFirst, IsFirstUnbalanced, is_node_of};
+ghost use Rattle.flow_certificate.specs.Verdicts.{place_of};
 
 use crate::certificates::Certificate;
 use crate::sums::{sum_inflows, sum_outflows};
@@ -37,9 +37,9 @@ fn first_difference(first: &[u128], second: &[u128], width: usize) -> Option<usi
 fn unbalanced_from(certificate: &Certificate, base: usize, width: usize) -> Option<usize>
     requires width { width ≤ 4096 }
     requires fits { base + width < 18446744073709551616 }
-    ensures some { IfSome result (λ node. IsFirst (is_unbalanced certificate.now.graph certificate.now.solved) base
+    ensures some { IfSome result (λ node. IsFirst (is_uneven certificate.now.graph certificate.now.solved) base
         (base + width) node) }
-    ensures none { result ≡ None → HasNone (is_unbalanced certificate.now.graph certificate.now.solved) base (base +
+    ensures none { result ≡ None → HasNone (is_uneven certificate.now.graph certificate.now.solved) base (base +
         width) }
 {
     let mut inflows = no_sums();
@@ -57,7 +57,7 @@ fn node_at(count: usize, number: usize) -> Member
     requires count { count < 4294967296 }
     requires from_on { 2 ≤ number }
     requires below { number < 2 + 2 * count + 65536 }
-    ensures number { member_number count result ≡ number }
+    ensures place { 2 + place_of count result ≡ number }
     ensures known { is_node_of count result ≡ true }
 {
     if number >= 2 + 2 * count {
@@ -71,23 +71,34 @@ fn node_at(count: usize, number: usize) -> Member
     }
 }
 
-/// The first half or relay at which as much does not flow in as out, if any. It makes one pass over the links for each
-/// block of nodes.
-pub fn first_unbalanced(certificate: &Certificate) -> Option<Member>
-    ensures some { IfSome result (λ node. IsFirst (is_unbalanced certificate.now.graph certificate.now.solved) 2
-        ((network_of certificate.now.graph).nodes) (member_number (length certificate.now.graph.points) node)) }
-    ensures known { IfSome result (λ node. is_node_of (length certificate.now.graph.points) node ≡ true) }
-    ensures none { result ≡ None → HasNoneUnbalanced certificate.now.graph certificate.now.solved }
+/// The number of the first half or relay at which as much does not flow in as out, if any. It makes one pass over the
+/// links for each block of nodes.
+fn first_uneven(certificate: &Certificate) -> Option<usize>
+    ensures some { IfSome result (λ node. IsFirst (is_uneven certificate.now.graph certificate.now.solved) 2
+        ((network_of certificate.now.graph).nodes) node) }
+    ensures none { result ≡ None → HasNone (is_uneven certificate.now.graph certificate.now.solved) 2
+        ((network_of certificate.now.graph).nodes) }
 {
-    let count = certificate.graph.points.len();
-    let end = 2 + 2 * count + 65536;
+    let end = 2 + 2 * certificate.graph.points.len() + 65536;
     let mut base = 2;
     while base < end {
         let width = BLOCK.min(end - base);
         if let Some(number) = unbalanced_from(certificate, base, width) {
-            return Some(node_at(count, number));
+            return Some(number);
         }
         base += width;
     }
     None
+}
+
+/// The first half or relay at which as much does not flow in as out, if any.
+pub fn first_unbalanced(certificate: &Certificate) -> Option<Member>
+    ensures some { IfSome result (IsFirstUnbalanced certificate.now.graph certificate.now.solved) }
+    ensures none { result ≡ None → HasNoneUnbalanced certificate.now.graph certificate.now.solved }
+{
+    let count = certificate.graph.points.len();
+    match first_uneven(certificate) {
+        Some(number) => Some(node_at(count, number)),
+        None => None,
+    }
 }

@@ -1,8 +1,7 @@
 ghost use Rattle.std.specs.Prelude.{◌≡◌, ℕ, ◌+◌, ◌^◌, ◌<◌, length, slice_index};
-ghost use Rattle.max_flow.specs.Flows.{halves_from, network_of};
+ghost use Rattle.max_flow.specs.Private.GraphNetworks.{halves_from, network_of};
 ghost use Rattle.flow_certificate.specs.Private.Sums.{AreAdded, AreSmall, AreZero, HaveRoom, HaveSums, brought, given, heads_of};
-ghost use Rattle.flow_certificate.specs.Private.Sums.{tails_of};
-ghost use Rattle.flow_certificate.specs.Verdicts.{flows_of};
+ghost use Rattle.flow_certificate.specs.Private.Sums.{flows_of, tails_of};
 
 use crate::certificates::Certificate;
 use flow_graph::Arc;

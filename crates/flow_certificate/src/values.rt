@@ -1,5 +1,5 @@
-ghost use Rattle.std.specs.Prelude.{◌≡◌, ◌&&◌, cond, not};
-ghost use Rattle.max_flow.specs.Flows.{has_first as first_in, has_second as second_in};
+ghost use Rattle.std.specs.Prelude.{◌≡◌, cond};
+ghost use Rattle.max_flow.specs.Flows.{is_cut};
 ghost use Rattle.flow_certificate.specs.Verdicts.{cut_in, flow_in};
 
 use crate::certificates::Certificate;
@@ -17,7 +17,7 @@ pub fn source_outflow(certificate: &Certificate) -> u128
 
 /// What a point adds to the capacity of the side: its own, where its first half alone is in it.
 fn part_of(half: Half, capacity: u128) -> u128
-    ensures { result ≡ cond (first_in half && not (second_in half)) capacity 0 }
+    ensures { result ≡ cond (is_cut half) capacity 0 }
 {
     match half {
         Half::FirstOnly => capacity,

@@ -388,6 +388,14 @@ no_node graph flow v past =
     let inside : slice_index (network_of graph).tails i < (network_of graph).nodes = net.tails_inside i below in
     omega (arith, inside, e, past)))
 
+-- nor over a link from or to the relay of what is no number of a region
+pub unknown_relay : (graph : Graph) (points links : List ℕ) (r : ℕ) → AreFor graph points links → 65536 ≤ r →
+    flow_into graph links (at_relay r) ≡ flow_out graph links (at_relay r)
+unknown_relay graph points links r counts past =
+    sym (into_relay graph points links r counts)
+    ∙ (no_node graph (points ++ links) (2 + 2 * length graph.points + r) (omega (arith, past))
+    ∙ out_relay graph points links r counts)
+
 balanced_anywhere : (graph : Graph) (flow : List ℕ) → IsFlow (network_of graph) flow → (v : ℕ) → 2 ≤ v →
     at_node (network_of graph).heads flow v ≡ at_node (network_of graph).tails flow v
 balanced_anywhere graph flow is v from = ⊎_elim

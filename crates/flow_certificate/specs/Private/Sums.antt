@@ -1,8 +1,21 @@
 -- The sums at a block of neighbouring nodes, as far as a walk over the edges has come.
-use Rattle.std.specs.Prelude.{◌≡◌, ℕ, ◌+◌, ◌^◌, ◌<◌, ◌==◌, cond, not, Bool, List, length, map, slice_index}
+use Rattle.std.specs.Prelude.{◌≡◌, ℕ, ◌+◌, ◌^◌, ◌<◌, ◌==◌, ◌++◌, cond, not, Bool, List, length, map, slice_index}
 use Rattle.flow_graph.specs.declared.ends.Arc.{Arc}
-use Rattle.max_flow.specs.Flows.{head_of, tail_of}
-use Rattle.max_flow.specs.Networks.{at_node, sum_below}
+use Rattle.flow_graph.specs.declared.graphs.Graph.{Graph}
+use Rattle.max_flow.specs.declared.answers.Solved.{Solved}
+use Rattle.max_flow.specs.NodeNumbers.{head_of, tail_of}
+use Rattle.max_flow.specs.Private.GraphNetworks.{network_of}
+use Rattle.max_flow.specs.Private.Networks.{at_node, sum_below}
+
+-- what flows through each edge of the graph's network: through the points, and then over the links
+abbrev pub flows_of : Solved → List ℕ
+flows_of solved = solved.flow.points ++ solved.flow.links
+
+-- what flows into the node with a number is not what flows out of it
+abbrev pub is_uneven : Graph → Solved → ℕ → Bool
+is_uneven graph solved node =
+    not (at_node (network_of graph).heads (flows_of solved) node == at_node (network_of graph).tails (flows_of solved)
+    node)
 
 -- what the first n edges bring to a node
 unfoldable pub brought : List ℕ → List ℕ → ℕ → ℕ → ℕ

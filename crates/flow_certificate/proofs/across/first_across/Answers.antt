@@ -1,6 +1,5 @@
 use Rattle.std.proofs.Common.{◌<◌, length, sym, ◌∙◌}
-use Rattle.flow_certificate.specs.Verdicts.{is_across}
-use Rattle.flow_certificate.proofs.Sides.{across_at, first_link, none_more}
+use Rattle.flow_certificate.proofs.Sides.{first_link, none_across_more}
 use Rattle.flow_certificate.proofs.across.first_across.Goals as goal
 
 pub returns-then-is_leaving-clause-some : goal.returns-then-is_leaving-clause-some
@@ -16,6 +15,5 @@ loop-link-preserved c =
     let t = c.args.certificate.now in
     let items = c.as_slice-link-items.ensures in
     let below : c.loop-link.link-index < length t.graph.links = rw items at c.loop-link-test.true in
-    none_more (is_across t.graph t.solved) c.loop-link.link-index c.loop-link.invariant
-    (across_at t.graph t.solved c.loop-link.link-index _ below ∙ (sym (rw items at c.is_leaving.ensures)
-    ∙ c.if-is_leaving.false))
+    none_across_more t.graph t.solved c.loop-link.link-index _ below c.loop-link.invariant
+    (sym (rw items at c.is_leaving.ensures) ∙ c.if-is_leaving.false)

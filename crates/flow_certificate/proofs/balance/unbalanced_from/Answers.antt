@@ -1,6 +1,6 @@
 use Rattle.std.proofs.Common.{refl, arith}
-use Rattle.max_flow.specs.Flows.{network_of}
-use Rattle.flow_certificate.specs.Verdicts.{flows_of}
+use Rattle.max_flow.specs.Private.GraphNetworks.{network_of}
+use Rattle.flow_certificate.specs.Private.Sums.{flows_of}
 use Rattle.flow_certificate.proofs.Blocks.{first_differs, none_differs}
 use Rattle.flow_certificate.proofs.balance.unbalanced_from.Goals as goal
 

@@ -1,5 +1,5 @@
 use Rattle.std.proofs.Common.{length, sym, refl, arith}
-use Rattle.max_flow.specs.Flows.{halves_from}
+use Rattle.max_flow.specs.Private.GraphNetworks.{halves_from}
 use Rattle.max_flow.proofs.Graphs.{half_at}
 use Rattle.flow_certificate.proofs.Counters.{added_none, added_more, added_room}
 use Rattle.flow_certificate.proofs.sums.add_points.Goals as goal

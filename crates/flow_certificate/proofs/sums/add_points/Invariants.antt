@@ -1,5 +1,5 @@
 use Rattle.std.proofs.Common.{length}
-use Rattle.max_flow.specs.Flows.{halves_from}
+use Rattle.max_flow.specs.Private.GraphNetworks.{halves_from}
 use Rattle.flow_certificate.specs.Private.Sums.{AreAdded, brought}
 use Rattle.flow_certificate.proofs.sums.add_points.Given as goal
 

@@ -1,6 +1,6 @@
 use Rattle.std.proofs.Common.{◌≡◌, ℕ, ◌∙◌, length, sym, subst, arith}
 use Rattle.std.proofs.lemmas.List.{length-map}
-use Rattle.max_flow.specs.Flows.{halves_from}
+use Rattle.max_flow.specs.Private.GraphNetworks.{halves_from}
 use Rattle.max_flow.proofs.Graphs.{length_halves}
 use Rattle.flow_certificate.specs.Private.Sums.{AreAdded, brought, heads_of}
 use Rattle.flow_certificate.proofs.SmallNumbers.{all_small}

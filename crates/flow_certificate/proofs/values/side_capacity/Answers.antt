@@ -24,4 +24,4 @@ returns c =
     let past : length t.graph.points ≤ c.loop-i.i = rw c.as_slice-node-items.ensures at c.loop-i-test.false in
     let within : c.loop-i.i ≤ length t.graph.points = rw c.as_slice-node-items.ensures at c.loop-i.auto.i-end in
     let end : c.loop-i.i ≡ length t.graph.points = omega (arith, past, within) in
-    c.loop-i.invariant.sum ∙ (ap (cut_below t.graph t.solved) end ∙ cut_whole t.graph t.solved)
+    c.loop-i.invariant.sum ∙ (ap (cut_below t.graph t.solved) end ∙ cut_whole t.graph t.solved t.halves)
