@@ -1,4 +1,4 @@
-ghost use Rattle.std.specs.Prelude.{◌≡◌, ◌<◌, ◌≤◌, ◌^◌, Some, OnOk, IsTrue};
+ghost use Rattle.std.specs.Prelude.{◌≡◌, ◌<◌, ◌≤◌, ◌≢◌, ◌^◌, Some, OnOk, OnErr, IsTrue};
 ghost use Rattle.flow_base.specs.Guests.{is_inside};
 ghost use Rattle.rv32im_machine.specs.Playing.{IsAim, IsPlace};
 ghost use Rattle.shadow_masks.specs.Labels.{IsLabel};
@@ -52,7 +52,7 @@ fn put_register(shadow: &mut Shadow, held: Held, register: u8, label: Label)
 }
 
 /// A byte gets a label, whose mask has at most 8 bits.
-/// `NoMemory` where there is not enough.
+/// `NoMemory` where there is not enough; a label that the byte has takes none.
 #[inline(always)]
 fn put_byte(shadow: &mut Shadow, held: Held, address: u32, label: Label) -> Result<(), NoMemory>
     requires inside { IsTrue (is_inside shadow.old.base address 1) }
@@ -61,12 +61,13 @@ fn put_byte(shadow: &mut Shadow, held: Held, address: u32, label: Label) -> Resu
     ensures base { shadow.new.base ≡ shadow.old.base }
     ensures put { OnOk result
         (labels_of shadow.new held ≡ label_put (Place.Byte address) label (labels_of shadow.old held)) }
+    ensures other { OnErr result (label_of_place (labels_of shadow.old held) (Place.Byte address) ≢ label) }
 {
     shadow.set_byte(address, label)
 }
 
 /// A place gets a label.
-/// `NoMemory` where there is not enough.
+/// `NoMemory` where there is not enough; a label that the place has takes none.
 #[inline(always)]
 pub(crate) fn put_label(
     shadow: &mut Shadow,
@@ -80,6 +81,7 @@ pub(crate) fn put_label(
     ensures base { shadow.new.base ≡ shadow.old.base }
     ensures put { OnOk result
         (labels_of shadow.new held.new ≡ label_put place label (labels_of shadow.old held.old)) }
+    ensures other { OnErr result (label_of_place (labels_of shadow.old held.old) place ≢ label) }
 {
     match place {
         Place::Register(register) => {
