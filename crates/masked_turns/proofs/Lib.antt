@@ -7,3 +7,4 @@ pub mod RunsBegin
 pub mod GuestStates
 pub mod MovesAgree
 pub mod RegionsKeepStanding
+pub mod NarrowMasks

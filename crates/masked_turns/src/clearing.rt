@@ -1,6 +1,6 @@
-ghost use Rattle.std.specs.Prelude.{◌≡◌, Some, IfOk, IsTrue};
+ghost use Rattle.std.specs.Prelude.{◌≡◌, ◌≤◌, Some, IfOk, IsTrue};
 ghost use Rattle.flow_base.specs.Points.{is_slot};
-ghost use Rattle.rv32im_machine.specs.Playing.{IsAim, AreSources};
+ghost use Rattle.rv32im_machine.specs.Playing.{IsAim, AreSources, FitsAim, FitsSlot, joins_bytes};
 ghost use Rattle.tracked_run.specs.Labels.{labels_of};
 ghost use Rattle.masked_turns.specs.Clearing.{aimed_mask as mask_aimed, uncrossed as mask_uncrossed};
 ghost use Rattle.masked_turns.specs.Deciding.{first_left, left_at};
@@ -35,7 +35,8 @@ pub fn aimed_mask(aim: Aim, slot: Slot, skipped: bool, mask: u32) -> u32
 /// Of a mask the bits that do not cross.
 #[inline(always)]
 pub fn uncrossed(mask: u32, crossing: u32) -> u32
-    ensures { result ≡ mask_uncrossed mask crossing }
+    ensures uncrossed { result ≡ mask_uncrossed mask crossing }
+    ensures below { result ≤ mask }
 {
     mask & !crossing
 }
@@ -55,15 +56,16 @@ pub fn note_cleared(
     requires slot { IsTrue (is_slot passing.point.slot) }
     requires aim { IsAim (Some shadow.old.base) passing.aim }
     requires sources { AreSources (Some shadow.old.base) passing.sources }
+    requires joins { IsTrue (joins_bytes passing.work passing.sources) }
+    requires byte { FitsSlot passing.point.slot passing.work passing.sources }
+    requires fits { FitsAim passing.aim passing.point.slot }
     ensures base { shadow.new.base ≡ shadow.old.base }
     ensures notes { IfOk result (λ mask. Clears book.now.table skipped crossing (labels_of shadow.old held.old) passing
         (labels_of shadow.new held.new) mask) }
 {
     let masks = masks_of_sources(shadow, *held, passing.sources);
     let answer = answer_of(book, passing.work, masks);
-    let Some(made) = work_mask(passing.work, masks, answer) else {
-        return Err(NoMemory);
-    };
+    let made = work_mask(passing.work, masks, answer);
     let mask = uncrossed(
         aimed_mask(passing.aim, passing.point.slot, skipped, made),
         crossing,
