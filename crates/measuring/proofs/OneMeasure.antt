@@ -92,8 +92,7 @@ one_measure_of secret_len events one other is also =
     let there : Least one.graph other.side.points other.side.relays =
     subst (λ (g : Graph). Least g other.side.points other.side.relays) (sym graph) also.side in
     let sides : AreSameSides one.side.points other.side.points one.side.relays other.side.relays =
-    one_least_side events one.graph one.side.points other.side.points one.side.relays other.side.relays is.graph
-    is.side there in
+    one_least_side one.graph one.side.points other.side.points one.side.relays other.side.relays is.side there in
     let side : one.side ≡ other.side = sides_same one.side other.side sides.points_are sides.relays_are in
     let of_graph : IsCutOf secret_len events (named_side one.graph other.side.points other.side.relays) other.value
     (cut_picture other.cut) = subst (λ (g : Graph). IsCutOf secret_len events

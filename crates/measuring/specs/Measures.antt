@@ -7,8 +7,7 @@ use Rattle.enclosure_regions.specs.declared.region_parts.Region.{Region}
 use Rattle.flow_graph.specs.declared.events.Event.{Event}
 use Rattle.flow_graph.specs.EventGraphs.{IsGraphOf}
 use Rattle.location_collapse.specs.Limits.{ExceedsLimit}
-use Rattle.max_flow.specs.Networks.{AreAtMost}
-use Rattle.max_flow.specs.Flows.{HasNoGreater, IsFlowOf, Least, flow_value, side_capacity}
+use Rattle.max_flow.specs.Flows.{AreAtMost, HasNoGreater, IsFlowOf, Least, flow_value, side_capacity}
 use Rattle.run_labels.specs.Runs.{LabelledRun, run_after}
 use Rattle.run_labels.specs.declared.faults.MeasureFault.{MeasureFault}
 use Rattle.run_labels.specs.declared.faults.MeasureFault.TheVariants.{TurnLimit, Guest, Region as RegionFault}
