@@ -10,8 +10,7 @@ use Rattle.flow_base.specs.declared.outputs.Output.{Output}
 use Rattle.flow_graph.specs.declared.events.Event.{Event}
 use Rattle.flow_graph.specs.EventGraphs.{IsGraphOf}
 use Rattle.location_collapse.specs.Limits.{ExceedsLimit}
-use Rattle.max_flow.specs.Networks.{AreAtMost}
-use Rattle.max_flow.specs.Flows.{HasNoGreater, IsFlowOf, Least, flow_value, side_capacity}
+use Rattle.max_flow.specs.Flows.{AreAtMost, HasNoGreater, IsFlowOf, Least, flow_value, side_capacity}
 use Rattle.measuring.specs.RunCauses.{Exits}
 use Rattle.region_machine.specs.Starts.{guest}
 use Rattle.run_labels.specs.Runs.{LabelledRun, run_after, unlabelled}
