@@ -1,4 +1,4 @@
-ghost use Rattle.std.specs.Prelude.{◌≡◌, ◌∷◌, [], None, Ok, IfOk, IfSome, codes};
+ghost use Rattle.std.specs.Prelude.{◌≡◌, ◌∷◌, [], None, IfSome, codes};
 ghost use Rattle.command_line.specs.CommandLines.{AllSecrets, IsAllSecrets, check_options};
 ghost use Rattle.command_line.specs.Parts.{are_taken as are_taken_of};
 ghost use Rattle.command_line.specs.Words.{all_secrets_of, parts_in};
@@ -8,8 +8,6 @@ use crate::guests::GuestWords;
 use crate::numbers::{choice_in, limits_of, paths_of};
 use crate::option_words::{are_taken, has_option, value_of};
 use crate::parts::Parts;
-use flow_base::NoMemory;
-use std::alloc::Global;
 
 /// Whether no option stands there but those of a bound.
 fn are_of_bound(parts: &Parts) -> bool
@@ -21,30 +19,27 @@ fn are_of_bound(parts: &Parts) -> bool
 }
 
 /// The bound that the words after `bound` name; None exactly where they name none.
-pub fn all_secrets_words<'a>(
-    alloc: Global,
-    parts: &Parts<'a>,
-) -> Result<Option<AllSecretsWords<'a>>, NoMemory>
-    ensures is { IfOk result (λ found. IfSome found (λ all. IsAllSecrets (parts_in parts.now) (all_secrets_of all))) }
-    ensures none { result ≡ Ok None → (all : AllSecrets) → ¬ IsAllSecrets (parts_in parts.now) all }
+pub fn all_secrets_words<'a>(parts: &Parts<'a>) -> Option<AllSecretsWords<'a>>
+    ensures is { IfSome result (λ all. IsAllSecrets (parts_in parts.now) (all_secrets_of all)) }
+    ensures none { result ≡ None → (all : AllSecrets) → ¬ IsAllSecrets (parts_in parts.now) all }
 {
     let [program, public_input, cut, budget] = parts.plain.as_slice() else {
-        return Ok(None);
+        return None;
     };
     if !are_of_bound(parts) {
-        return Ok(None);
+        return None;
     }
-    let Some(limits) = limits_of(alloc, budget, parts)? else {
-        return Ok(None);
+    let Some(limits) = limits_of(budget, parts) else {
+        return None;
     };
-    let Some(table) = choice_in(alloc, parts, "--rules")? else {
-        return Ok(None);
+    let Some(table) = choice_in(parts, "--rules") else {
+        return None;
     };
     let options = parts.options.as_slice();
-    let Some(paths) = paths_of(alloc, value_of(options, "--paths"))? else {
-        return Ok(None);
+    let Some(paths) = paths_of(value_of(options, "--paths")) else {
+        return None;
     };
-    Ok(Some(AllSecretsWords {
+    Some(AllSecretsWords {
         guest: GuestWords {
             program: *program,
             public_input: *public_input,
@@ -55,5 +50,5 @@ pub fn all_secrets_words<'a>(
         table,
         paths,
         listed: has_option(options, "--list"),
-    }))
+    })
 }

@@ -35,7 +35,7 @@ pub fn check_words<'a>(
     if !are_taken(options, allowed, &[]) {
         return Ok(None);
     }
-    let Some(limits) = limits_of(alloc, budget, parts)? else {
+    let Some(limits) = limits_of(budget, parts) else {
         return Ok(None);
     };
     Ok(Some(CheckWords {

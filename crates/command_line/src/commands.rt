@@ -98,7 +98,7 @@ fn taint_row<'a>(alloc: Global, parts: &Parts<'a>) -> Result<Option<CommandWords
         command))) }
     ensures none { result ≡ Ok None → (command : Command) → ¬ Fits names.Taint (parts_in parts.now) command }
 {
-    let Some(table) = choice_in(alloc, parts, "--rules")? else {
+    let Some(table) = choice_in(parts, "--rules") else {
         return Ok(None);
     };
     let allowed = ["--rules", "--turns", "--regions"];
@@ -109,33 +109,27 @@ fn taint_row<'a>(alloc: Global, parts: &Parts<'a>) -> Result<Option<CommandWords
 }
 
 /// The bound that the words after `bound` name; None exactly where they name none.
-fn bound_row<'a>(alloc: Global, parts: &Parts<'a>) -> Result<Option<CommandWords<'a>>, NoMemory>
+fn bound_row<'a>(parts: &Parts<'a>) -> Result<Option<CommandWords<'a>>, NoMemory>
     ensures is { IfOk result (λ found. IfSome found (λ command. Fits names.Bound (parts_in parts.now) (command_of
         command))) }
     ensures none { result ≡ Ok None → (command : Command) → ¬ Fits names.Bound (parts_in parts.now) command }
 {
-    let Some(all) = all_secrets_words(alloc, parts)? else {
+    let Some(all) = all_secrets_words(parts) else {
         return Ok(None);
     };
     Ok(Some(CommandWords::Bound(all)))
 }
 
 /// The cut of the run that the words after `measure` name; None exactly where they name none.
-fn measure_row<'a>(alloc: Global, parts: &Parts<'a>) -> Result<Option<CommandWords<'a>>, NoMemory>
+fn measure_row<'a>(parts: &Parts<'a>) -> Result<Option<CommandWords<'a>>, NoMemory>
     ensures is { IfOk result (λ found. IfSome found (λ command. Fits names.Measure (parts_in parts.now) (command_of
         command))) }
     ensures none { result ≡ Ok None → (command : Command) → ¬ Fits names.Measure (parts_in parts.now) command }
 {
-    let Some(version) = choice_in(alloc, parts, "--cut")? else {
+    let Some(version) = choice_in(parts, "--cut") else {
         return Ok(None);
     };
-    let Some(run) = run_words(
-        alloc,
-        parts,
-        &["--cut", "--turns", "--regions", "--rules"],
-        &[],
-    )?
-    else {
+    let Some(run) = run_words(parts, &["--cut", "--turns", "--regions", "--rules"], &[]) else {
         return Ok(None);
     };
     Ok(Some(CommandWords::Tell {
@@ -153,7 +147,7 @@ fn measure_all_row<'a>(
         command))) }
     ensures none { result ≡ Ok None → (command : Command) → ¬ Fits names.MeasureAll (parts_in parts.now) command }
 {
-    let Some(version) = choice_in(alloc, parts, "--cut")? else {
+    let Some(version) = choice_in(parts, "--cut") else {
         return Ok(None);
     };
     let Some(runs) = many_runs_words(alloc, parts)? else {
@@ -163,12 +157,12 @@ fn measure_all_row<'a>(
 }
 
 /// The certificate of the run that the words after `graph` name; None exactly where they name none.
-fn graph_row<'a>(alloc: Global, parts: &Parts<'a>) -> Result<Option<CommandWords<'a>>, NoMemory>
+fn graph_row<'a>(parts: &Parts<'a>) -> Result<Option<CommandWords<'a>>, NoMemory>
     ensures is { IfOk result (λ found. IfSome found (λ command. Fits names.Graph (parts_in parts.now) (command_of
         command))) }
     ensures none { result ≡ Ok None → (command : Command) → ¬ Fits names.Graph (parts_in parts.now) command }
 {
-    let Some(run) = run_words(alloc, parts, &["--turns", "--regions", "--rules"], &[])? else {
+    let Some(run) = run_words(parts, &["--turns", "--regions", "--rules"], &[]) else {
         return Ok(None);
     };
     Ok(Some(CommandWords::Tell {
@@ -178,18 +172,12 @@ fn graph_row<'a>(alloc: Global, parts: &Parts<'a>) -> Result<Option<CommandWords
 }
 
 /// The report of the run that the words after `report` name; None exactly where they name none.
-fn report_row<'a>(alloc: Global, parts: &Parts<'a>) -> Result<Option<CommandWords<'a>>, NoMemory>
+fn report_row<'a>(parts: &Parts<'a>) -> Result<Option<CommandWords<'a>>, NoMemory>
     ensures is { IfOk result (λ found. IfSome found (λ command. Fits names.Report (parts_in parts.now) (command_of
         command))) }
     ensures none { result ≡ Ok None → (command : Command) → ¬ Fits names.Report (parts_in parts.now) command }
 {
-    let Some(run) = run_words(
-        alloc,
-        parts,
-        &["--turns", "--regions", "--rules"],
-        &["--json"],
-    )?
-    else {
+    let Some(run) = run_words(parts, &["--turns", "--regions", "--rules"], &["--json"]) else {
         return Ok(None);
     };
     let json = has_option(parts.options.as_slice(), "--json");
@@ -200,12 +188,12 @@ fn report_row<'a>(alloc: Global, parts: &Parts<'a>) -> Result<Option<CommandWord
 }
 
 /// The declaration of the run that the words after `learn` name; None exactly where they name none.
-fn learn_row<'a>(alloc: Global, parts: &Parts<'a>) -> Result<Option<CommandWords<'a>>, NoMemory>
+fn learn_row<'a>(parts: &Parts<'a>) -> Result<Option<CommandWords<'a>>, NoMemory>
     ensures is { IfOk result (λ found. IfSome found (λ command. Fits names.Learn (parts_in parts.now) (command_of
         command))) }
     ensures none { result ≡ Ok None → (command : Command) → ¬ Fits names.Learn (parts_in parts.now) command }
 {
-    let Some(run) = learn_words(alloc, parts)? else {
+    let Some(run) = learn_words(parts) else {
         return Ok(None);
     };
     Ok(Some(CommandWords::Tell {
@@ -263,26 +251,26 @@ fn migrate_row<'a>(parts: &Parts<'a>) -> Result<Option<CommandWords<'a>>, NoMemo
 }
 
 /// The number that the words after `trial` name; None exactly where they name none.
-fn trial_number(alloc: Global, parts: &Parts) -> Result<Option<u32>, NoMemory>
-    ensures is { IfOk result (λ found. IfSome found (λ number. IsTrial (parts_in parts.now) number)) }
-    ensures none { result ≡ Ok None → (number : ℕ) → ¬ IsTrial (parts_in parts.now) number }
+fn trial_number(parts: &Parts) -> Option<u32>
+    ensures is { IfSome result (λ number. IsTrial (parts_in parts.now) number) }
+    ensures none { result ≡ None → (number : ℕ) → ¬ IsTrial (parts_in parts.now) number }
 {
     if !parts.options.as_slice().is_empty() {
-        return Ok(None);
+        return None;
     }
     match parts.plain.as_slice() {
-        [word] => number_of(alloc, *word, 0, u32::MAX),
-        _ => Ok(None),
+        [word] => number_of(*word, 0, u32::MAX),
+        _ => None,
     }
 }
 
 /// The trial that the words after `trial` name; None exactly where they name none.
-fn trial_row<'a>(alloc: Global, parts: &Parts<'a>) -> Result<Option<CommandWords<'a>>, NoMemory>
+fn trial_row<'a>(parts: &Parts<'a>) -> Result<Option<CommandWords<'a>>, NoMemory>
     ensures is { IfOk result (λ found. IfSome found (λ command. Fits names.Trial (parts_in parts.now) (command_of
         command))) }
     ensures none { result ≡ Ok None → (command : Command) → ¬ Fits names.Trial (parts_in parts.now) command }
 {
-    let Some(number) = trial_number(alloc, parts)? else {
+    let Some(number) = trial_number(parts) else {
         return Ok(None);
     };
     Ok(Some(CommandWords::Trial { number }))
@@ -300,17 +288,17 @@ fn row_of<'a>(
     match name {
         CommandName::Check => check_row(alloc, parts),
         CommandName::Taint => taint_row(alloc, parts),
-        CommandName::Bound => bound_row(alloc, parts),
-        CommandName::Measure => measure_row(alloc, parts),
+        CommandName::Bound => bound_row(parts),
+        CommandName::Measure => measure_row(parts),
         CommandName::MeasureAll => measure_all_row(alloc, parts),
-        CommandName::Graph => graph_row(alloc, parts),
-        CommandName::Report => report_row(alloc, parts),
-        CommandName::Learn => learn_row(alloc, parts),
+        CommandName::Graph => graph_row(parts),
+        CommandName::Report => report_row(parts),
+        CommandName::Learn => learn_row(parts),
         CommandName::Assemble => assemble_row(parts),
         CommandName::List => list_row(parts),
         CommandName::Verify => verify_row(parts),
         CommandName::Migrate => migrate_row(parts),
-        CommandName::Trial => trial_row(alloc, parts),
+        CommandName::Trial => trial_row(parts),
     }
 }
 

@@ -12,29 +12,24 @@ use std::alloc::Global;
 
 /// The run that the words after a command name, of which none but these options and flags may stand there; None exactly
 /// where they name none.
-pub fn run_words<'a>(
-    alloc: Global,
-    parts: &Parts<'a>,
-    allowed: &[&str],
-    flags: &[&str],
-) -> Result<Option<RunWords<'a>>, NoMemory>
-    ensures is { IfOk result (λ found. IfSome found (λ run. IsRun (map (λ name. name.now) allowed.now) (map (λ name.
-        name.now) flags.now) (parts_in parts.now) (run_of run))) }
-    ensures none { result ≡ Ok None → (run : Run) → ¬ IsRun (map (λ name. name.now) allowed.now) (map (λ name.
+pub fn run_words<'a>(parts: &Parts<'a>, allowed: &[&str], flags: &[&str]) -> Option<RunWords<'a>>
+    ensures is { IfSome result (λ run. IsRun (map (λ name. name.now) allowed.now) (map (λ name.
+        name.now) flags.now) (parts_in parts.now) (run_of run)) }
+    ensures none { result ≡ None → (run : Run) → ¬ IsRun (map (λ name. name.now) allowed.now) (map (λ name.
         name.now) flags.now) (parts_in parts.now) run }
 {
     let options = parts.options.as_slice();
     if !are_taken(options, allowed, flags) {
-        return Ok(None);
+        return None;
     }
     let [program, public_input, secret] = parts.plain.as_slice() else {
-        return Ok(None);
+        return None;
     };
-    let Some(asked) = turns_and_table(alloc, parts)? else {
-        return Ok(None);
+    let Some(asked) = turns_and_table(parts) else {
+        return None;
     };
     let (turns, table) = asked;
-    Ok(Some(RunWords {
+    Some(RunWords {
         guest: GuestWords {
             program: *program,
             public_input: *public_input,
@@ -43,7 +38,7 @@ pub fn run_words<'a>(
         secret: *secret,
         turns,
         table,
-    }))
+    })
 }
 
 /// The runs that the words after `measure-all` name; None exactly where they name none.
@@ -64,7 +59,7 @@ pub fn many_runs_words<'a>(
     if secrets.is_empty() || secrets.len() > 64 {
         return Ok(None);
     }
-    let Some(asked) = turns_and_table(alloc, parts)? else {
+    let Some(asked) = turns_and_table(parts) else {
         return Ok(None);
     };
     let (turns, table) = asked;

@@ -17,26 +17,26 @@ four_mapped : {T B : Type 0} (f : T → B) (ws plain : List T) (other : T) → w
     map f plain ≡ f (slice_index_or ws 0 other) ∷ f (slice_index_or ws 1 other) ∷ f (slice_index_or ws 2 other) ∷ f (slice_index_or ws 3 other) ∷ []
 four_mapped f ws plain other same least most = sym (ap (map f) same) ∙ four_items f ws other least most
 
-pub returns-in_default-2-clause-none : goal.returns-in_default-2-clause-none
-returns-in_default-2-clause-none c = λ e. λ all. λ is.
-    c.in_ok-limits.ensures.none (search rules) all.budget all.turns
+pub returns-in_default-limits_of-clause-none : goal.returns-in_default-limits_of-clause-none
+returns-in_default-limits_of-clause-none c = λ e. λ all. λ is.
+    c.limits_of.ensures.none (search rules) all.budget all.turns
     (subst (λ w. IsNumber 0 highest_budget w all.budget)
     (fourth_mapped (λ word. word.now) c.as_slice.result.now all.guest.program all.guest.public_input all.cut is.budget [] _
     (rw c.as_slice.ensures is.plain)) is.bits) is.turns
 
-pub returns-in_default-3-clause-none : goal.returns-in_default-3-clause-none
-returns-in_default-3-clause-none c = λ e. λ all. λ is. c.in_ok-table.ensures.none (search rules) all.table is.rules
+pub returns-in_default-choice_in-clause-none : goal.returns-in_default-choice_in-clause-none
+returns-in_default-choice_in-clause-none c = λ e. λ all. λ is. c.choice_in.ensures.none (search rules) all.table is.rules
 
 pub returns-clause-is : goal.returns-clause-is
 returns-clause-is c = record {
   budget = (slice_index_or c.as_slice.result.now 3 (record { ref_ptr = (0, 0); now = [] })).now;
   plain = four_mapped (λ word. word.now) c.as_slice.result.now c.args.parts.now.plain (record { ref_ptr = (0, 0); now = [] })
       c.as_slice.ensures (omega (arith, c.in-len4.len_at_least)) (omega (arith, c.in-len4.len_below));
-  bits = rw c.in-Some.is at c.in_ok-limits.ensures.bits;
-  turns = rw c.in-Some.is at c.in_ok-limits.ensures.turns;
+  bits = rw c.in-Some.is at c.limits_of.ensures.bits;
+  turns = rw c.in-Some.is at c.limits_of.ensures.turns;
   regions = search rules;
-  rules = rw c.in-Some-2.is at c.in_ok-table.ensures.is;
-  paths = rw (c.value_of.ensures, c.as_slice-options.ensures, c.in-Some-3.is) at c.in_ok-paths.ensures.is;
+  rules = rw c.in-Some-choice_in.is at c.choice_in.ensures.is;
+  paths = rw (c.value_of.ensures, c.as_slice-options.ensures, c.in-Some-paths_of.is) at c.paths_of.ensures.is;
   listed = search rules;
   taken = search rules;
 }

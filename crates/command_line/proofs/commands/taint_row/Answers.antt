@@ -9,7 +9,7 @@ use Rattle.command_line.proofs.commands.taint_row.Goals as goal
 pub returns-in_default-2-clause-none : goal.returns-in_default-2-clause-none
 returns-in_default-2-clause-none c = λ e. λ command. λ (table, check, is, choice, same).
     let value = option_value (codes "--rules") (map named_in c.args.parts.now.options) in
-    let found : IsChoice value c.in-Some.table = rw c.in-Some.is at c.in_ok-table.ensures.is in
+    let found : IsChoice value c.in-Some.table = rw c.in-Some.is at c.choice_in.ensures.is in
     c.in_ok-check.ensures.none (search rules) check
     (subst (λ n. IsCheck (codes "--rules" ∷ check_options) (Masks n) (parts_in c.args.parts.now) check)
     (same_choice value table c.in-Some.table choice found) is)
@@ -19,6 +19,6 @@ returns-clause-is c = (
   c.in-Some.table,
   check_of c.in-Some-2.check,
   rw c.in-Some-2.is at c.in_ok-check.ensures.is,
-  rw c.in-Some.is at c.in_ok-table.ensures.is,
+  rw c.in-Some.is at c.choice_in.ensures.is,
   refl,
 )
