@@ -1,8 +1,11 @@
 -- One visit, as it is made, is that of the definition.
-use Rattle.std.proofs.Common.{◌≡◌, ℕ, ◌+◌, ◌≤◌, List, ◌∷◌, ap, ap₂, ◌∙◌, subst, sym, drop, take, arith}
+use Rattle.std.proofs.Common.{◌≡◌, ℕ, ◌+◌, ◌≤◌, List, ◌∷◌, ap, ap₂, ◌∙◌, refl, subst, sym, drop, take, arith}
 use Rattle.std.specs.Prelude.{bit_and}
-use Rattle.std.proofs.lemmas.Nat.{and_le_r}
+use Rattle.std.proofs.lemmas.Nat.{and_le_l, and_le_r}
 use Rattle.flow_base.specs.declared.points.Point.{Point}
+use Rattle.flow_base.specs.declared.points.Slot.{Slot}
+use Rattle.flow_base.specs.declared.points.Slot.TheVariants.{First, Second, Address, Result, Decision, Number}
+use Rattle.flow_base.specs.declared.points.Slot.TheVariants.{Arg0, Arg1, Arg2, SecretIn, ByteOut, Status, OutReg, OutRange}
 use Rattle.flow_base.specs.Points.{width_of, nowhere}
 use Rattle.flow_base.specs.Words.{bit_count, patched}
 use Rattle.rv32im_machine.specs.declared.language.Passing.{Passing}
@@ -18,7 +21,7 @@ use Rattle.every_secret.specs.Masked.{unclear_by_left}
 use Rattle.every_secret.specs.Rules.{Rules, answer_to}
 use Rattle.every_secret.specs.Shown.{asked_for, byte_masks_after, shown_at, status_mask_after}
 use Rattle.every_secret.specs.Private.Tapes.{Takes, Tape, knowledge_of}
-use Rattle.every_secret.specs.Private.Visited.{IsVisited}
+use Rattle.every_secret.specs.Private.Visited.{FitsShown, IsVisited}
 use Rattle.every_secret.specs.Visits.{Knowledge, differing_at, known_after, left_of_mask}
 
 -- what goes on keeps the width of its slot
@@ -29,6 +32,24 @@ put_width passing mask crossing value bits fits small is =
     let less : bit_and mask crossing ≤ crossing = and_le_r mask crossing in
     subst (λ v. v ≤ width_of passing.point.slot) (sym is)
     (patched_width passing.point.slot passing.value (bit_and mask crossing) bits fits (omega (arith, less, small)))
+
+-- what is shown passes a slot of 8 bits
+pub fits_shown : (slot : Slot) (mask crossing : ℕ) → (width_of slot ≡ 255 → mask ≤ 255) →
+    FitsShown (shown_at slot) (bit_and mask crossing)
+fits_shown ByteOut mask crossing byte = omega (arith, byte refl, and_le_l mask crossing)
+fits_shown Status mask crossing byte = omega (arith, byte refl, and_le_l mask crossing)
+fits_shown First mask crossing byte = tt
+fits_shown Second mask crossing byte = tt
+fits_shown Address mask crossing byte = tt
+fits_shown Result mask crossing byte = tt
+fits_shown Decision mask crossing byte = tt
+fits_shown Number mask crossing byte = tt
+fits_shown Arg0 mask crossing byte = tt
+fits_shown Arg1 mask crossing byte = tt
+fits_shown Arg2 mask crossing byte = tt
+fits_shown SecretIn mask crossing byte = tt
+fits_shown (OutReg register) mask crossing byte = tt
+fits_shown (OutRange range) mask crossing byte = tt
 
 module _ (rules : Rules) (cutting : Cutting) (past : List Point) (old : TurnLabels) (before : Tape) (passing : Passing)
     (value : ℕ) (new : TurnLabels) (after : Tape) where

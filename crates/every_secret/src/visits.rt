@@ -3,13 +3,14 @@
 ghost use Rattle.std.specs.Prelude.{◌≡◌, ◌≤◌, ◌<◌, ◌+◌, ℕ, [], ◌++◌, length, replicate, drop, take, false, Some, IfOk, OnOk, IsTrue};
 ghost use Rattle.flow_base.specs.Points.{is_slot, width_of};
 ghost use Rattle.flow_base.specs.Words.{bit_count as count_of, patched};
-ghost use Rattle.rv32im_machine.specs.Playing.{AreSources};
+ghost use Rattle.rv32im_machine.specs.Playing.{AreSources, FitsSlot, joins_bytes};
 ghost use Rattle.run_labels.specs.Masks.{masks_of};
 ghost use Rattle.tracked_run.specs.Labels.{labels_of};
 ghost use Rattle.masked_turns.specs.Clearing.{passing_mask as mask_passing};
 ghost use Rattle.every_secret.specs.Rules.{AnswerAs, Rules, answer_to};
 ghost use Rattle.every_secret.specs.Shown.{asked_for, byte_masks_after, shown_at, status_mask_after};
 ghost use Rattle.every_secret.specs.Private.Tapes.{Takes};
+ghost use Rattle.every_secret.specs.Private.Visited.{FitsShown};
 
 use crate::shown::Shown;
 use crossing_bits::{Bits, bit_count};
@@ -20,8 +21,8 @@ use shadow_masks::Shadow;
 use tracked_run::{Held, answer_of, masks_of_sources, work_mask};
 use transfer_rules::RuleBook;
 
-/// The mask of a passing before bits cross there, by the book's rules, in a turn that may be the skip of a region.
-/// `NoMemory` where it is no word, as in no turn of a guest.
+/// The mask of a passing before bits cross there, by the book's rules, in a turn that may be the skip of a region. At a
+/// slot of 8 bits it is that of a byte.
 #[inline(always)]
 pub(crate) fn passing_mask(
     shadow: &Shadow,
@@ -29,19 +30,20 @@ pub(crate) fn passing_mask(
     book: &RuleBook,
     passing: Passing,
     skipped: bool,
-) -> Result<u32, NoMemory>
+) -> u32
     requires slot { IsTrue (is_slot passing.point.slot) }
     requires sources { AreSources (Some shadow.now.base) passing.sources }
-    ensures { (rules : Rules) → AnswerAs book.now.table rules → IfOk result (λ mask.
-        mask ≡ mask_passing skipped (labels_of shadow.now held)
-        (answer_to rules passing.work (masks_of (labels_of shadow.now held) passing.sources)) passing) }
+    requires joins { IsTrue (joins_bytes passing.work passing.sources) }
+    requires byte { FitsSlot passing.point.slot passing.work passing.sources }
+    ensures mask { (rules : Rules) → AnswerAs book.now.table rules → result ≡ mask_passing skipped
+        (labels_of shadow.now held)
+        (answer_to rules passing.work (masks_of (labels_of shadow.now held) passing.sources)) passing }
+    ensures byte { width_of passing.point.slot ≡ 255 → result ≤ 255 }
 {
     let masks = masks_of_sources(shadow, held, passing.sources);
     let answer = answer_of(book, passing.work, masks);
-    let Some(made) = work_mask(passing.work, masks, answer) else {
-        return Err(NoMemory);
-    };
-    Ok(aimed_mask(passing.aim, passing.point.slot, skipped, made))
+    let made = work_mask(passing.work, masks, answer);
+    aimed_mask(passing.aim, passing.point.slot, skipped, made)
 }
 
 /// The value with 0 in place of the bits under the mask.
@@ -113,17 +115,6 @@ pub(crate) fn put_in(
     }
 }
 
-/// A mask as that of a byte. `NoMemory` where it is none, as in no turn of a guest.
-#[inline(always)]
-fn byte_mask(mask: u32) -> Result<u8, NoMemory>
-    ensures { IfOk result (λ byte. byte ≡ mask) }
-{
-    if mask > 0xff {
-        return Err(NoMemory);
-    }
-    Ok(mask as u8)
-}
-
 /// The free bits of a byte that is written are noted after those of the bytes before it. The answer is the free bits of
 /// the exit status, which were these so far.
 /// `NoMemory` where there is not enough.
@@ -134,15 +125,16 @@ pub(crate) fn note_free(
     shown: Shown,
     free: u32,
 ) -> Result<u8, NoMemory>
+    requires { FitsShown shown free }
     ensures bytes { OnOk result (byte_masks.new.items ≡ byte_masks_after shown free byte_masks.old.items) }
     ensures status { IfOk result (λ mask. mask ≡ status_mask_after shown free status_mask) }
 {
     match shown {
         Shown::Nothing => Ok(status_mask),
         Shown::WrittenByte => {
-            byte_masks.push(byte_mask(free)?).map_err(|_| NoMemory)?;
+            byte_masks.push(free as u8).map_err(|_| NoMemory)?;
             Ok(status_mask)
         }
-        Shown::ExitStatus => byte_mask(free),
+        Shown::ExitStatus => Ok(free as u8),
     }
 }

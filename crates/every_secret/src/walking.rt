@@ -1,7 +1,7 @@
 ghost use Rattle.std.specs.Prelude.{◌≡◌, ◌≤◌, ℕ, IfOk, IsTrue, List as Seq, None, Some};
 ghost use Rattle.flow_base.specs.Points.{is_slot, width_of};
 ghost use Rattle.rv32im_machine.specs.Language.{Passed, Walk};
-ghost use Rattle.rv32im_machine.specs.Playing.{AreSources, Goes, IsAim};
+ghost use Rattle.rv32im_machine.specs.Playing.{AreSources, FitsAim, FitsSlot, Goes, IsAim, joins_bytes};
 ghost use Rattle.tracked_run.specs.Labels.{labels_of};
 ghost use Rattle.every_secret.specs.Masked.{unclear_by_left, unclear_by_look};
 ghost use Rattle.every_secret.specs.Private.Tapes.{PlaysWalk, tape_of};
@@ -83,6 +83,9 @@ impl Walking<'_> {
         requires value { passing.value ≤ width_of passing.point.slot }
         requires aim { IsAim (Some self.old.shadow.base) passing.aim }
         requires sources { AreSources (Some self.old.shadow.base) passing.sources }
+        requires joins { IsTrue (joins_bytes passing.work passing.sources) }
+        requires byte { FitsSlot passing.point.slot passing.work passing.sources }
+        requires fits { FitsAim passing.aim passing.point.slot }
         ensures memory { self.new.shadow.base ≡ self.old.shadow.base }
         ensures width { IfOk result (λ other. other ≤ width_of passing.point.slot) }
         ensures goes { self.old.unclear ≡ None → (go : ℕ → Walk) → Goes result
@@ -94,7 +97,7 @@ impl Walking<'_> {
             self.old.byte_masks.items self.old.status_mask self.old.unclear) (Passed passing go)) }
     {
         let crossing = self.masks.next(passing.point);
-        let mask = passing_mask(&self.shadow, self.held, self.book, passing, self.skipped)?;
+        let mask = passing_mask(&self.shadow, self.held, self.book, passing, self.skipped);
         let differing = mask & crossing;
         let left = uncrossed(mask, crossing);
         let label = labelled(left, NOWHERE);

@@ -41,6 +41,7 @@ is_of_run (BaseSecret region register) = true
 is_of_run GraphLimit = false
 is_of_run Memory = false
 
+-- the run exits so, or it is refused for this, which is the cause of the run itself
 abbrev pub EndsAs : ℕ → List Region → LabelledRun → ℕ → RunEnd → Type 0
 EndsAs table regions start limit (Exited exit) = HasEnded table regions start limit exit
 EndsAs table regions start limit (Refused fault) =
