@@ -4,6 +4,7 @@ pub mod SecretTurns
 pub mod SecretRuns
 pub mod VisitTurns
 pub mod VisitRuns
+pub mod FittingCuts
 pub mod AgreeOutsideMask
 pub mod WritesKeepRelation
 pub mod ShapesAgree

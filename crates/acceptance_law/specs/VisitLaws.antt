@@ -53,3 +53,20 @@ OutputVisitsLaw =
     is_output_slot point.slot ≡ true →
     length (visit_masks point (events_of program public_input secret regions answers))
     ≤ passed (events_of program public_input secret regions answers) point
+
+-- what a cut needs of events: each point that they pass has a slot that a turn passes; they pass one that is no output of
+-- a region fewer than 2^32 times, and an output no more often than bits pass there
+pub record FitCuts (events : List Event) : Type 0 where
+  pub slots : (point : Point) → 0 < length (visit_masks point events) → is_slot point.slot ≡ true
+  pub few : (point : Point) → is_output_slot point.slot ≡ false → length (visit_masks point events) < 2 ^ 32
+  pub outputs : (point : Point) → is_output_slot point.slot ≡ true →
+      length (visit_masks point events) ≤ passed events point
+
+-- so do the events of a run that no turn refuses, in at most 20,000,000 turns, with a secret of at most 65,536 bytes
+abbrev pub FitCutsLaw : Type 0
+FitCutsLaw =
+    (program : Picture) (public_input secret : List ℕ) (regions : List Region) (answers : List (List ℕ)) →
+    are_regions regions ≡ true →
+    IsUnrefused regions answers (unlabelled (guest program public_input secret)) →
+    length answers ≤ 20000000 → length secret ≤ 65536 →
+    FitCuts (events_of program public_input secret regions answers)

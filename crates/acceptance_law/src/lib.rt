@@ -19,4 +19,6 @@ pub use laws::{
     measured_runs_are_accepted, turns_are_proper,
 };
 pub use secret_laws::{least_sides_are_small, runs_read_their_secret};
-pub use visit_laws::{outputs_have_their_visits, runs_pass_known_slots, runs_visit_points_seldom};
+pub use visit_laws::{
+    outputs_have_their_visits, runs_fit_cuts, runs_pass_known_slots, runs_visit_points_seldom,
+};

@@ -1,4 +1,4 @@
-ghost use Rattle.acceptance_law.specs.VisitLaws.{FewVisitsLaw, KnownSlotsLaw, OutputVisitsLaw};
+ghost use Rattle.acceptance_law.specs.VisitLaws.{FewVisitsLaw, FitCutsLaw, KnownSlotsLaw, OutputVisitsLaw};
 
 /// Whatever the mask rules answer, a run passes points at the slots of turns alone: an output is of a register x1 to
 /// x31 or of a range 0 to 63. It does nothing when it is called.
@@ -16,4 +16,11 @@ pub fn runs_visit_points_seldom()
 /// run's graph. It does nothing when it is called.
 pub fn outputs_have_their_visits()
     ensures visits { OutputVisitsLaw }
+{}
+
+/// In at most 20,000,000 turns, with a secret of at most 65,536 bytes, a run passes points as a cut can hold them: at the
+/// slots of turns, each that is no output of a region fewer than 2^32 times, and each output no more often than bits pass
+/// there. It does nothing when it is called.
+pub fn runs_fit_cuts()
+    ensures fits { FitCutsLaw }
 {}
