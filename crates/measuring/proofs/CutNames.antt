@@ -98,14 +98,19 @@ split_named skip (node ∷ nodes) (half ∷ halves) q up =
     (halves_at nodes halves q))) (points_alike.symm node.point q)
     ∙ sym (split_half_cond (is_same q node.point) half (halves_at nodes halves q))))
 
+pub split_listed : (skip : List ℕ) (nodes : List Node) (halves : List Half) (q : Point) → ascend node_cmp nodes ≡ true →
+    list_any (λ p. is_same p q) (split_points skip nodes halves) ≡
+    ((has_first (halves_at nodes halves q) && not (has_second (halves_at nodes halves q))) && not (is_inner skip q))
+unfolding is_split_half
+split_listed skip nodes halves q up = split_named skip nodes halves q up
+
 -- the cut has the points that the side splits, without the inner ones of skipped regions
 pub cut_names : (skip : List ℕ) (nodes : List Node) (halves : List Half) (points : List CutPoint) (q : Point) →
     ascend node_cmp nodes ≡ true → points_of points ≡ split_points skip nodes halves →
     names_point points q ≡ ((has_first (halves_at nodes halves q) && not (has_second (halves_at nodes halves q)))
     && not (is_inner skip q))
-unfolding is_split_half
 cut_names skip nodes halves points q up same =
-    names_points points q ∙ (ap (list_any (λ p. is_same p q)) same ∙ split_named skip nodes halves q up)
+    names_points points q ∙ (ap (list_any (λ p. is_same p q)) same ∙ split_listed skip nodes halves q up)
 
 -- ---- the points of the cut are points of the graph
 

@@ -62,7 +62,7 @@ or_rest true b none holds = absurd (false≢true (sym none))
 or_rest false b none holds = holds
 
 -- each point of the graph has a capacity
-some_capacity : (nodes : List Node) (q : Point) → list_all has_capacity nodes ≡ true → is_point_in nodes q ≡ true →
+pub some_capacity : (nodes : List Node) (q : Point) → list_all has_capacity nodes ≡ true → is_point_in nodes q ≡ true →
     not (capacity_at nodes q == 0) ≡ true
 some_capacity [] q all there = absurd (false≢true there)
 some_capacity (n ∷ ns) q all there =

@@ -12,6 +12,7 @@ pub mod Measuring
 pub mod NamedLinks
 pub mod GraphWithinLimits
 pub mod ShortTexts
+pub mod FittingPoints
 pub mod OwnCuts
 pub mod DecidedRuns
 pub mod MeasuredWithoutCause

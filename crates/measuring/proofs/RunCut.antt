@@ -75,6 +75,10 @@ pub nodes_up : (graph : Graph) → ascend node_cmp graph.points ≡ true
 nodes_up graph = (and_parts (list_all has_capacity graph.points) (ascend node_cmp graph.points)
     (is_so _ graph.points_ascend)).1
 
+pub capacities_some : (graph : Graph) → list_all has_capacity graph.points ≡ true
+capacities_some graph = (and_parts (list_all has_capacity graph.points) (ascend node_cmp graph.points)
+    (is_so _ graph.points_ascend)).0
+
 pub relays_up : (graph : Graph) → are_relays graph.relays ≡ true
 relays_up graph = is_so _ graph.relays_ascend
 
