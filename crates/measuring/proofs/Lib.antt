@@ -13,6 +13,7 @@ pub mod NamedLinks
 pub mod GraphWithinLimits
 pub mod ShortTexts
 pub mod FittingPoints
+pub mod RunEvents
 pub mod OwnCuts
 pub mod DecidedRuns
 pub mod MeasuredWithoutCause

@@ -1,5 +1,5 @@
 -- Runs of visits that have one mask.
-use Rattle.std.specs.Prelude.{ℕ, ◌==◌, ◌&&◌, nat_lt, not, Bool, List, [], ◌∷◌, ◌++◌, replicate}
+use Rattle.std.specs.Prelude.{ℕ, ◌+◌, ◌==◌, ◌&&◌, ◌||◌, nat_le, nat_lt, not, Bool, List, [], ◌∷◌, ◌++◌, replicate}
 use Rattle.std.specs.List.{list_all}
 use Rattle.cut_file.specs.Cuts.{neighbours_pass}
 use Rattle.measuring.specs.declared.point_visits.VisitRun.{VisitRun}
@@ -12,9 +12,10 @@ run_masks (run ∷ runs) = replicate run.count run.mask ++ run_masks runs
 abbrev pub is_visit_run : VisitRun → Bool
 is_visit_run run = nat_lt 0 run.count
 
-abbrev pub have_other_masks : VisitRun → VisitRun → Bool
-have_other_masks first second = not (first.mask == second.mask)
+-- two runs cannot be one: their masks differ, or together they have 2^64 visits or more
+abbrev pub stay_apart : VisitRun → VisitRun → Bool
+stay_apart first second = not (first.mask == second.mask) || nat_le 18446744073709551616 (first.count + second.count)
 
--- each run has a visit, and neighbouring runs have different masks
+-- each run has a visit, and no two neighbouring runs can be one
 abbrev pub are_visit_runs : List VisitRun → Bool
-are_visit_runs runs = list_all is_visit_run runs && neighbours_pass have_other_masks runs
+are_visit_runs runs = list_all is_visit_run runs && neighbours_pass stay_apart runs

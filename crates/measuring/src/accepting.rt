@@ -21,13 +21,9 @@ use transfer_rules::RuleBook;
 /// which are at most eight for each of its bytes; the cut has at most one point for each of these bits, and two runs
 /// of masks for each bit beside one for each point. So the text of the cut has at most 64 MiB, and that of its fold too.
 ///
-/// The secret has at most 65,536 bytes. Of the errors the first turn in which one holds decides; `TurnLimit` where the run
-/// does not exit within the limit, `GraphLimit` where it does and its graph exceeds a limit, and `Memory` where there is
-/// not enough. `Memory` would be answered, too, where the number of visits of a point of the cut with one mask is 2^32 or
-/// more, or the slot of a point of the cut is none that a turn passes: in no run of at most 20,000,000 turns is it so, by
-/// the laws [`runs_visit_points_seldom`](acceptance_law::runs_visit_points_seldom),
-/// [`outputs_have_their_visits`](acceptance_law::outputs_have_their_visits) and
-/// [`runs_pass_known_slots`](acceptance_law::runs_pass_known_slots).
+/// The secret has at most 65,536 bytes, and the turns are at most 20,000,000. Of the errors the first turn in which one
+/// holds decides; `TurnLimit` where the run does not exit within the limit, `GraphLimit` where it does and its graph
+/// exceeds a limit, and `Memory` where there is not enough.
 pub fn measure(
     alloc: Global,
     image: &Image,
@@ -37,7 +33,8 @@ pub fn measure(
     book: &RuleBook,
     turns: u32,
 ) -> Result<Measured, MeasureFault>
-    requires { length secret.now ≤ 65536 }
+    requires short { length secret.now ≤ 65536 }
+    requires few { turns ≤ 20000000 }
     ensures ok { IfOk result (λ measured. Measures book.now.table regions.now.items
         (unlabelled (guest (image_picture image.now) public.now secret.now)) (length secret.now) turns measured) }
     ensures err { IfErr result (λ fault. HasCause book.now.table regions.now.items

@@ -1,7 +1,8 @@
-ghost use Rattle.std.specs.Prelude.{◌≡◌, ◌≤◌, IfOk, IsTrue, true};
-ghost use Rattle.std.specs.List.{list_all};
+ghost use Rattle.std.specs.Prelude.{◌≡◌, ◌≤◌, ◌<◌, ◌^◌, IfOk, IsTrue, true};
+ghost use Rattle.std.specs.List.{AllByRecursion, list_all};
 ghost use Rattle.cut_file.specs.Cuts.{are_regions};
-ghost use Rattle.measuring.specs.Cutting.{CutsGraph};
+ghost use Rattle.measuring.specs.Cutting.{CutsGraph, FitsCut};
+ghost use Rattle.measuring.specs.Splits.{skipped, split_points};
 
 use crate::cut_points::cut_points;
 use crate::kept_visits::KeptVisits;
@@ -13,9 +14,7 @@ use max_flow::Side;
 use std::alloc::Global;
 
 /// The cut of a run by the graph of its events, the visits of its points and a side with this capacity.
-/// `NoMemory` where there is not enough. It is answered too where the capacity, or the number of visits of a split
-/// point with one mask, is 2^32 or more, or a split point has a slot that no turn passes: in no run within the limits
-/// of the tool is it so, by laws of `acceptance_law`.
+/// `NoMemory` where there is not enough.
 pub fn cut_of(
     alloc: Global,
     secret_len: u32,
@@ -24,12 +23,12 @@ pub fn cut_of(
     value: u64,
     visits: &KeptVisits,
 ) -> Result<Cut, NoMemory>
-    requires { secret_len ≤ 65536 }
+    requires short { secret_len ≤ 65536 }
+    requires bits { value < 2 ^ 32 }
+    requires fits { AllByRecursion (FitsCut visits.now)
+        (split_points (skipped graph.now.relays side.now.relays) graph.now.points side.now.points) }
     ensures { IfOk result (λ cut. CutsGraph visits.now graph.now side.now.points side.now.relays secret_len value cut) }
 {
-    let Ok(bits) = u32::try_from(value) else {
-        return Err(NoMemory);
-    };
     let skip = skipped_regions(alloc, graph.relays.as_slice(), side.relays.as_slice())?;
     let split = points_of_cut(
         alloc,
@@ -41,7 +40,7 @@ pub fn cut_of(
     Ok(Cut {
         version: 1,
         secret_len,
-        bits,
+        bits: value as u32,
         skip,
         points,
     })

@@ -13,7 +13,8 @@ pub struct VisitRun {
     pub mask: u32,
 }
 
-/// The masks of the visits of one point that was visited, in order, as runs: neighbouring runs have different masks.
+/// The masks of the visits of one point that was visited, in order, as runs: neighbouring runs have different masks,
+/// unless the two together have 2^64 visits or more.
 #[derive(Drop)]
 pub struct PointVisits {
     /// The runs before the latest.
@@ -24,9 +25,9 @@ pub struct PointVisits {
 }
 
 impl PointVisits {
-    ghost use Rattle.std.specs.Prelude.{◌≡◌, ◌==◌, ◌++◌, replicate, true, false, OnOk, OnErr};
+    ghost use Rattle.std.specs.Prelude.{◌≡◌, ◌++◌, replicate, true, OnOk, OnErr};
     ghost use Rattle.measuring.specs.PointMasks.{point_masks};
-    ghost use Rattle.measuring.specs.VisitRuns.{is_visit_run};
+    ghost use Rattle.measuring.specs.VisitRuns.{is_visit_run, stay_apart};
 
     /// The visits of one run. It takes no memory.
     pub fn first(alloc: Global, run: VisitRun) -> PointVisits
@@ -39,8 +40,7 @@ impl PointVisits {
         }
     }
 
-    /// The visits of a run more. Where memory is short, or there are 2^64 visits with one mask, it answers lack of memory
-    /// and the visits stay.
+    /// The visits of a run more. `NoMemory` where there is not enough; the visits stay then.
     #[inline(always)]
     pub fn add(&mut self, run: VisitRun) -> Result<(), NoMemory>
         requires { is_visit_run run ≡ true }
@@ -55,15 +55,15 @@ impl PointVisits {
                 self.latest.count = count;
                 Ok(())
             }
-            None => Err(NoMemory),
+            None => self.begin(run),
         }
     }
 
-    /// A new run, whose mask is another than that of the latest.
+    /// A new run, which cannot be one with the latest.
     #[inline(never)]
     fn begin(&mut self, run: VisitRun) -> Result<(), NoMemory>
         requires some { is_visit_run run ≡ true }
-        requires other { (self.old.latest.mask == run.mask) ≡ false }
+        requires apart { stay_apart self.old.latest run ≡ true }
         ensures ok { OnOk result (point_masks self.new ≡ point_masks self.old ++ replicate run.count run.mask) }
         ensures err { OnErr result (self.new ≡ self.old) }
     {

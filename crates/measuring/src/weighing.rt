@@ -1,10 +1,10 @@
-ghost use Rattle.std.specs.Prelude.{◌≡◌, ◌≤◌, false, length, IfErr, IfOk};
+ghost use Rattle.std.specs.Prelude.{◌≡◌, ◌≤◌, false, true, length, IfErr, IfOk};
 ghost use Rattle.elf32_loader.specs.Images.{image_picture};
+ghost use Rattle.enclosure_regions.specs.Regions.{are_regions};
 ghost use Rattle.region_machine.specs.Starts.{guest};
 ghost use Rattle.run_labels.specs.Runs.{unlabelled};
 ghost use Rattle.measuring.specs.Measures.{HasCause, Measures};
-ghost use Rattle.measuring.specs.Recordings.{HasEvents};
-ghost use Rattle.measuring.specs.Private.Weighing.{IsUnweighed, Weighs};
+ghost use Rattle.measuring.specs.Private.Weighing.{HasRunEvents, IsUnweighed, Weighs};
 
 use crate::cutting::cut_of;
 use crate::following::{Exit, RunEnd, follow};
@@ -19,11 +19,11 @@ use std::alloc::Global;
 use transfer_rules::RuleBook;
 
 /// The measure of a run that has exited, whose graph exceeds no limit.
-/// `NoMemory` where there is not enough, and where [`cut_of`] answers it.
+/// `NoMemory` where there is not enough.
 fn weigh(alloc: Global, secret_len: u32, exit: Exit) -> Result<Measured, NoMemory>
     requires short { secret_len ≤ 65536 }
     requires within { exit.recording.collapse.is_full ≡ false }
-    requires known { HasEvents exit.recording }
+    requires known { HasRunEvents exit.recording }
     ensures { IfOk result (λ measured. Weighs exit secret_len measured) }
 {
     let Exit {
@@ -47,11 +47,10 @@ fn weigh(alloc: Global, secret_len: u32, exit: Exit) -> Result<Measured, NoMemor
 }
 
 /// The measure of a run that has exited.
-/// `GraphLimit` exactly where its graph exceeds a limit; `Memory` where there is not enough, and where [`cut_of`]
-/// answers it.
+/// `GraphLimit` exactly where its graph exceeds a limit; `Memory` where there is not enough.
 fn conclude(alloc: Global, secret_len: u32, exit: Exit) -> Result<Measured, MeasureFault>
     requires short { secret_len ≤ 65536 }
-    requires known { HasEvents exit.recording }
+    requires known { HasRunEvents exit.recording }
     ensures ok { IfOk result (λ measured. Weighs exit secret_len measured) }
     ensures err { IfErr result (λ fault. IsUnweighed exit.recording.collapse.is_full fault) }
 {
@@ -74,7 +73,9 @@ pub(crate) fn measure_run(
     book: &RuleBook,
     turns: u32,
 ) -> Result<Measured, MeasureFault>
-    requires { length secret.now ≤ 65536 }
+    requires short { length secret.now ≤ 65536 }
+    requires few { turns ≤ 20000000 }
+    requires regions { are_regions regions.now.items ≡ true }
     ensures ok { IfOk result (λ measured. Measures book.now.table regions.now.items
         (unlabelled (guest (image_picture image.now) public.now secret.now)) (length secret.now) turns measured) }
     ensures err { IfErr result (λ fault. HasCause book.now.table regions.now.items

@@ -35,5 +35,5 @@ pub returns-clause-short : goal.returns-clause-short
 returns-clause-short g c =
     IfOk-weaker c.measure_run.result _ _
     (λ measured m. short c.args.book.now.table (image_picture c.args.image.now) c.args.public.now
-    c.args.regions.now.items c.args.secret.now c.args.turns measured m c.requires)
+    c.args.regions.now.items c.args.secret.now c.args.turns measured m c.requires.short)
     c.measure_run.ensures.ok

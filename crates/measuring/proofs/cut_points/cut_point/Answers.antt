@@ -9,7 +9,7 @@ use Rattle.measuring.proofs.cut_points.cut_point.Goals as goal
 
 pub returns-clause-valid : goal.returns-clause-valid
 returns-clause-valid c =
-    point_valid c.in-Some.known c.in_ok-runs.runs c.in_ok-rest.rest c.union.result c.in-Some.ensures.valid
+    point_valid c.known_point-known.result c.in_ok-runs.runs c.in_ok-rest.rest c.union.result c.known_point-known.ensures.valid
     c.in_ok-runs.ensures.valid (omega arith) c.in_ok-rest.ensures
 
 pub returns-clause-masks : goal.returns-clause-masks

@@ -4,8 +4,13 @@ use Rattle.std.proofs.lemmas.Bool.{and_from}
 use Rattle.cut_file.specs.Cuts.{is_point_of}
 use Rattle.cut_file.proofs.Following.{all_push}
 use Rattle.measuring.specs.CutRuns.{HasKeptMasks, points_of}
-use Rattle.measuring.proofs.CutRuns.{points_step, all_by_push}
+use Rattle.measuring.specs.Cutting.{FitsCut}
+use Rattle.measuring.proofs.CutRuns.{points_step, all_by_first, all_by_later, all_by_push}
 use Rattle.measuring.proofs.cut_points.cut_points.Goals as goal
+
+pub cut_point-requires : goal.cut_point-requires
+cut_point-requires c =
+    all_by_first (FitsCut c.args.visits.now) c.loop-rest.rest.now _ c.in-len1-up.len_at_least c.loop-rest.invariant.fits
 
 pub loop-rest-preserved : goal.loop-rest-preserved
 loop-rest-preserved c = record {
@@ -19,4 +24,6 @@ loop-rest-preserved c = record {
   valid = ap (list_all (is_point_of 1)) c.in_ok-push.ensures.ok
       ∙ (all_push (is_point_of 1) c.loop-rest.made c.in_ok-next.next
       ∙ and_from _ _ c.loop-rest.invariant.valid c.in_ok-next.ensures.valid);
+  fits = all_by_later (FitsCut c.args.visits.now) c.loop-rest.rest.now c.in-len1-up.len_at_least
+      c.loop-rest.invariant.fits;
 }

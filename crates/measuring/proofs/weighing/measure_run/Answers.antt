@@ -6,6 +6,7 @@ use Rattle.run_labels.specs.Runs.{unlabelled}
 use Rattle.measuring.specs.Following.{EndsAs}
 use Rattle.measuring.specs.Private.Weighing.{Weighs}
 use Rattle.measuring.proofs.Measuring.{measures, exit_cause}
+use Rattle.measuring.proofs.RunEvents.{ended_events}
 use Rattle.measuring.proofs.weighing.measure_run.Goals as goal
 
 pub returns-in-Ok-Exited-clause-ok : goal.returns-in-Ok-Exited-clause-ok
@@ -31,4 +32,5 @@ conclude-requires-clause-known g c =
     let ended = subst (EndsAs c.args.book.now.table c.args.regions.now.items
     (unlabelled (guest (image_picture c.args.image.now) c.args.public.now c.args.secret.now)) c.args.turns)
     c.in-Ok-Exited.field-0-is c.in-Ok-Exited.ensures in
-    record { events = _; records = ended.records }
+    ended_events c.args.book.now.table (image_picture c.args.image.now) c.args.public.now c.args.secret.now
+    c.args.regions.now.items c.args.turns c.in-Ok-Exited.exit c.requires.regions c.requires.short c.requires.few ended

@@ -3,15 +3,28 @@ use Rattle.cut_file.proofs.Following.{is_true}
 use Rattle.measuring.proofs.RunCut.{cut_is}
 use Rattle.measuring.proofs.CutNames.{cut_is_in}
 use Rattle.measuring.proofs.GraphWithinLimits.{recorded_within, recorded_exceeds_none}
+use Rattle.measuring.proofs.RunEvents.{few_bits, has_events, recorded_fit}
 use Rattle.measuring.proofs.weighing.weigh.Goals as goal
 
 pub solve-requires : goal.solve-requires
-solve-requires c = recorded_within c.args.exit.recording c.requires.within c.requires.known c.in_ok-graph.graph
+solve-requires c = recorded_within c.args.exit.recording c.requires.within
+    (has_events c.args.exit.recording c.requires.known) c.in_ok-graph.graph
     c.in_ok-graph.ensures
+
+pub cut_of-requires-clause-bits : goal.cut_of-requires-clause-bits
+cut_of-requires-clause-bits c =
+    few_bits c.args.exit.recording c.in_ok-graph.graph _ _ _ c.requires.within c.requires.known c.in_ok-graph.ensures
+    c.in_ok-value.ensures.side c.in_ok-value.ensures.capacity
+
+pub cut_of-requires-clause-fits : goal.cut_of-requires-clause-fits
+cut_of-requires-clause-fits c =
+    recorded_fit c.args.exit.recording c.in_ok-graph.graph _ _ _ c.requires.within c.requires.known c.in_ok-graph.ensures
+    c.in_ok-value.ensures.side c.in_ok-value.ensures.capacity
 
 pub invariant_of-result : goal.invariant_of-result
 invariant_of-result c =
-    let within = recorded_within c.args.exit.recording c.requires.within c.requires.known c.in_ok-graph.graph
+    let within = recorded_within c.args.exit.recording c.requires.within
+    (has_events c.args.exit.recording c.requires.known) c.in_ok-graph.graph
     c.in_ok-graph.ensures in
     record {
       few_points = within.points;

@@ -11,7 +11,7 @@ invariant_of-self c =
       sound = sound_again c.args.self.now.earlier c.args.self.now.latest (record {
         count = c.in-Some.count;
         mask = c.args.self.now.latest.mask;
-      }) c.args.self.now.sound (omega (arith, some, c.in-Some.ensures.1)) refl;
+      }) c.args.self.now.sound (omega (arith, some, c.in-Some.ensures.1)) refl (omega (arith, c.in-Some.ensures.1));
     }
 
 pub returns-in-Some-clause-ok : goal.returns-in-Some-clause-ok

@@ -7,7 +7,7 @@ pub invariant_of-self : goal.invariant_of-self
 invariant_of-self c = record {
   sound = subst (λ earlier. IsTrue (are_visit_runs (earlier ++ c.args.run ∷ []))) (sym c.in-Ok.ensures.ok)
       (sound_begin c.args.self.now.earlier c.args.self.now.latest c.args.run c.args.self.now.sound c.requires.some
-      c.requires.other);
+      c.requires.apart);
 }
 
 pub returns-in-Ok-clause-ok : goal.returns-in-Ok-clause-ok
