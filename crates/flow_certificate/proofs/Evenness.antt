@@ -1,5 +1,5 @@
 -- The nodes of a certificate by their numbers: as much flows into one as out of it where that is so by its name.
-use Rattle.std.proofs.Common.{◌≡◌, ℕ, ◌+◌, ◌*◌, ◌≤◌, ◌<◌, ◌==◌, not, Bool, true, false, length, sym, ap, ◌∙◌, arith}
+use Rattle.std.proofs.Common.{◌≡◌, ℕ, ◌+◌, ◌*◌, ◌<◌, ◌==◌, not, true, length, sym, ap, ◌∙◌, arith}
 use Rattle.std.proofs.lemmas.Bool.{ltb-true}
 use Rattle.flow_graph.specs.declared.graphs.Graph.{Graph}
 use Rattle.max_flow.specs.declared.answers.Solved.{Solved}

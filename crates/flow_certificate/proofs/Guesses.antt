@@ -1,12 +1,11 @@
 -- The text of a line is guessed as that line, whatever stands after its line feed.
-use Rattle.std.proofs.Common.{◌≡◌, ℕ, ◌+◌, ◌*◌, ◌/◌, ◌%◌, ◌^◌, ◌<◌, ◌≤◌, ◌==◌, nat_lt, Bool, true, false}
-use Rattle.std.proofs.Common.{List, [], ◌∷◌, ◌++◌, codes, length, get_or, slice_index, if◌then◌else◌, refl, sym}
+use Rattle.std.proofs.Common.{◌≡◌, ℕ, ◌^◌, ◌<◌, ◌==◌, nat_lt, Bool, true, false}
+use Rattle.std.proofs.Common.{List, [], ◌∷◌, ◌++◌, codes, slice_index, if◌then◌else◌, refl, sym}
 use Rattle.std.proofs.Common.{◌∙◌, ap, subst, append_assoc, arith, Option, Some, None}
 use Rattle.std.specs.Prelude.{option_map}
 use Rattle.std.specs.Fmt.{decimal}
-use Rattle.std.proofs.lemmas.Fmt.{decimal_by_steps}
-use Rattle.std.proofs.lemmas.Bool.{and_parts, lt-ltb, ltb-true}
-use Rattle.flow_base.specs.HexWords.{hex_digit, hex_digits, hex_word}
+use Rattle.std.proofs.lemmas.Bool.{and_parts, ltb-true}
+use Rattle.flow_base.specs.HexWords.{hex_digits, hex_word}
 use Rattle.flow_base.specs.Points.{is_slot, slot_text}
 use Rattle.flow_base.specs.TextPieces.{after_text}
 use Rattle.flow_base.specs.TextWords.{is_digit, number_at, slot_at, word_at}

@@ -17,3 +17,4 @@ pub mod OneText
 pub mod OneFault
 pub mod OneVerdict
 pub mod NotVerified
+pub mod NamedParts

@@ -18,3 +18,11 @@ is_certificate_point point = is_region_or_outside point.region && (nat_lt point.
 
 abbrev pub is_node : Node → Bool
 is_node node = is_number node.capacity && is_certificate_point node.point
+
+-- what the types of a region and an address keep
+abbrev pub is_placed : Node → Bool
+is_placed node = is_region_or_outside node.point.region && nat_lt node.point.address (2 ^ 32)
+
+-- a point with a known slot, whose capacity a certificate can name
+abbrev pub has_name : Node → Bool
+has_name node = is_number node.capacity && is_slot node.point.slot

@@ -10,7 +10,7 @@ use Rattle.flow_certificate.specs.declared.lines.LinkLine.{LinkLine}
 use Rattle.flow_certificate.specs.declared.lines.PointLine.{PointLine}
 use Rattle.flow_certificate.specs.declared.lines.RelayLine.{RelayLine}
 use Rattle.flow_certificate.specs.Certificates.{Picture}
-use Rattle.flow_certificate.specs.Keeping.{is_node, is_number, is_region_or_outside}
+use Rattle.flow_certificate.specs.Keeping.{has_name, is_node, is_number, is_region_or_outside}
 
 -- points with their flows and their halves in the side
 abbrev pub point_lines : List Node → List ℕ → List Half → List PointLine
@@ -54,6 +54,12 @@ abbrev pub have_texts : Graph → Solved → Bool
 have_texts graph solved =
     is_number solved.value && (list_all is_node graph.points && (list_all is_region_or_outside graph.relays
     && (list_all is_number solved.flow.points && list_all is_number solved.flow.links)))
+
+-- all numbers are below 2^48, and all slots are known; nothing else keeps parts with these counts from a certificate
+abbrev pub have_names : Graph → Solved → Bool
+have_names graph solved =
+    is_number solved.value && (list_all has_name graph.points
+    && (list_all is_number solved.flow.points && list_all is_number solved.flow.links))
 
 -- the parts of lines
 abbrev pub flow_at_point : PointLine → ℕ

@@ -17,6 +17,7 @@ mod line_texts;
 mod lines;
 mod making;
 mod over;
+mod ranges;
 mod reading;
 mod sums;
 mod values;

@@ -1,12 +1,13 @@
-ghost use Rattle.std.specs.Prelude.{◌≡◌, ◌&&◌, IfSome};
+ghost use Rattle.std.specs.Prelude.{◌≡◌, ◌&&◌, IfSome, IsSome, true};
 ghost use Rattle.std.specs.List.{list_all};
 ghost use Rattle.std.specs.Option.{is_some};
 ghost use Rattle.flow_certificate.specs.Keeping.{is_node as is_known_node, is_number as is_known_number};
 ghost use Rattle.flow_certificate.specs.Keeping.{is_region_or_outside};
-ghost use Rattle.flow_certificate.specs.Pictures.{have_counts as have_their_counts, have_texts as have_their_texts};
+ghost use Rattle.flow_certificate.specs.Pictures.{have_counts as have_their_counts, have_names, have_texts as have_their_texts};
 
 use crate::certificates::Certificate;
 use crate::line_reading::{LIMIT, is_number, is_place, is_region};
+use crate::ranges::tell_graph;
 use flow_graph::{Graph, Node};
 use max_flow::Solved;
 
@@ -61,12 +62,16 @@ fn have_texts(graph: &Graph, solved: &Solved) -> bool
 }
 
 impl Certificate {
-    /// The certificate of a graph with a flow and a side; None exactly where they break what a certificate keeps.
+    /// The certificate of a graph with a flow and a side; None exactly where they break what a certificate keeps. There
+    /// is one where there is a number for each point and link and an answer for each point and relay, all numbers are
+    /// below 2^48, and all slots are known.
     pub fn from_parts(graph: Graph, solved: Solved) -> Option<Certificate>
         ensures some { is_some result ≡ (have_their_counts graph solved && have_their_texts graph solved) }
+        ensures named { (have_their_counts graph solved && have_names graph solved) ≡ true → IsSome result }
         ensures graph { IfSome result (λ certificate. certificate.graph ≡ graph) }
         ensures solved { IfSome result (λ certificate. certificate.solved ≡ solved) }
     {
+        tell_graph(&graph);
         if !have_counts(&graph, &solved) || !have_texts(&graph, &solved) {
             return None;
         }
