@@ -57,7 +57,7 @@ fn after_path(
                     why: UnclearWhy::Paths { limit },
                 }));
             }
-            let next = turned(alloc, path.as_slice(), place)?;
+            let next = turned(alloc, &path, place)?;
             Ok(Step::Goes(found, room, next))
         }
     }

@@ -61,7 +61,7 @@ fn earlier_stop(
     match first {
         Some(first) => Ok(Some(first)),
         None => Ok(Some(StoppedPath {
-            bits: copied(alloc, path.as_slice())?,
+            bits: copied(alloc, path)?,
             stop,
         })),
     }

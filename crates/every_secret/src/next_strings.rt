@@ -1,6 +1,6 @@
 //! The strings of paths, one after another.
 
-ghost use Rattle.std.specs.Prelude.{◌≡◌, ◌<◌, ◌++◌, ◌∷◌, [], length, take, true, IfOk, IfSome, Some, option_map, if◌then◌else◌};
+ghost use Rattle.std.specs.Prelude.{◌≡◌, ◌<◌, ◌≤◌, ◌++◌, ◌∷◌, [], length, take, true, IfOk, IfSome, Some, option_map, if◌then◌else◌};
 ghost use Rattle.every_secret.specs.Paths.{next_string};
 
 use crossing_bits::Bits;
@@ -26,31 +26,34 @@ pub(crate) fn last_zero(bits: &[bool]) -> Option<usize>
     last
 }
 
+/// A string of these bits, of which none is taken, with room for so many. `NoMemory` where there is not enough.
+fn with_bits(alloc: Global, bits: &[bool], room: u32) -> Result<Bits, NoMemory>
+    requires { length bits.now ≤ room }
+    ensures bits { IfOk result (λ string. string.bits ≡ bits.now) }
+    ensures taken { IfOk result (λ string. string.taken ≡ 0) }
+{
+    let mut string = Bits::with_room(alloc, room)?;
+    for bit in bits {
+        string.push_masked(u32::from(*bit), 1)?;
+    }
+    Ok(string)
+}
+
 /// A string of the same bits, of which none is taken. `NoMemory` where there is not enough.
-pub(crate) fn copied(alloc: Global, bits: &[bool]) -> Result<Bits, NoMemory>
-    ensures bits { IfOk result (λ copy. copy.bits ≡ bits.now) }
+pub(crate) fn copied(alloc: Global, path: &Bits) -> Result<Bits, NoMemory>
+    ensures bits { IfOk result (λ copy. copy.bits ≡ path.now.bits) }
     ensures taken { IfOk result (λ copy. copy.taken ≡ 0) }
 {
-    let mut copy = Bits::with_room(alloc, 0)?;
-    for bit in bits {
-        if copy.count() == u32::MAX {
-            return Err(NoMemory);
-        }
-        copy.push_masked(u32::from(*bit), 1)?;
-    }
-    Ok(copy)
+    with_bits(alloc, path.as_slice(), path.count())
 }
 
 /// A string up to a place, and a 1 there. `NoMemory` where there is not enough.
-pub(crate) fn turned(alloc: Global, bits: &[bool], place: usize) -> Result<Bits, NoMemory>
-    requires { place < length bits.now }
-    ensures bits { IfOk result (λ next. next.bits ≡ take place bits.now ++ true ∷ []) }
+pub(crate) fn turned(alloc: Global, path: &Bits, place: usize) -> Result<Bits, NoMemory>
+    requires { place < length path.now.bits }
+    ensures bits { IfOk result (λ next. next.bits ≡ take place path.now.bits ++ true ∷ []) }
     ensures taken { IfOk result (λ next. next.taken ≡ 0) }
 {
-    let mut next = copied(alloc, &bits[..place])?;
-    if next.count() == u32::MAX {
-        return Err(NoMemory);
-    }
+    let mut next = with_bits(alloc, &path.as_slice()[..place], path.count())?;
     next.push_masked(1, 1)?;
     Ok(next)
 }

@@ -61,7 +61,7 @@ fn cleared(value: u32, mask: u32) -> u32
 }
 
 /// A string gets zeros after its end until so many of its bits are left.
-/// `NoMemory` where there is not enough.
+/// `NoMemory` where there is not enough, and where the string would have 2^32 bits.
 fn lengthen(bits: &mut Bits, count: u32) -> Result<(), NoMemory>
     ensures grown { OnOk result ((more : ℕ) × ((bits.new.bits ≡ bits.old.bits ++ replicate more false)
         × (0 < more → bits.new.taken + count ≡ length bits.new.bits))) }
@@ -89,7 +89,7 @@ fn choose(bits: &mut Bits, value: u32, mask: u32) -> Result<u32, NoMemory>
     lengthen(bits, bit_count(mask))?;
     match bits.patch(value, mask) {
         Some(word) => Ok(word),
-        None => Err(NoMemory),
+        None => unreachable!(),
     }
 }
 

@@ -27,6 +27,6 @@ returns-in_ok-next-in-Some-clause-steps c = λ tree ends path.
     let turned : next_string bits ≡ Some next =
     sym (c.in-Some.ensures.next ∙ ap (λ s. next_string s) c.as_slice.ensures)
     ∙ sym (ap (λ s. Some s) (c.in_ok-next-in-Some.ensures.bits
-    ∙ ap (λ s. take c.in-Some.place s ++ true ∷ []) (c.as_slice-in-Some.ensures ∙ sym c.as_slice.ensures))) in
+    ∙ ap (λ s. take c.in-Some.place s ++ true ∷ []) (sym c.as_slice.ensures))) in
     goes_next c.args.limit (found_by c.args.found) tree bits next ends path turned
     (ne_eqb c.args.found.paths c.args.limit c.if-found-limit.false)

@@ -1,12 +1,16 @@
 use Rattle.std.proofs.Common.{◌<◌, ◌++◌, take, false, get_or, length, sym, ap, ap₂, ◌∙◌, arith, add-one}
 use Rattle.std.proofs.Math.Seq.{take-suc}
+use Rattle.std.proofs.lemmas.List.{length-take-le}
 use Rattle.flow_base.specs.Words.{bits_under}
 use Rattle.every_secret.proofs.Strings.{count_one}
 use Rattle.every_secret.proofs.Trees.{bit_under}
-use Rattle.every_secret.proofs.next_strings.copied.Goals as goal
+use Rattle.every_secret.proofs.next_strings.with_bits.Goals as goal
 
 pub push_masked-requires : goal.push_masked-requires
-push_masked-requires c = omega (arith, count_one, c.count.ensures, c.if-count.false)
+push_masked-requires c =
+    let long = ap (λ s. length s) c.loop-bit.invariant.bits in
+    let front = length-take-le c.loop-bit.bit-index c.args.bits.now (omega (arith, c.loop-bit-test.true)) in
+    omega (arith, count_one, long, front, c.requires, c.loop-bit-test.true)
 
 pub loop-bit-preserved : goal.loop-bit-preserved
 loop-bit-preserved c =
