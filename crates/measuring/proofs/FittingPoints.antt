@@ -1,7 +1,7 @@
 -- The points that a side of a run's graph splits can stand in a cut.
 use Rattle.std.proofs.Common.{◌≡◌, ℕ, zero, suc, ◌+◌, ◌<◌, ◌≤◌, ◌^◌, ◌==◌, ◌||◌, Bool, true, false, List, [], ◌∷◌, ◌++◌}
 use Rattle.std.proofs.Common.{length, refl, sym, ap, ◌∙◌, subst, cond, not, arith, ⊎_elim}
-use Rattle.std.specs.List.{list_any, sum_by, AllByRecursion}
+use Rattle.std.specs.List.{list_all, list_any, sum_by, AllByRecursion}
 use Rattle.std.proofs.lemmas.Bool.{and_parts, cases_Bool, cond-true, false≢true}
 use Rattle.std.proofs.lemmas.List.Sums.{sum_by-cons}
 use Rattle.flow_base.specs.declared.points.Point.{Point}
@@ -23,12 +23,13 @@ use Rattle.acceptance_law.specs.VisitLaws.{FitCuts}
 use Rattle.acceptance_law.proofs.GraphCapacities.{capacity_law}
 use Rattle.measuring.specs.declared.kept_visits.KeptVisits.{KeptVisits}
 use Rattle.measuring.specs.Cutting.{FitsCut}
-use Rattle.measuring.specs.Limits.{is_point_in}
+use Rattle.measuring.specs.Limits.{has_slot, is_point_in}
 use Rattle.measuring.specs.Splits.{skipped, split_points}
 use Rattle.measuring.specs.Visits.{HasVisits}
-use Rattle.measuring.proofs.CutNames.{split_listed}
+use Rattle.measuring.proofs.CutNames.{own_points, split_listed}
 use Rattle.measuring.proofs.GraphWithinLimits.{some_capacity}
 use Rattle.measuring.proofs.RunCut.{capacities_some, nodes_up}
+use Rattle.measuring.proofs.Splits.{all_weaker}
 
 or_later : (a b : Bool) → b ≡ true → (a || b) ≡ true
 or_later true b later = refl
@@ -97,6 +98,25 @@ passed_visits q (Implicit p region ∷ events) some =
 passed_visits q (Out region p ∷ events) some =
     passed_visits q events (let whole = sum_by-cons (bits_at q) (Out region p) events in omega (arith, some, whole))
 
+-- a point of a graph was visited
+node_visited : (events : List Event) (graph : Graph) → IsGraphOf events graph → (q : Point) →
+    is_point_in graph.points q ≡ true → 0 < length (visit_masks q events)
+node_visited events graph of q there =
+    passed_visits q events (let some = some_capacity graph.points q (capacities_some graph) there in
+    let same = of.points q in some_bits (capacity_at graph.points q) (passed events q) some same)
+  where
+    some_bits : (n m : ℕ) → not (n == 0) ≡ true → n ≡ m → 0 < m
+    some_bits zero m some same = absurd (false≢true some)
+    some_bits (suc n) m some same = omega (arith, same)
+
+-- so its slot is one that a turn passes
+pub nodes_known : (events : List Event) (graph : Graph) → FitCuts events → IsGraphOf events graph →
+    list_all has_slot graph.points ≡ true
+nodes_known events graph fit of =
+    all_weaker (λ m. is_point_in graph.points m.point) has_slot
+    (λ m there. fit.slots m.point (node_visited events graph of m.point there)) graph.points
+    (own_points graph.points graph.points (λ q own. own))
+
 -- ---- one split point
 
 module _ (visits : KeptVisits) (graph : Graph) (halves : List Half) (relays : List Bool) (events : List Event)
@@ -110,15 +130,6 @@ module _ (visits : KeptVisits) (graph : Graph) (halves : List Half) (relays : Li
       there in
       let own = cond-true (is_split (named_side graph halves relays) q) (passed events q) 0 split in
       omega (arith, small, whole, part, own)
-
-  visited : (q : Point) → is_point_in graph.points q ≡ true → 0 < length (visit_masks q events)
-  visited q there =
-      passed_visits q events (let some = some_capacity graph.points q (capacities_some graph) there in
-      let same = of.points q in some_bits (capacity_at graph.points q) (passed events q) some same)
-    where
-      some_bits : (n m : ℕ) → not (n == 0) ≡ true → n ≡ m → 0 < m
-      some_bits zero m some same = absurd (false≢true some)
-      some_bits (suc n) m some same = omega (arith, same)
 
   few : (q : Point) → is_split (named_side graph halves relays) q ≡ true → is_point_in graph.points q ≡ true →
       length (visit_masks q events) < 2 ^ 32
@@ -137,7 +148,7 @@ module _ (visits : KeptVisits) (graph : Graph) (halves : List Half) (relays : Li
       (sym (split_listed (skipped graph.relays relays) graph.points halves q (nodes_up graph)) ∙ named)).0 in
       let there = has_node graph.points halves q (and_parts (has_first (halves_at graph.points halves q)) _ split).0 in
       record {
-        slot = fit.slots q (visited q there);
+        slot = fit.slots q (node_visited events graph of q there);
         few = subst (λ masks. length masks < 2 ^ 32) (sym (has q)) (few q split there);
       }
 

@@ -1,6 +1,8 @@
 -- The cut of a run's events needs no more than they keep.
 use Rattle.std.proofs.Common.{◌≡◌, ℕ, ◌<◌, ◌≤◌, ◌^◌, Bool, true, false, List, ◌∷◌, length, arith}
-use Rattle.std.specs.List.{AllByRecursion}
+use Rattle.std.specs.List.{AllByRecursion, list_all}
+use Rattle.std.specs.Prelude.{IsTrue}
+use Rattle.cut_file.proofs.Following.{is_true}
 use Rattle.elf32_loader.specs.Pictures.{Picture}
 use Rattle.enclosure_regions.specs.declared.region_parts.Region.{Region}
 use Rattle.enclosure_regions.specs.Regions.{are_regions}
@@ -19,10 +21,11 @@ use Rattle.measuring.specs.declared.following.Exit.{Exit}
 use Rattle.measuring.specs.declared.recordings.Recording.{Recording}
 use Rattle.measuring.specs.Cutting.{FitsCut}
 use Rattle.measuring.specs.Following.{HasEnded}
+use Rattle.measuring.specs.Limits.{has_slot}
 use Rattle.measuring.specs.Private.Weighing.{HasRunEvents}
 use Rattle.measuring.specs.Recordings.{HasEvents}
 use Rattle.measuring.specs.Splits.{skipped, split_points}
-use Rattle.measuring.proofs.FittingPoints.{points_fit}
+use Rattle.measuring.proofs.FittingPoints.{nodes_known, points_fit}
 
 pub has_events : (recording : Recording) → HasRunEvents recording → HasEvents recording
 has_events recording has = record { events = has.events; records = has.records }
@@ -33,6 +36,9 @@ module _ (recording : Recording) (graph : Graph) (halves : List Half) (relays : 
     (least : Least graph halves relays) (capacity : side_capacity graph halves relays ≡ value) where
   is_graph : IsGraphOf has.events graph
   is_graph = of has.events (has.records.graph within)
+
+  pub slots_known : IsTrue (list_all has_slot graph.points)
+  slots_known = is_true _ (nodes_known has.events graph has.fit is_graph)
 
   -- no more bits cross than the secret has
   pub few_bits : value < 2 ^ 32

@@ -1,5 +1,10 @@
 //! The words of a row.
 
+ghost use Rattle.std.specs.Prelude.{◌≤◌};
+
+/// No row is given more turns.
+const MOST_TURNS: u32 = 20_000_000;
+
 /// A row: which answer is asked for, the row's name, the names of the files of a program, regions and a cut, the number of
 /// a book of mask rules, limits, and the names of files of secrets. The public input is empty. An answer passes over what
 /// it does not ask for.
@@ -21,6 +26,7 @@ pub struct Limits {
     pub turns: u32,
     pub budget: u32,
     pub paths: u32,
+    ghost few: { turns ≤ 20000000 },
 }
 
 /// The first word of a text, and what follows it.
@@ -42,7 +48,7 @@ fn limits_of<'a>(text: &'a str) -> (Limits, &'a str) {
     let (paths, rest) = number(rest);
     let limits = Limits {
         book,
-        turns,
+        turns: turns.min(MOST_TURNS),
         budget,
         paths,
     };

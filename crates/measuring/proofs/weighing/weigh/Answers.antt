@@ -3,7 +3,7 @@ use Rattle.cut_file.proofs.Following.{is_true}
 use Rattle.measuring.proofs.RunCut.{cut_is}
 use Rattle.measuring.proofs.CutNames.{cut_is_in}
 use Rattle.measuring.proofs.GraphWithinLimits.{recorded_within, recorded_exceeds_none}
-use Rattle.measuring.proofs.RunEvents.{few_bits, has_events, recorded_fit}
+use Rattle.measuring.proofs.RunEvents.{few_bits, has_events, recorded_fit, slots_known}
 use Rattle.measuring.proofs.weighing.weigh.Goals as goal
 
 pub solve-requires : goal.solve-requires
@@ -30,6 +30,8 @@ invariant_of-result c =
       few_points = within.points;
       few_links = within.links;
       small = within.capacities;
+      slots = slots_known c.args.exit.recording c.in_ok-graph.graph _ _ _ c.requires.within c.requires.known
+          c.in_ok-graph.ensures c.in_ok-value.ensures.side c.in_ok-value.ensures.capacity;
       known = is_true _ (cut_is_in _ c.in_ok-graph.graph.points _ c.in_ok-cut.cut.points c.in_ok-cut.ensures.points);
     }
 
