@@ -13,7 +13,7 @@ use std::alloc::Global;
 pub fn taken_line(
     alloc: Global,
     word: &str,
-    number: u32,
+    number: usize,
     bits: &Bits,
     output: &Output,
 ) -> Result<Bytes, NoMemory>
@@ -32,7 +32,7 @@ pub fn taken_line(
 }
 
 /// The line of a secret that is rejected.
-fn rejected_line(alloc: Global, number: u32, why: Why) -> Result<Bytes, NoMemory>
+fn rejected_line(alloc: Global, number: usize, why: Why) -> Result<Bytes, NoMemory>
     ensures { IfOk result (λ text. text ≡ verdict_line_of number (Rejects why)) }
 {
     let text = format!(in alloc; "rejected {number} {why}\n")?;
@@ -41,7 +41,7 @@ fn rejected_line(alloc: Global, number: u32, why: Why) -> Result<Bytes, NoMemory
 
 /// The line of the secret with a number, counted from 1: that it is accepted, with its crossing bits as hexadecimal
 /// digits, or the first reason why it is rejected. Its error is lack of memory.
-pub fn verdict_line(alloc: Global, number: u32, verdict: &Verdict) -> Result<Bytes, NoMemory>
+pub fn verdict_line(alloc: Global, number: usize, verdict: &Verdict) -> Result<Bytes, NoMemory>
     ensures { IfOk result (λ text. text ≡ verdict_line_of number (judgement_of verdict.now)) }
 {
     match verdict {
