@@ -3,6 +3,7 @@ pub mod JoinedMasks
 pub mod FedEvents
 pub mod SameLinks
 pub mod BitsOfUnions
+pub mod UnitedVisits
 pub mod UnitedLinks
 pub mod UnitedEvents
 pub mod PastBits
