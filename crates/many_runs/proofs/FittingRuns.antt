@@ -1,13 +1,22 @@
 -- Runs that are measured together fit into a cut.
-use Rattle.std.proofs.Common.{◌≡◌, ℕ, ◌≤◌, ◌∷◌, [], true, List, length, subst, sym, arith}
+use Rattle.std.proofs.Common.{◌≡◌, ℕ, ◌≤◌, ◌<◌, ◌∷◌, [], true, List, length, subst, sym, arith}
 use Rattle.std.specs.List.{AllByRecursion, list_all}
 use Rattle.std.proofs.lemmas.Bool.{and_parts, leb-true}
+use Rattle.elf32_loader.specs.Pictures.{Picture}
+use Rattle.enclosure_regions.specs.declared.region_parts.Region.{Region}
 use Rattle.enclosure_regions.specs.Regions.{are_regions}
 use Rattle.flow_graph.specs.declared.events.Event.{Event}
+use Rattle.acceptance_law.specs.MeasuredLaws.{AreInputs}
 use Rattle.acceptance_law.specs.VisitLaws.{FitCuts}
 use Rattle.acceptance_law.proofs.FittingCuts.{fit_cuts_law}
 use Rattle.many_runs.specs.Following.{is_short_secret}
 use Rattle.many_runs.specs.Measures.{AreRunsOn, IsRunOn, Setup}
+
+-- the regions of some inputs are valid
+pub valid_regions : (program : Picture) (public_input : List ℕ) (regions : List Region) (secrets : List (List ℕ)) →
+    0 < length secrets → AllByRecursion (AreInputs program public_input regions) secrets → are_regions regions ≡ true
+valid_regions program public_input regions [] some inputs = absurd (omega (arith, some))
+valid_regions program public_input regions (secret ∷ secrets) some inputs = inputs.0.regions_valid
 
 module _ (setup : Setup) (turns : setup.limit ≤ 20000000) (valid : are_regions setup.regions ≡ true) where
   run_fits : (secret : List ℕ) (events : List Event) → length secret ≤ 65536 → IsRunOn setup secret events →

@@ -14,6 +14,7 @@ pub mod ManyCovered
 pub mod ManyAccepted
 pub mod ManyTexts
 pub mod ManyWithoutCause
+pub mod FittingRuns
 pub mod RecordedRuns
 pub mod PutPoints
 pub mod FewCutPoints
