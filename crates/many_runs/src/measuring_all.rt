@@ -2,6 +2,7 @@ ghost use Rattle.std.specs.Prelude.{◌≡◌, ◌<◌, ◌≤◌, IfErr, IfOk, 
 ghost use Rattle.std.specs.List.{AllByRecursion, list_all};
 ghost use Rattle.acceptance_law.specs.MeasuredLaws.{AreInputs};
 ghost use Rattle.elf32_loader.specs.Images.{image_picture};
+ghost use Rattle.enclosure_regions.specs.Regions.{are_regions};
 ghost use Rattle.many_runs.specs.Accepting.{AreAcceptedByFolds, AreAcceptedByTheCut, HasShortText};
 ghost use Rattle.many_runs.specs.Causes.{HasManyCause};
 ghost use Rattle.many_runs.specs.Following.{is_short_secret};
@@ -42,6 +43,8 @@ fn measure_runs(
 ) -> Result<Many, ManyFault>
     requires few { length secrets.now ≤ 64 }
     requires short { list_all is_short_secret secrets.now ≡ true }
+    requires regions { are_regions regions.now.items ≡ true }
+    requires turns { turns ≤ 20000000 }
     ensures ok { IfOk result (λ many. MeasuresAll
         (setup_of book.now.table (image_picture image.now) public.now regions.now.items turns) secrets.now many) }
     ensures err { IfErr result (λ fault. HasManyCause
@@ -60,10 +63,10 @@ fn measure_runs(
 /// that cut, and with its fold, within that number of bits and the same limit of turns. The text of the cut has at most
 /// 64 MiB, and that of its fold too.
 ///
-/// The secrets are 1 to 64, and each has at most 65,536 bytes. Of the errors the first in the order of [`ManyFault`]
-/// comes: `Length` where not all have one length, `Run` where a run is not measured, `UnitedLimit` where the graph of all
-/// runs exceeds a limit, and `BudgetLimit` where its maximum flow is more than 1,048,576; `Memory` where there is not
-/// enough, and where [`measure`](measuring::measure) would answer it for a point of the cut.
+/// The secrets are 1 to 64, each has at most 65,536 bytes, and the turns are at most 20,000,000. Of the errors the first
+/// in the order of [`ManyFault`] comes: `Length` where not all have one length, `Run` where a run is not measured,
+/// `UnitedLimit` where the graph of all runs exceeds a limit, and `BudgetLimit` where its maximum flow is more than
+/// 1,048,576; `Memory` where there is not enough.
 pub fn measure_all(
     alloc: Global,
     image: &Image,
@@ -76,6 +79,7 @@ pub fn measure_all(
     requires some { 0 < length secrets.now }
     requires few { length secrets.now ≤ 64 }
     requires short { list_all is_short_secret secrets.now ≡ true }
+    requires turns { turns ≤ 20000000 }
     ensures ok { IfOk result (λ many. MeasuresAll
         (setup_of book.now.table (image_picture image.now) public.now regions.now.items turns) secrets.now many) }
     ensures err { IfErr result (λ fault. HasManyCause

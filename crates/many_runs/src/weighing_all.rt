@@ -1,6 +1,5 @@
 ghost use Rattle.std.specs.Prelude.{◌≡◌, ◌≤◌, IfErr, IfOk};
-ghost use Rattle.measuring.specs.Recordings.{HasEvents};
-ghost use Rattle.many_runs.specs.Private.Weighing.{IsWeighFault, WeighsAll};
+ghost use Rattle.many_runs.specs.Private.Weighing.{HasFittingEvents, IsWeighFault, WeighsAll};
 
 use crate::faults::ManyFault;
 use crate::many::Many;
@@ -13,10 +12,10 @@ const MAX_BUDGET: u64 = 1_048_576;
 
 /// The measure of a recording, whose value is within the limit of a budget.
 /// `UnitedLimit` where its graph exceeds a limit, `BudgetLimit` where the maximum flow exceeds that of a budget; `Memory`
-/// where there is not enough, and where [`cut_of`] answers it.
+/// where there is not enough.
 pub(crate) fn weigh_all(alloc: Global, secret_len: u32, union: Recording) -> Result<Many, ManyFault>
     requires short { secret_len ≤ 65536 }
-    requires known { HasEvents union }
+    requires known { HasFittingEvents union }
     ensures ok { IfOk result (λ many. WeighsAll union secret_len many) }
     ensures budget { IfOk result (λ many. many.value ≤ 1048576) }
     ensures err { IfErr result (λ fault. IsWeighFault union fault) }

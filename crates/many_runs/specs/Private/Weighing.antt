@@ -3,12 +3,19 @@ use Rattle.std.specs.Prelude.{◌≡◌, ℕ, ◌<◌, true, List}
 use Rattle.flow_graph.specs.declared.events.Event.{Event}
 use Rattle.measuring.specs.declared.recordings.Recording.{Recording}
 use Rattle.measuring.specs.Recordings.{Records}
+use Rattle.acceptance_law.specs.VisitLaws.{FitCuts}
 use Rattle.many_runs.specs.declared.faults.ManyFault.{ManyFault}
 use Rattle.many_runs.specs.declared.faults.ManyFault.TheVariants.{Length, Run, UnitedLimit, BudgetLimit, Memory}
 use Rattle.many_runs.specs.declared.many.Many.{Many}
 use Rattle.many_runs.specs.Causes.{HasMaximum}
 use Rattle.many_runs.specs.Measures.{IsMeasureOfAll}
 use Rattle.location_collapse.specs.Limits.{ExceedsLimit}
+
+-- the recording stands for some events that fit into a cut
+pub record HasFittingEvents (recording : Recording) : Type 0 where
+  pub events : List Event
+  pub records : Records recording events
+  pub fit : FitCuts events
 
 -- the measure of whatever events the recording stands for
 abbrev pub WeighsAll : Recording → ℕ → Many → Type 0

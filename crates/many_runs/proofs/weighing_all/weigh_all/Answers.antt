@@ -1,14 +1,28 @@
 use Rattle.std.proofs.Common.{arith}
 use Rattle.cut_file.proofs.Following.{is_true}
+use Rattle.measuring.specs.declared.recordings.Recording.{Recording}
+use Rattle.measuring.specs.Recordings.{HasEvents}
 use Rattle.measuring.proofs.RunCut.{cut_is}
 use Rattle.measuring.proofs.CutNames.{cut_is_in}
+use Rattle.measuring.proofs.FittingPoints.{points_fit}
 use Rattle.measuring.proofs.GraphWithinLimits.{recorded_within, recorded_exceeds_none}
+use Rattle.many_runs.specs.Private.Weighing.{HasFittingEvents}
 use Rattle.many_runs.proofs.FewCutPoints.{points_are_few}
 use Rattle.many_runs.proofs.weighing_all.weigh_all.Goals as goal
 
+some_events : (union : Recording) → HasFittingEvents union → HasEvents union
+some_events union known = record { events = known.events; records = known.records }
+
 pub solve-requires : goal.solve-requires
-solve-requires c = recorded_within c.args.union c.if-collapse.false c.requires.known c.in_ok-graph.graph
-    c.in_ok-graph.ensures
+solve-requires c = recorded_within c.args.union c.if-collapse.false (some_events c.args.union c.requires.known)
+    c.in_ok-graph.graph c.in_ok-graph.ensures
+
+pub cut_of-requires-clause-fits : goal.cut_of-requires-clause-fits
+cut_of-requires-clause-fits c =
+    points_fit c.args.union.visits c.in_ok-graph.graph _ _ c.requires.known.events c.requires.known.fit
+    (c.requires.known.records.visits c.if-collapse.false)
+    (c.in_ok-graph.ensures c.requires.known.events (c.requires.known.records.graph c.if-collapse.false))
+    c.in_ok-value.ensures.side.side (omega (arith, c.in_ok-value.ensures.capacity))
 
 pub returns-then-value-gt-MAX_BUDGET-clause-err : goal.returns-then-value-gt-MAX_BUDGET-clause-err
 returns-then-value-gt-MAX_BUDGET-clause-err c = λ events records. record {
@@ -27,8 +41,8 @@ returns-then-value-gt-MAX_BUDGET-clause-err c = λ events records. record {
 
 pub invariant_of-result : goal.invariant_of-result
 invariant_of-result c =
-    let within = recorded_within c.args.union c.if-collapse.false c.requires.known c.in_ok-graph.graph
-    c.in_ok-graph.ensures in
+    let within = recorded_within c.args.union c.if-collapse.false (some_events c.args.union c.requires.known)
+    c.in_ok-graph.graph c.in_ok-graph.ensures in
     record {
       few_points = within.points;
       few_links = within.links;
