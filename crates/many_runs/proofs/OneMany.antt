@@ -41,6 +41,7 @@ as_one many = record {
   few_points = many.few_points;
   few_links = many.few_links;
   small = many.small;
+  slots = many.slots;
   known = many.known;
 }
 

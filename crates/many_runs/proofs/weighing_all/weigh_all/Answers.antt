@@ -4,7 +4,7 @@ use Rattle.measuring.specs.declared.recordings.Recording.{Recording}
 use Rattle.measuring.specs.Recordings.{HasEvents}
 use Rattle.measuring.proofs.RunCut.{cut_is}
 use Rattle.measuring.proofs.CutNames.{cut_is_in}
-use Rattle.measuring.proofs.FittingPoints.{points_fit}
+use Rattle.measuring.proofs.FittingPoints.{nodes_known, points_fit}
 use Rattle.measuring.proofs.GraphWithinLimits.{recorded_within, recorded_exceeds_none}
 use Rattle.many_runs.specs.Private.Weighing.{HasFittingEvents}
 use Rattle.many_runs.proofs.FewCutPoints.{points_are_few}
@@ -47,6 +47,8 @@ invariant_of-result c =
       few_points = within.points;
       few_links = within.links;
       small = within.capacities;
+      slots = is_true _ (nodes_known c.requires.known.events c.in_ok-graph.graph c.requires.known.fit
+          (c.in_ok-graph.ensures c.requires.known.events (c.requires.known.records.graph c.if-collapse.false)));
       few_cut_points = points_are_few c.in_ok-cut.cut.points _ _ _ c.in_ok-cut.ensures.points within.points;
       known = is_true _ (cut_is_in _ c.in_ok-graph.graph.points _ c.in_ok-cut.cut.points c.in_ok-cut.ensures.points);
     }
