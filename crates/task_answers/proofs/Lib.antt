@@ -2,3 +2,4 @@ pub mod Judgements
 pub mod TrialRuns
 pub mod FindingLines
 pub mod TableRules
+pub mod Certified

@@ -10,7 +10,7 @@ ghost use Rattle.task_answers.specs.BoundTexts.{paths_text as paths_text_of, sta
 ghost use Rattle.task_answers.specs.BoundTexts.{pattern_line as pattern_line_of, pattern_lines as pattern_lines_of};
 ghost use Rattle.task_answers.specs.BoundTexts.{stop_line as stop_line_of, unclear_line as unclear_line_of};
 
-use crate::texts::{joined, next};
+use crate::texts::joined;
 use crossing_bits::Bits;
 use every_secret::{
     Bounded, Pattern, StoppedPath, UnclearWhy, free_bits, output_bits, output_count,
@@ -50,16 +50,6 @@ pub fn unclear_line(alloc: Global, bits: &Bits, why: UnclearWhy) -> Result<Bytes
     Ok(text)
 }
 
-/// A number of bits in 64; the error is out of memory, which also comes where there are more.
-fn counted(bits: u128) -> Result<u64, NoMemory>
-    ensures { IfOk result (λ count. count ≡ bits) }
-{
-    if bits >= 1 << 64 {
-        return Err(NoMemory);
-    }
-    Ok(bits as u64)
-}
-
 /// The mask of the status of a pattern, after a space.
 fn status_mask_text(alloc: Global, pattern: &Pattern) -> Result<Bytes, NoMemory>
     ensures { IfOk result (λ text. text ≡ codes " " ++ encode_lower (pattern.now.status_mask ∷ [])) }
@@ -70,7 +60,7 @@ fn status_mask_text(alloc: Global, pattern: &Pattern) -> Result<Bytes, NoMemory>
 }
 
 /// The masks of a pattern with so many free bits; nothing where it has none.
-fn mask_text(alloc: Global, free: u64, pattern: &Pattern) -> Result<Bytes, NoMemory>
+fn mask_text(alloc: Global, free: u128, pattern: &Pattern) -> Result<Bytes, NoMemory>
     ensures { IfOk result (λ text. text ≡ mask_text_of free pattern.now) }
 {
     if free == 0 {
@@ -83,7 +73,7 @@ fn mask_text(alloc: Global, free: u64, pattern: &Pattern) -> Result<Bytes, NoMem
 }
 
 /// The end of the line of a pattern with so many free bits.
-fn status_text(alloc: Global, free: u64, pattern: &Pattern) -> Result<Bytes, NoMemory>
+fn status_text(alloc: Global, free: u128, pattern: &Pattern) -> Result<Bytes, NoMemory>
     ensures { IfOk result (λ text. text ≡ status_text_of free pattern.now) }
 {
     let status = pattern.status;
@@ -94,10 +84,10 @@ fn status_text(alloc: Global, free: u64, pattern: &Pattern) -> Result<Bytes, NoM
 }
 
 /// The line of the pattern with a number.
-fn pattern_line(alloc: Global, number: u32, pattern: &Pattern) -> Result<Bytes, NoMemory>
+fn pattern_line(alloc: Global, number: usize, pattern: &Pattern) -> Result<Bytes, NoMemory>
     ensures { IfOk result (λ text. text ≡ pattern_line_of number pattern.now) }
 {
-    let free = counted(free_bits(pattern))?;
+    let free = free_bits(pattern);
     let bytes = hex_bytes(alloc, pattern.bytes.as_slice())?;
     let tail = status_text(alloc, free, pattern)?;
     let head = format!(in alloc; "output {number} free {free} bytes ")?;
@@ -110,10 +100,8 @@ fn pattern_lines(alloc: Global, patterns: &[Pattern]) -> Result<Vec<u8>, NoMemor
     ensures { IfOk result (λ text. text.items ≡ pattern_lines_of 1 patterns.now) }
 {
     let mut text = Vec::new(alloc);
-    let mut number: u32 = 0;
-    for pattern in patterns {
-        number = next(number)?;
-        let line = pattern_line(alloc, number, pattern)?;
+    for (place, pattern) in patterns.iter().enumerate() {
+        let line = pattern_line(alloc, place + 1, pattern)?;
         text.extend_from_slice(line.as_slice())?;
     }
     Ok(text)
@@ -184,7 +172,7 @@ fn bounded_text(
     secret_length: u32,
     regions: usize,
     found: &Bounded,
-    bits: u64,
+    bits: u128,
 ) -> Result<Bytes, NoMemory>
     ensures { IfOk result (λ text. text ≡ bounded_line_of secret_length regions (found_of found.now) bits) }
 {
@@ -205,7 +193,7 @@ pub fn bounded_line(
     ensures { IfOk result (λ text. (bits : ℕ) × IsLeastPower (output_count_of found.now.patterns) bits
         × (text ≡ bounded_line_of secret_length regions (found_of found.now) bits)) }
 {
-    let bits = counted(output_bits(alloc, found.patterns.as_slice())?)?;
+    let bits = output_bits(alloc, found.patterns.as_slice())?;
     let text = bounded_text(alloc, secret_length, regions, found, bits)?;
     Ok(text)
 }

@@ -9,7 +9,7 @@ ghost use Rattle.task_answers.specs.Findings.{AnswersTaint, AreFindings, IsFindi
 ghost use Rattle.task_answers.specs.Texts.{clean_count, finding_line as finding_line_of, finding_lines};
 
 use crate::replies::Reply;
-use crate::texts::{counts_line, next, status_of};
+use crate::texts::{counts_line, status_of};
 use command_line::Limits;
 use command_tasks::Guest;
 use cut_file::Cut;
@@ -46,7 +46,7 @@ fn find(
 }
 
 /// The line of a secret that is unclear.
-fn unclear_line(alloc: Global, number: u32, why: TaintWhy) -> Result<Bytes, NoMemory>
+fn unclear_line(alloc: Global, number: usize, why: TaintWhy) -> Result<Bytes, NoMemory>
     ensures { IfOk result (λ text. text ≡ finding_line_of number (IsUnclear why)) }
 {
     let text = format!(in alloc; "unclear {number} {why}\n")?;
@@ -54,7 +54,7 @@ fn unclear_line(alloc: Global, number: u32, why: TaintWhy) -> Result<Bytes, NoMe
 }
 
 /// The line of the secret with a number.
-fn finding_line(alloc: Global, number: u32, verdict: &TaintVerdict) -> Result<Bytes, NoMemory>
+fn finding_line(alloc: Global, number: usize, verdict: &TaintVerdict) -> Result<Bytes, NoMemory>
     ensures { IfOk result (λ text. text ≡ finding_line_of number (finding_of verdict.now)) }
 {
     match verdict {
@@ -96,12 +96,10 @@ fn lines_of(
         findings × (lines.text.items ≡ finding_lines 1 findings) × (lines.clean ≡ clean_count findings)) }
 {
     let mut text = Vec::new(alloc);
-    let mut number: u32 = 0;
     let mut clean = 0;
-    for secret in secrets {
-        number = next(number)?;
+    for (place, secret) in secrets.iter().enumerate() {
         let verdict = find(alloc, guest, cut, secret, limits, book)?;
-        let line = finding_line(alloc, number, &verdict)?;
+        let line = finding_line(alloc, place + 1, &verdict)?;
         text.extend_from_slice(line.as_slice())?;
         clean += clean_by(&verdict);
     }

@@ -11,7 +11,7 @@ ghost use Rattle.task_answers.specs.Texts.{accepted_count, verdict_lines};
 use crate::books::book_of;
 use crate::finding::find_secrets;
 use crate::replies::Reply;
-use crate::texts::{counts_line, next, status_of};
+use crate::texts::{counts_line, status_of};
 use command_line::{Judging, Limits};
 use command_tasks::{CheckTask, Guest};
 use cut_file::Cut;
@@ -98,14 +98,12 @@ fn lines_of(
         (judged_by (guest_in guest.now) (cut_picture cut.now)) (limits_in limits) secrets.now)) }
 {
     let mut text = Vec::new(alloc);
-    let mut number: u32 = 0;
     let mut accepted = 0;
     let mut memories = Memories::new(alloc)?;
-    for secret in secrets {
-        number = next(number)?;
+    for (place, secret) in secrets.iter().enumerate() {
         let (verdict, used) = judge_in(memories, alloc, guest, cut, secret, limits)?;
         memories = used;
-        let line = verdict_line(alloc, number, &verdict)?;
+        let line = verdict_line(alloc, place + 1, &verdict)?;
         text.extend_from_slice(line.as_slice())?;
         accepted += accepted_by(&verdict);
     }

@@ -1,12 +1,13 @@
 //! What is told of a run.
 
-ghost use Rattle.std.specs.Prelude.{◌≡◌, ◌≢◌, ◌∷◌, [], Err, IfOk, map};
+ghost use Rattle.std.specs.Prelude.{◌≡◌, ◌≢◌, ◌&&◌, ◌∷◌, [], Err, IfOk, map, true};
 ghost use Rattle.cut_file.specs.Pictures.{cut_picture};
 ghost use Rattle.command_tasks.specs.ReadTasks.{IsBoundedRun, run_in};
 ghost use Rattle.command_tasks.specs.declared.refusals.Refusal.TheVariants.{Memory};
+ghost use Rattle.flow_certificate.specs.Pictures.{have_counts, have_names};
 ghost use Rattle.task_answers.specs.CutTexts.{IsCutText};
 ghost use Rattle.task_answers.specs.Runs.{AnswersRun};
-ghost use Rattle.task_answers.specs.Tellings.{AnswersTelling, IsCertificateText, IsCutOfRun, IsReport, Tells};
+ghost use Rattle.task_answers.specs.Tellings.{AnswersTelling, IsCertificateText, IsCutOfRun, IsReport, Tells, solved_of};
 
 use crate::learning::tell_declaration;
 use crate::measured_runs::measured;
@@ -34,9 +35,9 @@ pub fn cut_text(alloc: Global, version: u32, cut: &Cut) -> Result<Bytes, NoMemor
     write_cut(alloc, cut)
 }
 
-/// The text of the certificate of a measured run. `NoMemory` where there is not enough; it is answered too where a
-/// number is 2^48 or more, which in no run is.
+/// The text of the certificate of a measured run. `NoMemory` where there is not enough.
 fn certificate_text(alloc: Global, measured: Measured) -> Result<Bytes, NoMemory>
+    requires { (have_counts measured.graph (solved_of measured) && have_names measured.graph (solved_of measured)) ≡ true }
     ensures { IfOk result (λ text. IsCertificateText measured text) }
 {
     let solved = Solved {
@@ -46,7 +47,7 @@ fn certificate_text(alloc: Global, measured: Measured) -> Result<Bytes, NoMemory
     };
     match Certificate::from_parts(measured.graph, solved) {
         Some(certificate) => write_certificate(alloc, &certificate),
-        None => Err(NoMemory),
+        None => unreachable!(),
     }
 }
 

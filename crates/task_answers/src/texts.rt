@@ -1,4 +1,4 @@
-ghost use Rattle.std.specs.Prelude.{◌≡◌, ◌+◌, ◌++◌, ◌==◌, IfOk, if◌then◌else◌};
+ghost use Rattle.std.specs.Prelude.{◌≡◌, ◌++◌, ◌==◌, IfOk, if◌then◌else◌};
 ghost use Rattle.command_tasks.specs.declared.statuses.Status.TheVariants.{Done, Rejected};
 ghost use Rattle.task_answers.specs.Texts.{counts_line as counts_line_of};
 
@@ -40,11 +40,4 @@ pub fn status_of(taken: usize, checked: usize) -> Status
     } else {
         Status::Rejected
     }
-}
-
-/// The number of the next secret; the error is out of memory, which also comes after 2^32 secrets.
-pub fn next(number: u32) -> Result<u32, NoMemory>
-    ensures { IfOk result (λ after. after ≡ number + 1) }
-{
-    number.checked_add(1).ok_or(NoMemory)
 }

@@ -1,4 +1,4 @@
-use Rattle.std.proofs.Common.{◌∷◌, [], List, sym, subst, arith}
+use Rattle.std.proofs.Common.{◌∷◌, ◌+◌, [], List, refl, sym, subst, arith}
 use Rattle.std.proofs.Math.ListN.{drop_of_length-le}
 use Rattle.std.proofs.lemmas.Grind.{common_steps}
 use Rattle.std.proofs.lemmas.List.{drop_more}
@@ -10,33 +10,32 @@ use Rattle.task_answers.specs.Findings.{AreFindings}
 use Rattle.task_answers.proofs.FindingLines.{all_findings, next_finding}
 use Rattle.task_answers.proofs.finding.lines_of.Goals as goal
 
-pub loop-secret-preserved : goal.loop-secret-preserved
-loop-secret-preserved g c =
-    let l = c.loop-secret in
+pub loop-place-preserved : goal.loop-place-preserved
+loop-place-preserved g c =
+    let l = c.loop-place in
     let table = c.args.book.now.table in
     let judged = judged_by (guest_in c.args.guest.now) (cut_picture c.args.cut.now) in
     let limits = limits_in c.args.limits in
     let secrets = c.args.secrets.now in
     let finding : Finding = finding_of c.in_ok-verdict.verdict in
     record {
-      number = grind (arith, common_steps, l.invariant.number);
       few = omega (arith, l.invariant.few, c.clean_by-clean.ensures.one);
       found = λ rest. λ are.
-          let left = drop_more secrets l.secret-index c.secret-item.result c.loop-secret-test.true in
+          let left = drop_more secrets l.place c.index-secrets-place.result c.loop-place-test.true in
           next_finding table judged limits secrets l.text.items c.in_ok-line.line c.extend_from_slice.new.self.items
-          l.number c.in_ok-number.number l.clean c.clean_by-clean.result finding rest c.in_ok-number.ensures
+          l.place (l.place + 1) l.clean c.clean_by-clean.result finding rest refl
           (grind (arith, common_steps)) c.in_ok-line.ensures c.clean_by-clean.ensures.count
           (l.invariant.found (finding ∷ rest)
           (subst (λ (ss : List _). AreFindings table judged limits ss (finding ∷ rest)) (sym left)
-          (rw c.secret-item.is at c.in_ok-verdict.ensures, are)));
+          (rw c.index-secrets-place.is at c.in_ok-verdict.ensures, are)));
     }
 
 pub returns : goal.returns
 returns g c =
-    let l = c.loop-secret in
+    let l = c.loop-place in
     let table = c.args.book.now.table in
     let judged = judged_by (guest_in c.args.guest.now) (cut_picture c.args.cut.now) in
     let limits = limits_in c.args.limits in
-    let none = drop_of_length-le c.args.secrets.now {i = l.secret-index} (omega (arith, c.loop-secret-test.false)) in
-    all_findings table judged limits c.args.secrets.now l.text.items l.number l.clean
+    let none = drop_of_length-le c.args.secrets.now {i = l.place} (omega (arith, c.loop-place-test.false)) in
+    all_findings table judged limits c.args.secrets.now l.text.items l.place l.clean
     (l.invariant.found [] (subst (λ (ss : List _). AreFindings table judged limits ss []) (sym none) tt))

@@ -7,17 +7,16 @@ use Rattle.task_answers.specs.Findings.{AreFindings}
 use Rattle.task_answers.specs.Texts.{clean_count, finding_lines}
 use Rattle.task_answers.proofs.finding.lines_of.Given as goal
 
-abbrev pub invariant-loop-secret : goal.invariant-loop-secret
-invariant-loop-secret g l = record {
-  number : l.number ≡ l.secret-index;
-  few : l.clean ≤ l.secret-index;
+abbrev pub invariant-loop-place : goal.invariant-loop-place
+invariant-loop-place g l = record {
+  few : l.clean ≤ l.place;
   -- with any findings of the secrets that are left there are findings of all
   found :
       (rest : List Finding) →
       AreFindings l.book.table (judged_by (guest_in l.guest) (cut_picture l.cut)) (limits_in l.limits)
-      (drop l.secret-index l.secrets) rest →
+      (drop l.place l.secrets) rest →
       (findings : List Finding)
       × AreFindings l.book.table (judged_by (guest_in l.guest) (cut_picture l.cut)) (limits_in l.limits) l.secrets findings
-      × (l.text.items ++ finding_lines (l.number + 1) rest ≡ finding_lines 1 findings)
+      × (l.text.items ++ finding_lines (l.place + 1) rest ≡ finding_lines 1 findings)
       × (l.clean + clean_count rest ≡ clean_count findings);
 }
