@@ -5,6 +5,8 @@ pub mod Masked
 pub mod Turns
 pub mod Replays
 pub mod Paths
+pub mod Ways
+pub mod States
 pub mod Bounds
 pub mod BoundTexts
 pub mod Listed

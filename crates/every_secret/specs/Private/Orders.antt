@@ -35,3 +35,21 @@ later (Leaf e) bits = []
 later (Fork first second) [] = []
 later (Fork first second) (false ∷ bits) = map (behind false) (later first bits) ++ map (behind true) (paths_of second)
 later (Fork first second) (true ∷ bits) = map (behind true) (later second bits)
+
+-- the paths before the first that begins with a string
+abbrev pub earlier : Tree → List Bool → List Path
+earlier (Leaf e) bits = []
+earlier (Fork first second) [] = []
+earlier (Fork first second) (false ∷ bits) = map (behind false) (earlier first bits)
+earlier (Fork first second) (true ∷ bits) = map (behind false) (paths_of first) ++ map (behind true) (earlier second bits)
+
+-- what is below a string
+abbrev pub under : Tree → List Bool → Tree
+under (Leaf e) bits = Leaf e
+under (Fork first second) [] = Fork first second
+under (Fork first second) (false ∷ bits) = under first bits
+under (Fork first second) (true ∷ bits) = under second bits
+
+-- a path after a string
+abbrev pub past : List Bool → Path → Path
+past before path = record { bits = before ++ path.bits; ends = path.ends }
