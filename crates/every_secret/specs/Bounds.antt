@@ -1,5 +1,5 @@
--- What is answered of all paths: the first that is unclear, or all that they show.
-use Rattle.std.specs.Prelude.{ℕ, ◌+◌, ◌^◌, ◌≤◌, ◌==◌, ◌&&◌, nat_lt, Bool, true, false, List, [], ◌∷◌, ◌++◌, length}
+-- What is answered of all paths: the first that is unclear, or all that they show; and what a verdict tells of it.
+use Rattle.std.specs.Prelude.{◌≡◌, ℕ, ◌+◌, ◌^◌, ◌<◌, ◌≤◌, ◌==◌, ◌&&◌, nat_lt, Bool, true, false, List, [], ◌∷◌, ◌++◌, length}
 use Rattle.std.specs.Prelude.{Option, Some, None, if◌then◌else◌, option_map}
 use Rattle.std.specs.List.{list_any}
 use Rattle.std.specs.Str.{bytes_eq}
@@ -11,8 +11,8 @@ use Rattle.every_secret.specs.declared.verdicts.BoundVerdict.{BoundVerdict}
 use Rattle.every_secret.specs.declared.verdicts.BoundVerdict.TheVariants as verdict
 use Rattle.every_secret.specs.declared.verdicts.StoppedPath.{StoppedPath}
 use Rattle.every_secret.specs.declared.whys.UnclearWhy.{UnclearWhy}
-use Rattle.every_secret.specs.declared.whys.UnclearWhy.TheVariants.{Paths as PathsLimit, Outputs}
-use Rattle.every_secret.specs.Paths.{Path, Paths}
+use Rattle.every_secret.specs.declared.whys.UnclearWhy.TheVariants.{Outputs}
+use Rattle.every_secret.specs.Paths.{Opens, Path, Paths, Tree, paths_of, tree_of}
 use Rattle.every_secret.specs.declared.path_ends.PathEnd.{PathEnd}
 use Rattle.every_secret.specs.declared.path_ends.PathEnd.TheVariants.{Exits, Stops, Unclear}
 use Rattle.every_secret.specs.declared.patterns.Pattern.{Pattern}
@@ -60,8 +60,8 @@ pub record Halt : Type 0 where
   pub bits : List Bool
   pub stop : PathStop
 
--- how many paths were walked and how many of them stop, the different patterns in the order in which they were found, and
--- the first path that stops
+-- how many paths there are and how many of them stop, the different patterns in the order in which they are first found,
+-- and the first path that stops
 pub record Found : Type 0 where
   pub paths : ℕ
   pub stopped : ℕ
@@ -98,37 +98,26 @@ pub data Answer : Type 0 where
   IsBounded : Found → Answer
   IsUnclear : List Bool → UnclearWhy → Answer
 
--- as many paths were walked as may be, and one is left
-abbrev pub unless_many : Bool → ℕ → List Bool → List Path → Answer → Answer
-unless_many true limit bits [] later = later
-unless_many true limit bits (path ∷ paths) later = IsUnclear bits (PathsLimit limit)
-unless_many false limit bits paths later = later
-
 abbrev pub unless_large : Bool → List Bool → Answer → Answer
 unless_large true bits later = IsUnclear bits (Outputs pattern_limit)
 unless_large false bits later = later
 
--- of a path, of what is found with it, and of the paths that are left
-abbrev pub after_path : ℕ → Path → List Path → Found → Answer → Answer
-after_path limit path paths found later = unless_many (found.paths == limit) limit path.bits paths later
-
-abbrev pub after_end : ℕ → PathEnd → Path → List Path → Found → (Found → Answer) → Answer
-after_end limit (Unclear why) path paths found later = IsUnclear path.bits why
-after_end limit (Stops stop) path paths found later =
-    after_path limit path paths (found_stop path.bits stop found) (later (found_stop path.bits stop found))
-after_end limit (Exits pattern) path paths found later =
+-- of a path that ends so, where so much is found before, and of the paths that are left
+abbrev pub after_end : PathEnd → Path → Found → (Found → Answer) → Answer
+after_end (Unclear why) path found later = IsUnclear path.bits why
+after_end (Stops stop) path found later = later (found_stop path.bits stop found)
+after_end (Exits pattern) path found later =
     unless_large (nat_lt pattern_limit (size_of (with_pattern pattern found.patterns))) path.bits
-    (after_path limit path paths (found_exit pattern found) (later (found_exit pattern found)))
+    (later (found_exit pattern found))
 
 -- of these paths, where so much is found before
-unfoldable pub judged : ℕ → Found → List Path → Answer
-judged limit found [] = IsBounded found
-judged limit found (path ∷ paths) =
-    after_end limit path.ends path paths found (λ next. judged limit next paths)
+unfoldable pub judged : Found → List Path → Answer
+judged found [] = IsBounded found
+judged found (path ∷ paths) = after_end path.ends path found (λ next. judged next paths)
 
--- Bounds: the answer for a task, within a limit of paths
-abbrev pub Bounds : Rules → Task → Limits → ℕ → Answer
-Bounds rules task limits paths = judged paths nothing_found (Paths (MaskedReplay rules task limits))
+-- Bounds: the answer for a task
+abbrev pub Bounds : Rules → Task → Limits → Answer
+Bounds rules task limits = judged nothing_found (Paths (MaskedReplay rules task limits))
 
 -- ---- the numbers
 
@@ -137,19 +126,55 @@ pub record IsLeastPower (outputs bits : ℕ) : Type 0 where
   pub enough : outputs ≤ 2 ^ bits
   pub least : (fewer : ℕ) → outputs ≤ 2 ^ fewer → bits ≤ fewer
 
--- ---- the answer that a verdict shows
+-- ---- what a verdict shows
+
+-- a number, where it is below 2 ^ 64
+abbrev pub counted : ℕ → Option ℕ
+counted number = if nat_lt number (2 ^ 64) then Some number else None
+
+-- what is found, as it is told
+pub record Summary : Type 0 where
+  pub paths : Option ℕ
+  pub stopped : Option ℕ
+  pub patterns : List Pattern
+  pub first_stop : Option Halt
+
+abbrev pub summary_of : Found → Summary
+summary_of found = record {
+  paths = counted found.paths;
+  stopped = counted found.stopped;
+  patterns = found.patterns;
+  first_stop = found.first_stop;
+}
 
 abbrev pub halt_of : StoppedPath → Halt
 halt_of stopped = record { bits = stopped.bits.bits; stop = stopped.stop }
 
-abbrev pub found_of : Bounded → Found
-found_of bounded = record {
+-- what a verdict tells of what is found
+abbrev pub summary_in : Bounded → Summary
+summary_in bounded = record {
   paths = bounded.paths;
   stopped = bounded.stopped;
   patterns = bounded.patterns;
   first_stop = option_map (λ stopped. halt_of stopped) bounded.first_stop;
 }
 
-abbrev pub answer_of : BoundVerdict → Answer
-answer_of (verdict.Bounded bounded) = IsBounded (found_of bounded)
-answer_of (verdict.Unclear path why) = IsUnclear path.bits why
+-- a verdict shows the answer
+abbrev pub Shows : BoundVerdict → Answer → Type 0
+Shows (verdict.Bounded bounded) (IsBounded found) = summary_in bounded ≡ summary_of found
+Shows (verdict.Bounded bounded) (IsUnclear bits why) = ⊥
+Shows (verdict.Unclear path why) (IsBounded found) = ⊥
+Shows (verdict.Unclear path why) (IsUnclear bits other) = (path.bits ≡ bits) × (why ≡ other)
+Shows (verdict.TooMany path limit) answer = ⊥
+
+-- a tree has more paths than the walks that may be made, the last of which was that of this string: a path begins so
+pub record HasMorePaths (tree : Tree) (walks : ℕ) (bits : List Bool) : Type 0 where
+  pub more : walks < length (paths_of tree)
+  pub begins : Opens tree bits
+
+-- a verdict that was found by at most so many walks: it shows the answer, or there are more paths than that
+abbrev pub IsVerdict : Rules → Task → Limits → ℕ → BoundVerdict → Type 0
+IsVerdict rules task limits walks (verdict.Bounded bounded) = Shows (verdict.Bounded bounded) (Bounds rules task limits)
+IsVerdict rules task limits walks (verdict.Unclear path why) = Shows (verdict.Unclear path why) (Bounds rules task limits)
+IsVerdict rules task limits walks (verdict.TooMany path limit) =
+    (limit ≡ walks) × HasMorePaths (tree_of (MaskedReplay rules task limits)) walks path.bits

@@ -56,7 +56,7 @@ RunLaw =
 abbrev pub AllSecretsLaw : Type 0
 AllSecretsLaw =
     (rules : Rules) (program : Picture) (public_input : List ℕ) (regions : List Region) (cut : CutPicture)
-    (limits : Limits) (paths : ℕ) (found : Found) → AreSoundRules rules → AreInputs program public_input regions [] →
+    (limits : Limits) (found : Found) → AreSoundRules rules → AreInputs program public_input regions [] →
     is_cut_picture cut ≡ true → limits.budget < 4294967295 →
-    Bounds rules (task_of program public_input regions cut) limits paths ≡ IsBounded found →
+    Bounds rules (task_of program public_input regions cut) limits ≡ IsBounded found →
     AreAll (task_of program public_input regions cut) limits found

@@ -35,6 +35,14 @@ paths_of (Fork first second) = map (behind false) (paths_of first) ++ map (behin
 abbrev pub Paths : Asker PathEnd → List Path
 Paths asker = paths_of (tree_of asker)
 
+-- a string does not go past the end of a path: some path begins with it
+abbrev pub Opens : Tree → List Bool → Type 0
+Opens (Leaf e) [] = Unit {0}
+Opens (Leaf e) (bit ∷ bits) = ⊥
+Opens (Fork first second) [] = Unit {0}
+Opens (Fork first second) (false ∷ bits) = Opens first bits
+Opens (Fork first second) (true ∷ bits) = Opens second bits
+
 -- the string that is next in order: the last 0 becomes 1, and nothing stands after it
 abbrev pub next_or : Bool → Option (List Bool) → Option (List Bool)
 next_or bit (Some next) = Some (bit ∷ next)

@@ -3,7 +3,7 @@ use std::fmt;
 use thiserror::Error;
 
 /// Why it is not known which outputs arise: on the first path, in their order, that is unclear, the first of these that
-/// comes, by turn and within a turn as it is walked. The two limits come after whatever else a path shows.
+/// comes, by turn and within a turn as it is walked. The limit of outputs comes after whatever else a path shows.
 #[derive(Clone, Copy, Debug, Error)]
 pub enum UnclearWhy {
     /// A bit that may depend on the secret and has not crossed is in one of the four bytes that are fetched from this
@@ -17,8 +17,6 @@ pub enum UnclearWhy {
     /// The bits that cross on this path exceed the budget; `needed` is their number up to and with the turn, or
     /// 4,294,967,295 where there are more.
     Budget { budget: u32, needed: u32 },
-    /// So many paths were walked, and one is left.
-    Paths { limit: u32 },
     /// The different patterns have more than so many bytes together, each having its bytes and one more.
     Outputs { limit: u32 },
 }
@@ -37,7 +35,6 @@ impl fmt::Display for UnclearWhy {
             }
             UnclearWhy::Left { point, mask } => write!(f, "left {point} mask {}", HexWord(mask)),
             UnclearWhy::Budget { budget, needed } => write!(f, "budget {budget} needed {needed}"),
-            UnclearWhy::Paths { limit } => write!(f, "paths {limit}"),
             UnclearWhy::Outputs { limit } => write!(f, "outputs {limit}"),
         }
     }

@@ -14,14 +14,6 @@ descend (Fork first second) [] = None
 descend (Fork first second) (false ∷ bits) = descend first bits
 descend (Fork first second) (true ∷ bits) = descend second bits
 
--- a string does not go past the end of a path
-abbrev pub Opens : Tree → List Bool → Type 0
-Opens (Leaf e) [] = Unit {0}
-Opens (Leaf e) (bit ∷ bits) = ⊥
-Opens (Fork first second) [] = Unit {0}
-Opens (Fork first second) (false ∷ bits) = Opens first bits
-Opens (Fork first second) (true ∷ bits) = Opens second bits
-
 -- the first path that begins with a string
 abbrev pub first_from : Tree → List Bool → Path
 first_from (Leaf e) bits = record { bits = []; ends = e }
