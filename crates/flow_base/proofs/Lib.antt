@@ -8,3 +8,4 @@ pub mod WantedTexts
 pub mod NumberTexts
 pub mod WordTexts
 pub mod SlotTexts
+pub mod SameWords

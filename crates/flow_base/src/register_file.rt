@@ -1,4 +1,4 @@
-ghost use Rattle.std.specs.Prelude.{◌≡◌, ◌<◌, ◌==◌, replicate, slice_index, slice_set, if◌then◌else◌};
+ghost use Rattle.std.specs.Prelude.{◌≡◌, ◌<◌, ◌==◌, replicate, slice_index, slice_set, true, if◌then◌else◌};
 
 use std::marker::Model;
 
@@ -44,5 +44,13 @@ impl Registers {
         if register != 0 {
             self.words[register as usize] = value;
         }
+    }
+
+    /// Whether each register has the value that it has in other registers. It takes no memory.
+    #[tactic(auto, using(crate::proofs::SameWords::words_same))]
+    pub fn is_same(&self, other: &Registers) -> bool
+        ensures { result ≡ true → self.now ≡ other.now }
+    {
+        self.words == other.words
     }
 }

@@ -3,3 +3,4 @@ pub mod Laying
 pub mod Memories
 pub mod Pages
 pub mod Steps
+pub mod Standings

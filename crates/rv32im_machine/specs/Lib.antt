@@ -7,6 +7,7 @@ pub mod Parts
 pub mod Playing
 pub mod Start
 pub mod Pages
+pub mod Standing
 pub mod Laws
 pub mod FaultTexts
 pub mod Private

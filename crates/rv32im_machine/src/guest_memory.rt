@@ -1,6 +1,7 @@
-ghost use Rattle.std.specs.Prelude.{◌≡◌, ◌+◌, ◌-◌, ◌*◌, ◌/◌, ◌<◌, ◌≤◌, IfOk, length, replicate, slice_index, slice_set, true, vec_len};
+ghost use Rattle.std.specs.Prelude.{◌≡◌, ℕ, ◌+◌, ◌-◌, ◌*◌, ◌/◌, ◌%◌, ◌<◌, ◌≤◌, ◌==◌, IfOk, false, if◌then◌else◌, length, replicate, slice_index, slice_set, true, vec_len};
 ghost use Rattle.flow_base.specs.Guests.{memory_size};
 ghost use Rattle.rv32im_machine.specs.Pages.{AreZeroBelow, AreZeroUntouched};
+ghost use Rattle.rv32im_machine.specs.Standing.{piece_size};
 ghost use Rattle.rv32im_machine.specs.Start.{zeros, laid_at};
 
 use flow_base::{MEMORY_SIZE, NoMemory};
@@ -12,6 +13,12 @@ const PAGE_SIZE: usize = 4096;
 
 /// The pages of guest memory.
 const PAGES: usize = 4096;
+
+/// The bytes of a piece of guest memory.
+pub const PIECE_SIZE: usize = 256;
+
+/// The pieces of guest memory.
+pub const PIECES: usize = 65_536;
 
 /// The 16 MiB of guest memory; contracts see the bytes. It knows which pages were touched since all bytes were 0, and
 /// so a run can begin on the memory of another run for the price of the pages that the other has written.
@@ -164,5 +171,48 @@ impl GuestMemory {
     {
         zero_touched(&mut self.bytes, self.touched.as_slice());
         self.touched.fill(false);
+    }
+
+    /// Nothing is done; a caller learns how many bytes there are.
+    pub(crate) fn tell_length(&self)
+        ensures { length self.now ≡ memory_size }
+    {
+        let _ = &self.bytes;
+    }
+
+    /// Whether a page of 4,096 bytes, 0 to 4,095, was touched since all bytes were 0; the bytes of one that was not are
+    /// 0.
+    pub(crate) fn is_touched(&self, page: usize) -> bool
+        requires { page < 4096 }
+        ensures { result ≡ false → (index : ℕ) → index / 4096 ≡ page → slice_index self.now index ≡ 0 }
+    {
+        self.touched[page]
+    }
+
+    /// The bytes of a piece, 0 to 65,535.
+    #[tactic(auto, using(crate::proofs::Standings::piece_byte))]
+    pub(crate) fn piece(&self, number: usize) -> &[u8]
+        requires { number < 65536 }
+        ensures bytes { (offset : ℕ) → offset < piece_size →
+            slice_index result.now offset ≡ slice_index self.now (number * piece_size + offset) }
+        ensures length { length result.now ≡ piece_size }
+    {
+        &self.bytes[number * PIECE_SIZE..(number + 1) * PIECE_SIZE]
+    }
+
+    /// Sets the bytes of a piece, 0 to 65,535.
+    #[tactic(auto, using(crate::proofs::Standings::laid_piece))]
+    pub(crate) fn lay_piece(&mut self, number: usize, bytes: &[u8])
+        requires piece { number < 65536 }
+        requires length { length bytes.now ≡ piece_size }
+        ensures laid { self.new ≡ laid_at (number * piece_size) bytes.now self.old }
+        ensures bytes { (index : ℕ) → index < memory_size →
+            slice_index self.new index ≡ (if index / piece_size == number
+            then slice_index bytes.now (index % piece_size) else slice_index self.old index) }
+        ensures length { length self.new ≡ memory_size }
+    {
+        self.tell_length();
+        self.lay(number * PIECE_SIZE, bytes);
+        self.tell_length();
     }
 }

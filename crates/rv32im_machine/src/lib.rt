@@ -16,15 +16,17 @@ mod plain;
 mod plans;
 mod regions;
 mod results;
+mod standing;
 mod starting;
 mod stepping;
 mod walker;
 
-pub use guest_memory::GuestMemory;
+pub use guest_memory::{GuestMemory, PIECE_SIZE, PIECES};
 pub use language::{Aim, Operation, Part, Passing, Place, Seen, Shape, Source, Sources, Work};
 pub use laws::{ended_machines_stand_still, next_follows_the_step};
 pub use machines::Machine;
 pub use passing::Passer;
 pub use plain::Plain;
+pub use standing::Standing;
 pub use stepping::{Arguments, CallPlan, Fault, Stepped};
 pub use walker::turn_by;

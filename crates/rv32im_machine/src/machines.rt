@@ -1,18 +1,21 @@
 #![tactic(auto, unfolding(crate::specs::State::with_register, crate::specs::State::with_byte, crate::specs::State::saved, crate::specs::State::moved_to, crate::specs::State::entered, crate::specs::State::onward, crate::specs::State::ended, crate::specs::State::public_taken, crate::specs::State::secret_taken, crate::specs::State::break_moved, crate::specs::State::emitted))]
 
-ghost use Rattle.std.specs.Prelude.{◌≡◌, ◌+◌, ◌-◌, ◌^◌, ◌<◌, ◌≤◌, [], length, slice_index, vec_len, vec_capacity, IsTrue};
+ghost use Rattle.std.specs.Prelude.{◌≡◌, ℕ, ◌+◌, ◌-◌, ◌*◌, ◌/◌, ◌%◌, ◌^◌, ◌<◌, ◌≤◌, ◌==◌, [], false, if◌then◌else◌, length, slice_index, vec_len, vec_capacity, IfOk, IsTrue};
 ghost use Rattle.flow_base.specs.Guests.{is_inside, memory_size};
 ghost use Rattle.flow_base.specs.Points.{is_slot};
 ghost use Rattle.guest_calls.specs.Calls.{checked_write, moved_break};
 ghost use Rattle.rv32im_machine.specs.State.{State, register_of, byte_of, word_at, with_register, with_byte, saved, moved_to, entered, onward, ended, public_taken, secret_taken, break_moved, emitted};
 ghost use Rattle.rv32im_machine.specs.Language.{with_store, with_control};
 ghost use Rattle.rv32im_machine.specs.Calls.{point};
-ghost use Rattle.rv32im_machine.specs.Start.{start_on};
+ghost use Rattle.rv32im_machine.specs.Standing.{FitsSetting, piece_size, stand_of, stood, with_memory};
+ghost use Rattle.rv32im_machine.specs.Start.{laid_at, start_on, zeros};
 
 use crate::guest_memory::GuestMemory;
+use crate::standing::Standing;
 use crate::stepping::Stepped;
-use flow_base::{Bytes, MEMORY_SIZE, Point, Registers, Slot};
+use flow_base::{Bytes, MEMORY_SIZE, NoMemory, Point, Registers, Slot};
 use guest_calls::{WriteCheck, move_break, write_check};
+use std::alloc::Global;
 use std::marker::Model;
 
 /// A guest with its memory, registers, inputs and output; contracts see it as a state.
@@ -400,5 +403,89 @@ impl Machine {
         ensures { self.new ≡ with_control (emitted byte self.old.control) self.old }
     {
         let _ = self.output.push(byte);
+    }
+
+    /// A copy of what the machine is between two turns but for guest memory. `NoMemory` where there is not enough.
+    pub fn standing(&self, alloc: Global) -> Result<Standing, NoMemory>
+        ensures standing { IfOk result (λ standing. standing ≡ stand_of self.now) }
+        ensures fits { IfOk result (λ standing. FitsSetting self.now.setting standing) }
+    {
+        let output = Bytes::from_slice(alloc, self.output.as_slice())?;
+        Ok(Standing {
+            registers: self.registers,
+            kept: self.kept,
+            pc: self.pc,
+            public_at: self.public_at,
+            secret_at: self.secret_at,
+            current_break: self.current_break,
+            output,
+            mode: self.mode,
+            region: self.region,
+        })
+    }
+
+    /// Puts the machine back into what was kept; guest memory stays as it is. It takes no memory.
+    pub fn stand(&mut self, standing: &Standing)
+        requires { FitsSetting self.old.setting standing.now }
+        ensures { self.new ≡ stood standing.now self.old }
+    {
+        self.registers = standing.registers;
+        self.kept = standing.kept;
+        self.pc = standing.pc;
+        self.public_at = standing.public_at;
+        self.secret_at = standing.secret_at;
+        self.current_break = standing.current_break;
+        self.mode = standing.mode;
+        self.region = standing.region;
+        self.output.clear();
+        let _ = self.output.extend_from_slice(standing.output.as_slice());
+    }
+
+    /// Nothing is done; a caller learns how many bytes guest memory has.
+    pub fn tell_memory(&self)
+        ensures { length self.now.store.memory ≡ memory_size }
+    {
+        self.memory.tell_length();
+    }
+
+    /// Whether a page of 4,096 bytes of guest memory, 0 to 4,095, was touched since all bytes were 0; the bytes of one
+    /// that was not are 0.
+    pub fn is_touched(&self, page: usize) -> bool
+        requires { page < 4096 }
+        ensures { result ≡ false → (index : ℕ) → index / 4096 ≡ page →
+            slice_index self.now.store.memory index ≡ 0 }
+    {
+        self.memory.is_touched(page)
+    }
+
+    /// The bytes of a piece of guest memory, 0 to 65,535.
+    pub fn piece(&self, number: usize) -> &[u8]
+        requires { number < 65536 }
+        ensures bytes { (offset : ℕ) → offset < piece_size →
+            slice_index result.now offset ≡ slice_index self.now.store.memory (number * piece_size + offset) }
+        ensures length { length result.now ≡ piece_size }
+    {
+        self.memory.piece(number)
+    }
+
+    /// Zeroes guest memory, in the time of the pages that are touched. It takes no memory.
+    pub fn zero_memory(&mut self)
+        ensures { self.new ≡ with_memory (zeros memory_size) self.old }
+    {
+        self.memory.clear();
+    }
+
+    /// Sets the bytes of a piece of guest memory, 0 to 65,535. It takes no memory.
+    pub fn lay_piece(&mut self, number: usize, bytes: &[u8])
+        requires piece { number < 65536 }
+        requires length { length bytes.now ≡ piece_size }
+        ensures laid { self.new ≡ with_memory (laid_at (number * piece_size) bytes.now self.old.store.memory)
+            self.old }
+        ensures bytes { (index : ℕ) → index < memory_size →
+            slice_index self.new.store.memory index ≡ (if index / piece_size == number
+            then slice_index bytes.now (index % piece_size) else slice_index self.old.store.memory index) }
+        ensures length { length self.new.store.memory ≡ memory_size }
+    {
+        self.memory.lay_piece(number, bytes);
     }
 }
