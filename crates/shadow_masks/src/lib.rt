@@ -6,6 +6,7 @@ mod each_point;
 mod few_points;
 mod labels;
 mod laws;
+mod mask_pieces;
 mod page_points;
 mod page_slots;
 mod pages;

@@ -1,7 +1,8 @@
 //! The labels of a page that may not have been made.
 
-ghost use Rattle.std.specs.Prelude.{◌≡◌, ◌+◌, ◌<◌, ◌≤◌, ◌≢◌, All, OnOk, OnErr, length, true};
-ghost use Rattle.shadow_masks.specs.Labels.{IsByteLabel};
+ghost use Rattle.std.specs.Prelude.{◌≡◌, ◌+◌, ◌<◌, ◌≤◌, ◌≢◌, ℕ, All, OnOk, OnErr, length, true};
+ghost use Rattle.shadow_masks.specs.Labels.{clean, IsByteLabel};
+ghost use Rattle.shadow_masks.specs.Pieces.{listed_mask};
 ghost use Rattle.shadow_masks.specs.Pages.{label_in, labels_from, listed_label, AreClean, SetsFewer, SetsLabel};
 ghost use Rattle.shadow_masks.specs.Pages.{SetsPlaces};
 ghost use Rattle.shadow_masks.specs.Points.{page_size};
@@ -86,5 +87,45 @@ pub fn set_in(
             *page = Some(Page::new(alloc, place, label)?);
             Ok(())
         }
+    }
+}
+
+/// The label of a byte in a list of a mask for each, by its place: it is of no point of the program.
+pub fn label_of_mask(masks: &[u8], offset: usize) -> Label
+    requires { offset < length masks.now }
+    ensures label { result ≡ listed_mask masks.now offset }
+    ensures is_of_byte { IsByteLabel result }
+{
+    let mut label = Label::clean();
+    label.mask = u32::from(masks[offset]);
+    label
+}
+
+/// Sets the masks of bytes of a page from a place on, of no point of the program; where memory is short only a first
+/// part of them is set.
+pub fn set_masks_in(
+    page: &mut Option<Page>,
+    alloc: Global,
+    place: usize,
+    masks: &[u8],
+) -> Result<(), NoMemory>
+    requires { place + length masks.now ≤ page_size }
+    ensures ok { OnOk result (
+        SetsPlaces place (length masks.now) (listed_mask masks.now) (label_in page.old) (label_in page.new)) }
+    ensures err { OnErr result (
+        SetsFewer place (length masks.now) (listed_mask masks.now) (label_in page.old) (label_in page.new)) }
+{
+    for offset in 0..masks.len() {
+        set_in(page, alloc, place + offset, label_of_mask(masks, offset))?;
+    }
+    Ok(())
+}
+
+/// Makes each byte of a page clean. It takes no memory.
+pub fn clear_in(page: &mut Option<Page>)
+    ensures { (place : ℕ) → label_in page.new place ≡ clean }
+{
+    if let Some(made) = page {
+        made.clear();
     }
 }

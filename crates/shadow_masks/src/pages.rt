@@ -3,6 +3,8 @@
 ghost use Rattle.std.specs.Prelude.{◌≡◌, ◌+◌, ◌<◌, ◌≤◌, ◌≢◌, ℕ, All, IfOk, OnOk, OnErr, true};
 ghost use Rattle.shadow_masks.specs.Labels.{clean, IsByteLabel};
 ghost use Rattle.shadow_masks.specs.Points.{page_size};
+ghost use Rattle.std.specs.Prelude.{length, slice_index};
+ghost use Rattle.shadow_masks.specs.Pieces.{piece_size};
 ghost use Rattle.shadow_masks.specs.Pages.{page_label, label_from, labels_from, AreClean, IsOneLabel, SetsLabel};
 
 use crate::few_points::zeros;
@@ -121,5 +123,24 @@ impl Page {
         }
         self.masks[place] = label.mask as u8;
         Ok(())
+    }
+
+    /// Makes each byte clean. It takes no memory.
+    #[tactic(auto, using(crate::proofs::Pieces::zeroed_page))]
+    pub fn clear(&mut self)
+        ensures { (place : ℕ) → page_label self.new place ≡ clean }
+    {
+        self.masks.fill(0);
+    }
+
+    /// The masks of 256 bytes from a place on.
+    #[tactic(auto, using(crate::proofs::Pieces::mask_at))]
+    pub fn piece(&self, place: usize) -> &[u8]
+        requires { place + piece_size ≤ page_size }
+        ensures masks { (offset : ℕ) → offset < piece_size →
+            slice_index result.now offset ≡ (page_label self.now (place + offset)).mask }
+        ensures length { length result.now ≡ piece_size }
+    {
+        &self.masks[place..place + 256]
     }
 }

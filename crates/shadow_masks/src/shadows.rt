@@ -21,11 +21,11 @@ use std::marker::Model;
 /// at the first label in it whose mask is not 0.
 #[derive(Drop)]
 pub struct Shadow {
-    registers: [Label; 32],
-    kept: [Label; 32],
-    base: u32,
-    pages: Vec<Option<Page>>,
-    alloc: Global,
+    pub(crate) registers: [Label; 32],
+    pub(crate) kept: [Label; 32],
+    pub(crate) base: u32,
+    pub(crate) pages: Vec<Option<Page>>,
+    pub(crate) alloc: Global,
 }
 
 impl Model for Shadow {
@@ -43,7 +43,7 @@ impl Model for Shadow {
 }
 
 /// The clean label for each register.
-fn clean_labels() -> [Label; 32]
+pub(crate) fn clean_labels() -> [Label; 32]
     ensures { result ≡ replicate 32 clean }
 {
     [Label::clean(); 32]
