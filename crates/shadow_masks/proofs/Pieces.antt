@@ -1,5 +1,5 @@
 -- The masks of guest memory in pieces.
-use Rattle.std.proofs.Common.{◌≡◌, ◌≢◌, ◌⊎◌, inl, inr, ℕ, ◌+◌, ◌-◌, ◌*◌, ◌/◌, ◌%◌, ◌<◌, ◌≤◌, ◌==◌, ◌&&◌, nat_le, Bool, true, false, List, length, take, drop, replicate, slice_index, slice_index_or, slice_range, slice_set, Option, None, Result, Ok, Err, OnOk, OnErr, subst, if◌then◌else◌, refl, sym, ap, ◌∙◌, arith}
+use Rattle.std.proofs.Common.{◌≡◌, inl, inr, ℕ, ◌+◌, ◌-◌, ◌*◌, ◌/◌, ◌%◌, ◌<◌, ◌≤◌, ◌==◌, ◌&&◌, nat_le, Bool, true, false, List, length, drop, replicate, slice_index, slice_index_or, slice_range, slice_set, Option, None, Result, Ok, Err, OnOk, OnErr, subst, if◌then◌else◌, refl, sym, ap, ◌∙◌, arith}
 use Rattle.std.proofs.lemmas.Bool.{cases_lt}
 use Rattle.std.proofs.lemmas.Bool.Decides.{eqb_tells, nat_tests}
 use Rattle.std.proofs.lemmas.List.{get_or_past, get_or-take, get_or-drop}
@@ -9,8 +9,8 @@ use Rattle.shadow_masks.specs.declared.labels.Label.{Label}
 use Rattle.shadow_masks.specs.declared.page_points.PagePoints.{PagePoints}
 use Rattle.shadow_masks.specs.Labels.{clean}
 use Rattle.shadow_masks.specs.Pages.{PageShades, label_in, label_of, page_label, point_of, is_in_range, SetsFewer}
-use Rattle.shadow_masks.specs.Pieces.{listed_mask, mask_label, AreMasks, SetsMasks}
-use Rattle.shadow_masks.specs.Shades.{Shades, byte_label, label_at, page_at, IsNew, SetsBytes, SetsFirstPart}
+use Rattle.shadow_masks.specs.Pieces.{listed_mask, SetsMasks}
+use Rattle.shadow_masks.specs.Shades.{Shades, byte_label, page_at, IsNew, SetsBytes, SetsFirstPart}
 use Rattle.shadow_masks.proofs.Steps.{sets_part_in_page}
 use Rattle.shadow_masks.proofs.Zeros.{zero_at}
 

@@ -1,5 +1,4 @@
-use Rattle.std.proofs.Common.{◌≡◌, ◌+◌, ◌*◌, ◌%◌, ◌<◌, ◌/◌, ℕ, length, slice_set, None, rules, subst, ◌∙◌, arith}
-use Rattle.shadow_masks.specs.declared.labels.Label.{Label}
+use Rattle.std.proofs.Common.{◌≡◌, ◌+◌, ◌*◌, ◌%◌, ◌<◌, ◌/◌, ℕ, length, slice_set, None, subst, ◌∙◌, arith}
 use Rattle.shadow_masks.specs.Pages.{label_in, SetsFewer}
 use Rattle.shadow_masks.specs.Pieces.{listed_mask}
 use Rattle.shadow_masks.specs.Shades.{Shades, page_at, SetsFirstPart}
