@@ -1,6 +1,7 @@
 pub mod RunsAhead
 pub mod Searching
 pub mod MasksAhead
+pub mod Trimming
 pub mod PatchesKeepWidth
 pub mod FedAskersSplit
 pub mod ReplayEnds

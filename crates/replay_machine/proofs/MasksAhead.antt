@@ -17,7 +17,7 @@ use Rattle.cut_file.specs.Masks.{MaskAt, listed_masks, mask_of, repeated}
 use Rattle.crossing_bits.proofs.Feeding.{le_or_lt}
 use Rattle.replay_machine.specs.declared.cursors.Cursor.{Cursor}
 use Rattle.replay_machine.specs.Runs.{Masks, times_passed, mask_at}
-use Rattle.replay_machine.specs.Visits.{IsAhead, MovesOn}
+use Rattle.replay_machine.specs.Visits.{IsAhead, MovesOn, SameAhead}
 use Rattle.replay_machine.specs.Tables.{first_cursor, ahead_of, all_ahead, index_from, is_marked, mark_place}
 use Rattle.replay_machine.proofs.RunsAhead.{masked, list_pass}
 use Rattle.cut_file.proofs.Repeats.{masks_ended}
@@ -379,3 +379,36 @@ unmarked_none n marks (q ∷ points) point all clear =
           cond-false (is_same q.point point) (Some n) (index_from (suc n) points point) other
           ∙ unmarked_none (suc n) marks points point both.1 clear
     ]
+
+-- ---- masks that stay
+
+pub same_trans : (first second third : List CutPoint) → SameAhead first second → SameAhead second third →
+    SameAhead first third
+same_trans first second third there on = λ point visit some. there point visit some ∙ on point visit some
+
+-- what is ahead of the one is ahead of the other
+pub same_first : (ahead first second : List CutPoint) → SameAhead first second → IsAhead ahead (MaskAt first) [] →
+    IsAhead ahead (MaskAt second) []
+same_first ahead first second same known = λ point visit some.
+    known point visit some ∙ same point (0 + visit) (omega (arith, some))
+
+-- a cursor that stands for the same masks may be put in its place
+pub same_set : (i : ℕ) (points : List CutPoint) (cursors : List Cursor) (p : CutPoint) (c d : Cursor) →
+    length cursors ≡ length points → p ≡ get_or points i p → c ≡ get_or cursors i c →
+    ((visit : ℕ) → mask_of (ahead_of p d) visit ≡ mask_of (ahead_of p c) visit) →
+    SameAhead (all_ahead points (slice_set cursors i d)) (all_ahead points cursors)
+unfolding all_ahead
+same_set i [] cursors p c d long ip ic same = λ point visit some. refl
+same_set i (q ∷ points) [] p c d long ip ic same = absurd (omega (arith, long))
+same_set zero (q ∷ points) (x ∷ cursors) p c d long ip ic same = λ point visit some.
+    ap (λ (m : ℕ). if is_same q.point point then m else MaskAt (all_ahead points cursors) point visit)
+    (subst (λ (r : Cursor). mask_of (ahead_of q d) visit ≡ mask_of (ahead_of q r) visit) ic
+    (subst (λ (r : CutPoint). mask_of (ahead_of r d) visit ≡ mask_of (ahead_of r c) visit) ip (same visit)))
+same_set (suc i) (q ∷ points) (x ∷ cursors) p c d long ip ic same = λ point visit some.
+    ap (λ (m : ℕ). if is_same q.point point then mask_of (ahead_of q x) visit else m)
+    (same_set i points cursors p c d (omega (arith, long)) ip ic same point visit some)
+
+-- a point that is not there has no masks
+pub none_at : (points : List CutPoint) (cursors : List Cursor) (point : Point) (visit : ℕ) →
+    index_from 0 points point ≡ None → MaskAt (all_ahead points cursors) point visit ≡ 0
+none_at points cursors point visit none = none_mask 0 points cursors point visit none

@@ -3,6 +3,7 @@ pub mod Runs
 pub mod Starts
 pub mod Visits
 pub mod Tables
+pub mod Trims
 pub mod Standing
 pub mod MarkTexts
 pub mod Private

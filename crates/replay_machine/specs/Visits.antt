@@ -16,3 +16,8 @@ abbrev pub MovesOn : Point → List CutPoint → List CutPoint → Type 0
 MovesOn point before after =
     (other : Point) (visit : ℕ) → 1 ≤ visit →
     MaskAt after other visit ≡ MaskAt before other (if is_same other point then suc visit else visit)
+
+-- the same masks, at the first visits and all later ones
+abbrev pub SameAhead : List CutPoint → List CutPoint → Type 0
+SameAhead first second =
+    (point : Point) (visit : ℕ) → 1 ≤ visit → MaskAt first point visit ≡ MaskAt second point visit

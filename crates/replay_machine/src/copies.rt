@@ -1,47 +1,71 @@
-ghost use Rattle.std.specs.Prelude.{◌≡◌, IfOk, IsTrue, replicate};
+ghost use Rattle.std.specs.Prelude.{◌≡◌, IfOk, IsTrue, map, replicate};
 ghost use Rattle.cut_file.specs.Cuts.{are_points};
 ghost use Rattle.replay_machine.specs.Tables.{first_cursor};
+ghost use Rattle.replay_machine.specs.Trims.{trimmed, without_last as front_of};
+ghost use Rattle.replay_machine.specs.Visits.{SameAhead};
 
 use crate::cursors::Cursor;
 use cut_file::{Cut, CutPoint, Run};
 use flow_base::{List, NoMemory};
 use std::alloc::Global;
 
-fn copy_runs(alloc: Global, runs: &List<Run>) -> Result<List<Run>, NoMemory>
+fn copy_runs(alloc: Global, runs: &[Run]) -> Result<List<Run>, NoMemory>
     ensures { IfOk result (λ copy. copy ≡ runs.now) }
 {
-    let items = runs.as_slice().to_vec(alloc)?;
+    let items = runs.to_vec(alloc)?;
     Ok(List::from_vec(items))
 }
 
-fn copy_point(alloc: Global, cut_point: &CutPoint) -> Result<CutPoint, NoMemory>
-    ensures { IfOk result (λ copy. copy ≡ cut_point.now) }
+fn without_last(runs: &[Run], mask: u32) -> &[Run]
+    ensures { result.now ≡ front_of mask runs.now }
 {
-    Ok(CutPoint {
-        point: cut_point.point,
-        runs: copy_runs(alloc, &cut_point.runs)?,
-        rest: copy_runs(alloc, &cut_point.rest)?,
-    })
+    let [front @ .., last] = runs else {
+        return runs;
+    };
+    if last.mask == mask { front } else { runs }
 }
 
-fn copy_points(alloc: Global, points: &[CutPoint]) -> Result<Vec<CutPoint>, NoMemory>
-    ensures { IfOk result (λ copies. copies.items ≡ points.now) }
+fn trimmed_point(alloc: Global, cut_point: &CutPoint) -> Result<CutPoint, NoMemory>
+    ensures { IfOk result (λ copy. copy ≡ trimmed cut_point.now) }
+{
+    match cut_point.rest.as_slice() {
+        [only] => {
+            let once = [Run {
+                count: 1,
+                mask: only.mask,
+            }];
+            Ok(CutPoint {
+                point: cut_point.point,
+                runs: copy_runs(alloc, without_last(cut_point.runs.as_slice(), only.mask))?,
+                rest: copy_runs(alloc, &once)?,
+            })
+        }
+        rest => Ok(CutPoint {
+            point: cut_point.point,
+            runs: copy_runs(alloc, cut_point.runs.as_slice())?,
+            rest: copy_runs(alloc, rest)?,
+        }),
+    }
+}
+
+fn trimmed_points(alloc: Global, points: &[CutPoint]) -> Result<Vec<CutPoint>, NoMemory>
+    ensures { IfOk result (λ copies. copies.items ≡ map trimmed points.now) }
 {
     let mut copies = Vec::new(alloc);
     for cut_point in points {
-        let copy = copy_point(alloc, cut_point)?;
+        let copy = trimmed_point(alloc, cut_point)?;
         copies.push(copy).map_err(|_| NoMemory)?;
     }
     Ok(copies)
 }
 
-/// A copy of the points of a cut.
+/// The points of a cut without masks that say nothing.
 pub(crate) fn cut_points(alloc: Global, cut: &Cut) -> Result<Vec<CutPoint>, NoMemory>
-    ensures same { IfOk result (λ copies. copies.items ≡ cut.now.points) }
-    ensures known { IfOk result (λ copies. IsTrue (are_points copies.items)) }
+    ensures same { IfOk result (λ points. SameAhead points.items cut.now.points) }
+    ensures known { IfOk result (λ points. IsTrue (are_points points.items)) }
 {
-    let copies = copy_points(alloc, cut.points.as_slice())?;
-    Ok(copies)
+    let points = trimmed_points(alloc, cut.points.as_slice())?;
+    Ok(points)
 }
 
 /// So many points at their start.

@@ -58,8 +58,8 @@ impl Cursor {
         }
     }
 
-    // The cursor in a run of which some is left.
-    fn ready(self, point: &CutPoint) -> Cursor
+    /// The cursor in a run of which some is left.
+    pub fn ready(self, point: &CutPoint) -> Cursor
         requires point { IsTrue (is_cut_point point.now) }
         ensures some { 1 ≤ result.left }
         ensures same { (visit : ℕ) → mask_of (ahead_of point.now result) visit

@@ -3,6 +3,9 @@
 
 mod copies;
 mod cursors;
+mod cut_tables;
+mod equality;
+mod lent_visits;
 mod marking;
 mod marks;
 mod outsides;
@@ -15,6 +18,8 @@ mod search;
 mod turns;
 mod visit_masks;
 
+pub use cut_tables::CutTable;
+pub use lent_visits::LentVisits;
 pub use marks::Mark;
 pub use outsides::Outside;
 pub use replay::Replay;

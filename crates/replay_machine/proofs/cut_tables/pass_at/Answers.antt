@@ -1,6 +1,6 @@
 use Rattle.std.proofs.Common.{◌≡◌, length, arith, ◌∙◌}
 use Rattle.replay_machine.proofs.MasksAhead.{index_high, found_mask, found_moves, found_point, found_width, from_zero}
-use Rattle.replay_machine.proofs.visit_masks.pass_at.Goals as goal
+use Rattle.replay_machine.proofs.cut_tables.pass_at.Goals as goal
 
 pub index_mut-requires : goal.index_mut-requires
 index_mut-requires c =

@@ -1,5 +1,0 @@
-use Rattle.std.proofs.Common.{◌≡◌, take}
-use Rattle.replay_machine.proofs.copies.copy_points.Given as goal
-
-abbrev pub invariant-loop-cut_point : goal.invariant-loop-cut_point
-invariant-loop-cut_point l = l.copies.items ≡ take l.cut_point-index l.points
