@@ -6,6 +6,8 @@ pub mod MadeTurns
 pub mod WalkedPaths
 pub mod Trees
 pub mod SteppedPaths
+pub mod EarlierPaths
+pub mod DroppedStrings
 pub mod Alike
 pub mod Merging
 pub mod WalkKeeps

@@ -8,8 +8,8 @@ use Rattle.flow_base.specs.Words.{bits_below, bits_under, number_of_bit}
 use Rattle.crossing_bits.specs.Askers.{Asker, Asks, Fed', Over, Short, feed}
 use Rattle.crossing_bits.proofs.Feeding.{feed_enough, feed_few, le_or_lt}
 use Rattle.every_secret.specs.declared.path_ends.PathEnd.{PathEnd}
-use Rattle.every_secret.specs.Private.Orders.{Come, Opens, descend, first_from, later}
-use Rattle.every_secret.specs.Paths.{Fork, Leaf, Tree, behind, forks, next_or, next_string, paths_of, tree_of}
+use Rattle.every_secret.specs.Private.Orders.{Come, descend, first_from, later}
+use Rattle.every_secret.specs.Paths.{Fork, Leaf, Opens, Tree, behind, forks, next_or, next_string, paths_of, tree_of}
 
 pub opens_none : (tree : Tree) → Opens tree []
 opens_none (Leaf e) = tt
@@ -166,7 +166,7 @@ walked_first (Fork first second) (true ∷ bits) count come opens comes whole =
 
 -- ---- the tree of an asker
 
-forks_descend : (count : ℕ) (next : List Bool → Tree) (bits : List Bool) → count ≤ length bits →
+pub forks_descend : (count : ℕ) (next : List Bool → Tree) (bits : List Bool) → count ≤ length bits →
     descend (forks count next) bits ≡ descend (next (take count bits)) (drop count bits)
 forks_descend zero next bits enough = refl
 forks_descend (suc count) next [] enough = absurd (omega (arith, enough))
