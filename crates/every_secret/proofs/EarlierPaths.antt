@@ -266,6 +266,51 @@ paths_to_last (Fork first second) (true ∷ bits) opens none =
         (paths_of (under second bits)) (inner is)
     by (Some next) is h inner = absurd (cc)
 
+-- all paths: those before a string, those that begin with it, and others after them
+pub record Parts (tree : Tree) (bits : List Bool) : Type 0 where
+  pub rest : List Path
+  pub paths_are : paths_of tree ≡ (earlier tree bits ++ map (past bits) (paths_of (under tree bits))) ++ rest
+
+pub parts_at : (tree : Tree) (bits : List Bool) → Opens tree bits → Parts tree bits
+unfolding paths_of
+parts_at (Leaf e) [] opens = record { rest = []; paths_are = refl }
+parts_at (Leaf e) (bit ∷ bits) opens = absurd opens
+parts_at (Fork first second) [] opens =
+    let all = map (behind false) (paths_of first) ++ map (behind true) (paths_of second) in record {
+      rest = [];
+      paths_are = sym (append-nil (map (past []) all) ∙ past_none all);
+    }
+parts_at (Fork first second) (false ∷ bits) opens =
+    let inner = parts_at first bits opens in
+    let before : List Path = earlier first bits in
+    let here : List Path = paths_of (under first bits) in record {
+      rest = map (behind false) inner.rest ++ map (behind true) (paths_of second);
+      paths_are = ap (λ ps. map (behind false) ps ++ map (behind true) (paths_of second)) inner.paths_are
+          ∙ (ap (λ ps. ps ++ map (behind true) (paths_of second))
+          (map-append (behind false) (before ++ map (past bits) here) inner.rest
+          ∙ ap (λ ps. ps ++ map (behind false) inner.rest)
+          (behind_parts false bits (before ++ map (past bits) here) before here refl))
+          ∙ append_assoc (map (behind false) before ++ map (past (false ∷ bits)) here)
+          (map (behind false) inner.rest) (map (behind true) (paths_of second)));
+    }
+parts_at (Fork first second) (true ∷ bits) opens =
+    let inner = parts_at second bits opens in
+    let before : List Path = earlier second bits in
+    let here : List Path = paths_of (under second bits) in
+    let left : List Path = map (behind false) (paths_of first) in record {
+      rest = map (behind true) inner.rest;
+      paths_are = ap (λ ps. left ++ map (behind true) ps) inner.paths_are
+          ∙ (ap (λ ps. left ++ ps) (map-append (behind true) (before ++ map (past bits) here) inner.rest)
+          ∙ (sym (append_assoc left (map (behind true) (before ++ map (past bits) here)) (map (behind true) inner.rest))
+          ∙ ap (λ ps. ps ++ map (behind true) inner.rest)
+          (second_parts bits left (before ++ map (past bits) here) before here refl)));
+    }
+
+-- a tree has a path
+pub some_path : (tree : Tree) → 1 ≤ length (paths_of tree)
+some_path tree =
+    subst (λ ps. 1 ≤ length {A = Path} ps) (sym (first_later tree)) (omega arith)
+
 -- the paths before the next string are those before this one and those that begin with it
 pub record Reaches (tree : Tree) (bits next : List Bool) : Type 0 where
   pub earlier_is : earlier tree next ≡ earlier tree bits ++ map (past bits) (paths_of (under tree bits))

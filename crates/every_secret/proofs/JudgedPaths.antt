@@ -11,9 +11,9 @@ use Rattle.flow_base.specs.declared.outputs.Output.{Output}
 use Rattle.every_secret.specs.declared.path_ends.PathEnd.{PathEnd}
 use Rattle.every_secret.specs.declared.path_ends.PathEnd.TheVariants.{Exits, Stops, Unclear}
 use Rattle.every_secret.specs.declared.patterns.Pattern.{Pattern}
-use Rattle.every_secret.specs.Bounds.{Answer, Found, IsBounded, after_end, after_path, found_exit, found_stop}
+use Rattle.every_secret.specs.Bounds.{Answer, Found, IsBounded, after_end, found_exit, found_stop}
 use Rattle.every_secret.specs.Bounds.{free_bits, is_same_pattern, judged, output_count, pattern_limit, size_of}
-use Rattle.every_secret.specs.Bounds.{unless_large, unless_many, with_pattern}
+use Rattle.every_secret.specs.Bounds.{unless_large, with_pattern}
 use Rattle.every_secret.specs.Listed.{IsListed, StandsFor}
 use Rattle.every_secret.specs.Paths.{Path}
 use Rattle.every_secret.proofs.PathWeights.{PathsEnd, end_weight, paths_weight}
@@ -50,7 +50,7 @@ own_pattern pattern =
 abbrev pub IsAmong : Pattern → List Pattern → Type 0
 IsAmong pattern patterns = list_any (is_same_pattern pattern) patterns ≡ true
 
-still_among : (pattern added : Pattern) (patterns : List Pattern) → IsAmong pattern patterns →
+pub still_among : (pattern added : Pattern) (patterns : List Pattern) → IsAmong pattern patterns →
     IsAmong pattern (with_pattern added patterns)
 still_among pattern added patterns among = by (list_any (is_same_pattern added) patterns)
   where
@@ -64,7 +64,7 @@ or_last : (a b : Bool) → b ≡ true → (a || b) ≡ true
 or_last true b is = refl
 or_last false b is = is
 
-now_among : (added : Pattern) (patterns : List Pattern) → IsAmong added (with_pattern added patterns)
+pub now_among : (added : Pattern) (patterns : List Pattern) → IsAmong added (with_pattern added patterns)
 now_among added patterns = by (list_any (is_same_pattern added) patterns) refl
   where
     by : (known : Bool) → list_any (is_same_pattern added) patterns ≡ known →
@@ -135,30 +135,19 @@ pub record AreJudged (found last : Found) (paths : List Path) : Type 0 where
   pub words : AllByRecursion HasWords found.patterns → PathsEnd EndsInWords paths →
       AllByRecursion HasWords last.patterns
 
-goes_on : (limit : ℕ) (path : Path) (paths : List Path) (found last : Found) (later : Answer) →
-    after_path limit path paths found later ≡ IsBounded last → later ≡ IsBounded last
-goes_on limit path paths found last later = by (found.paths == limit) paths
-  where
-    by : (many : Bool) (left : List Path) → unless_many many limit path.bits left later ≡ IsBounded last →
-        later ≡ IsBounded last
-    by true [] h = h
-    by true (other ∷ left) h = absurd (cc)
-    by false left h = h
-
 is_small : (large : Bool) (bits : List Bool) (later : Answer) (last : Found) →
     unless_large large bits later ≡ IsBounded last → later ≡ IsBounded last
 is_small true bits later last h = absurd (cc)
 is_small false bits later last h = h
 
-one_path : (limit : ℕ) (path : Path) (paths : List Path) (found last : Found) →
-    ((next : Found) → judged limit next paths ≡ IsBounded last → AreJudged next last paths) → (e : PathEnd) →
-    path.ends ≡ e → after_end limit e path paths found (λ next. judged limit next paths) ≡ IsBounded last →
+one_path : (path : Path) (paths : List Path) (found last : Found) →
+    ((next : Found) → judged next paths ≡ IsBounded last → AreJudged next last paths) → (e : PathEnd) →
+    path.ends ≡ e → after_end e path found (λ next. judged next paths) ≡ IsBounded last →
     AreJudged found last (path ∷ paths)
-one_path limit path paths found last later (Unclear why) is h = absurd (cc)
-one_path limit path paths found last later (Stops stop) is h =
+one_path path paths found last later (Unclear why) is h = absurd (cc)
+one_path path paths found last later (Stops stop) is h =
     let next : Found = found_stop path.bits stop found in
-    let rest : AreJudged next last paths =
-    later next (goes_on limit path paths next last (judged limit next paths) h) in
+    let rest : AreJudged next last paths = later next h in
     let more : found.stopped + 1 ≤ last.stopped = rest.stopped in
     let some : 0 < last.stopped = omega (arith, more) in
     let left : output_count last.patterns ≤ output_count found.patterns + paths_weight paths = rest.counted in
@@ -169,13 +158,12 @@ one_path limit path paths found last later (Stops stop) is h =
       counted = omega (arith, left);
       words = λ before all. rest.words before all.1;
     }
-one_path limit path paths found last later (Exits pattern) is h =
+one_path path paths found last later (Exits pattern) is h =
     let next : Found = found_exit pattern found in
-    let small : after_path limit path paths next (judged limit next paths) ≡ IsBounded last =
-    is_small (nat_lt pattern_limit (size_of (with_pattern pattern found.patterns))) path.bits
-    (after_path limit path paths next (judged limit next paths)) last h in
-    let rest : AreJudged next last paths =
-    later next (goes_on limit path paths next last (judged limit next paths) small) in
+    let small : judged next paths ≡ IsBounded last =
+    is_small (nat_lt pattern_limit (size_of (with_pattern pattern found.patterns))) path.bits (judged next paths) last
+    h in
+    let rest : AreJudged next last paths = later next small in
     let least : found.stopped ≤ last.stopped = rest.stopped in
     let left : output_count last.patterns ≤ output_count (with_pattern pattern found.patterns) + paths_weight paths =
     rest.counted in
@@ -189,10 +177,10 @@ one_path limit path paths found last later (Exits pattern) is h =
           (with_words pattern found.patterns before (subst (λ e. EndsInWords e) is all.0)) all.1;
     }
 
-pub all_judged : (limit : ℕ) (paths : List Path) (found last : Found) → judged limit found paths ≡ IsBounded last →
+pub all_judged : (paths : List Path) (found last : Found) → judged found paths ≡ IsBounded last →
     AreJudged found last paths
 unfolding judged
-all_judged limit [] found last h =
+all_judged [] found last h =
     let same : found ≡ last = cc in
     subst (λ f. AreJudged found f []) same (record {
       stopped = omega arith;
@@ -201,5 +189,5 @@ all_judged limit [] found last h =
       counted = omega arith;
       words = λ before all. before;
     })
-all_judged limit (path ∷ paths) found last h =
-    one_path limit path paths found last (λ next is. all_judged limit paths next last is) path.ends refl h
+all_judged (path ∷ paths) found last h =
+    one_path path paths found last (λ next is. all_judged paths next last is) path.ends refl h

@@ -22,6 +22,7 @@ pub mod Ceilings
 pub mod PatternOutputs
 pub mod PathWeights
 pub mod JudgedPaths
+pub mod FoldedPaths
 pub mod WalkWeights
 pub mod SoundTables
 pub mod WalkWords

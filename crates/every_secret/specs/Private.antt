@@ -8,5 +8,6 @@ pub mod Orders
 pub mod Ceilings
 pub mod KeptPatterns
 pub mod Finding
+pub mod Folding
 pub mod Judging
 pub mod Stepping
