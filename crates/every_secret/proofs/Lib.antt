@@ -23,6 +23,7 @@ pub mod PatternOutputs
 pub mod PathWeights
 pub mod JudgedPaths
 pub mod FoldedPaths
+pub mod KnownTrees
 pub mod WalkWeights
 pub mod SoundTables
 pub mod WalkWords
