@@ -184,3 +184,8 @@ part_of_piece registers kept base number label pages page below size fewer =
 pub map_err : {A E : Type 0} {P Q : Type 0} (result : Result A E) → (P → Q) → OnErr result P → OnErr result Q
 map_err (Ok done) step fact = tt
 map_err (Err error) step fact = step fact
+
+-- past the end of a list of labels there is the clean one
+pub none_past : (labels : List Label) (register : ℕ) → length labels ≤ register →
+    slice_index_or labels register clean ≡ clean
+none_past labels register h = get_or_past labels register clean h

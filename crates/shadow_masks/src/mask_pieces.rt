@@ -1,11 +1,11 @@
 //! The masks of a shadow, kept and put back in pieces of 256 bytes.
 
-ghost use Rattle.std.specs.Prelude.{◌≡◌, ◌+◌, ◌-◌, ◌*◌, ◌/◌, ◌<◌, ◌≤◌, ℕ, IfSome, IfNone, OnOk, OnErr, false, length};
+ghost use Rattle.std.specs.Prelude.{◌≡◌, ◌+◌, ◌-◌, ◌*◌, ◌/◌, ◌<◌, ◌≤◌, ℕ, IfSome, IfNone, OnOk, OnErr, false, length, slice_index_or};
 ghost use Rattle.flow_base.specs.Guests.{memory_size};
 ghost use Rattle.shadow_masks.specs.Labels.{clean, IsLabel};
 ghost use Rattle.shadow_masks.specs.Pages.{label_in};
 ghost use Rattle.shadow_masks.specs.Pieces.{listed_mask, piece_mask, piece_size, AreMasks, SetsMasks};
-ghost use Rattle.shadow_masks.specs.Shades.{byte_label, kept_label, page_at, IsNew, SetsBytes, SetsFirstPart};
+ghost use Rattle.shadow_masks.specs.Shades.{byte_label, kept_label, page_at, register_label, IsNew, SetsBytes, SetsFirstPart};
 
 use crate::labels::Label;
 use crate::page_slots::{clear_in, set_masks_in};
@@ -21,6 +21,14 @@ fn clear_pages(pages: &mut Vec<Option<Page>>)
     for number in 0..pages.len() {
         clear_in(&mut pages[number]);
     }
+}
+
+/// Past the 32 labels of registers there is the clean one.
+#[tactic(auto, using(crate::proofs::Pieces::none_past))]
+fn tell_labels(labels: &[Label; 32])
+    ensures { (register : ℕ) → 32 ≤ register → slice_index_or labels.now register clean ≡ clean }
+{
+    let _ = labels.len();
 }
 
 impl Shadow {
@@ -51,6 +59,15 @@ impl Shadow {
         ensures above { (address : ℕ) → self.now.base + memory_size ≤ address → byte_label self.now address ≡ clean }
     {
         let _ = &self.pages;
+    }
+
+    /// Nothing is done; a caller learns that past the 32 registers there is no label that is not clean.
+    pub fn tell_registers(&self)
+        ensures registers { (register : ℕ) → 32 ≤ register → register_label self.now register ≡ clean }
+        ensures kept { (register : ℕ) → 32 ≤ register → kept_label self.now register ≡ clean }
+    {
+        tell_labels(&self.registers);
+        tell_labels(&self.kept);
     }
 
     /// The masks of a piece of guest memory, 0 to 65,535; None where its page was not made, and each of them is 0.
