@@ -1,7 +1,6 @@
 -- The next string of a string that begins with another, and of what is left of one.
 use Rattle.std.proofs.Common.{◌≡◌, ℕ, zero, suc, ◌+◌, ◌≤◌, ◌<◌, ◌++◌, List, [], ◌∷◌, Bool, true, false, Option, Some, None}
-use Rattle.std.proofs.Common.{refl, sym, ap, ◌∙◌, drop, take, length, arith}
-use Rattle.std.proofs.Math.Seq.{drop-nil}
+use Rattle.std.proofs.Common.{refl, ap, ◌∙◌, drop, take, length, arith}
 use Rattle.every_secret.specs.Paths.{next_or, next_string}
 
 -- what comes before stays
@@ -38,10 +37,6 @@ some_next true None next is = absurd (cc)
 some_next false None next is = absurd (cc)
 some_next true (Some more) next is = let same : more ≡ next = cc in ap (λ s. Some s) same
 some_next false (Some more) next is = let same : more ≡ next = cc in ap (λ s. Some s) same
-
--- a string and one that has a 1 at a place and nothing after it
-abbrev pub turned_at : ℕ → List Bool → List Bool
-turned_at place bits = take place bits ++ true ∷ []
 
 -- what is left of a string from no further than the place
 pub dropped_next : (depth : ℕ) (bits : List Bool) (place : ℕ) → place < length bits → depth ≤ place →

@@ -1,5 +1,5 @@
 -- What is found of paths that are judged one after another, also of paths that bring nothing new.
-use Rattle.std.proofs.Common.{◌≡◌, ℕ, suc, ◌+◌, ◌≤◌, List, [], ◌∷◌, ◌++◌, Bool, true, false, Option, Some, None}
+use Rattle.std.proofs.Common.{◌≡◌, ℕ, ◌+◌, ◌≤◌, List, [], ◌∷◌, ◌++◌, Bool, true, false, Option, Some, None}
 use Rattle.std.proofs.Common.{refl, sym, ap, ap₂, ◌∙◌, subst, length, map, arith, append_assoc, append-nil}
 use Rattle.std.specs.Prelude.{nat_lt, if◌then◌else◌}
 use Rattle.std.specs.List.{AllByRecursion}
@@ -10,8 +10,8 @@ use Rattle.every_secret.specs.declared.patterns.Pattern.{Pattern}
 use Rattle.every_secret.specs.declared.stops.PathStop.{PathStop}
 use Rattle.every_secret.specs.declared.whys.UnclearWhy.{UnclearWhy}
 use Rattle.every_secret.specs.declared.whys.UnclearWhy.TheVariants.{Outputs}
-use Rattle.every_secret.specs.Bounds.{Answer, Found, Halt, IsBounded, IsUnclear, after_end, first_stop_of, found_exit, found_stop}
-use Rattle.every_secret.specs.Bounds.{is_same_pattern, judged, nothing_found, pattern_limit, size_of, unless_large, with_pattern}
+use Rattle.every_secret.specs.Bounds.{Found, Halt, IsBounded, IsUnclear, after_end, first_stop_of, found_exit, found_stop}
+use Rattle.every_secret.specs.Bounds.{judged, nothing_found, pattern_limit, size_of, unless_large, with_pattern}
 use Rattle.every_secret.specs.Paths.{Path}
 use Rattle.every_secret.specs.Private.Folding.{FoldsTo, IsKnown, IsKnownEnd, stops_at, stops_in, with_known}
 use Rattle.every_secret.specs.Private.Orders.{past}

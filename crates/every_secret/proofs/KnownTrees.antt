@@ -1,6 +1,6 @@
 -- From a string to the next: the paths between, what is known of them, and how many they are.
-use Rattle.std.proofs.Common.{◌≡◌, ℕ, ◌+◌, ◌≤◌, ◌<◌, List, [], ◌∷◌, ◌++◌, Bool, Some, None}
-use Rattle.std.proofs.Common.{refl, sym, ap, ◌∙◌, subst, length, map, arith, append_assoc, append-nil, length-append}
+use Rattle.std.proofs.Common.{◌≡◌, ℕ, ◌+◌, ◌<◌, List, [], ◌∷◌, ◌++◌, Bool, Some, None}
+use Rattle.std.proofs.Common.{sym, ap, ◌∙◌, subst, length, map, arith, append_assoc, append-nil, length-append}
 use Rattle.std.specs.List.{AllByRecursion}
 use Rattle.crossing_bits.specs.Askers.{Asker, Fed', feed}
 use Rattle.every_secret.specs.declared.path_ends.PathEnd.{PathEnd}
