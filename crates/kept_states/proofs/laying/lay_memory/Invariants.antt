@@ -1,0 +1,11 @@
+use Rattle.std.proofs.Common.{◌*◌}
+use Rattle.kept_states.specs.Keeping.{memory_byte}
+use Rattle.kept_states.specs.Laids.{LaidBelow}
+use Rattle.kept_states.specs.Pieces.{Grows}
+use Rattle.kept_states.proofs.laying.lay_memory.Given as goal
+
+abbrev pub invariant-loop-page : goal.invariant-loop-page
+invariant-loop-page l = record {
+  laid : LaidBelow l.pieces l.laids.items (l.page * 16) (memory_byte l.machine);
+  grows : Grows l.fn.pieces l.pieces;
+}
