@@ -1,8 +1,8 @@
 -- Pieces that grow.
-use Rattle.std.proofs.Common.{◌≡◌, ℕ, ◌+◌, ◌*◌, ◌/◌, ◌%◌, ◌<◌, ◌≤◌, List, [], ◌∷◌, ◌++◌, length, slice_index, refl, ◌∙◌, sym, ap, arith}
+use Rattle.std.proofs.Common.{◌≡◌, ℕ, ◌+◌, ◌*◌, ◌/◌, ◌%◌, List, ◌++◌, length, slice_index, ◌∙◌, ap, arith}
 use Rattle.std.proofs.Common.{length-append}
 use Rattle.std.proofs.lemmas.List.{get_or_append_left, get_or-append-add}
-use Rattle.kept_states.specs.Pieces.{byte_in, Grows, IsPiece}
+use Rattle.kept_states.specs.Pieces.{Grows, IsPiece}
 
 pub grows_same : (old new : List ℕ) → new ≡ old → Grows old new
 grows_same old new same = record {

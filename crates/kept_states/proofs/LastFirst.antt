@@ -1,24 +1,24 @@
 -- Pieces that are laid one after another, the last first.
 use Rattle.std.proofs.Common.{◌≡◌, ℕ, zero, suc, ◌+◌, ◌-◌, ◌*◌, ◌/◌, ◌%◌, ◌<◌, ◌≤◌, ◌==◌, ◌&&◌, inl, inr, true, false, Bool, List, [], ◌∷◌}
-use Rattle.std.proofs.Common.{length, drop, drop-cons, get_or, slice_index, refl, ◌∙◌, sym, ap, subst, arith, if◌then◌else◌, nat_le, nat_lt, Option}
+use Rattle.std.proofs.Common.{length, drop, drop-cons, get_or, slice_index, refl, ◌∙◌, sym, ap, arith, if◌then◌else◌, nat_le, nat_lt, Option}
 use Rattle.std.proofs.Math.ListN.{drop_of_length-le}
-use Rattle.std.proofs.lemmas.Bool.{cases_Bool, cases_lt, cond-false, cond-true}
+use Rattle.std.proofs.lemmas.Bool.{cases_lt}
 use Rattle.std.specs.Prelude.{slice_set}
 use Rattle.std.proofs.lemmas.List.{get_or-set_other}
 use Rattle.std.proofs.lemmas.Grind.{get_or-set_at}
-use Rattle.std.proofs.lemmas.Bool.Decides.{eqb_tells, nat_tests}
+use Rattle.std.proofs.lemmas.Bool.Decides.{nat_tests}
 use Rattle.flow_base.specs.Guests.{memory_size}
 use Rattle.rv32im_machine.specs.State.{State}
 use Rattle.rv32im_machine.specs.Standing.{with_memory}
 use Rattle.shadow_masks.specs.declared.labels.Label.{Label}
 use Rattle.shadow_masks.specs.Labels.{clean}
 use Rattle.shadow_masks.specs.Pieces.{SetsMasks}
-use Rattle.shadow_masks.specs.Shades.{Shades, byte_label, register_label, label_at, IsNew, SetsRegister}
+use Rattle.shadow_masks.specs.Shades.{Shades, byte_label, register_label, label_at, SetsRegister}
 use Rattle.shadow_masks.specs.Pages.{PageShades}
 use Rattle.kept_states.specs.declared.laids.Laid.{Laid}
-use Rattle.kept_states.specs.Pieces.{byte_in, IsPiece}
+use Rattle.kept_states.specs.Pieces.{IsPiece}
 use Rattle.kept_states.specs.Laids.{LieWithin, laid_byte}
-use Rattle.kept_states.specs.Keeping.{AreLaid, AreLaidMasks, AreMasksOf, laid_mask}
+use Rattle.kept_states.specs.Keeping.{AreLaid, AreLaidMasks, laid_mask}
 
 pub within_at : (pieces : List ℕ) (laids : List Laid) (i : ℕ) (d : Laid) → i < length laids → LieWithin pieces laids →
     (get_or laids i d).piece * 256 + 256 ≤ length pieces

@@ -1,16 +1,14 @@
 -- What is kept stays when pieces grow, and walks that one kept state stands for are alike.
-use Rattle.std.proofs.Common.{◌≡◌, ℕ, ◌-◌, ◌<◌, List, length, slice_index, refl, ◌∙◌, sym, ap, subst, arith, if◌then◌else◌, nat_le}
+use Rattle.std.proofs.Common.{◌≡◌, ℕ, ◌-◌, ◌<◌, List, ◌∙◌, sym, ap, arith, if◌then◌else◌, nat_le}
 use Rattle.std.proofs.lemmas.Grind.{same_number_lists}
 use Rattle.flow_base.specs.Guests.{memory_size}
 use Rattle.cut_file.specs.declared.points.CutPoint.{CutPoint}
 use Rattle.rv32im_machine.specs.State.{Setting, State}
 use Rattle.rv32im_machine.specs.Standing.{Stand, stand_of}
-use Rattle.replay_machine.specs.Visits.{SameAhead}
 use Rattle.shadow_masks.specs.Shades.{Shades}
 use Rattle.kept_states.specs.declared.kept_states.KeptState.{KeptState}
-use Rattle.kept_states.specs.Keeping.{AreLaid, AreLaidMasks, CanReturn, Keeps, StandAlike, laid_mask}
+use Rattle.kept_states.specs.Keeping.{AreLaid, CanReturn, Keeps, StandAlike, laid_mask}
 use Rattle.kept_states.specs.Pieces.{Grows}
-use Rattle.kept_states.specs.Laids.{laid_byte}
 use Rattle.kept_states.proofs.LaidBytes.{laid_grows, within_grows}
 
 -- what can be put back can be put back later

@@ -1,6 +1,6 @@
 -- The masks of a shadow as those of bytes by their distance from the base.
-use Rattle.std.proofs.Common.{◌≡◌, ℕ, ◌+◌, ◌-◌, ◌*◌, ◌/◌, ◌<◌, ◌≤◌, inl, inr, true, false, List, slice_index, refl, ◌∙◌, sym, ap, arith}
-use Rattle.std.proofs.Common.{if◌then◌else◌, length, nat_le}
+use Rattle.std.proofs.Common.{◌≡◌, ℕ, ◌+◌, ◌-◌, ◌*◌, ◌/◌, ◌<◌, ◌≤◌, inl, inr, true, false, List, slice_index, ◌∙◌, sym, ap, arith}
+use Rattle.std.proofs.Common.{length, nat_le}
 use Rattle.std.proofs.lemmas.Bool.{cases_lt, cond-false, cond-true}
 use Rattle.std.proofs.lemmas.Bool.Decides.{nat_tests}
 use Rattle.flow_base.specs.Guests.{memory_size}
@@ -9,7 +9,7 @@ use Rattle.shadow_masks.specs.Labels.{clean}
 use Rattle.shadow_masks.specs.Pieces.{AreMasks, piece_mask}
 use Rattle.shadow_masks.specs.Shades.{Shades, byte_label}
 use Rattle.kept_states.specs.declared.laids.Laid.{Laid}
-use Rattle.kept_states.specs.Keeping.{AreLaid, AreLaidMasks, laid_mask, mask_byte}
+use Rattle.kept_states.specs.Keeping.{AreLaid, AreLaidMasks, mask_byte}
 use Rattle.kept_states.specs.Laids.{HasBytes, LaidBelow, laid_byte}
 use Rattle.kept_states.proofs.LaidBytes.{laid_past}
 

@@ -131,10 +131,14 @@ impl<'c> KeptState<'c> {
         ended(hash)
     }
 
-    /// About how many bytes of memory the state takes, but for its pieces.
+    /// About how many bytes of memory the state takes, but for its pieces and its visits.
     pub(crate) fn size(&self) -> u64 {
+        let output = self.standing.output().len() as u64;
+        let masks = self.byte_masks.as_slice().len() as u64;
         size_of_laids(&self.memory)
             .saturating_add(size_of_laids(&self.masks))
+            .saturating_add(output)
+            .saturating_add(masks)
             .saturating_add(1024)
     }
 }

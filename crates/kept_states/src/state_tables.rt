@@ -46,7 +46,7 @@ impl<'c> StateTable<'c> {
         self.states.len()
     }
 
-    /// About how many bytes of memory the states take, but for their pieces.
+    /// About how many bytes of memory the states take, but for their pieces and their visits.
     pub fn size(&self) -> u64 {
         self.size
     }

@@ -1,4 +1,4 @@
-use Rattle.std.proofs.Common.{◌≡◌, ◌+◌, ◌*◌, arith}
+use Rattle.std.proofs.Common.{◌+◌, ◌*◌, arith}
 use Rattle.kept_states.specs.Keeping.{memory_byte}
 use Rattle.kept_states.specs.Laids.{LaidBelow}
 use Rattle.kept_states.proofs.Growing.{grows_trans}

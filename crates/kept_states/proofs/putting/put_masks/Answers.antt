@@ -1,4 +1,4 @@
-use Rattle.std.proofs.Common.{◌≡◌, ◌-◌, ◌∙◌, ◌<◌, refl, arith, length}
+use Rattle.std.proofs.Common.{◌-◌, ◌∙◌, ◌<◌, refl, arith, length}
 use Rattle.kept_states.specs.declared.laids.Laid.{Laid}
 use Rattle.kept_states.proofs.LastFirst.{masks_none, masks_step, within_at}
 use Rattle.kept_states.proofs.putting.put_masks.Goals as goal

@@ -1,5 +1,4 @@
-use Rattle.std.proofs.Common.{◌≡◌, ◌≤◌, ◌<◌, ℕ, length, drop, slice_index}
-use Rattle.flow_base.specs.Guests.{memory_size}
+use Rattle.std.proofs.Common.{◌≡◌, ◌≤◌, length, drop}
 use Rattle.rv32im_machine.specs.Standing.{with_memory}
 use Rattle.kept_states.specs.Keeping.{AreLaid}
 use Rattle.kept_states.proofs.putting.put_memory.Given as goal

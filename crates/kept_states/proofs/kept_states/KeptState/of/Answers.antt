@@ -1,4 +1,4 @@
-use Rattle.std.proofs.Common.{◌≡◌, List, refl, subst, sym}
+use Rattle.std.proofs.Common.{List, refl, subst, sym}
 use Rattle.kept_states.specs.declared.laids.Laid.{Laid}
 use Rattle.kept_states.specs.Keeping.{mask_byte, memory_byte}
 use Rattle.kept_states.specs.Laids.{LaidBelow}
