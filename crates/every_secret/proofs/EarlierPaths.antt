@@ -8,7 +8,7 @@ use Rattle.std.proofs.lemmas.List.{map-append}
 use Rattle.crossing_bits.specs.Askers.{Asker, Asks, Fed, Fed', Over, Short, feed}
 use Rattle.crossing_bits.proofs.Feeding.{feed_enough, feed_few, feed_more, le_or_lt}
 use Rattle.every_secret.specs.declared.path_ends.PathEnd.{PathEnd}
-use Rattle.every_secret.specs.Private.Orders.{Come, descend, earlier, first_from, later, past, under}
+use Rattle.every_secret.specs.Private.Orders.{SameBefore, Come, descend, earlier, first_from, later, past, under}
 use Rattle.every_secret.specs.Paths.{Fork, Leaf, Opens, Path, Tree, behind, forks, next_or, next_string, paths_of, tree_of}
 use Rattle.every_secret.proofs.Trees.{first_later, forks_descend, opens_none}
 
@@ -217,6 +217,11 @@ earlier_lengthened (Fork first second) (false ∷ bits) count =
     ap (λ ps. map (behind false) ps) (earlier_lengthened first bits count)
 earlier_lengthened (Fork first second) (true ∷ bits) count =
     ap (λ ps. map (behind false) (paths_of first) ++ map (behind true) ps) (earlier_lengthened second bits count)
+
+pub same_before : (before after : List Bool) (count : ℕ) → after ≡ before ++ replicate count false →
+    SameBefore after before
+same_before before after count is = λ tree.
+    ap (λ s. earlier tree s) is ∙ earlier_lengthened tree before count
 
 pub past_none : (paths : List Path) → map (past []) paths ≡ paths
 past_none [] = refl

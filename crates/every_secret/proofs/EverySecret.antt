@@ -74,10 +74,10 @@ unbroken_after enclosures (suc turns) place none whole =
 -- ---- the law
 
 module _ (run : RunLaw) (rules : Rules) (program : Picture) (public_input : List ℕ) (regions : List Region)
-    (cut : CutPicture) (limits : Limits) (paths : ℕ) (found : Found) (sound : AreSoundRules rules)
+    (cut : CutPicture) (limits : Limits) (found : Found) (sound : AreSoundRules rules)
     (inputs : AreInputs program public_input regions []) (valid : is_cut_picture cut ≡ true)
     (small : limits.budget < 4294967295)
-    (answer : Bounds rules (task_of program public_input regions cut) limits paths ≡ IsBounded found) where
+    (answer : Bounds rules (task_of program public_input regions cut) limits ≡ IsBounded found) where
   abbrev pub task : Task
   task = task_of program public_input regions cut
 
@@ -85,7 +85,7 @@ module _ (run : RunLaw) (rules : Rules) (program : Picture) (public_input : List
   walks = MaskedReplay rules task limits
 
   judges : AreJudged nothing_found found (Paths walks)
-  judges = all_judged paths (Paths walks) nothing_found found answer
+  judges = all_judged (Paths walks) nothing_found found answer
 
   shows : AllEnd (Shows found) (tree_of walks)
   shows = let all = judges in ends_from_paths (Shows found) (tree_of walks) all.shown
@@ -162,9 +162,9 @@ module _ (run : RunLaw) (rules : Rules) (program : Picture) (public_input : List
       ]
 
 pub every_secret : RunLaw → AllSecretsLaw
-every_secret run rules program public_input regions cut limits paths found sound inputs valid small answer = record {
-  accepted = accepted run rules program public_input regions cut limits paths found sound inputs valid small answer;
-  few = few run rules program public_input regions cut limits paths found sound inputs valid small answer;
-  within = within run rules program public_input regions cut limits paths found sound inputs valid small answer;
-  every = every run rules program public_input regions cut limits paths found sound inputs valid small answer;
+every_secret run rules program public_input regions cut limits found sound inputs valid small answer = record {
+  accepted = accepted run rules program public_input regions cut limits found sound inputs valid small answer;
+  few = few run rules program public_input regions cut limits found sound inputs valid small answer;
+  within = within run rules program public_input regions cut limits found sound inputs valid small answer;
+  every = every run rules program public_input regions cut limits found sound inputs valid small answer;
 }

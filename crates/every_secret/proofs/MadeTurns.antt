@@ -29,6 +29,7 @@ use Rattle.every_secret.specs.Private.Tapes.{TellsWalk, knowledge_of}
 use Rattle.every_secret.specs.Private.Turning.{HoldsTurn, IsReady, MakesFed, MakesBy, MakesKind}
 use Rattle.every_secret.specs.Turns.{cutting_of, kind_turn, knowledge_at, masked_turn, secret_base_of, skips}
 use Rattle.every_secret.specs.Turns.{turn_from, turn_inside}
+use Rattle.every_secret.proofs.TurnsStay.{HasBoth, replay_kind_stays}
 
 pub none_of : {A : Type 0} (option : Option A) → ((value : A) → option ≡ Some value → ⊥) → option ≡ None
 none_of None h = refl
@@ -79,6 +80,22 @@ module _ (enclosures : Enclosures) (kind : Kind) (region : ℕ) (skipped : Bool)
   kind-longer None (Some range) h =
       subst (λ (t : Tape). Lengthens before.stream t.stream) (sym h.0) (lengthens_none before.stream)
   kind-longer None None h = (whatever h.0).longer
+
+  -- a turn changes neither the setting nor the secret
+  pub kind-stays : (register : Option ℕ) (range : Option Outside) → By register range →
+      HasBoth machine.setting machine.secret state
+  kind-stays (Some register) range h = (ap (λ (s : State). s.setting) h.1, ap (λ (s : State). s.secret) h.1)
+  kind-stays None (Some range) h = (ap (λ (s : State). s.setting) h.1, ap (λ (s : State). s.secret) h.1)
+  kind-stays None None h =
+      at_end (HasBoth machine.setting machine.secret) (replay_kind_walk enclosures kind machine) state
+      (replay_kind_stays enclosures kind machine) (whatever h.0).ends
+
+  -- a turn that tells of a range has passed nothing
+  pub kind-halts : (register : Option ℕ) (range : Option Outside) → By register range → (told : Outside) →
+      outside ≡ Some told → after.crossed ≡ before.crossed
+  kind-halts (Some register) range h told is = ap (λ (t : Tape). t.crossed) h.0
+  kind-halts None (Some range) h told is = ap (λ (t : Tape). t.crossed) h.0
+  kind-halts None None h told is = let none = h.1 in absurd (cc)
 
   kind_leaves : (register : Option ℕ) (range : Option Outside) → range ≡ kind_outside_range kind machine →
       are_regions enclosures.regions ≡ true → may_leave enclosures.regions machine ≡ true →

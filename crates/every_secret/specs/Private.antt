@@ -5,9 +5,11 @@ pub mod Ends
 pub mod Turning
 pub mod Walks
 pub mod Orders
+pub mod Spots
+pub mod Sums
+pub mod Opened
+pub mod Closing
+pub mod Searching
 pub mod Ceilings
 pub mod KeptPatterns
-pub mod Finding
 pub mod Folding
-pub mod Judging
-pub mod Stepping

@@ -1,6 +1,6 @@
 -- The state of a masked replay between two turns. From one state on everything is the same, but for the numbers of turns
 -- that are left and of bits that have crossed.
-use Rattle.std.specs.Prelude.{◌≡◌, ◌≤◌, ◌-◌, ◌+◌, ℕ}
+use Rattle.std.specs.Prelude.{◌≡◌, ◌≤◌, ◌<◌, ◌+◌, ℕ}
 use Rattle.std.specs.List.{AllByRecursion}
 use Rattle.flow_base.specs.declared.points.Point.{Point}
 use Rattle.lockstep_replay.specs.Tasks.{Limits, Task}
@@ -47,7 +47,7 @@ AllEndWithin rules task limits left place turns bits =
 abbrev pub SameTreesLaw : Type 0
 SameTreesLaw =
     (rules : Rules) (task : Task) (limits : Limits) (first second : MaskedPlace) (left other_left turns bits : ℕ) →
-    SameState task.masks first second → first.crossed ≤ limits.budget →
+    SameState task.masks first second → first.crossed ≤ limits.budget → limits.budget < 4294967295 →
     AllEndWithin rules task limits left first turns bits → turns ≤ other_left →
     second.crossed + bits ≤ limits.budget →
     below rules task limits other_left second ≡ below rules task limits left first

@@ -1,5 +1,6 @@
 ghost use Rattle.every_secret.specs.Laws.{AllSecretsLaw, RunLaw};
 ghost use Rattle.every_secret.specs.Rules.{TablesAreSound, TablesHaveRules};
+ghost use Rattle.every_secret.specs.States.{SameTreesLaw};
 
 /// A law, which does nothing when it is called: what a book of table 1 or of table 2 answers is a function, that of the
 /// table.
@@ -23,4 +24,11 @@ pub fn runs_choose_paths()
 /// all these outputs, and at most 2 to the budget; and with no region and no path that stops every secret's run exits.
 pub fn bounds_tell_of_all_secrets()
     ensures { AllSecretsLaw }
+{}
+
+/// A law, which does nothing when it is called: where every path below a place of the masked replay ends, neither unclear
+/// nor by the limit of turns, what is below another place with the same state is the same, if as many turns and as many
+/// bits of the budget are left there as these paths take.
+pub fn same_states_have_the_same_below()
+    ensures { SameTreesLaw }
 {}

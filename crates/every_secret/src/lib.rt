@@ -3,33 +3,37 @@
 //! of these walks.
 #![tactic(auto)]
 
-mod afresh;
-mod bounding;
+mod bit_strings;
 mod bounds;
+mod closed_states;
+mod counts;
 mod endings;
 mod entries;
-mod finding;
 mod findings;
 mod judging;
 mod kept_patterns;
 mod laws;
-mod next_strings;
 mod numbers;
+mod open_places;
 mod path_ends;
 mod pattern_set;
 mod patterns;
+mod searching;
 mod shown;
+mod starting;
+mod stepping;
 mod stops;
+mod sums;
 mod turns;
 mod verdicts;
 mod visits;
 mod walking;
-mod walks;
 mod whys;
 
 pub use bounds::bound;
 pub use laws::{
-    bounds_tell_of_all_secrets, runs_choose_paths, tables_are_sound, tables_have_rules,
+    bounds_tell_of_all_secrets, runs_choose_paths, same_states_have_the_same_below,
+    tables_are_sound, tables_have_rules,
 };
 pub use numbers::{free_bits, output_bits, output_count};
 pub use patterns::Pattern;

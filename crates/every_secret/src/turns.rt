@@ -4,6 +4,7 @@ ghost use Rattle.enclosure_regions.specs.declared.region_parts.Region.{Region as
 ghost use Rattle.enclosure_regions.specs.Regions.{is_region};
 ghost use Rattle.region_machine.specs.Enclosures.{Enters, Steps, kind_of};
 ghost use Rattle.region_machine.specs.Within.{are_inside, can_leave, has_rules, may_leave, seen};
+ghost use Rattle.replay_machine.specs.declared.outsides.Outside.{Outside as TheOutside};
 ghost use Rattle.replay_machine.specs.ReplayTurns.{entry_walk};
 ghost use Rattle.rv32im_machine.specs.Playing.{Knows, outcome};
 ghost use Rattle.run_labels.specs.Runs.{entered_number as number_entered};
@@ -153,7 +154,12 @@ pub(crate) fn make_turn(
     requires { IsReady marked.now.regions.items machine.old (tape_of side.old.book.now.table side.old.shadow
         side.old.masks side.old.bits side.old.crossed side.old.byte_masks.items side.old.status_mask side.old.unclear) }
     ensures table { IfOk result (λ outside. side.new.book.now.table ≡ side.old.book.now.table) }
+    ensures base { IfOk result (λ outside. side.new.shadow.base ≡ machine.new.setting.base) }
     ensures longer { IfOk result (λ outside. Lengthens side.old.bits side.new.bits) }
+    ensures setting { IfOk result (λ outside. machine.new.setting ≡ machine.old.setting) }
+    ensures secret { IfOk result (λ outside. machine.new.secret ≡ machine.old.secret) }
+    ensures halts { IfOk result (λ outside. (range : TheOutside) → outside ≡ Some range →
+        side.new.crossed ≡ side.old.crossed) }
     ensures ready { IfOk result (λ outside. outside ≡ None → side.new.unclear ≡ None →
         IsReady marked.now.regions.items machine.new (tape_of side.new.book.now.table side.new.shadow side.new.masks
         side.new.bits side.new.crossed side.new.byte_masks.items side.new.status_mask side.new.unclear)) }

@@ -12,7 +12,7 @@ use crate::whys::UnclearWhy;
 use crossing_bits::{Bits, bit_count};
 use flow_base::{NoMemory, Point, Slot};
 use masked_turns::{LeftBits, SecretLook, left_bits, secret_look, uncrossed};
-use replay_machine::VisitMasks;
+use replay_machine::LentVisits;
 use rv32im_machine::{Passer, Passing, Place, Seen, Shape, Source};
 use shadow_masks::Shadow;
 use tracked_run::{Held, labelled, note_move, note_restore, note_save, put_aimed};
@@ -31,7 +31,7 @@ pub(crate) struct Walking<'b> {
     /// The masks of registers and bytes, as labels at no point.
     pub shadow: Shadow,
     /// The masks of the cut.
-    pub masks: VisitMasks,
+    pub masks: LentVisits<'b>,
     /// The string, which gets a 0 where a choice finds no bit left.
     pub bits: Bits,
     /// How many bits have crossed, 4,294,967,295 where there are more.

@@ -1,5 +1,5 @@
 -- Where a string stands in a tree of paths.
-use Rattle.std.specs.Prelude.{List, [], ◌∷◌, ◌++◌, Bool, true, false, Option, Some, None, map}
+use Rattle.std.specs.Prelude.{◌≡◌, List, [], ◌∷◌, ◌++◌, Bool, true, false, Option, Some, None, map}
 use Rattle.every_secret.specs.declared.path_ends.PathEnd.{PathEnd}
 use Rattle.every_secret.specs.Paths.{Fork, Leaf, Path, Tree, behind, paths_of}
 
@@ -45,3 +45,7 @@ under (Fork first second) (true ∷ bits) = under second bits
 -- a path after a string
 abbrev pub past : List Bool → Path → Path
 past before path = record { bits = before ++ path.bits; ends = path.ends }
+
+-- whatever the tree is, the same paths are before both strings
+abbrev pub SameBefore : List Bool → List Bool → Type 0
+SameBefore first second = (tree : Tree) → earlier tree first ≡ earlier tree second

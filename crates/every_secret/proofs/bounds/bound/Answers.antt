@@ -1,38 +1,18 @@
-use Rattle.std.proofs.Common.{◌≡◌, ◌<◌, ℕ, List, true, arith, rules, sym}
-use Rattle.cut_file.specs.Cuts.{CutPicture, is_cut_picture}
+use Rattle.std.proofs.Common.{◌≡◌, ◌∙◌, List, ap, subst}
 use Rattle.cut_file.specs.Pictures.{cut_picture}
-use Rattle.acceptance_law.specs.MeasuredLaws.{AreInputs}
 use Rattle.elf32_loader.specs.Images.{image_picture}
-use Rattle.elf32_loader.specs.Pictures.{Picture}
+use Rattle.enclosure_regions.specs.declared.region_lists.Regions.{Regions}
 use Rattle.enclosure_regions.specs.declared.region_parts.Region.{Region}
-use Rattle.lockstep_replay.specs.Tasks.{Limits, task_of}
-use Rattle.every_secret.specs.AllSecrets.{TellsAll}
-use Rattle.every_secret.specs.Bounds.{Answer, Bounds, IsBounded, IsUnclear, answer_of}
-use Rattle.every_secret.specs.Rules.{AreSoundRules, Rules}
-use Rattle.every_secret.proofs.EverySecret.{every_secret}
-use Rattle.every_secret.proofs.SecretsChoose.{run_law}
+use Rattle.lockstep_replay.specs.Tasks.{task_of}
+use Rattle.every_secret.specs.Bounds.{IsVerdict}
 use Rattle.every_secret.proofs.bounds.bound.Goals as goal
 
-tells : (by : Rules) (program : Picture) (public_input : List ℕ) (regions : List Region) (secret : List ℕ)
-    (cut : CutPicture) (limits : Limits) (paths : ℕ) (answer : Answer) → AreSoundRules by →
-    AreInputs program public_input regions secret → is_cut_picture cut ≡ true → limits.budget < 4294967295 →
-    Bounds by (task_of program public_input regions cut) limits paths ≡ answer →
-    TellsAll (task_of program public_input regions cut) limits answer
-tells by program public_input regions secret cut limits paths (IsBounded found) sound inputs valid small is =
-    every_secret run_law by program public_input regions cut limits paths found sound (record {
-      program_valid = inputs.program_valid;
-      program_bytes = inputs.program_bytes;
-      public_bytes = inputs.public_bytes;
-      regions_valid = inputs.regions_valid;
-      secret_bytes = λ index. omega arith;
-    }) valid small is
-tells by program public_input regions secret cut limits paths (IsUnclear bits why) sound inputs valid small is = tt
-
-pub returns-clause-all : goal.returns-clause-all
-returns-clause-all g c = λ by answers sound.
-    let answer : Answer = answer_of c.in_ok-verdict.verdict in
-    let is : answer ≡ Bounds by (task_of (image_picture c.args.image.now) c.args.public.now c.args.regions.now.items
-    (cut_picture c.args.cut.now)) (record { budget = c.args.budget; turns = c.args.turns }) c.args.paths = search rules in
-    tells by (image_picture c.args.image.now) c.args.public.now c.args.regions.now.items _ (cut_picture c.args.cut.now)
-    (record { budget = c.args.budget; turns = c.args.turns }) c.args.paths answer sound c.tell_inputs.ensures
-    c.tell_cut.ensures c.requires.budget (sym is)
+pub returns-clause-answer : goal.returns-clause-answer
+returns-clause-answer g c = λ rules answers.
+    let regions = c.in_ok-marked.ensures in
+    let copied = c.in_ok-copy_regions.ensures in
+    let found = c.in_ok-verdict.ensures rules answers c.in_ok-zeros.ensures.zeros c.in_ok-table.ensures in
+    let P : List Region → Type 0 = λ rs. IsVerdict rules
+    (task_of (image_picture c.args.image.now) c.args.public.now rs (cut_picture c.args.cut.now))
+    (record { budget = c.args.budget; turns = c.args.turns }) c.args.paths c.in_ok-verdict.verdict in
+    subst P (ap (λ (r : Regions). r.items) regions ∙ copied) found

@@ -5,7 +5,8 @@ use Rattle.replay_machine.specs.ReplayTurns.{kind_outside_range}
 use Rattle.tracked_run.specs.Labels.{map_of}
 use Rattle.every_secret.specs.Private.Tapes.{tape_of}
 use Rattle.every_secret.specs.Turns.{secret_base_of}
-use Rattle.every_secret.proofs.MadeTurns.{kind-longer, kind-ready, kind-table, turn_makes}
+use Rattle.every_secret.proofs.MadeTurns.{kind-halts, kind-longer, kind-ready, kind-stays, kind-table}
+use Rattle.every_secret.proofs.MadeTurns.{turn_makes}
 use Rattle.every_secret.proofs.turns.make_turn.Goals as goal
 
 pub returns-clause-table : goal.returns-clause-table
@@ -30,6 +31,48 @@ returns-clause-longer g c =
     let enclosures : Enclosures = record { regions = c.args.marked.now.regions.items; skip = c.args.skip.now } in
     let kind = seen c.next_turn-turn.result in
     kind-longer enclosures kind c.entered_number-side.result c.skips-side.result c.none-side.result machine
+    (tape_of side.book.now.table side.shadow side.masks side.bits side.crossed side.byte_masks.items side.status_mask
+    side.unclear) c.in_ok-outside.outside c.make_kind.new.machine
+    (tape_of new.book.now.table new.shadow new.masks new.bits new.crossed new.byte_masks.items new.status_mask
+    new.unclear) (secret_base_of kind (map_of side.shadow)) (kind_outside_range kind machine)
+    (c.in_ok-outside.ensures.makes enclosures.regions)
+
+pub returns-clause-setting : goal.returns-clause-setting
+returns-clause-setting g c =
+    let side = c.args.side.now in
+    let new = c.make_kind.new.side in
+    let machine = c.args.machine.now in
+    let enclosures : Enclosures = record { regions = c.args.marked.now.regions.items; skip = c.args.skip.now } in
+    let kind = seen c.next_turn-turn.result in
+    (kind-stays enclosures kind c.entered_number-side.result c.skips-side.result c.none-side.result machine
+    (tape_of side.book.now.table side.shadow side.masks side.bits side.crossed side.byte_masks.items side.status_mask
+    side.unclear) c.in_ok-outside.outside c.make_kind.new.machine
+    (tape_of new.book.now.table new.shadow new.masks new.bits new.crossed new.byte_masks.items new.status_mask
+    new.unclear) (secret_base_of kind (map_of side.shadow)) (kind_outside_range kind machine)
+    (c.in_ok-outside.ensures.makes enclosures.regions)).0
+
+pub returns-clause-secret : goal.returns-clause-secret
+returns-clause-secret g c =
+    let side = c.args.side.now in
+    let new = c.make_kind.new.side in
+    let machine = c.args.machine.now in
+    let enclosures : Enclosures = record { regions = c.args.marked.now.regions.items; skip = c.args.skip.now } in
+    let kind = seen c.next_turn-turn.result in
+    (kind-stays enclosures kind c.entered_number-side.result c.skips-side.result c.none-side.result machine
+    (tape_of side.book.now.table side.shadow side.masks side.bits side.crossed side.byte_masks.items side.status_mask
+    side.unclear) c.in_ok-outside.outside c.make_kind.new.machine
+    (tape_of new.book.now.table new.shadow new.masks new.bits new.crossed new.byte_masks.items new.status_mask
+    new.unclear) (secret_base_of kind (map_of side.shadow)) (kind_outside_range kind machine)
+    (c.in_ok-outside.ensures.makes enclosures.regions)).1
+
+pub returns-clause-halts : goal.returns-clause-halts
+returns-clause-halts g c =
+    let side = c.args.side.now in
+    let new = c.make_kind.new.side in
+    let machine = c.args.machine.now in
+    let enclosures : Enclosures = record { regions = c.args.marked.now.regions.items; skip = c.args.skip.now } in
+    let kind = seen c.next_turn-turn.result in
+    kind-halts enclosures kind c.entered_number-side.result c.skips-side.result c.none-side.result machine
     (tape_of side.book.now.table side.shadow side.masks side.bits side.crossed side.byte_masks.items side.status_mask
     side.unclear) c.in_ok-outside.outside c.make_kind.new.machine
     (tape_of new.book.now.table new.shadow new.masks new.bits new.crossed new.byte_masks.items new.status_mask
