@@ -3,3 +3,4 @@ pub mod TrialRuns
 pub mod FindingLines
 pub mod TableRules
 pub mod Certified
+pub mod BoundAnswers

@@ -1,15 +1,18 @@
 -- All secrets of a guest, whose outputs are bounded by a cut.
-use Rattle.std.specs.Prelude.{◌≡◌, ◌==◌, ◌++◌, ℕ, List, length, Ok, if◌then◌else◌}
+use Rattle.std.specs.Prelude.{◌≡◌, ◌⊎◌, ◌==◌, ◌++◌, ℕ, Bool, List, length, Ok, if◌then◌else◌}
 use Rattle.lockstep_replay.specs.Tasks.{Task as BoundTask, task_of}
 use Rattle.transfer_rules.specs.Table1.{mask_by_table_1}
 use Rattle.transfer_rules.specs.Table2.{mask_by_table_2}
-use Rattle.every_secret.specs.Bounds.{Answer as BoundAnswer, Bounds, Found, IsBounded, IsLeastPower, IsUnclear, output_count}
+use Rattle.every_secret.specs.Bounds.{Answer as BoundAnswer, Bounds, HasMorePaths, IsBounded, IsLeastPower, IsUnclear}
+use Rattle.every_secret.specs.Bounds.{Summary, output_count, summary_of}
 use Rattle.every_secret.specs.AllSecrets.{AreAll}
+use Rattle.every_secret.specs.Paths.{Tree, tree_of}
+use Rattle.every_secret.specs.Replays.{MaskedReplay}
 use Rattle.every_secret.specs.Rules.{Rules, rules_of}
 use Rattle.command_tasks.specs.declared.statuses.Status.TheVariants.{Done, Rejected}
 use Rattle.command_tasks.specs.Tasks.{AllSecretsTask}
 use Rattle.task_answers.specs.Answers.{Answer}
-use Rattle.task_answers.specs.BoundTexts.{bounded_line, listing, unclear_line}
+use Rattle.task_answers.specs.BoundTexts.{bounded_line, listing, too_many_line, unclear_line}
 
 -- the mask rules of table 1, and for every other number those of table 2
 abbrev pub rules_by : ℕ → Rules
@@ -21,10 +24,14 @@ task_in all = task_of all.guest.program all.guest.public_input all.guest.regions
 
 -- the bound for all secrets
 abbrev pub bound_of : AllSecretsTask → BoundAnswer
-bound_of all = Bounds (rules_by all.table) (task_in all) all.limits all.paths
+bound_of all = Bounds (rules_by all.table) (task_in all) all.limits
+
+-- the tree of all paths
+abbrev pub tree_in : AllSecretsTask → Tree
+tree_in all = tree_of (MaskedReplay (rules_by all.table) (task_in all) all.limits)
 
 -- the text of what is found, where so many bits suffice for the outputs
-abbrev pub bounded_text : AllSecretsTask → Found → ℕ → List ℕ
+abbrev pub bounded_text : AllSecretsTask → Summary → ℕ → List ℕ
 bounded_text all found bits =
     listing all.listed found ++ bounded_line all.cut.secret_len (length all.guest.regions) found bits
 
@@ -33,9 +40,15 @@ abbrev pub AnswersBound : AllSecretsTask → BoundAnswer → Answer → Type 0
 AnswersBound all (IsBounded found) answer =
     AreAll (task_in all) all.limits found
     × ((bits : ℕ) × IsLeastPower (output_count found.patterns) bits
-    × (answer ≡ Ok (record { status = Done; text = bounded_text all found bits })))
+    × (answer ≡ Ok (record { status = Done; text = bounded_text all (summary_of found) bits })))
 AnswersBound all (IsUnclear bits why) answer =
     answer ≡ Ok (record { status = Rejected; text = unclear_line bits why })
 
+-- there are more paths than walks may be made, and the text has a string with which a path begins
+abbrev pub AnswersTooMany : AllSecretsTask → Answer → Type 0
+AnswersTooMany all answer =
+    (bits : List Bool) × HasMorePaths (tree_in all) all.paths bits
+    × (answer ≡ Ok (record { status = Rejected; text = too_many_line bits all.paths }))
+
 abbrev pub AnswersAllSecrets : AllSecretsTask → Answer → Type 0
-AnswersAllSecrets all answer = AnswersBound all (bound_of all) answer
+AnswersAllSecrets all answer = AnswersBound all (bound_of all) answer ⊎ AnswersTooMany all answer

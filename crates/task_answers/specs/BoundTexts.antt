@@ -1,13 +1,13 @@
 -- The texts of a bound. Numbers are decimal; bits and bytes are hexadecimal digits, `-` where there are none.
-use Rattle.std.specs.Prelude.{ℕ, ◌+◌, ◌^◌, ◌==◌, nat_lt, Bool, List, [], ◌∷◌, ◌++◌, length, codes, Option, Some, None}
+use Rattle.std.specs.Prelude.{ℕ, ◌+◌, ◌==◌, Bool, List, [], ◌∷◌, ◌++◌, length, codes, Option, Some, None}
 use Rattle.std.specs.Prelude.{if◌then◌else◌}
 use Rattle.std.specs.Fmt.{decimal}
 use Rattle.hex.specs.Hex.{encode_lower}
 use Rattle.crossing_bits.specs.HexText.{hex_of}
 use Rattle.every_secret.specs.declared.patterns.Pattern.{Pattern}
 use Rattle.every_secret.specs.declared.whys.UnclearWhy.{UnclearWhy}
-use Rattle.every_secret.specs.BoundTexts.{path_stop_text, unclear_text}
-use Rattle.every_secret.specs.Bounds.{Found, Halt, free_bits, output_count}
+use Rattle.every_secret.specs.BoundTexts.{path_stop_text, too_many_text, unclear_text}
+use Rattle.every_secret.specs.Bounds.{Halt, Summary, counted, free_bits, output_count}
 
 abbrev pub hex_bytes : List ℕ → List ℕ
 hex_bytes [] = codes "-"
@@ -20,6 +20,10 @@ path_text bits = codes " path " ++ (hex_of bits ++ (codes " bits " ++ decimal (l
 -- the path that is unclear, and why
 abbrev pub unclear_line : List Bool → UnclearWhy → List ℕ
 unclear_line bits why = codes "unclear" ++ (path_text bits ++ (codes " " ++ (unclear_text why ++ codes "\n")))
+
+-- so many walks were made, the last along this string, and a path is left
+abbrev pub too_many_line : List Bool → ℕ → List ℕ
+too_many_line bits walks = codes "unclear" ++ (path_text bits ++ (codes " " ++ (too_many_text walks ++ codes "\n")))
 
 -- the masks of a pattern with so many free bits
 abbrev pub mask_text : ℕ → Pattern → List ℕ
@@ -49,22 +53,23 @@ stop_line (Some halt) =
     codes "stopped" ++ (path_text halt.bits ++ (codes " " ++ (path_stop_text halt.stop ++ codes "\n")))
 
 -- a line for each pattern, counted from 1, and one for the first path that stops
-abbrev pub listing : Bool → Found → List ℕ
+abbrev pub listing : Bool → Summary → List ℕ
 listing listed found = if listed then pattern_lines 1 found.patterns ++ stop_line found.first_stop else []
 
--- a number below 2^64, or a dash
-abbrev pub count_text : ℕ → List ℕ
-count_text count = if nat_lt count (2 ^ 64) then decimal count else codes "-"
+-- a number, or a dash where none is told
+abbrev pub count_text : Option ℕ → List ℕ
+count_text None = codes "-"
+count_text (Some count) = decimal count
 
--- paths, stops and outputs
-abbrev pub paths_text : Found → List ℕ
+-- paths, stops and outputs, each a dash where there are 2^64 or more
+abbrev pub paths_text : Summary → List ℕ
 paths_text found =
-    codes " paths " ++ (decimal found.paths ++ (codes " stopped " ++ (decimal found.stopped ++ (codes " outputs "
-    ++ count_text (output_count found.patterns)))))
+    codes " paths " ++ (count_text found.paths ++ (codes " stopped " ++ (count_text found.stopped ++ (codes " outputs "
+    ++ count_text (counted (output_count found.patterns))))))
 
 -- the bound: the length of the secrets, how many regions are listed, paths, stops and outputs, and for how many outputs
 -- the bits suffice
-abbrev pub bounded_line : ℕ → ℕ → Found → ℕ → List ℕ
+abbrev pub bounded_line : ℕ → ℕ → Summary → ℕ → List ℕ
 bounded_line secret_length regions found bits =
     codes "bounded secret " ++ (decimal secret_length ++ (codes " regions " ++ (decimal regions ++ (paths_text found
     ++ (codes " bits " ++ (decimal bits ++ codes "\n"))))))

@@ -2,13 +2,14 @@
 
 ghost use Rattle.std.specs.Prelude.{◌≡◌, ◌++◌, ◌∷◌, ℕ, [], codes, option_map, IfOk};
 ghost use Rattle.hex.specs.Hex.{encode_lower};
-ghost use Rattle.every_secret.specs.Bounds.{IsLeastPower, found_of, halt_of, output_count as output_count_of};
+ghost use Rattle.every_secret.specs.Bounds.{IsLeastPower, counted, halt_of, output_count as output_count_of, summary_in};
 ghost use Rattle.task_answers.specs.BoundTexts.{bounded_line as bounded_line_of, count_text as count_text_of};
 ghost use Rattle.task_answers.specs.BoundTexts.{hex_bytes as hex_bytes_of, listing as listing_of};
 ghost use Rattle.task_answers.specs.BoundTexts.{mask_text as mask_text_of, path_text as path_text_of};
 ghost use Rattle.task_answers.specs.BoundTexts.{paths_text as paths_text_of, status_text as status_text_of};
 ghost use Rattle.task_answers.specs.BoundTexts.{pattern_line as pattern_line_of, pattern_lines as pattern_lines_of};
-ghost use Rattle.task_answers.specs.BoundTexts.{stop_line as stop_line_of, unclear_line as unclear_line_of};
+ghost use Rattle.task_answers.specs.BoundTexts.{stop_line as stop_line_of, too_many_line as too_many_line_of};
+ghost use Rattle.task_answers.specs.BoundTexts.{unclear_line as unclear_line_of};
 
 use crate::texts::joined;
 use crossing_bits::Bits;
@@ -46,6 +47,16 @@ pub fn unclear_line(alloc: Global, bits: &Bits, why: UnclearWhy) -> Result<Bytes
 {
     let path = path_text(alloc, bits)?;
     let tail = format!(in alloc; " {why}\n")?;
+    let text = joined(alloc, b"unclear", path.as_slice(), tail.as_bytes())?;
+    Ok(text)
+}
+
+/// The line of so many walks, the last of which was along this string.
+pub fn too_many_line(alloc: Global, bits: &Bits, walks: u32) -> Result<Bytes, NoMemory>
+    ensures { IfOk result (λ text. text ≡ too_many_line_of bits.now.bits walks) }
+{
+    let path = path_text(alloc, bits)?;
+    let tail = format!(in alloc; " paths {walks}\n")?;
     let text = joined(alloc, b"unclear", path.as_slice(), tail.as_bytes())?;
     Ok(text)
 }
@@ -130,7 +141,7 @@ fn stop_line(alloc: Global, first: &Option<StoppedPath>) -> Result<Bytes, NoMemo
 
 /// A line for each pattern, and one for the first path that stops, where they are to be listed.
 pub fn listing(alloc: Global, listed: bool, found: &Bounded) -> Result<Vec<u8>, NoMemory>
-    ensures { IfOk result (λ text. text.items ≡ listing_of listed (found_of found.now)) }
+    ensures { IfOk result (λ text. text.items ≡ listing_of listed (summary_in found.now)) }
 {
     if !listed {
         return Ok(Vec::new(alloc));
@@ -141,11 +152,11 @@ pub fn listing(alloc: Global, listed: bool, found: &Bounded) -> Result<Vec<u8>, 
     Ok(text)
 }
 
-/// A number of outputs, `-` where it is 2^64 or more.
-fn count_text(alloc: Global, patterns: &[Pattern]) -> Result<Bytes, NoMemory>
-    ensures { IfOk result (λ text. text ≡ count_text_of (output_count_of patterns.now)) }
+/// A number, `-` where it is 2^64 or more.
+fn count_text(alloc: Global, count: Option<u64>) -> Result<Bytes, NoMemory>
+    ensures { IfOk result (λ text. text ≡ count_text_of count) }
 {
-    match output_count(patterns) {
+    match count {
         Some(count) => {
             let text = format!(in alloc; "{count}")?;
             Ok(Bytes::from_vec(text.into_bytes()))
@@ -154,15 +165,33 @@ fn count_text(alloc: Global, patterns: &[Pattern]) -> Result<Bytes, NoMemory>
     }
 }
 
+/// For how many outputs the patterns stand.
+fn outputs_text(alloc: Global, patterns: &[Pattern]) -> Result<Bytes, NoMemory>
+    ensures { IfOk result (λ text. text ≡ codes " outputs " ++ count_text_of (counted (output_count_of patterns.now))) }
+{
+    let count = count_text(alloc, output_count(patterns))?;
+    let text = joined(alloc, b"", b" outputs ", count.as_slice())?;
+    Ok(text)
+}
+
+/// How many paths stop, and for how many outputs the patterns stand.
+fn stopped_text(alloc: Global, found: &Bounded) -> Result<Bytes, NoMemory>
+    ensures { IfOk result (λ text. text ≡ codes " stopped " ++ (count_text_of found.now.stopped ++ (codes " outputs "
+        ++ count_text_of (counted (output_count_of found.now.patterns))))) }
+{
+    let stopped = count_text(alloc, found.stopped)?;
+    let outputs = outputs_text(alloc, found.patterns.as_slice())?;
+    let text = joined(alloc, b" stopped ", stopped.as_slice(), outputs.as_slice())?;
+    Ok(text)
+}
+
 /// How many paths there are, how many of them stop, and for how many outputs the patterns stand.
 fn paths_text(alloc: Global, found: &Bounded) -> Result<Bytes, NoMemory>
-    ensures { IfOk result (λ text. text ≡ paths_text_of (found_of found.now)) }
+    ensures { IfOk result (λ text. text ≡ paths_text_of (summary_in found.now)) }
 {
-    let paths = found.paths;
-    let stopped = found.stopped;
-    let outputs = count_text(alloc, found.patterns.as_slice())?;
-    let head = format!(in alloc; " paths {paths} stopped {stopped} outputs ")?;
-    let text = joined(alloc, b"", head.as_bytes(), outputs.as_slice())?;
+    let paths = count_text(alloc, found.paths)?;
+    let stopped = stopped_text(alloc, found)?;
+    let text = joined(alloc, b" paths ", paths.as_slice(), stopped.as_slice())?;
     Ok(text)
 }
 
@@ -174,7 +203,7 @@ fn bounded_text(
     found: &Bounded,
     bits: u128,
 ) -> Result<Bytes, NoMemory>
-    ensures { IfOk result (λ text. text ≡ bounded_line_of secret_length regions (found_of found.now) bits) }
+    ensures { IfOk result (λ text. text ≡ bounded_line_of secret_length regions (summary_in found.now) bits) }
 {
     let paths = paths_text(alloc, found)?;
     let head = format!(in alloc; "bounded secret {secret_length} regions {regions}")?;
@@ -191,7 +220,7 @@ pub fn bounded_line(
     found: &Bounded,
 ) -> Result<Bytes, NoMemory>
     ensures { IfOk result (λ text. (bits : ℕ) × IsLeastPower (output_count_of found.now.patterns) bits
-        × (text ≡ bounded_line_of secret_length regions (found_of found.now) bits)) }
+        × (text ≡ bounded_line_of secret_length regions (summary_in found.now) bits)) }
 {
     let bits = output_bits(alloc, found.patterns.as_slice())?;
     let text = bounded_text(alloc, secret_length, regions, found, bits)?;

@@ -1,13 +1,14 @@
 //! The outputs of all secrets of a guest, bounded by a cut.
 
-ghost use Rattle.std.specs.Prelude.{◌≡◌, ◌∷◌, [], Ok as Fine, map, IfOk};
+ghost use Rattle.std.specs.Prelude.{◌≡◌, ◌∷◌, ◌<◌, [], Ok as Fine, map, IfOk};
 ghost use Rattle.every_secret.specs.AllSecrets.{AreAll, TellsAll};
-ghost use Rattle.every_secret.specs.Bounds.{IsBounded, IsUnclear, answer_of, found_of};
+ghost use Rattle.every_secret.specs.Bounds.{Found, HasMorePaths, IsBounded, IsUnclear, IsVerdict, summary_in, summary_of};
 ghost use Rattle.command_tasks.specs.ReadTasks.{IsBoundedAll, all_secrets_in};
-ghost use Rattle.task_answers.specs.AllSecrets.{AnswersAllSecrets, AnswersBound, bound_of, task_in as bound_task};
+ghost use Rattle.task_answers.specs.AllSecrets.{AnswersAllSecrets, AnswersBound, AnswersTooMany, bound_of, rules_by};
+ghost use Rattle.task_answers.specs.AllSecrets.{task_in as bound_task, tree_in};
 
 use crate::books::book_of;
-use crate::bound_lines::{bounded_line, listing, unclear_line};
+use crate::bound_lines::{bounded_line, listing, too_many_line, unclear_line};
 use crate::replies::Reply;
 use command_tasks::{AllSecretsTask, Status};
 use crossing_bits::Bits;
@@ -24,9 +25,10 @@ fn verdict_on(
 ) -> Result<BoundVerdict, NoMemory>
     requires books { map (λ book. book.table) books.now ≡ 1 ∷ 2 ∷ [] }
     requires bounded { IsBoundedAll all.now }
-    ensures answer { IfOk result (λ verdict. answer_of verdict ≡ bound_of (all_secrets_in all.now)) }
-    ensures all { IfOk result (λ verdict. TellsAll (bound_task (all_secrets_in all.now)) (all_secrets_in all.now).limits
-        (answer_of verdict)) }
+    ensures answer { IfOk result (λ verdict. IsVerdict (rules_by all.now.table) (bound_task (all_secrets_in all.now))
+        (all_secrets_in all.now).limits all.now.paths verdict) }
+    ensures all { TellsAll (bound_task (all_secrets_in all.now)) (all_secrets_in all.now).limits
+        (bound_of (all_secrets_in all.now)) }
 {
     tables_have_rules();
     tables_are_sound();
@@ -45,8 +47,9 @@ fn verdict_on(
 
 /// The reply to what all paths show.
 fn bounded_reply(alloc: Global, all: &AllSecretsTask, found: &Bounded) -> Result<Reply, NoMemory>
-    requires { AreAll (bound_task (all_secrets_in all.now)) (all_secrets_in all.now).limits (found_of found.now) }
-    ensures { IfOk result (λ reply. AnswersBound (all_secrets_in all.now) (IsBounded (found_of found.now)) (Fine reply)) }
+    ensures { IfOk result (λ reply. (all_found : Found) → summary_in found.now ≡ summary_of all_found →
+        AreAll (bound_task (all_secrets_in all.now)) (all_secrets_in all.now).limits all_found →
+        AnswersBound (all_secrets_in all.now) (IsBounded all_found) (Fine reply)) }
 {
     let lines = listing(alloc, all.listed, found)?;
     let regions = all.guest.regions.items.len();
@@ -76,6 +79,18 @@ fn unclear_reply(
     })
 }
 
+/// The reply where as many walks were made as may be, the last along this string.
+fn too_many_reply(alloc: Global, all: &AllSecretsTask, path: &Bits) -> Result<Reply, NoMemory>
+    requires { HasMorePaths (tree_in (all_secrets_in all.now)) all.now.paths path.now.bits }
+    ensures { IfOk result (λ reply. AnswersTooMany (all_secrets_in all.now) (Fine reply)) }
+{
+    let text = too_many_line(alloc, path, all.paths)?;
+    Ok(Reply {
+        status: Status::Rejected,
+        text,
+    })
+}
+
 /// The reply to all secrets whose outputs are to be bounded.
 pub fn bound_all(alloc: Global, all: &AllSecretsTask, books: &[RuleBook]) -> Result<Reply, NoMemory>
     requires books { map (λ book. book.table) books.now ≡ 1 ∷ 2 ∷ [] }
@@ -85,5 +100,6 @@ pub fn bound_all(alloc: Global, all: &AllSecretsTask, books: &[RuleBook]) -> Res
     match verdict_on(alloc, all, books)? {
         BoundVerdict::Bounded(found) => bounded_reply(alloc, all, &found),
         BoundVerdict::Unclear { path, why } => unclear_reply(alloc, all, &path, why),
+        BoundVerdict::TooMany { path, .. } => too_many_reply(alloc, all, &path),
     }
 }

@@ -1,0 +1,17 @@
+-- A verdict that is bounded, and what is answered of it.
+use Rattle.std.proofs.Common.{◌≡◌}
+use Rattle.every_secret.specs.declared.verdicts.Bounded.{Bounded}
+use Rattle.every_secret.specs.declared.verdicts.BoundVerdict.TheVariants as verdict
+use Rattle.every_secret.specs.AllSecrets.{AreAll, TellsAll}
+use Rattle.every_secret.specs.Bounds.{Answer as BoundAnswer, Found, IsBounded, IsUnclear, Shows, summary_in, summary_of}
+use Rattle.command_tasks.specs.Tasks.{AllSecretsTask}
+use Rattle.task_answers.specs.AllSecrets.{AnswersBound, task_in}
+use Rattle.task_answers.specs.Answers.{Answer}
+
+pub bounded_answers : (all : AllSecretsTask) (bounded : Bounded) (known : BoundAnswer) (answer : Answer) →
+    Shows (verdict.Bounded bounded) known → TellsAll (task_in all) all.limits known →
+    ((found : Found) → summary_in bounded ≡ summary_of found → AreAll (task_in all) all.limits found →
+    AnswersBound all (IsBounded found) answer) →
+    AnswersBound all known answer
+bounded_answers all bounded (IsBounded found) answer shows tells h = h found shows tells
+bounded_answers all bounded (IsUnclear bits why) answer shows tells h = absurd shows
