@@ -23,7 +23,7 @@ use Rattle.command_tasks.specs.Tasks.{AllSecretsTask, CheckTask, ManyRunsTask, R
 use Rattle.command_tasks.specs.Tasks.{TellRun, MeasureAll, WriteProgram, ListProgram, VerifyCertificate, MigrateCut}
 use Rattle.command_tasks.specs.Tasks.{TryNumber, wants_of}
 use Rattle.task_answers.specs.Answers.{Answer, told}
-use Rattle.task_answers.specs.AllSecrets.{AnswersBound, bound_of}
+use Rattle.task_answers.specs.AllSecrets.{AnswersAllSecrets, AnswersBound, bound_of}
 use Rattle.task_answers.specs.Checks.{AnswersBy}
 use Rattle.task_answers.specs.ManyRuns.{AnswersMany}
 use Rattle.task_answers.specs.Runs.{AnswersRun}
@@ -162,9 +162,13 @@ bound_made : (all : AllSecretsTask) (known : BoundAnswer) (answer : Answer) → 
 bound_made all (IsBounded found) answer (tells, (bits, least, e)) = inl (low_as answer _ e (omega arith))
 bound_made all (IsUnclear bits why) answer e = inl (low_as answer _ e (omega arith))
 
+all_made : (all : AllSecretsTask) (answer : Answer) → AnswersAllSecrets all answer → IsMade answer
+all_made all answer (inl h) = bound_made all (bound_of all) answer h
+all_made all answer (inr (bits, more, e)) = inl (low_as answer _ e (omega arith))
+
 task_made : (task : Task) (answer : Answer) → AnswersTask task answer → IsMade answer
 task_made (JudgeSecrets task) answer h = check_made task.judging task answer h
-task_made (BoundAll all) answer h = bound_made all (bound_of all) answer h
+task_made (BoundAll all) answer h = all_made all answer h
 task_made (TellRun telling run) answer h = telling_made telling run answer h
 task_made (MeasureAll version runs) answer h = many_made version runs answer h
 task_made (WriteProgram picture) answer e = inl (low_as answer _ e (omega arith))

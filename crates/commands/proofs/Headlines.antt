@@ -38,7 +38,7 @@ use Rattle.command_tasks.specs.Tasks.{wants_of}
 use Rattle.command_tasks.specs.Loading.{Want, IsLoadRefusal, Loads, want}
 use Rattle.command_tasks.specs.Statuses.{status_number}
 use Rattle.task_answers.specs.Answers.{Answer, done_by, told}
-use Rattle.task_answers.specs.AllSecrets.{AnswersBound, bound_of}
+use Rattle.task_answers.specs.AllSecrets.{AnswersAllSecrets, AnswersBound, bound_of}
 use Rattle.task_answers.specs.Checks.{AnswersBy, judged_by, judgements_of}
 use Rattle.task_answers.specs.Declarations.{IsDeclaration, IsLearnRefusal, TellsRegions}
 use Rattle.task_answers.specs.Findings.{AreFindings, findings_reply}
@@ -48,7 +48,7 @@ use Rattle.task_answers.specs.ManyRuns.{AreMeasured, IsRunsRefusal, TellsAll, se
 use Rattle.task_answers.specs.Tellings.{IsCutOfRun, Tells as TellsOf}
 use Rattle.task_answers.specs.TaskAnswers.{AnswersTask}
 use Rattle.task_answers.specs.Texts.{accepted_count, check_text, clean_count, findings_text}
-use Rattle.commands.specs.BoundHeadline.{BoundHeadline, Shows, named_task}
+use Rattle.commands.specs.BoundHeadline.{BoundHeadline, Shows, ShowsEither, named_task}
 use Rattle.commands.specs.Clauses.{Carries, JudgingCarries, TellingCarries}
 use Rattle.commands.specs.CleanHeadline.{AllFound, CleanHeadline, IsAcceptedThen}
 use Rattle.commands.specs.LearntHeadline.{LearntHeadline}
@@ -233,9 +233,19 @@ shows task (IsBounded found) answer (all, (bits, least, e)) = record {
 }
 shows task (IsUnclear bits why) answer e = (ap (λ a. (told a).text) e, ap status_of e)
 
+shows_either : (task : AllSecretsTask) (answer : Answer) → AnswersAllSecrets task answer →
+    ShowsEither task (reply_of answer)
+shows_either task answer (inl h) = inl (shows task (bound_of task) answer h)
+shows_either task answer (inr (bits, more, e)) = inr (record {
+  bits = bits;
+  more = more;
+  line = ap (λ a. (told a).text) e;
+  status_is = ap status_of e;
+})
+
 bound_headline : (source : Option Told) (all : AllSecrets) (files : List (List ℕ)) (task : AllSecretsTask)
     (answer : Answer) → Loads source (wants_of (Bounds all)) (Ok files) → IsAllSecretsTask all files task →
-    AnswersBound task (bound_of task) answer → BoundHeadline source all (reply_of answer)
+    AnswersAllSecrets task answer → BoundHeadline source all (reply_of answer)
 bound_headline source all files task answer loads is h = record {
   guest_files = is.guest_files;
   cut_file = is.cut_file;
@@ -247,8 +257,7 @@ bound_headline source all files task answer loads is h = record {
   cut = task.cut;
   is_cut = is.cut;
   shows =
-      subst (λ t. Shows t (bound_of t) (reply_of answer)) (same_named all files task is)
-      (shows task (bound_of task) answer h);
+      subst (λ t. ShowsEither t (reply_of answer)) (same_named all files task is) (shows_either task answer h);
 }
 
 -- ---- a measured run

@@ -1,15 +1,16 @@
 -- The headline of a bound: what its lines say of all secrets, whatever they are.
-use Rattle.std.specs.Prelude.{◌≡◌, ℕ, List, [], ◌∷◌, Option}
+use Rattle.std.specs.Prelude.{◌≡◌, ◌⊎◌, ℕ, Bool, List, [], ◌∷◌, Option}
 use Rattle.cut_file.specs.Cuts.{CutPicture}
 use Rattle.cut_file.specs.Texts.{CutText}
 use Rattle.flow_base.specs.Loads.{Told}
 use Rattle.every_secret.specs.AllSecrets.{AreAll}
-use Rattle.every_secret.specs.Bounds.{Answer as BoundAnswer, Found, IsBounded, IsLeastPower, IsUnclear, output_count}
+use Rattle.every_secret.specs.Bounds.{Answer as BoundAnswer, Found, HasMorePaths, IsBounded, IsLeastPower, IsUnclear}
+use Rattle.every_secret.specs.Bounds.{output_count, summary_of}
 use Rattle.command_line.specs.CommandLines.{AllSecrets}
 use Rattle.command_tasks.specs.Tasks.{AllSecretsTask}
 use Rattle.command_tasks.specs.Guests.{Guest, GuestFiles, IsGuest}
-use Rattle.task_answers.specs.AllSecrets.{bound_of, bounded_text, task_in}
-use Rattle.task_answers.specs.BoundTexts.{unclear_line}
+use Rattle.task_answers.specs.AllSecrets.{bound_of, bounded_text, task_in, tree_in}
+use Rattle.task_answers.specs.BoundTexts.{too_many_line, unclear_line}
 use Rattle.commands.specs.Headline.{AreGuestHeld}
 use Rattle.commands.specs.Replies.{Reply}
 
@@ -19,13 +20,24 @@ pub record ShowsBound (all : AllSecretsTask) (found : Found) (reply : Reply) : T
   pub all_secrets : AreAll (task_in all) all.limits found
   pub bits : ℕ
   pub least : IsLeastPower (output_count found.patterns) bits
-  pub lines : reply.text ≡ bounded_text all found bits
+  pub lines : reply.text ≡ bounded_text all (summary_of found) bits
   pub status_is : reply.status ≡ 0
 
 -- an answer is shown by a reply
 abbrev pub Shows : AllSecretsTask → BoundAnswer → Reply → Type 0
 Shows all (IsBounded found) reply = ShowsBound all found reply
 Shows all (IsUnclear bits why) reply = (reply.text ≡ unclear_line bits why) × (reply.status ≡ 1)
+
+-- there are more paths than walks may be made, and the line has a string with which a path begins
+pub record ShowsTooMany (all : AllSecretsTask) (reply : Reply) : Type 0 where
+  pub bits : List Bool
+  pub more : HasMorePaths (tree_in all) all.paths bits
+  pub line : reply.text ≡ too_many_line bits all.paths
+  pub status_is : reply.status ≡ 1
+
+-- either is shown
+abbrev pub ShowsEither : AllSecretsTask → Reply → Type 0
+ShowsEither all reply = Shows all (bound_of all) reply ⊎ ShowsTooMany all reply
 
 -- what the words and the files name
 abbrev pub named_task : AllSecrets → Guest → CutPicture → AllSecretsTask
@@ -47,4 +59,4 @@ pub record BoundHeadline (source : Option Told) (all : AllSecrets) (reply : Repl
   pub is_guest : IsGuest guest_files guest
   pub cut : CutPicture
   pub is_cut : CutText cut_file cut
-  pub shows : Shows (named_task all guest cut) (bound_of (named_task all guest cut)) reply
+  pub shows : ShowsEither (named_task all guest cut) reply
