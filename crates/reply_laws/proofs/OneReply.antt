@@ -31,7 +31,7 @@ use Rattle.command_line.specs.CommandLines.{Run, Command, Checks, Bounds, Tells,
 use Rattle.command_line.specs.Parts.{Parts}
 use Rattle.command_tasks.specs.declared.refusals.Refusal.{Refusal}
 use Rattle.command_tasks.specs.declared.refusals.Refusal.TheVariants.{Run as RunRefused}
-use Rattle.command_tasks.specs.Tasks.{CheckTask, RunTask, Task, BoundAll, JudgeSecrets, TellRun, MeasureAll}
+use Rattle.command_tasks.specs.Tasks.{AllSecretsTask, CheckTask, RunTask, Task, BoundAll, JudgeSecrets, TellRun, MeasureAll}
 use Rattle.command_tasks.specs.Tasks.{WriteProgram, ListProgram, VerifyCertificate, MigrateCut, TryNumber}
 use Rattle.command_tasks.specs.Tasks.{IsFormRefusal, IsTaskOf, wants_of}
 use Rattle.command_tasks.specs.Loading.{Loads, Want, loaded_from}
@@ -47,7 +47,7 @@ use Rattle.task_answers.specs.Trials.{trial_turns}
 use Rattle.task_answers.specs.Verifications.{AnswersVerdict, IsExactVerdict, verdict_reply}
 use Rattle.commands.specs.Replies.{AnswersCommand, AnswersWords, IsUsage, Replies, Reply, reply_of, AnswersFiles}
 use Rattle.commands.proofs.Readings.{AreOne, IsReading, reads_one, status_of, words_reading}
-use Rattle.reply_laws.specs.ReplyLaws.{CompletesRun, CompletesVerdict, IsNoGraph}
+use Rattle.reply_laws.specs.ReplyLaws.{AreLoaded, CompletesRun, CompletesVerdict, HasFewPaths, HaveFewPaths, IsNoGraph}
 use Rattle.reply_laws.proofs.CutTexts.{one_cut_text}
 use Rattle.reply_laws.proofs.OneBound.{bound_same}
 use Rattle.reply_laws.proofs.OneFinding.{taint_same}
@@ -321,21 +321,26 @@ telling_same (Report json) run first second none deciding one other =
 telling_same Declaration run first second none deciding one other =
     learning_same run.guest run.secret run.turns first second one other
 
-task_same : (task : Task) (first second : Answer) → NoGraph task → Decides task → AnswersTask task first →
-    AnswersTask task second → first ≡ second
-task_same (JudgeSecrets task) first second none deciding one other =
+-- where a bound is asked for, there are no more paths than walks may be made
+abbrev IsFew : Task → Type 0
+IsFew task = (all : AllSecretsTask) → task ≡ BoundAll all → HasFewPaths all
+
+task_same : (task : Task) (first second : Answer) → NoGraph task → Decides task → IsFew task →
+    AnswersTask task first → AnswersTask task second → first ≡ second
+task_same (JudgeSecrets task) first second none deciding few one other =
     check_same task.judging task first second deciding one other
-task_same (BoundAll all) first second none deciding one other = bound_same all first second one other
-task_same (TellRun telling run) first second none deciding one other =
+task_same (BoundAll all) first second none deciding few one other =
+    bound_same all first second (few all refl) one other
+task_same (TellRun telling run) first second none deciding few one other =
     telling_same telling run first second none deciding one other
-task_same (MeasureAll version runs) first second none deciding one other =
+task_same (MeasureAll version runs) first second none deciding few one other =
     many_same version runs first second deciding one other
-task_same (WriteProgram picture) first second none deciding one other = one ∙ sym other
-task_same (ListProgram picture) first second none deciding one other = one ∙ sym other
-task_same (VerifyCertificate graph solved) first second none deciding one other =
+task_same (WriteProgram picture) first second none deciding few one other = one ∙ sym other
+task_same (ListProgram picture) first second none deciding few one other = one ∙ sym other
+task_same (VerifyCertificate graph solved) first second none deciding few one other =
     certificate_same graph solved first second one other
-task_same (MigrateCut cut) first second none deciding one other = one ∙ sym other
-task_same (TryNumber number) first second none deciding one other =
+task_same (MigrateCut cut) first second none deciding few one other = one ∙ sym other
+task_same (TryNumber number) first second none deciding few one other =
     run_same (run_of_number number) (TellsTrial number) (told_trial number) (inl refl) first second one other
 
 telling_one : (telling : Telling) (run : RunTask) (first second : Answer) → IsDeciding run.table →
@@ -349,21 +354,23 @@ telling_one (Report json) run first second deciding one other =
 telling_one Declaration run first second deciding one other =
     ap status_of (telling_same Declaration run first second tt deciding one other)
 
-task_one : (task : Task) (first second : Answer) → Decides task → AnswersTask task first → AnswersTask task second →
-    AreOne first second
-task_one (JudgeSecrets task) first second deciding one other =
-    ap status_of (task_same (JudgeSecrets task) first second tt deciding one other)
-task_one (BoundAll all) first second deciding one other = ap status_of (bound_same all first second one other)
-task_one (TellRun telling run) first second deciding one other = telling_one telling run first second deciding one other
-task_one (MeasureAll version runs) first second deciding one other =
+task_one : (task : Task) (first second : Answer) → Decides task → IsFew task → AnswersTask task first →
+    AnswersTask task second → AreOne first second
+task_one (JudgeSecrets task) first second deciding few one other =
+    ap status_of (task_same (JudgeSecrets task) first second tt deciding few one other)
+task_one (BoundAll all) first second deciding few one other =
+    ap status_of (bound_same all first second (few all refl) one other)
+task_one (TellRun telling run) first second deciding few one other =
+    telling_one telling run first second deciding one other
+task_one (MeasureAll version runs) first second deciding few one other =
     ap status_of (many_same version runs first second deciding one other)
-task_one (WriteProgram picture) first second deciding one other = ap status_of (one ∙ sym other)
-task_one (ListProgram picture) first second deciding one other = ap status_of (one ∙ sym other)
-task_one (VerifyCertificate graph solved) first second deciding one other =
+task_one (WriteProgram picture) first second deciding few one other = ap status_of (one ∙ sym other)
+task_one (ListProgram picture) first second deciding few one other = ap status_of (one ∙ sym other)
+task_one (VerifyCertificate graph solved) first second deciding few one other =
     ap status_of (certificate_same graph solved first second one other)
-task_one (MigrateCut cut) first second deciding one other = ap status_of (one ∙ sym other)
-task_one (TryNumber number) first second deciding one other =
-    ap status_of (task_same (TryNumber number) first second tt tt one other)
+task_one (MigrateCut cut) first second deciding few one other = ap status_of (one ∙ sym other)
+task_one (TryNumber number) first second deciding few one other =
+    ap status_of (task_same (TryNumber number) first second tt tt few one other)
 
 -- ---- loads and words
 
@@ -389,7 +396,7 @@ loads_reading told wants = record {
 words_alike : RegionLaws → (Alike : Answer → Answer → Type 0) → ((answer : Answer) → Alike answer answer) →
     (told : Told) (words : List (List ℕ)) (first second : Answer) →
     ((command : Command) (files : List (List ℕ)) (task : Task) → IsCommand words command →
-    IsTaskOf command files task → AnswersTask task first → AnswersTask task second → Alike first second) →
+    AreLoaded (Some told) command files → IsTaskOf command files task → AnswersTask task first → AnswersTask task second → Alike first second) →
     AnswersWords (Some told) words first → AnswersWords (Some told) words second → Alike first second
 words_alike laws Alike self told words first second step =
     reads_one Command (IsCommand words) (IsUsage words) (AnswersCommand (Some told)) Alike self (words_reading words)
@@ -398,27 +405,36 @@ words_alike laws Alike self told words first second step =
     (λ refusal. Loads (Some told) (wants_of command) (Err refusal)) (AnswersFiles command) Alike self
     (loads_reading told (wants_of command)) first second
     (λ files loaded. reads_one Task (IsTaskOf command files) (IsFormRefusal command files) AnswersTask Alike self
-    (task_reading laws command files) first second (λ task is. step command files task named is)))
+    (task_reading laws command files) first second (λ task is. step command files task named (sym loaded.1) is)))
 
-words_one : RegionLaws → (told : Told) (words : List (List ℕ)) (first second : Answer) →
+-- the task that words ask for
+few_task : (told : Told) (words : List (List ℕ)) (command : Command) (files : List (List ℕ)) (task : Task) →
+    HaveFewPaths (Some told) words → IsCommand words command → AreLoaded (Some told) command files →
+    IsTaskOf command files task → IsFew task
+few_task told words command files task few named loaded is = λ all e.
+    few command files all named loaded (subst (λ t. IsTaskOf command files t) e is)
+
+words_one : RegionLaws → (told : Told) (words : List (List ℕ)) (first second : Answer) → HaveFewPaths (Some told) words →
     AnswersWords (Some told) words first → AnswersWords (Some told) words second → AreOne first second
-words_one laws told words first second =
+words_one laws told words first second few =
     words_alike laws AreOne (λ answer. refl) told words first second
-    (λ command files task named is. task_one task first second (task_decides words files command task named is))
+    (λ command files task named loaded is. task_one task first second (task_decides words files command task named is)
+    (few_task told words command files task few named loaded is))
 
 words_same : RegionLaws → (told : Told) (words : List (List ℕ)) (first second : Answer) → IsNoGraph words →
-    AnswersWords (Some told) words first → AnswersWords (Some told) words second → first ≡ second
-words_same laws told words first second none =
+    HaveFewPaths (Some told) words → AnswersWords (Some told) words first → AnswersWords (Some told) words second → first ≡ second
+words_same laws told words first second none few =
     words_alike laws (λ a b. a ≡ b) (λ answer. refl) told words first second
-    (λ command files task named is. task_same task first second (no_graph words files command task none named is)
-    (task_decides words files command task named is))
+    (λ command files task named loaded is. task_same task first second
+    (no_graph words files command task none named is) (task_decides words files command task named is)
+    (few_task told words command files task few named loaded is))
 
 -- where the source tells its meanings
 pub one_reply : RegionLaws → (source : Option Told) (words : List (List ℕ)) (first second : Reply) →
-    is_some source ≡ true → Replies source words first → Replies source words second →
+    is_some source ≡ true → HaveFewPaths source words → Replies source words first → Replies source words second →
     (first.status ≡ second.status) × (IsNoGraph words → first ≡ second)
-one_reply laws None words first second tells one other = absurd (false≢true tells)
-one_reply laws (Some told) words first second tells (a, answers, e) (b, also, f) = (
-  ap (λ r. r.status) e ∙ (words_one laws told words a b answers also ∙ ap (λ r. r.status) (sym f)),
-  (λ none. e ∙ (ap reply_of (words_same laws told words a b none answers also) ∙ sym f)),
+one_reply laws None words first second tells few one other = absurd (false≢true tells)
+one_reply laws (Some told) words first second tells few (a, answers, e) (b, also, f) = (
+  ap (λ r. r.status) e ∙ (words_one laws told words a b few answers also ∙ ap (λ r. r.status) (sym f)),
+  (λ none. e ∙ (ap reply_of (words_same laws told words a b none few answers also) ∙ sym f)),
 )

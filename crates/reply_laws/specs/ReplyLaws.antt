@@ -1,6 +1,6 @@
 -- What holds of all replies: where the file source tells its meanings, words have one; and which status a command has
 -- where its files are loaded and well formed.
-use Rattle.std.specs.Prelude.{◌≡◌, ◌⊎◌, ℕ, ◌≤◌, Bool, true, List, Option, None, Some, is_some, Ok}
+use Rattle.std.specs.Prelude.{◌≡◌, ◌⊎◌, ℕ, ◌≤◌, ◌<◌, Bool, true, List, length, Option, None, Some, is_some, Ok}
 use Rattle.std.specs.List.{AllByRecursion}
 use Rattle.flow_base.specs.declared.outputs.Output.{Output}
 use Rattle.flow_base.specs.Loads.{Told}
@@ -18,6 +18,7 @@ use Rattle.region_learn.specs.declared.faults.LearnFault.{LearnFault}
 use Rattle.region_learn.specs.LearnAnswers.{RefusesToLearn}
 use Rattle.taint_check.specs.Tainted.{IsClean, IsVerdict}
 use Rattle.every_secret.specs.Bounds.{Found, IsBounded}
+use Rattle.every_secret.specs.Paths.{paths_of}
 use Rattle.command_line.specs.declared.judgings.Judging.{Judging}
 use Rattle.command_line.specs.declared.judgings.Judging.TheVariants.{Replay, Masks}
 use Rattle.command_line.specs.declared.tellings.Telling.{Telling}
@@ -27,7 +28,7 @@ use Rattle.command_tasks.specs.Tasks.{AllSecretsTask, ManyRunsTask, RunTask, Tas
 use Rattle.command_tasks.specs.Tasks.{ListProgram, VerifyCertificate, BoundAll, MeasureAll, MigrateCut, TryNumber}
 use Rattle.command_tasks.specs.Tasks.{IsTaskOf, wants_of}
 use Rattle.command_tasks.specs.Loading.{loaded_from}
-use Rattle.task_answers.specs.AllSecrets.{bound_of}
+use Rattle.task_answers.specs.AllSecrets.{bound_of, tree_in}
 use Rattle.task_answers.specs.Checks.{judged_by}
 use Rattle.task_answers.specs.Declarations.{learnt_run}
 use Rattle.task_answers.specs.ManyRuns.{setup_in}
@@ -42,20 +43,31 @@ use Rattle.commands.specs.Replies.{Reply, Replies}
 abbrev pub IsNoGraph : List (List ℕ) → Type 0
 IsNoGraph words = (run : Run) → ¬ IsCommand words (Tells Certificate run)
 
--- the status and the text are one, but for a certificate of a run, of which the status is
-abbrev pub OneReply : Type 0
-OneReply =
-    (source : Option Told) (words : List (List ℕ)) (first second : Reply) → is_some source ≡ true
-    → Replies source words first → Replies source words second
-    → (first.status ≡ second.status) × (IsNoGraph words → first ≡ second)
-
--- ---- the status of a command
-
 -- The source tells its meanings, and these are the files that the command wants: no load of the call fails, and each
 -- name is held within its limit.
 abbrev pub AreLoaded : Option Told → Command → List (List ℕ) → Type 0
 AreLoaded None command files = ⊥
 AreLoaded (Some told) command files = loaded_from told (wants_of command) ≡ Ok files
+
+-- there are no more paths than walks may be made
+abbrev pub HasFewPaths : AllSecretsTask → Type 0
+HasFewPaths all = length (paths_of (tree_in all)) ≤ all.paths
+
+-- so it is where the words ask for a bound
+abbrev pub HaveFewPaths : Option Told → List (List ℕ) → Type 0
+HaveFewPaths source words =
+    (command : Command) (files : List (List ℕ)) (all : AllSecretsTask) → IsCommand words command
+    → AreLoaded source command files → IsTaskOf command files (BoundAll all) → HasFewPaths all
+
+-- the status and the text are one, but for a certificate of a run, of which the status is, and for a bound of more paths
+-- than walks may be made
+abbrev pub OneReply : Type 0
+OneReply =
+    (source : Option Told) (words : List (List ℕ)) (first second : Reply) → is_some source ≡ true
+    → HaveFewPaths source words → Replies source words first → Replies source words second
+    → (first.status ≡ second.status) × (IsNoGraph words → first ≡ second)
+
+-- ---- the status of a command
 
 -- 0 exactly where every secret is accepted, and else 1
 pub record CompletesCheck (task : JudgedTask) (limits : Limits) (secrets : List (List ℕ)) (status : ℕ) : Type 0 where
@@ -83,11 +95,13 @@ CompletesBy (Masks table) task limits secrets status = CompletesTaint table task
 abbrev pub HasBound : AllSecretsTask → Type 0
 HasBound all = (found : Found) × (bound_of all ≡ IsBounded found)
 
--- 0 exactly where the bound is known, and else 1
+-- 0 only where the bound is known, and else 1; so it is 1 where the bound is known only where there are more paths than
+-- walks may be made
 pub record CompletesBound (all : AllSecretsTask) (status : ℕ) : Type 0 where
   pub known : status ≤ 1
   pub bounded : status ≡ 0 → HasBound all
-  pub done : HasBound all → status ≡ 0
+  pub done : HasBound all → HasFewPaths all → status ≡ 0
+  pub more : HasBound all → status ≡ 1 → all.paths < length (paths_of (tree_in all))
 
 -- nothing refuses the run but out of memory, of which nothing is said
 abbrev pub HasNoCause : RunTask → Type 0
