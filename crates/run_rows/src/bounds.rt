@@ -31,14 +31,6 @@ fn print_patterns(rt: &HostRuntime, patterns: &[Pattern]) -> bool {
     true
 }
 
-/// Prints for how many outputs patterns stand, a dash where these are 2 ^ 64 or more.
-fn print_count(rt: &HostRuntime, patterns: &[Pattern]) -> bool {
-    match output_count(patterns) {
-        Some(count) => print!(rt; " outputs {count}").is_ok(),
-        None => print!(rt; " outputs -").is_ok(),
-    }
-}
-
 /// Prints how many bits the outputs need for which patterns stand.
 fn print_size(rt: &HostRuntime, patterns: &[Pattern]) -> bool {
     match output_bits(rt.alloc(), patterns) {
@@ -59,15 +51,21 @@ fn print_stop(rt: &HostRuntime, stopped: &Option<StoppedPath>) -> bool {
     }
 }
 
+/// Prints a number after a word, a dash where it is 2 ^ 64 or more.
+fn print_number(rt: &HostRuntime, word: &str, number: Option<u64>) -> bool {
+    match number {
+        Some(number) => print!(rt; " {word} {number}").is_ok(),
+        None => print!(rt; " {word} -").is_ok(),
+    }
+}
+
 /// Prints what all paths show.
 fn print_bounded(rt: &HostRuntime, name: &str, bounded: &Bounded) -> bool {
     let patterns = bounded.patterns.as_slice();
-    print!(rt;
-        "{name}: bounded paths {} stopped {}",
-        bounded.paths, bounded.stopped
-    )
-    .is_ok()
-        && print_count(rt, patterns)
+    print!(rt; "{name}: bounded").is_ok()
+        && print_number(rt, "paths", bounded.paths)
+        && print_number(rt, "stopped", bounded.stopped)
+        && print_number(rt, "outputs", output_count(patterns))
         && print_size(rt, patterns)
         && print_patterns(rt, patterns)
         && print_stop(rt, &bounded.first_stop)
@@ -81,6 +79,11 @@ fn print_verdict(rt: &HostRuntime, name: &str, verdict: &Result<BoundVerdict, No
             print!(rt; "{name}: unclear ").is_ok()
                 && put_bits(rt, path.as_slice())
                 && println!(rt; " {why}").is_ok()
+        }
+        Ok(BoundVerdict::TooMany { path, limit }) => {
+            print!(rt; "{name}: unclear ").is_ok()
+                && put_bits(rt, path.as_slice())
+                && println!(rt; " paths {limit}").is_ok()
         }
         Err(_) => false,
     }
