@@ -123,7 +123,7 @@ pub const FORMS: [Form; 13] = [
             Item {
                 name: "paths",
                 takes: Takes::Number(1, 1_048_576),
-                help: "How many paths are walked at most, 1 to 1048576; 65536 without it",
+                help: "How many walks are made at most, 1 to 1048576; 65536 without it",
             },
             Item {
                 name: "list",

@@ -79,8 +79,8 @@ pub const FINDINGS: &str = "\
         cut the line `point REGION ADDRESS SLOT rest MASK` with the words after `left`, so that addresses ascend.\n\
     secret-code||secret-code: the instruction at this address may differ with the secret. Look for an array that \
         overflows into the code.\n\
-    paths||paths: there are more paths than may be walked. Give more by --paths N, at most 1048576, or enclose the \
-        decisions in a region.\n\
+    paths||paths: there are more paths than that, and so many walks were not enough. Allow more by --paths N, at most \
+        1048576, or enclose the decisions in a region.\n\
     outputs||outputs: the outputs together are too long to be told apart. Let the guest write less, or enclose the \
         decisions in a region.\n\
     ||docs/GUIDE.md says what this means.\n\
