@@ -1,6 +1,6 @@
 """A walk of `bound` along one path, by the model, that keeps where its choices were made and what the secret bits of
 each register and byte are made of: the points with the fewest bits that would all have to cross."""
-from bounds import Walk
+from bounds import Walk, path_of
 from cuts import places_of, slot_width
 from instructions import ALL, WIDTHS, decode
 
@@ -37,11 +37,11 @@ class Passed:
 
 class TracedWalk(Walk):
     """A walk that keeps its origins, and for each choice the point, the number of its visit and the bit. `begin` is
-    where the last turn began, `kind` what it was, and `made` how many there were."""
+    where the last turn began, and `kind` what it was."""
 
     def __init__(self, task, path):
         super().__init__(task, path)
-        self.made, self.begin, self.kind, self.places = 0, self.guest.pc, self.guest.kind(), []
+        self.begin, self.kind, self.places = self.guest.pc, self.guest.kind(), []
         self.passed, self.starts, self.at_entry, self.counts = [], [], [], {}
         self.registers, self.bytes = [{}] * 32, {}
 
@@ -59,7 +59,7 @@ class TracedWalk(Walk):
         """Makes one turn, and follows it with origins."""
         guest, self.begin, self.kind = self.guest, self.guest.pc, self.guest.kind()
         region = guest.entered or guest.by_enter.get(guest.pc)
-        self.passed, self.made = [], self.made + 1
+        self.passed = []
         if self.kind == "enter":
             registers = guest.registers
             self.starts = [(registers[base] if base else 0) + offset & ALL for base, offset, _ in region.ranges]
@@ -137,15 +137,6 @@ class TracedWalk(Walk):
         number = ARGUMENTS[slot] if slot in ARGUMENTS else decode(self.guest.word(self.begin, 4)).first
         before = self.registers[number]
         return before if before and bits_of(before) < bits_of(own) else own
-
-
-def path_of(text):
-    """The choices of the path that a line of `bound` names."""
-    words = text.split()
-    place = words.index("path")
-    packed, count = words[place + 1], int(words[place + 3])
-    data = b"" if packed == "-" else bytes.fromhex(packed)
-    return [data[index // 8] >> index % 8 & 1 for index in range(count)]
 
 
 def traced(task, text):

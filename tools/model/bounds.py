@@ -2,12 +2,16 @@
 
 A walk knows of each register and byte the value of the replay and a mask: the bits that may differ in the run of another
 secret that has come the same way. Of the bits that cross at a visit those outside the mask are the replay's own, those of
-an output are free, and each other one is a choice, the next bit of the path."""
+an output are free, and each other one is a choice, the next bit of the path.
+
+From one state on everything is the same, but for the turns and the bits that are left. So a walk ends where it comes to
+a state all of whose paths are known, and as many turns and bits are left as the longest of them want."""
 from cuts import VisitMasks, places_of, slot_width
 from guest import BREAK, EXIT, EXIT_GROUP, READ, SECRET, WRITE
 from guest import GuestExit, GuestFault, ReplayGuest, ReplayStop, shown
 from instructions import ALL, WIDTHS, decode
 from rules import loaded_mask, result_mask
+from states import Below, Place, copied, fits, repeating
 from verdicts import walk
 
 MOST_BYTES, MOST_SHOWN = 67_108_864, 1 << 64
@@ -183,29 +187,51 @@ FORMS = {form: getattr(TurnMasks, form) for form in (
 
 
 class Walk:
-    """A walk along a path, 0 behind its last bit: the choices that it made, how many bits crossed, the masks of its
-    output, and how it ended: `exited` with a status, or `stopped` with a text. It may be `Unclear`."""
+    """A walk along a path, 0 behind its last bit: the choices and turns that it made, how many bits crossed, the masks of
+    its output, and how it ended: `exited` with a status, `stopped` with a text, or `met` with what is below a state. It
+    may be `Unclear`."""
 
     def __init__(self, task, path):
         self.guest = ReplayGuest(task.image, task.public, bytes(task.cut.secret_length), task.regions)
         self.cut_masks, self.masks = VisitMasks(task.cut), TurnMasks(task.table, self.guest)
         self.task, self.path, self.choices, self.crossed, self.free = task, path, [], 0, []
-        self.ending, self.unclear = None, None
+        self.made, self.ending, self.unclear = 0, None, None
+        self.repeating = {point: repeating(*masks) for point, masks in task.cut.points.items()}
+        self.addresses = {address for _, address, slot in task.cut.points if slot not in ("ou", "st")}
 
-    def run(self):
-        """Walks to the end."""
+    def copied(self, path):
+        """The same walk, to go on along another path that begins with the same choices."""
+        other = copied(self)
+        other.guest, other.cut_masks, other.masks = map(copied, (self.guest, self.cut_masks, self.masks))
+        other.masks.guest, other.path = other.guest, path
+        return other
+
+    def run(self, meet=lambda walk: None):
+        """Walks to the end, or until what is below it is known. That is asked for before each turn that may choose,
+        behind the choices of the path."""
         try:
-            for _ in range(self.task.turns):
-                self.make_turn()
-                if self.ending:
-                    return self
-            self.ending = ("stopped", f"turns {self.task.turns}")
+            while not self.ending and self.made < self.task.turns:
+                below = meet(self) if self.may_choose() and len(self.choices) >= len(self.path) else None
+                if below:
+                    self.ending = ("met", below)
+                else:
+                    self.make_turn()
+            self.ending = self.ending or ("stopped", f"turns {self.task.turns}")
         except Unclear as unclear:
             self.unclear = str(unclear)
         return self
 
+    def may_choose(self):
+        """Whether a point may be visited in the next turn at which bits are chosen."""
+        guest = self.guest
+        if guest.kind() != "enter":
+            return guest.pc in self.addresses
+        region = guest.by_enter[guest.pc]
+        return region.number in self.task.cut.skip and region.leave in self.addresses
+
     def make_turn(self):
         """Makes one turn."""
+        self.made += 1
         guest, task = self.guest, self.task
         is_skipped = guest.kind() == "enter" and guest.by_enter[guest.pc].number in task.cut.skip
         masks = self.masks.turn(is_skipped)
@@ -287,35 +313,83 @@ def path_text(choices):
     return f"path {packed.hex() or '-'} bits {len(choices)}"
 
 
+def path_of(text):
+    """The choices of the path that a line of `bound` names."""
+    words = text.split()
+    place = words.index("path")
+    packed, count = words[place + 1], int(words[place + 3])
+    data = b"" if packed == "-" else bytes.fromhex(packed)
+    return [data[index // 8] >> index % 8 & 1 for index in range(count)]
+
+
+def has_enough(walks, most):
+    """Whether no more walks may be made."""
+    return walks == most
+
+
+def counted(number):
+    """A number as it is printed."""
+    return str(number) if number < MOST_SHOWN else "-"
+
+
 class Bounds:
     """The paths of a task: how many there are, how many stop, the first that does, and the patterns in the order in which
-    they were found with the bytes that they have together, the choices of the last path and of the first that stops; or the text of what is
-    unclear."""
+    they were found with the bytes that they have together, the choices of the last walk and of the first path that stops;
+    or the text of what is unclear, and how many paths there are up to that one, or at least. At most so many walks are
+    made, those of the task without a number; without `is_meeting` each path is walked from the start."""
 
-    def __init__(self, task):
-        self.task, self.paths, self.stopped, self.first = task, 0, 0, None
+    def __init__(self, task, most=None, is_meeting=True):
+        self.task, self.most, self.is_meeting = task, most or task.paths, is_meeting
+        self.walks, self.met, self.paths, self.stopped, self.first = 0, 0, 0, 0, None
         self.patterns, self.size, self.unclear, self.last, self.stopped_at = {}, 0, None, [], None
-        path = []
+        self.open, self.known, path = [], {}, []
         while path is not None and not self.unclear:
             path = self.follow(path)
 
     def follow(self, path):
-        """Walks a path; the path that is next in order, if there is one."""
-        ended = Walk(self.task, path).run()
-        self.last = ended.choices
-        self.paths += 1
+        """Makes the walk along a path from the last open place; the path that is next in order, if there is one."""
+        begun = self.open[-1].walk.copied(path) if self.open else Walk(self.task, path)
+        ended = begun.run(self.meet) if self.is_meeting else begun.run()
+        self.last, self.walks = ended.choices, self.walks + 1
         reason, later = ended.unclear or self.add(ended), behind(list(ended.choices))
-        if not reason and later is not None and self.paths == self.task.paths:
-            reason = f"paths {self.paths}"
+        if not reason and later is not None and has_enough(self.walks, self.most):
+            reason = f"paths {self.walks}"
+        self.paths += reason is not None and not reason.startswith("outputs")
         self.unclear = f"{path_text(ended.choices)} {reason}" if reason else None
+        self.close(len(later or []))
         return later
 
+    def meet(self, walk):
+        """What is below a walk, where its state is known; else it is an open place. One at which no bit was chosen is
+        left out."""
+        place = Place(walk)
+        if self.open and len(self.open[-1].walk.choices) == len(walk.choices):
+            self.open.pop()
+        below = self.known.get(place.state)
+        if below and fits(walk, below):
+            self.met += 1
+            return below
+        self.open.append(place)
+        return None
+
+    def close(self, length):
+        """All paths below the places behind so many choices are done."""
+        while self.open and len(self.open[-1].walk.choices) >= length:
+            place = self.open.pop()
+            if place.is_known:
+                self.known[place.state] = place.below()
+
     def add(self, ended):
-        """Adds what a path has come to; a reason where the patterns have too many bytes."""
-        if ended.ending[0] == "stopped":
-            self.stopped += 1
+        """Adds what a walk has come to; a reason where the patterns have too many bytes."""
+        kind, what = ended.ending
+        below = what if kind == "met" else Below(1, int(kind == "stopped"), 0, 0)
+        self.paths, self.stopped = self.paths + below.paths, self.stopped + below.stopped
+        for place in self.open:
+            place.add(ended, below)
+        if kind == "stopped":
             self.stopped_at = self.stopped_at or ended.choices
-            self.first = self.first or f"stopped {path_text(ended.choices)} {ended.ending[1]}"
+            self.first = self.first or f"stopped {path_text(ended.choices)} {what}"
+        if kind != "exited":
             return None
         pattern = ended.pattern()
         if pattern not in self.patterns:
@@ -337,10 +411,9 @@ class Bounds:
             lines = [pattern_text(place, pattern) for pattern, place in self.patterns.items()]
             lines += [self.first] if self.first else []
         bits = (outputs - 1).bit_length() if outputs else 0
-        counted = outputs if outputs < MOST_SHOWN else "-"
         lines.append(
-            f"bounded secret {task.cut.secret_length} regions {len(task.regions)} paths {self.paths} "
-            f"stopped {self.stopped} outputs {counted} bits {bits}"
+            f"bounded secret {task.cut.secret_length} regions {len(task.regions)} paths {counted(self.paths)} "
+            f"stopped {counted(self.stopped)} outputs {counted(outputs)} bits {bits}"
         )
         return 0, "\n".join(lines) + "\n"
 

@@ -8,8 +8,12 @@ guest is bounded, random secrets of the cut's length are tried, 50 without the o
 model of `check` and have an output of the list, or its run must be stopped, break a region or not exit. Without regions
 and stops each must be accepted. The number of outputs must be within the budget.
 
+The model makes as many walks as the answer takes, at most 500 or what --paths says. Where it finds at most 256 paths
+it walks each of them too, which must come to the same.
+
 With an executable, its `bound` must answer as the model does, also where a bounded guest's cut lacks one of its points,
-and its `check` of the same secrets.
+and its `check` of the same secrets. Where there are more paths than --paths says, `bound` may also answer `paths`, with
+a string at which a path begins and behind which one is left.
 
 Prints what the trials had, and last how many agree and differ. The files and words of those that differ are kept in a
 folder that is named; then the status is 1."""
@@ -19,7 +23,7 @@ import sys
 import tempfile
 
 from answers import USUAL_PATHS, read_words
-from bounds import Bounds, Task, stands_for
+from bounds import Bounds, Task, Walk, path_of, path_text, stands_for
 from compare_taints import spoilt
 from comparing import Differing, Folder, family, parser_of, seeds_of, show_counts, show_slots
 from cuts import Cut, point_order, read_cut, read_regions
@@ -27,6 +31,7 @@ from guest import Image
 from kept_guests import kept_trials
 from manys import Many
 from measures import Measured, Refused
+from met_guests import loop_trial, met_trials
 from programs import random_bytes
 from taints import find
 from trials import random_guest, random_trial, spelled, usual_options
@@ -35,6 +40,7 @@ from ways import ways_program
 
 ENDINGS = {"exited": "exits", "fault": "is stopped", "break": "breaks a region", "unfinished": "does not exit"}
 ROUNDS, SOME_PATHS, SOME_TURNS = 12, (3, 40, 64, 128, 128, 256, 256), (300, 1000, 1000, 2000)
+MOST_WALKS, EACH_WALKED = 500, 256
 
 
 def task_of(files, words):
@@ -79,6 +85,8 @@ def bound_trial(seed):
     """The files of a trial, and the words of its `bound`."""
     dice = random.Random(f"bound {seed}")
     table, turns, paths = dice.choice([1, 2]), dice.choice(SOME_TURNS), dice.choice(SOME_PATHS)
+    if dice.random() < 0.3:
+        return loop_trial(dice, turns, paths, table)
     if dice.random() < 0.25:
         files, words = random_trial(dice.randrange(1 << 40), seed % 2)
         given = {name: files[name] for name in ("regions",) if name in files}
@@ -111,6 +119,26 @@ def kind_of(bounds):
     return " ".join(["unclear", reason[0], *word])
 
 
+def whole(task):
+    """The answer of the whole tree, as far as so many walks come to it."""
+    return Bounds(task, max(task.paths, MOST_WALKS))
+
+
+def is_many(bounds):
+    """Whether there are more paths than walks may be made."""
+    return bounds.paths > bounds.task.paths
+
+
+def is_limited(task, status, text):
+    """Whether a text says that the walks were not enough, with a string at which a path begins and one is left behind."""
+    words = text.split()
+    if status != 1 or words[:2] != ["unclear", "path"] or words[5:] != ["paths", str(task.paths)]:
+        return False
+    bits = path_of(text)
+    walk = Walk(task, bits).run()
+    return text == f"unclear {path_text(bits)} paths {task.paths}\n" and walk.choices[: len(bits)] == bits and 0 in bits
+
+
 def lacking(seed, files, task):
     """The files of a trial whose cut lacks one of its points; None where it has none."""
     points = dict(task.cut.points)
@@ -140,10 +168,20 @@ class Comparison:
             self.counts["bounded with fewer outputs than paths"] += bounds.outputs() < bounds.paths
             self.counts["bounded with free bits"] += any(any(one[2]) or one[3] for one in bounds.patterns)
             self.counts["bounded with stops"] += bool(bounds.stopped)
+            self.counts["bounded with states that are met"] += bool(bounds.met)
+            self.counts["bounded with more paths than walks may be made"] += is_many(bounds)
             self.counts["bounded with regions"] += bool(task.regions)
             self.counts["bounded with a skipped region"] += bool(set(task.cut.skip) & {
                 region.number for region in task.regions})
             self.counts["bounded without regions and stops"] += not task.regions and not bounds.stopped
+
+    def each_wrongs(self, bounds):
+        """What is wrong where each path is walked."""
+        if bounds.paths <= EACH_WALKED:
+            self.counts["each path walked too"] += 1
+            each = Bounds(bounds.task, EACH_WALKED + 1, False)
+            if (each.text(True), each.paths) != (bounds.text(True), bounds.paths):
+                yield f"{bounds.text(True)}, but each path walked {each.text(True)}"
 
     def secret_wrongs(self, bounds, secret, judged, real):
         """What is wrong with a secret of a bounded guest."""
@@ -185,8 +223,9 @@ class Comparison:
             named = {f"secret{number}": secret for number, secret in enumerate(secrets, 1)}
             folder = Folder(self.words.executable, path, files | named)
             expected, given = bounds.text("--list" in options), folder.run(*words)
-            if given != expected:
+            if given != expected and not (is_many(bounds) and is_limited(bounds.task, *given)):
                 yield f"bound: {given} for {expected}"
+            self.counts["bound: the walks were not enough"] += given != expected
             kept = [f"{name}={options[name]}" for name in ("--regions", "--turns") if name in options]
             names = list(named)
             for first in range(0, len(names), 64):
@@ -197,9 +236,9 @@ class Comparison:
 
     def try_trial(self, name, files, words, expected=None):
         """Makes one trial; of one that was made by hand the text is known."""
-        bounds = Bounds(task_of(files, words))
+        bounds = whole(task_of(files, words))
         self.count(bounds)
-        texts, secrets, judgements = [], [], []
+        texts, secrets, judgements = list(self.each_wrongs(bounds)), [], []
         if expected is not None and bounds.text("--list" in words)[1] != expected:
             texts.append(f"{bounds.text('--list' in words)} for {expected}")
         if not bounds.unclear:
@@ -208,7 +247,8 @@ class Comparison:
             texts += self.program_wrongs(files, words, bounds, secrets, judgements)
         without = None if bounds.unclear else lacking(name, files, bounds.task)
         if without:
-            less = Bounds(task_of(without, words))
+            less = whole(task_of(without, words))
+            texts += self.each_wrongs(less)
             self.counts[f"without a point: {kind_of(less)}"] += 1
             texts += self.program_wrongs(without, words, less, [], []) if self.words.executable else []
         if texts:
@@ -216,7 +256,7 @@ class Comparison:
 
     def make(self):
         """Makes all trials; the status."""
-        by_hand = kept_trials()
+        by_hand = kept_trials() + met_trials()
         for name, files, words, expected in by_hand:
             self.try_trial(name, files, words, expected)
         for seed in seeds_of(self.words):

@@ -11,18 +11,22 @@ import random
 from unittest.mock import patch
 
 import bounds
+import states
 from bounds import Bounds, TurnMasks, Walk
 from compare_bounds import bound_trial, lacking, task_of
 from cuts import places_of, slot_width
 from guest import SECRET
 from instructions import ALL
 from kept_guests import kept_trials
+from met_guests import met_trials
 from programs import random_bytes
+from states import Place
 from verdicts import judge, real_run
 
 SECRETS = 20
 right_choose = Walk.choose
 right_leave, right_visit, right_call = TurnMasks.leave, Walk.pass_visit, TurnMasks.call
+right_meet, right_add, right_fits = Bounds.meet, Place.add, bounds.fits
 right_load, right_store, right_transfer = TurnMasks.load, TurnMasks.store, TurnMasks.transfer
 
 
@@ -111,6 +115,33 @@ def transfer_public(self, number, descriptor, address, count):
         self.bytes.update(before)
 
 
+def part_without(part, less):
+    """A model that tells states apart by less."""
+    return lambda: patch.object(states, "PARTS", [less if one is part else one for one in states.PARTS])
+
+
+def entry_without_registers(walk):
+    """The entered region alone, without the registers of its entry."""
+    return walk.guest.entered and walk.guest.entered.number
+
+
+def meet_open(self, walk):
+    """An open state is met with what is known below it by then."""
+    found = right_meet(self, walk)
+    if found is None:
+        place = self.open[-1]
+        others = [other for other in self.open[:-1] if other.state == place.state and other.paths]
+        if others:
+            self.open.pop()
+            return others[-1].below()
+    return found
+
+
+def add_unstopped(self, walk, below):
+    """Paths that stop are not counted below a state."""
+    right_add(self, walk, below._replace(stopped=0))
+
+
 def call_kept(self, instruction):
     """The answer of a call has the mask of its first argument."""
     mask = self.registers[bounds.ANSWER]
@@ -137,6 +168,20 @@ WRONG = [
     ("code is not looked at", lambda: patch.object(TurnMasks, "look_at_code", lambda self: None)),
     ("bases are not looked at", lambda: patch.object(TurnMasks, "look_at_bases", lambda self, region: None)),
     ("free bits are not counted", lambda: patch.object(bounds, "free_bits", lambda pattern: 0)),
+    ("states are told apart without masks", part_without(states.masks_part, lambda walk: None)),
+    ("states are told apart without visits", part_without(states.visits_part, lambda walk: None)),
+    ("states are told apart without what was written", part_without(states.shown_part, lambda walk: None)),
+    ("states are told apart without the entry", part_without(states.entry_part, lambda walk: None)),
+    ("states are told apart without the entry's registers", part_without(states.entry_part, entry_without_registers)),
+    ("an open state is met", lambda: patch.object(Bounds, "meet", meet_open)),
+    ("a state below which paths end by the limit of turns is met", lambda: patch.object(
+        states, "is_late", lambda walk: False)),
+    ("a state is met with fewer turns left", lambda: patch.object(
+        bounds, "fits", lambda walk, below: right_fits(walk, below._replace(turns=0)))),
+    ("bits below a state are not added", lambda: patch.object(
+        bounds, "fits", lambda walk, below: right_fits(walk, below._replace(bits=0)))),
+    ("stops below a state are not counted", lambda: patch.object(Place, "add", add_unstopped)),
+    ("a walk too few is made", lambda: patch.object(bounds, "has_enough", lambda walks, most: walks + 1 >= most)),
 ]
 
 
@@ -207,7 +252,7 @@ def main():
     parser.add_argument("--first", type=int, default=1, metavar="SEED")
     parser.add_argument("--count", type=int, default=100, metavar="N")
     words, missed, refuted = parser.parse_args(), 0, 0
-    trials = [Trial(name, files, line) for name, files, line, _ in kept_trials()]
+    trials = [Trial(name, files, line) for name, files, line, _ in kept_trials() + met_trials()]
     for seed in range(words.first, words.first + words.count):
         trials += trials_of(seed)
     assert not tried(trials)["refuted"]
