@@ -6,8 +6,8 @@ Call: bound.py PROG PUBLIC LENGTH|SECRET... [--regions FILE] [--turns N] [--rule
 It begins with the cut of the secrets, as `measure` or `measure-all` writes it; or of a LENGTH in bytes with a cut that
 has no point and skips each region of the file. Where `bound` is unclear at a point, the point gets a line, or what its
 value is made of where that has fewer bits; where the budget is too small, it is raised. So it goes on until `bound`
-answers, in at most so many rounds. Where the cut of the secrets comes to no answer with 1,024 paths, or to more bits
-than were measured, it begins again without a point, and at last with as many paths as are allowed.
+answers, in at most so many rounds. Where the cut of the secrets comes to no answer with 1,024 walks, or to more bits
+than were measured, it begins again without a point, and at last with as many walks as are allowed.
 
   --rounds N           at most so many calls of `bound` from a beginning; 100 without it
   --output FILE        the file of the cut; `bound.cut` without it

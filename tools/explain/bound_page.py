@@ -47,7 +47,8 @@ class Bounded:
 
     def all_walks(self):
         """The walks of all paths by the model; None where there are many, or the model says another thing."""
-        if self.answer.numbers["paths"] > MOST_PATHS:
+        paths = self.answer.numbers["paths"]
+        if paths is None or paths > MOST_PATHS:
             return None
         limits = self.budget, self.bounding.turns, self.bounding.paths
         named = self.program.image, self.bounding.public, self.bounding.regions, self.cut, self.bounding.table
@@ -55,7 +56,7 @@ class Bounded:
             walks = walks_of(Task(*named, *limits))
         except TooMany:
             return None
-        return walks if len(walks) == self.answer.numbers["paths"] else None
+        return walks if len(walks) == paths else None
 
     def choices(self):
         """How many choices were made at each point: in all walks the most, or in the walk that is unclear."""

@@ -19,7 +19,7 @@ VALUES = (
 OUTPUTS = "Give the result of the region fewer bits, as by a mask behind the call."
 ADVICE = {
     "left": "The walk decides by this slot, or shows it, and some of its bits may differ and have not crossed.",
-    "paths": "With as many paths as --paths allows one is left. It may be up to 1048576.",
+    "paths": "There are more paths than --paths says, and as many walks are not enough. It may be up to 1048576.",
     "outputs": "The different outputs have too many bytes together. Write less, or let the bits cross where they are "
     "written, where bits are free.",
     "budget": "More bits cross on this path than any budget allows.",
@@ -70,12 +70,17 @@ def numbers_words(answer, bits):
 
 
 def paths_words(numbers):
-    """How many paths there are, and how many stop."""
+    """How many paths there are, and how many stop; a number of 2^64 or more is not told."""
     paths, stopped = numbers["paths"], numbers["stopped"]
     if paths == 1:
         return "one path, which stops" if stopped else "one path"
-    ended = f"of which {stopped:,} stop{'s' * (stopped == 1)}" if stopped else "none of which stops"
-    return f"{paths:,} paths, {ended}"
+    ended = f"of which {number_words(stopped)} stop{'s' * (stopped == 1)}" if stopped != 0 else "none of which stops"
+    return f"{number_words(paths)} paths, {ended}"
+
+
+def number_words(number):
+    """A number, where it is told."""
+    return "2^64 or more" if number is None else f"{number:,}"
 
 
 def output_lines(patterns, most):
@@ -122,7 +127,7 @@ def unclear_lines(answer, walk, program, places, again):
     counted = choices_by_point(walk)
     if counted and kind in ("paths", "outputs", "budget", "left"):
         whole = len(walk.choices)
-        lines.append(f"The last path has {whole} choice{'s' * (whole > 1)}, and each may double the paths:")
+        lines.append(f"The path of the last walk has {whole} choice{'s' * (whole > 1)}, and each may double the paths:")
         for point, count in counted[:MOST_POINTS]:
             lines.append(f"    {count} at {point_words(point, program, places)}")
         lines.append(advice_at(counted[0][0]))

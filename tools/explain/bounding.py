@@ -75,12 +75,12 @@ class Answer:
             self.numbers = {name: None if number == "-" else int(number) for name, number in pairs}
 
     def is_waiting(self):
-        """Whether it may be bounded with more paths."""
+        """Whether it may be bounded with more walks."""
         return not self.is_bounded and self.reason.startswith("paths ")
 
     def is_of_all(self):
         """Whether it is said of all secrets: there is no region and no path stopped."""
-        return self.is_bounded and not self.numbers["regions"] and not self.numbers["stopped"]
+        return self.is_bounded and self.numbers["regions"] == self.numbers["stopped"] == 0
 
 
 class Bounding:
@@ -97,14 +97,14 @@ class Bounding:
         self.progress, self.calls = Progress(), 0
 
     def answer(self, cut, budget, paths=None):
-        """What `bound` answers about a cut, with as many paths as are allowed or fewer."""
+        """What `bound` answers about a cut, with as many walks as are allowed or fewer."""
         options = [*self.inputs.without("--paths"), "--paths", str(paths or self.paths), "--list"]
         with tempfile.NamedTemporaryFile("w", suffix=".cut") as file:
             file.write(cut.text())
             file.flush()
             words = ["bound", self.inputs.program, self.inputs.public, file.name, str(budget)]
             self.calls += 1
-            self.progress.show(f"call {self.calls:,} of bound, with at most {paths or self.paths:,} paths")
+            self.progress.show(f"call {self.calls:,} of bound, with at most {paths or self.paths:,} walks")
             status, text = self.asked.answer([*words, *options])
         self.progress.show("")
         if status not in (0, 1) or not text.startswith(("output", "stopped", "bounded", "unclear")):
@@ -139,7 +139,7 @@ class Bounding:
 
 
 class Search:
-    """A search for a cut that begins with one and gives it what it lacks, in some rounds and with so many paths. `tell`
+    """A search for a cut that begins with one and gives it what it lacks, in some rounds and with so many walks. `tell`
     is told of each."""
 
     def __init__(self, bounding, rounds, paths, tell):
@@ -202,7 +202,7 @@ class Search:
 
 
 def found(bounding, beginnings, rounds, measured, tell):
-    """The best answer with its walk. Each beginning is tried with few paths, and then with as many as are allowed; an
+    """The best answer with its walk. Each beginning is tried with few walks, and then with as many as are allowed; an
     answer is taken at once where it has no more bits than were measured, else the one with the fewest."""
     best, last = None, {}
     for paths in sorted({min(FEW_PATHS, bounding.paths), bounding.paths}):
@@ -210,7 +210,7 @@ def found(bounding, beginnings, rounds, measured, tell):
             begun = last[name][0].cut if name in last else cut
             if name in last and not last[name][0].is_waiting():
                 continue
-            tell(f"Begins {name}, with at most {paths:,} paths.")
+            tell(f"Begins {name}, with at most {paths:,} walks.")
             last[name] = answer, walk = Search(bounding, rounds, paths, lambda text: tell("    " + text)).search(begun)
             if not answer.is_bounded:
                 answer.cut.bits = answer.budget

@@ -2,7 +2,7 @@
 
 Call: bound_tests.py [--first SEED] [--count N] [--flowcheck COMMAND]
 
-Of N random guests (60 without the option) from this seed (1) on it looks for a cut, with at most 24 paths and 400
+Of N random guests (60 without the option) from this seed (1) on it looks for a cut, with at most 24 walks and 400
 turns, beginning without a point and then with a random cut. Where it comes to no answer there must be too many paths.
 What it finds must be as `bound` answers. In the points of a cut that began without one tools/lint.py must find nothing,
 but that a random program file does not say of its code that it is. With the cut and its budget `check` must accept 20

@@ -10,9 +10,9 @@ by the seed (1 without it): half of them as the guest expects them, half of any 
 guest of examples/bit, and all where qemu is not there.
 
 Prints the table of docs/GUIDE.md: the bytes of the secret, the bits that were measured of one secret, the regions, the
-paths, the outputs and their bits, the seconds of the last call of `bound`, and how many of the others have a listed
-output. The program is the option, or the built one, or the model. The status is 1 where an output is not listed; with a
-region it may be that of a run that breaks it, which `check` says."""
+paths and the outputs, `-` for 2^64 or more, the bits of the outputs, the seconds of the last call of `bound`, and how
+many of the others have a listed output. The program is the option, or the built one, or the model. The status is 1
+where an output is not listed; with a region it may be that of a run that breaks it, which `check` says."""
 import argparse
 import concurrent.futures
 import os
@@ -149,8 +149,8 @@ def row(guest, others):
     missing = [one for one in outputs if one and not any(pattern.holds(*one) for pattern in answer.patterns)]
     missing += [one for one in outputs if one is None and answer.is_of_all()]
     numbers, listed = answer.numbers, others - len(missing) - outputs.count(None)
-    counted = f"{numbers['outputs']:,}" if numbers["outputs"] is not None else "-"
-    cells = [guest.name, length, bits, regions, f"{numbers['paths']:,}", counted, numbers["bits"], f"{seconds:.1f}"]
+    paths, counted = ("-" if number is None else f"{number:,}" for number in (numbers["paths"], numbers["outputs"]))
+    cells = [guest.name, length, bits, regions, paths, counted, numbers["bits"], f"{seconds:.1f}"]
     return [*cells, f"{listed:,} of {others:,}, {len(set(outputs) - {None}):,} different"], missing
 
 

@@ -12,7 +12,7 @@ import sys
 TOOLS = pathlib.Path(__file__).resolve().parent.parent
 sys.path.insert(0, str(TOOLS / "model"))
 
-from bounds import Bounds, Task
+from bounds import Bounds, Task, counted
 from cuts import read_cut, read_regions
 from guest import Image
 
@@ -30,16 +30,17 @@ def bits_text(bits):
 
 
 def numbers_text(outputs):
-    """A number of outputs, a dash where it is 2^64 or more, and how many bits it needs."""
+    """A number of outputs, and how many bits it needs."""
     bits = (outputs - 1).bit_length() if outputs else 0
-    return f"outputs {outputs if outputs < 2**64 else '-'} bits {bits}"
+    return f"outputs {counted(outputs)} bits {bits}"
 
 
 def lines_of(name, bounds):
     """The lines of an answer."""
     if bounds.unclear:
         return [f"{name}: unclear {bits_text(bounds.last)} {bounds.unclear.split(' ', 4)[4]}"]
-    lines = [f"{name}: bounded paths {bounds.paths} stopped {bounds.stopped} {numbers_text(bounds.outputs())}"]
+    paths, stopped = counted(bounds.paths), counted(bounds.stopped)
+    lines = [f"{name}: bounded paths {paths} stopped {stopped} {numbers_text(bounds.outputs())}"]
     for written, status, masks, mask in bounds.patterns:
         lines.append(f"  bytes {list(written)} status {status} masks {list(masks)} {mask}")
     if bounds.first:
